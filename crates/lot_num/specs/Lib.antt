@@ -1,0 +1,3 @@
+pub mod Amount
+pub mod NumberText
+pub mod AmountText

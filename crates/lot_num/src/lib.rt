@@ -1,0 +1,17 @@
+//! Amounts: what a number text says, and exact sums and weights of what it says.
+//!
+//! An amount is a whole number, its mantissa, at a fixed scale: `Units` and totals of units and `Rate`
+//! (a cost or a price) have eight decimals, and `Wide` (a weight, units times a rate) has sixteen.
+//! Nothing is ever rounded: a result that is no such number is refused.
+#![tactic(auto)]
+
+mod number_text;
+mod printed;
+mod rate;
+mod units;
+mod wide;
+
+pub use number_text::NumberFault;
+pub use rate::Rate;
+pub use units::Units;
+pub use wide::{Wide, weight};

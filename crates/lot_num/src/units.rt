@@ -1,0 +1,104 @@
+ghost use Rattle.std.specs.Prelude.{◌≡◌, ℤ, pos, ◌+ℤ◌, ◌*ℤ◌, neg_ℤ, SomeIff, IfOk};
+ghost use Rattle.std.specs.String.{string_bytes};
+
+use crate::number_text::{NumberFault, read};
+use crate::printed::{Decimals, amount_text};
+use crate::wide::Wide;
+use std::alloc::{AllocError, Global};
+use std::marker::Model;
+
+/// So many units of a commodity, or a total of units: a whole number of hundred-millionths, below
+/// 10^18 of them in absolute value. Units below zero are owed, or taken out.
+#[derive(Clone, Copy, Debug, PartialEq, Eq, PartialOrd, Ord, Hash)]
+pub struct Units {
+    mantissa: i64,
+}
+
+impl Model for Units {
+    ghost use Rattle.std.specs.Prelude.{ℤ};
+    ghost use Rattle.lot_num.specs.Amount.{IsUnits};
+
+    ghost Value = { ℤ };
+
+    ghost view = { λ u. u.mantissa };
+
+    ghost invariant = { λ u. IsUnits u.mantissa };
+
+    ghost inverse = { λ z. record { mantissa = z } };
+}
+
+impl Units {
+    ghost use Rattle.lot_num.specs.Amount.{one, IsUnits};
+    ghost use Rattle.lot_num.specs.AmountText.{amount_text};
+    ghost use Rattle.lot_num.specs.NumberText.{units_of};
+
+    /// The absolute mantissas that are too large: 10^18 and all above.
+    const LIMIT: u64 = 1_000_000_000_000_000_000;
+
+    /// The units with a mantissa at scale 8, or `None` where it is 10^18 or more in absolute value.
+    pub fn from_mantissa(mantissa: i64) -> Option<Units>
+        ensures { SomeIff result (IsUnits mantissa) mantissa }
+    {
+        if mantissa.unsigned_abs() < Self::LIMIT {
+            Some(Units { mantissa })
+        } else {
+            None
+        }
+    }
+
+    /// The mantissa, at scale 8.
+    pub fn mantissa(self) -> i64
+        ensures value { result ≡ self }
+        ensures in_range { IsUnits self }
+    {
+        self.mantissa
+    }
+
+    /// The same units with the other sign.
+    pub fn negated(self) -> Units
+        ensures { result ≡ neg_ℤ self }
+    {
+        Units {
+            mantissa: -self.mantissa,
+        }
+    }
+
+    /// The exact sum, or `None` where it is no units.
+    pub fn checked_add(self, other: Units) -> Option<Units>
+        ensures { SomeIff result (IsUnits (self +ℤ other)) (self +ℤ other) }
+    {
+        Units::from_mantissa(self.mantissa + other.mantissa)
+    }
+
+    /// The same amount at scale 16, as a weight.
+    pub fn wide(self) -> Wide
+        ensures { result ≡ self *ℤ pos one }
+    {
+        Wide::exactly(i128::from(self.mantissa) * 100_000_000)
+    }
+
+    /// The units that a number text says, or the first refusal that holds (docs/RULES.md, Number text).
+    pub fn parse(text: &str) -> Result<Units, NumberFault>
+        ensures { result ≡ units_of text.now }
+    {
+        let (sign, magnitude) = read(text, Self::LIMIT)?;
+        Ok(Units {
+            mantissa: sign.of_magnitude(magnitude),
+        })
+    }
+
+    /// The shortest number text that says these units: no zeros at the end of its decimals, and no point
+    /// where they are whole.
+    pub fn text(self, alloc: Global) -> Result<String, AllocError>
+        ensures { IfOk result (λ t. string_bytes t ≡ amount_text 0 8 self) }
+    {
+        amount_text(alloc, i128::from(self.mantissa), Decimals::SHORTEST)
+    }
+
+    /// The shortest number text with at least two decimals that says these units.
+    pub fn text_money(self, alloc: Global) -> Result<String, AllocError>
+        ensures { IfOk result (λ t. string_bytes t ≡ amount_text 2 8 self) }
+    {
+        amount_text(alloc, i128::from(self.mantissa), Decimals::MONEY)
+    }
+}
