@@ -1,3 +1,4 @@
 pub mod SignLemmas
 pub mod DigitLemmas
 pub mod TextLemmas
+pub mod GrammarLemmas

@@ -1,3 +1,4 @@
 pub mod Amount
 pub mod NumberText
+pub mod NumberGrammar
 pub mod AmountText

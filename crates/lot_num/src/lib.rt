@@ -5,6 +5,7 @@
 //! Nothing is ever rounded: a result that is no such number is refused.
 #![tactic(auto)]
 
+pub mod laws;
 mod number_text;
 mod printed;
 mod rate;

@@ -1,0 +1,17 @@
+//! Laws over the definitions alone, each the contract of a function that does nothing.
+ghost use Rattle.std.specs.Prelude.{◌≡◌, ℕ, List, IsTrue};
+ghost use Rattle.lot_num.specs.declared.number_text.Sign.{Sign};
+ghost use Rattle.lot_num.specs.NumberGrammar.{IsNumberText};
+ghost use Rattle.lot_num.specs.NumberText.{is_number, sign_of, whole_part, decimals};
+
+/// The texts that are read as numbers are those of the grammar, and each is cut into the parts that the
+/// grammar gives it: so a number text has one sign, one whole part and one list of decimals.
+pub fn number_text_is_its_grammar()
+    ensures only { (text : List ℕ) → IsTrue (is_number text)
+        → IsNumberText text (sign_of text) (whole_part text) (decimals text) }
+    ensures every { (text : List ℕ) (sign : Sign) (whole fraction : List ℕ)
+        → IsNumberText text sign whole fraction
+        → IsTrue (is_number text)
+            × (sign_of text ≡ sign) × (whole_part text ≡ whole) × (decimals text ≡ fraction) }
+{
+}
