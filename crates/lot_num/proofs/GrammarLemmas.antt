@@ -7,8 +7,8 @@ use Rattle.std.proofs.lemmas.Bool.Decides.{nat_tests}
 use Rattle.std.proofs.lemmas.Bool.{eqb-true}
 use Rattle.lot_num.specs.declared.number_text.Sign.{Sign}
 use Rattle.lot_num.specs.declared.number_text.Sign.TheVariants.{Plus, Minus}
-use Rattle.lot_num.specs.NumberText.{sign_of, unsigned, is_point, is_digits, is_group, is_grouped}
-use Rattle.lot_num.specs.NumberGrammar.{IsDigit, AreDigits, IsWhole, IsSign, IsFraction}
+use Rattle.lot_num.specs.NumberText.{sign_of, unsigned, is_point, whole_part, decimals, is_digits, is_group, is_grouped, is_number}
+use Rattle.lot_num.specs.NumberGrammar.{IsDigit, AreDigits, IsWhole, IsSign, IsFraction, IsNumberText}
 
 pub digit_from_test : (b : ℕ) → is_ascii_digit b ≡ true → IsDigit b
 digit_from_test b h = (grind (arith, nat_tests), grind (arith, nat_tests))
@@ -16,11 +16,11 @@ digit_from_test b h = (grind (arith, nat_tests), grind (arith, nat_tests))
 pub test_from_digit : (b : ℕ) → IsDigit b → is_ascii_digit b ≡ true
 test_from_digit b (low, high) = grind (arith, nat_tests)
 
-pub both_left : (a b : Bool) → (a && b) ≡ true → a ≡ true
+both_left : (a b : Bool) → (a && b) ≡ true → a ≡ true
 both_left true b h = refl
 both_left false b h = h
 
-pub both_right : (a b : Bool) → (a && b) ≡ true → b ≡ true
+both_right : (a b : Bool) → (a && b) ≡ true → b ≡ true
 both_right true b h = h
 both_right false b h = cc
 
@@ -28,16 +28,16 @@ and_assoc : (a b c : Bool) → ((a && b) && c) ≡ (a && (b && c))
 and_assoc true b c = refl
 and_assoc false b c = refl
 
-pub both : (a b : Bool) → a ≡ true → b ≡ true → (a && b) ≡ true
+both : (a b : Bool) → a ≡ true → b ≡ true → (a && b) ≡ true
 both a b h k = rw (h, k)
 
 -- ---- Digits
 
-pub digits_from_test : (ds : List ℕ) → is_digits ds ≡ true → AreDigits ds
+digits_from_test : (ds : List ℕ) → is_digits ds ≡ true → AreDigits ds
 digits_from_test [] h = tt
 digits_from_test (d ∷ ds) h = (digit_from_test d (both_left _ _ h), digits_from_test ds (both_right _ _ h))
 
-pub test_from_digits : (ds : List ℕ) → AreDigits ds → is_digits ds ≡ true
+test_from_digits : (ds : List ℕ) → AreDigits ds → is_digits ds ≡ true
 test_from_digits [] h = refl
 test_from_digits (d ∷ ds) (first, others) = both _ _ (test_from_digit d first) (test_from_digits ds others)
 
@@ -75,7 +75,7 @@ starts_no_comma : (c : ℕ) (rest : List ℕ) → IsWhole (c ∷ rest) → eqb c
 starts_no_comma c [] h = no_comma c h
 starts_no_comma c (x ∷ rest) h = no_comma c h.0
 
-pub test_from_whole : (whole : List ℕ) → IsWhole whole → is_grouped whole ≡ true
+test_from_whole : (whole : List ℕ) → IsWhole whole → is_grouped whole ≡ true
 test_from_whole [] h = absurd h
 test_from_whole (d ∷ []) h = grouped-last d (no_comma d h) ∙ both _ _ (both _ _ (test_from_digit d h) refl) refl
 test_from_whole (d ∷ c ∷ rest) (first, inl more) =
@@ -101,7 +101,7 @@ whole_more d c rest behind more false e false f h =
     (digit_from_test d (both_left _ _ parts), inl (more (both_right _ _ parts)))
 
 -- a comma in front leaves an empty group
-pub whole_from_test : (whole : List ℕ) → is_grouped whole ≡ true → IsWhole whole
+whole_from_test : (whole : List ℕ) → is_grouped whole ≡ true → IsWhole whole
 whole_from_test [] h = cc
 whole_from_test (d ∷ []) h = whole_last d (eqb d 44) refl h
 whole_from_test (d ∷ c ∷ rest) h = whole_more d c rest (whole_from_test rest) (whole_from_test (c ∷ rest)) (eqb d 44) refl (eqb c 44) refl h
@@ -113,7 +113,7 @@ signs_by b rest true plus e f = (45 ∷ [], refl, ap (λ x. x ∷ rest) (eqb-tru
 signs_by b rest false true e f = (43 ∷ [], inr refl, ap (λ x. x ∷ rest) (eqb-true b 43 f))
 signs_by b rest false false e f = ([], inl refl, refl)
 
-pub sign_from_text : (text : List ℕ) → (front : List ℕ) × IsSign (sign_of text) front × (text ≡ front ++ unsigned text)
+sign_from_text : (text : List ℕ) → (front : List ℕ) × IsSign (sign_of text) front × (text ≡ front ++ unsigned text)
 sign_from_text [] = ([], inl refl, refl)
 sign_from_text (b ∷ rest) = signs_by b rest (eqb b 45) (eqb b 43) refl refl
 
@@ -121,7 +121,7 @@ abbrev StartsWithDigit : List ℕ → Type 0
 StartsWithDigit [] = ⊥
 StartsWithDigit (d ∷ ds) = IsDigit d
 
-pub whole_starts : (whole back : List ℕ) → IsWhole whole → StartsWithDigit (whole ++ back)
+whole_starts : (whole back : List ℕ) → IsWhole whole → StartsWithDigit (whole ++ back)
 whole_starts [] back h = absurd h
 whole_starts (d ∷ []) back h = h
 whole_starts (d ∷ c ∷ rest) back h = h.0
@@ -130,7 +130,7 @@ no_sign : (body : List ℕ) → StartsWithDigit body → (sign_of body ≡ Plus)
 no_sign [] h = absurd h
 no_sign (d ∷ ds) (low, high) = (grind (arith, nat_tests), grind (arith, nat_tests))
 
-pub text_from_sign : (sign : Sign) (front body : List ℕ) → IsSign sign front → StartsWithDigit body → (sign_of (front ++ body) ≡ sign) × (unsigned (front ++ body) ≡ body)
+text_from_sign : (sign : Sign) (front body : List ℕ) → IsSign sign front → StartsWithDigit body → (sign_of (front ++ body) ≡ sign) × (unsigned (front ++ body) ≡ body)
 text_from_sign Plus front body (inl none) digit = rw none (no_sign body digit)
 text_from_sign Plus front body (inr plus) digit = rw plus (refl, refl)
 text_from_sign Minus front body minus digit = rw minus (refl, refl)
@@ -160,7 +160,7 @@ fraction_by b rest true e h =
 fraction_by b rest false e (back, fraction, spelled) =
     (back, subst (λ (ds : List ℕ). IsFraction ds back) (sym (after-cons b rest e)) fraction, ap (λ ds. b ∷ ds) spelled ∙ ap (λ ds. ds ++ back) (sym (before-cons b rest e)))
 
-pub fraction_from_text : (body : List ℕ) → HasFraction body
+fraction_from_text : (body : List ℕ) → HasFraction body
 fraction_from_text [] = ([], inr (refl, refl), refl)
 fraction_from_text (b ∷ rest) = fraction_by b rest (eqb b 46) refl (fraction_from_text rest)
 
@@ -171,7 +171,7 @@ HasNoPoint (b ∷ rest) = (eqb b 46 ≡ false) × HasNoPoint rest
 digit_no_point : (d : ℕ) → IsDigit d → eqb d 46 ≡ false
 digit_no_point d (low, high) = grind (arith, nat_tests)
 
-pub whole_no_point : (whole : List ℕ) → IsWhole whole → HasNoPoint whole
+whole_no_point : (whole : List ℕ) → IsWhole whole → HasNoPoint whole
 whole_no_point [] h = absurd h
 whole_no_point (d ∷ []) h = (digit_no_point d h, tt)
 whole_no_point (d ∷ c ∷ rest) (first, inl more) = (digit_no_point d first, whole_no_point (c ∷ rest) more)
@@ -179,9 +179,34 @@ whole_no_point (d ∷ c ∷ rest) (first, inr (comma, more)) =
     let other : eqb c 46 ≡ false = rw comma refl in
     (digit_no_point d first, (other, whole_no_point rest more))
 
-pub text_from_fraction : (whole decimals back : List ℕ) → HasNoPoint whole → IsFraction decimals back → (before_first is_point (whole ++ back) ≡ whole) × (after_first is_point (whole ++ back) ≡ decimals)
+text_from_fraction : (whole decimals back : List ℕ) → HasNoPoint whole → IsFraction decimals back → (before_first is_point (whole ++ back) ≡ whole) × (after_first is_point (whole ++ back) ≡ decimals)
 text_from_fraction [] decimals back none (inl point) = rw point (refl, refl)
 text_from_fraction [] decimals back none (inr (left_out, empty)) = rw (left_out, empty) (refl, refl)
 text_from_fraction (b ∷ whole) decimals back (other, none) fraction =
     let rest = text_from_fraction whole decimals back none fraction in
     (before-cons b (whole ++ back) other ∙ ap (λ ds. b ∷ ds) rest.0, after-cons b (whole ++ back) other ∙ rest.1)
+
+-- ---- Whole texts
+
+pub text_is_spelled : (text : List ℕ) → is_number text ≡ true → IsNumberText text (sign_of text) (whole_part text) (decimals text)
+text_is_spelled text good =
+    let sign = sign_from_text text in
+    let fraction = fraction_from_text (unsigned text) in
+    record {
+      front = sign.0;
+      back = fraction.0;
+      is_sign = sign.1;
+      is_whole = whole_from_test (whole_part text) (both_left _ _ good);
+      is_fraction = fraction.1;
+      are_digits = digits_from_test (decimals text) (both_right _ _ good);
+      spelled = sign.2 ∙ ap (λ body. sign.0 ++ body) fraction.2;
+    }
+
+pub spelling_is_cut : (text : List ℕ) (sign : Sign) (whole fraction : List ℕ) → IsNumberText text sign whole fraction → (is_number text ≡ true) × (sign_of text ≡ sign) × (whole_part text ≡ whole) × (decimals text ≡ fraction)
+spelling_is_cut text sign whole fraction spelling =
+    let signed = text_from_sign sign spelling.front (whole ++ spelling.back) spelling.is_sign (whole_starts whole spelling.back spelling.is_whole) in
+    let cut = text_from_fraction whole fraction spelling.back (whole_no_point whole spelling.is_whole) spelling.is_fraction in
+    let body : unsigned text ≡ whole ++ spelling.back = ap unsigned spelling.spelled ∙ signed.1 in
+    let before : whole_part text ≡ whole = ap (before_first is_point) body ∙ cut.0 in
+    let behind : decimals text ≡ fraction = ap (after_first is_point) body ∙ cut.1 in
+    (both _ _ (ap is_grouped before ∙ test_from_whole whole spelling.is_whole) (ap is_digits behind ∙ test_from_digits fraction spelling.are_digits), ap sign_of spelling.spelled ∙ signed.0, before, behind)

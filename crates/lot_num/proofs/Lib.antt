@@ -2,3 +2,5 @@ pub mod SignLemmas
 pub mod DigitLemmas
 pub mod TextLemmas
 pub mod GrammarLemmas
+pub mod DecimalLemmas
+pub mod PrintedLemmas

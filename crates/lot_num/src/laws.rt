@@ -1,8 +1,10 @@
 //! Laws over the definitions alone, each the contract of a function that does nothing.
-ghost use Rattle.std.specs.Prelude.{◌≡◌, ℕ, List, IsTrue};
+ghost use Rattle.std.specs.Prelude.{◌≡◌, ◌≤◌, ℕ, ℤ, pos, List, length, IsTrue, Ok};
 ghost use Rattle.lot_num.specs.declared.number_text.Sign.{Sign};
+ghost use Rattle.lot_num.specs.Amount.{IsUnits, IsRate};
+ghost use Rattle.lot_num.specs.AmountText.{amount_text};
 ghost use Rattle.lot_num.specs.NumberGrammar.{IsNumberText};
-ghost use Rattle.lot_num.specs.NumberText.{is_number, sign_of, whole_part, decimals};
+ghost use Rattle.lot_num.specs.NumberText.{is_number, sign_of, whole_part, decimals, units_of, rate_of};
 
 /// The texts that are read as numbers are those of the grammar, and each is cut into the parts that the
 /// grammar gives it: so a number text has one sign, one whole part and one list of decimals.
@@ -13,5 +15,13 @@ pub fn number_text_is_its_grammar()
         → IsNumberText text sign whole fraction
         → IsTrue (is_number text)
             × (sign_of text ≡ sign) × (whole_part text ≡ whole) × (decimals text ≡ fraction) }
+{
+}
+
+/// What is printed is read again as the amount that it was printed of.
+pub fn printed_text_reads_back()
+    ensures units { (z : ℤ) → IsUnits z → units_of (amount_text 0 8 z) ≡ Ok z }
+    ensures money { (z : ℤ) → IsUnits z → units_of (amount_text 2 8 z) ≡ Ok z }
+    ensures rate { (n : ℕ) → IsRate n → rate_of (amount_text 0 8 (pos n)) ≡ Ok n }
 {
 }
