@@ -4,3 +4,4 @@ pub mod TextLemmas
 pub mod GrammarLemmas
 pub mod DecimalLemmas
 pub mod PrintedLemmas
+pub mod ShortestLemmas

@@ -53,7 +53,7 @@ read_below-spelled limit n text sign whole fraction spelling short says below =
     ∙ ap (λ m. Ok (sign, m)) amount
 
 -- a magnitude with a sign in front
-spelled_behind : (front : List ℕ) (sign : Sign) (least n : ℕ) → IsSign sign front → n < 10 ^ 18 → IsNumberText (front ++ magnitude_text least 8 n) sign (decimal (n / 10 ^ 8)) (shown_decimals least 8 (n % 10 ^ 8))
+pub spelled_behind : (front : List ℕ) (sign : Sign) (least n : ℕ) → IsSign sign front → n < 10 ^ 18 → IsNumberText (front ++ magnitude_text least 8 n) sign (decimal (n / 10 ^ 8)) (shown_decimals least 8 (n % 10 ^ 8))
 spelled_behind front sign least n is_sign below =
     let small : n / 10 ^ 8 < 2 ^ 64 = omega arith in
     let shown = shown_decimals_shown least 8 (n % 10 ^ 8) (omega arith) (omega arith) in

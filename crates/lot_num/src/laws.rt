@@ -25,3 +25,16 @@ pub fn printed_text_reads_back()
     ensures rate { (n : ℕ) → IsRate n → rate_of (amount_text 0 8 (pos n)) ≡ Ok n }
 {
 }
+
+/// No number text that says an amount is shorter than the printed one; and none with at least two decimals
+/// is shorter than the one that is printed as money, which has at least two.
+pub fn printed_text_is_shortest()
+    ensures units { (z : ℤ) (text : List ℕ) → units_of text ≡ Ok z
+        → length (amount_text 0 8 z) ≤ length text }
+    ensures money { (z : ℤ) (text : List ℕ) → units_of text ≡ Ok z → 2 ≤ length (decimals text)
+        → length (amount_text 2 8 z) ≤ length text }
+    ensures money_has_two { (z : ℤ) → IsUnits z → 2 ≤ length (decimals (amount_text 2 8 z)) }
+    ensures rate { (n : ℕ) (text : List ℕ) → rate_of text ≡ Ok n
+        → length (amount_text 0 8 (pos n)) ≤ length text }
+{
+}
