@@ -76,8 +76,8 @@ all_needed : (least k n len value shown : ℕ) → shown ≡ suc k → (suc k �
 all_needed least k n len value shown whole (inl few) within says = omega arith
 all_needed least k n len value shown whole (inr ends) within says =
     elim (cases_lt k len) [
-      inl all ↦ omega arith
-    | inr fewer ↦ absurd (ends (omega (arith, ends_in_zero k n len value fewer says)))
+      | inl all ↦ omega arith
+      | inr fewer ↦ absurd (ends (omega (arith, ends_in_zero k n len value fewer says)))
     ]
 
 -- all k of them, where no more than the least are there, or the last is no zero
@@ -89,9 +89,9 @@ all_shown least k n below small why =
       short = omega arith;
       enough = omega arith;
       value =
-        let none : suc k - length (zero_padded (suc k) n) ≡ 0 = omega arith in
-        ap (λ e. digits_value 10 (zero_padded (suc k) n) * 10 ^ e) none
-        ∙ (omega (arith, digits_value-zeros_front (suc k - length (decimal n)) (decimal n), decimal_value n small));
+          let none : suc k - length (zero_padded (suc k) n) ≡ 0 = omega arith in
+          ap (λ e. digits_value 10 (zero_padded (suc k) n) * 10 ^ e) none
+          ∙ (omega (arith, digits_value-zeros_front (suc k - length (decimal n)) (decimal n), decimal_value n small));
       shortest = λ others within says. all_needed least k n (length others) (digits_value 10 others) (length (zero_padded (suc k) n)) whole why within says;
     }
 
@@ -102,15 +102,15 @@ fewer_shown least k n ds few ends h = record {
   short = omega (arith, h.short);
   enough = omega (arith, h.enough);
   value =
-    let one_less : suc k - length ds ≡ (k - length ds) + 1 = omega (arith, h.short) in
-    let power : 10 ^ (suc k - length ds) ≡ 10 ^ (k - length ds) * 10 = ap (λ e. 10 ^ e) one_less ∙ pow_more 10 (k - length ds) in
-    ap (λ p. digits_value 10 ds * p) power ∙ (omega (arith, h.value));
+      let one_less : suc k - length ds ≡ (k - length ds) + 1 = omega (arith, h.short) in
+      let power : 10 ^ (suc k - length ds) ≡ 10 ^ (k - length ds) * 10 = ap (λ e. 10 ^ e) one_less ∙ pow_more 10 (k - length ds) in
+      ap (λ p. digits_value 10 ds * p) power ∙ (omega (arith, h.value));
   shortest = λ others within says. elim (cases_lt k (length others)) [
-      inl all ↦ omega (arith, h.short)
+    | inl all ↦ omega (arith, h.short)
     | inr fewer ↦
-      let zero_last = ends_in_zero k n (length others) (digits_value 10 others) fewer says in
-      h.shortest others fewer (omega arith)
-    ];
+        let zero_last = ends_in_zero k n (length others) (digits_value 10 others) fewer says in
+        h.shortest others fewer (omega arith)
+  ];
 }
 
 shown_by : (least k n : ℕ) (more zero_last : Bool) → ltb least (suc k) ≡ more → eqb (n % 10) 0 ≡ zero_last → n < 10 ^ suc k → n < 2 ^ 64 → IsShown least k (n / 10) (shown_decimals least k (n / 10)) → IsShown least (suc k) n (cond (more && zero_last) (shown_decimals least k (n / 10)) (zero_padded (suc k) n))

@@ -119,8 +119,8 @@ shown-le : (least n : ℕ) (ds : List ℕ) → n < 10 ^ 8 → least ≤ length d
 shown-le least n ds below enough says =
     let shown = shown_decimals_shown least 8 n below (omega arith) in
     elim (cases_lt 8 (length ds)) [
-      inl many ↦ omega (arith, shown.short)
-    | inr few ↦ omega (arith, shown.shortest ds few (sym (first_decimals-short ds few) ∙ says))
+      | inl many ↦ omega (arith, shown.short)
+      | inr few ↦ omega (arith, shown.shortest ds few (sym (first_decimals-short ds few) ∙ says))
     ]
 
 -- ---- Texts

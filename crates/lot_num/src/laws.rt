@@ -14,17 +14,15 @@ pub fn number_text_is_its_grammar()
     ensures every { (text : List ℕ) (sign : Sign) (whole fraction : List ℕ)
         → IsNumberText text sign whole fraction
         → IsTrue (is_number text)
-            × (sign_of text ≡ sign) × (whole_part text ≡ whole) × (decimals text ≡ fraction) }
-{
-}
+        × (sign_of text ≡ sign) × (whole_part text ≡ whole) × (decimals text ≡ fraction) }
+{}
 
 /// What is printed is read again as the amount that it was printed of.
 pub fn printed_text_reads_back()
     ensures units { (z : ℤ) → IsUnits z → units_of (amount_text 0 8 z) ≡ Ok z }
     ensures money { (z : ℤ) → IsUnits z → units_of (amount_text 2 8 z) ≡ Ok z }
     ensures rate { (n : ℕ) → IsRate n → rate_of (amount_text 0 8 (pos n)) ≡ Ok n }
-{
-}
+{}
 
 /// No number text that says an amount is shorter than the printed one; and none with at least two decimals
 /// is shorter than the one that is printed as money, which has at least two.
@@ -36,5 +34,4 @@ pub fn printed_text_is_shortest()
     ensures money_has_two { (z : ℤ) → IsUnits z → 2 ≤ length (decimals (amount_text 2 8 z)) }
     ensures rate { (n : ℕ) (text : List ℕ) → rate_of text ≡ Ok n
         → length (amount_text 0 8 (pos n)) ≤ length text }
-{
-}
+{}

@@ -9,6 +9,8 @@ pub mod laws;
 mod number_text;
 mod printed;
 mod rate;
+#[cfg(test)]
+mod tests;
 mod units;
 mod wide;
 
