@@ -1,28 +1,45 @@
-ghost use Rattle.std.specs.Prelude.{◌≡◌, ℕ, List, Bool, IsTrue};
+ghost use Rattle.std.specs.Prelude.{◌≡◌, ◌≢◌, ℕ, List, Bool};
+ghost use Rattle.std.specs.List.{list_all};
+ghost use Rattle.lot_base.specs.Name.{components, is_account, is_commodity, is_note, is_root, is_component, is_component_byte, is_commodity_byte, is_note_byte};
+ghost use Rattle.lot_base.specs.declared.fault.NameFault.{NameFault};
+ghost use Rattle.lot_base.specs.declared.fault.NameFault.TheVariants.{BadAccount, BadCommodity, BadNote, Memory};
 
-use crate::name::NameFault;
+use crate::fault::NameFault;
 
 /// Which texts are names of one kind.
 pub trait Grammar {
-    ghost is_name: { List ℕ → Type 0 } = { λ _. Unit {0} };
+    ghost is_name: { List ℕ → Bool };
+
+    ghost bad: { NameFault };
 
     /// Whether the text is a name of this kind.
     fn accepts(text: &str) -> bool
-        ensures { IsTrue result → is_name text.now };
+        ensures { result ≡ is_name text.now };
 
-    /// What to say of a text that isn't.
-    fn fault() -> NameFault;
+    /// What a text is called that isn't.
+    fn fault() -> NameFault
+        ensures { result ≡ bad };
+
+    ghost blames_the_text: { bad ≢ Memory };
 }
 
-/// The grammar of accounts: components joined by colons.
+/// The grammar of accounts.
 pub struct AccountGrammar;
 
 impl Grammar for AccountGrammar {
+    ghost use Rattle.std.proofs.Common.{rules};
+
+    ghost is_name = { is_account };
+
+    ghost bad = { BadAccount };
+
+    ghost blames_the_text = { λ e. Prim.cc };
+
+    #[tactic(auto, unfolding(crate::specs::Name::is_account))]
     fn accepts(text: &str) -> bool {
         text.len() <= 128
             && match text.split_once(':') {
-                Some((root, rest)) => is_root(root)
-                    && rest.split(':').all(|part| is_component(part)),
+                Some((root, rest)) => is_root(root) && are_components(rest),
                 None => false,
             }
     }
@@ -33,39 +50,70 @@ impl Grammar for AccountGrammar {
 }
 
 /// Whether the text is the first component of an account.
-fn is_root(text: &str) -> bool {
+#[tactic(auto, unfolding(crate::specs::Name::is_root))]
+fn is_root(text: &str) -> bool
+    ensures { result ≡ is_root text.now }
+{
     matches!(
         text,
         "Assets" | "Liabilities" | "Equity" | "Income" | "Expenses"
     )
 }
 
-/// Whether the text is a component of an account after the first.
-fn is_component(text: &str) -> bool {
+/// Whether the text is later components of an account, joined by colons.
+fn are_components(text: &str) -> bool
+    ensures { result ≡ list_all is_component (components text.now) }
+{
+    text.split(':').all(|part| is_component(part))
+}
+
+/// Whether the text is a later component of an account.
+#[tactic(auto, unfolding(crate::specs::Name::is_component))]
+fn is_component(text: &str) -> bool
+    ensures { result ≡ is_component text.now }
+{
     match text.as_bytes() {
         [first, rest @ ..] => {
-            (first.is_ascii_uppercase() || first.is_ascii_digit())
-                && rest.iter().all(|b| b.is_ascii_alphanumeric() || *b == b'-')
+            (first.is_ascii_uppercase() || first.is_ascii_digit()) && are_component_bytes(rest)
         }
         [] => false,
     }
+}
+
+/// Whether each byte may stand in a component of an account.
+fn are_component_bytes(bytes: &[u8]) -> bool
+    ensures { result ≡ list_all is_component_byte bytes.now }
+{
+    bytes.iter().all(|b| is_component_byte(*b))
+}
+
+/// Whether the byte may stand in a component of an account.
+fn is_component_byte(b: u8) -> bool
+    ensures { result ≡ is_component_byte b }
+{
+    b.is_ascii_alphanumeric() || b == b'-'
 }
 
 /// The grammar of commodities.
 pub struct CommodityGrammar;
 
 impl Grammar for CommodityGrammar {
+    ghost is_name = { is_commodity };
+
+    ghost bad = { BadCommodity };
+
+    ghost blames_the_text = { λ e. Prim.cc };
+
+    #[tactic(auto, unfolding(crate::specs::Name::is_commodity))]
     fn accepts(text: &str) -> bool {
-        match text.as_bytes() {
-            [first, .., last] => {
-                text.len() <= 24
-                    && first.is_ascii_uppercase()
-                    && (last.is_ascii_uppercase() || last.is_ascii_digit())
-                    && text.bytes().all(|b| is_commodity_byte(b))
-            }
-            [only] => only.is_ascii_uppercase(),
-            [] => false,
-        }
+        let bytes = text.as_bytes();
+        let ([first, ..], [.., last]) = (bytes, bytes) else {
+            return false;
+        };
+        bytes.len() <= 24
+            && are_commodity_bytes(bytes)
+            && first.is_ascii_uppercase()
+            && (last.is_ascii_uppercase() || last.is_ascii_digit())
     }
 
     fn fault() -> NameFault {
@@ -73,8 +121,17 @@ impl Grammar for CommodityGrammar {
     }
 }
 
-/// Whether a commodity may hold the byte.
-fn is_commodity_byte(b: u8) -> bool {
+/// Whether each byte may stand in a commodity.
+fn are_commodity_bytes(bytes: &[u8]) -> bool
+    ensures { result ≡ list_all is_commodity_byte bytes.now }
+{
+    bytes.iter().all(|b| is_commodity_byte(*b))
+}
+
+/// Whether the byte may stand in a commodity.
+fn is_commodity_byte(b: u8) -> bool
+    ensures { result ≡ is_commodity_byte b }
+{
     b.is_ascii_uppercase() || b.is_ascii_digit() || matches!(b, b'\'' | b'.' | b'_' | b'-')
 }
 
@@ -82,11 +139,32 @@ fn is_commodity_byte(b: u8) -> bool {
 pub struct NoteGrammar;
 
 impl Grammar for NoteGrammar {
+    ghost is_name = { is_note };
+
+    ghost bad = { BadNote };
+
+    ghost blames_the_text = { λ e. Prim.cc };
+
+    #[tactic(auto, unfolding(crate::specs::Name::is_note))]
     fn accepts(text: &str) -> bool {
-        text.len() <= 1_000 && text.bytes().all(|b| b == b'\t' || !b.is_ascii_control())
+        text.len() <= 1_000 && are_note_bytes(text.as_bytes())
     }
 
     fn fault() -> NameFault {
         NameFault::BadNote
     }
+}
+
+/// Whether each byte may stand in a note.
+fn are_note_bytes(bytes: &[u8]) -> bool
+    ensures { result ≡ list_all is_note_byte bytes.now }
+{
+    bytes.iter().all(|b| is_note_byte(*b))
+}
+
+/// Whether the byte may stand in a note.
+fn is_note_byte(b: u8) -> bool
+    ensures { result ≡ is_note_byte b }
+{
+    b == b'\t' || !b.is_ascii_control()
 }

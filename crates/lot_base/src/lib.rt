@@ -5,8 +5,12 @@
 #![tactic(auto)]
 
 mod day;
+mod fault;
 mod grammars;
 mod name;
+#[cfg(test)]
+mod tests;
 
 pub use day::{Day, DayFault};
-pub use name::{Account, Commodity, NameFault, Note};
+pub use fault::NameFault;
+pub use name::{Account, Commodity, Note};

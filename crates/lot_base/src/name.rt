@@ -1,4 +1,4 @@
-ghost use Rattle.std.specs.Prelude.{◌≡◌, ◌==◌, ℕ, List, Bool, IfOk, OnOk, true, Some};
+ghost use Rattle.std.specs.Prelude.{◌≡◌, ◌==◌, ◌↔◌, ◌⊎◌, false, IsTrue, IfOk, IfErr, IsOk, IsErrOf, Some};
 ghost use Rattle.std.proofs.Common.{rules};
 ghost use Rattle.std.specs.Cmp.Rules.{comparing, hashing};
 ghost use Rattle.std.specs.Cmp.{partial_order_from_own_ties};
@@ -6,36 +6,13 @@ ghost use Rattle.std.specs.Ordering.{nat_cmp, as_partial_cmp};
 ghost use Rattle.std.specs.Cmp.Lexicographic.{pointwise, slice_cmp};
 ghost use Rattle.std.specs.Hash as fed;
 
+use crate::fault::NameFault;
 use crate::grammars::{AccountGrammar, CommodityGrammar, Grammar, NoteGrammar};
 use std::alloc::{AllocError, Global};
 use std::cmp::Ordering;
 use std::fmt;
 use std::hash::{Hash, Hasher};
 use std::marker::{Model, PhantomData};
-use thiserror::Error;
-
-/// Why a text is no name of the kind that was asked for.
-#[derive(Clone, Copy, Debug, PartialEq, Eq, Error)]
-pub enum NameFault {
-    /// The text is no account.
-    #[error("not an account")]
-    BadAccount,
-    /// The text is no commodity.
-    #[error("not a commodity")]
-    BadCommodity,
-    /// The text is no note.
-    #[error("not a note")]
-    BadNote,
-    /// There was no memory for a copy of the text.
-    #[error("out of memory")]
-    Memory,
-}
-
-impl From<AllocError> for NameFault {
-    fn from(_error: AllocError) -> NameFault {
-        NameFault::Memory
-    }
-}
 
 /// An account: two or more components joined by colons, as `Assets:Broker`.
 pub type Account = Name<AccountGrammar>;
@@ -54,20 +31,23 @@ pub struct Name<G: Grammar> {
 }
 
 impl<G: Grammar> Model for Name<G> {
-    ghost use Rattle.std.specs.Prelude.{ℕ, List};
+    ghost use Rattle.std.specs.Prelude.{ℕ, List, IsTrue};
     ghost use Rattle.std.specs.String.{string_bytes};
 
     ghost Value = { List ℕ };
 
     ghost view = { λ n. string_bytes n.text };
 
-    ghost invariant = { λ n. G.is_name (string_bytes n.text) };
+    ghost invariant = { λ n. IsTrue (G.is_name (string_bytes n.text)) };
 }
 
 impl<G: Grammar> Name<G> {
     /// The name with that text.
     pub fn new(alloc: Global, text: &str) -> Result<Name<G>, NameFault>
-        ensures { IfOk result (λ a. a ≡ text.now) }
+        ensures ok { IfOk result (λ a. a ≡ text.now) }
+        ensures good { IsOk result → IsTrue (G.is_name text.now) }
+        ensures bad { IsErrOf result G.bad ↔ (G.is_name text.now ≡ false) }
+        ensures fault { IfErr result (λ e. (e ≡ G.bad) ⊎ (e ≡ NameFault.Memory)) }
     {
         if !G::accepts(text) {
             return Err(G::fault());
@@ -80,7 +60,8 @@ impl<G: Grammar> Name<G> {
 
     /// Its text.
     pub fn as_str(&self) -> &str
-        ensures { result.now ≡ self.now }
+        ensures value { result.now ≡ self.now }
+        ensures grammar { IsTrue (G.is_name self.now) }
     {
         self.text.as_str()
     }
