@@ -1,5 +1,5 @@
 -- The date that a text says, part by part.
-use Rattle.std.proofs.Common.{◌≡◌, ℕ, ◌<◌, inl, inr, Bool, true, false, List, [], ◌∷◌, length, get_or, Option, Some, None, refl, sym, ap, ◌∙◌, arith}
+use Rattle.std.proofs.Common.{◌≡◌, ℕ, ◌+◌, ◌-◌, ◌*◌, ◌/◌, ◌%◌, ◌<◌, inl, inr, Bool, true, false, List, [], ◌∷◌, length, get_or, Option, Some, None, refl, sym, ap, ◌∙◌, arith}
 use Rattle.std.specs.Prelude.{cond, not, nat_le, ◌&&◌}
 use Rattle.std.specs.Char.{is_ascii_digit}
 use Rattle.std.specs.List.{slice_split, onto_first, list_all, position_or_len, before_first, after_first}
@@ -8,7 +8,7 @@ use Rattle.std.proofs.lemmas.List.Folds.{list_all_at}
 use Rattle.std.proofs.lemmas.List.Sums.{prefix_len_stops, prefix_len-le-length}
 use Rattle.std.proofs.lemmas.Bool.Decides.{nat_tests}
 use Rattle.std.proofs.lemmas.List.Splits.{slice_split_first}
-use Rattle.lot_base.specs.Day.{is_separator, number_in, date_of, date_in, named_date}
+use Rattle.lot_base.specs.Day.{is_separator, number_in, date_of, date_in, named_date, two_digits, four_digits, date_text}
 use Rattle.lot_base.proofs.SplitLemmas.{slice_split-whole}
 
 pub named_date-one : (text : List ℕ) → slice_split is_separator text ≡ text ∷ [] → None ≡ named_date text
@@ -77,3 +77,30 @@ pub named_date-three : (text year rest month day : List ℕ) (y m d : Option ℕ
     → date_of y m d ≡ named_date text
 unfolding named_date
 named_date-three text year rest month day y m d e f a b c = rw (e, f, a, b, c) (sym (last_part year month day))
+
+-- ---- the text of a date
+
+digit-no_separator : (q : ℕ) → is_separator (48 + q) ≡ false
+digit-no_separator q = grind (arith, nat_tests)
+
+digit-is : (q : ℕ) → q < 10 → is_ascii_digit (48 + q) ≡ true
+digit-is q h = grind (arith, nat_tests)
+
+number_in-two : (n : ℕ) → n < 100 → number_in 1 2 (two_digits n) ≡ Some n
+number_in-two n h =
+    let value : 10 * (10 * 0 + (48 + n / 10 - 48)) + (48 + n % 10 - 48) ≡ n = omega arith in
+    rw (digit-is (n / 10) (omega arith), digit-is (n % 10) (omega arith), value)
+
+number_in-four : (n : ℕ) → n < 10_000 → number_in 4 4 (four_digits n) ≡ Some n
+number_in-four n h =
+    let value : 10 * (10 * (10 * (10 * 0 + (48 + n / 100 / 10 - 48)) + (48 + n / 100 % 10 - 48)) + (48 + n % 100 / 10 - 48)) + (48 + n % 100 % 10 - 48) ≡ n = omega arith in
+    rw (digit-is (n / 100 / 10) (omega arith), digit-is (n / 100 % 10) (omega arith), digit-is (n % 100 / 10) (omega arith), digit-is (n % 100 % 10) (omega arith), value)
+
+date_text-parts : (y m d : ℕ) → slice_split is_separator (date_text y m d) ≡ four_digits y ∷ two_digits m ∷ two_digits d ∷ []
+date_text-parts y m d =
+    rw (digit-no_separator (y / 100 / 10), digit-no_separator (y / 100 % 10), digit-no_separator (y % 100 / 10), digit-no_separator (y % 100 % 10), digit-no_separator (m / 10), digit-no_separator (m % 10), digit-no_separator (d / 10), digit-no_separator (d % 10))
+
+-- the text of a date says the date
+pub named_date-date_text : (y m d : ℕ) → y < 10_000 → m < 100 → d < 100 → named_date (date_text y m d) ≡ Some (y, m, d)
+unfolding named_date
+named_date-date_text y m d a b c = rw (date_text-parts y m d, number_in-four y a, number_in-two m b, number_in-two d c)

@@ -7,6 +7,7 @@
 mod day;
 mod fault;
 mod grammars;
+pub mod laws;
 mod name;
 #[cfg(test)]
 mod tests;
