@@ -129,7 +129,7 @@ impl<G: Grammar> fmt::Display for Name<G> {
     ghost output = { λ n. Some n };
 
     fn fmt<W: fmt::Write>(&self, f: &mut fmt::Formatter<W>) -> fmt::Result {
-        f.write_str(self.as_str())
+        fmt::Display::fmt(&self.text, f)
     }
 }
 
