@@ -13,6 +13,12 @@ use std::fmt;
 use std::marker::Model;
 use thiserror::Error;
 
+/// The number of 0001-01-01.
+const FIRST: i32 = -719_162;
+
+/// The number of 9999-12-31.
+const LAST: i32 = 2_932_896;
+
 /// Why there is no such day.
 #[derive(Clone, Copy, Debug, PartialEq, Eq, Error)]
 pub enum DayFault {
@@ -21,9 +27,9 @@ pub enum DayFault {
     BadDay,
 }
 
-/// A day of the calendar, from 0001-01-01 to 9999-12-31.
+/// A day of the calendar, from 0001-01-01 to 9999-12-31, as `jiff` has it.
 ///
-/// Days are compared by their numbers. `{}` writes `YYYY-MM-DD`.
+/// A contract sees a day as its number, in days since 1970-01-01, and days are compared by it. `{}` writes `YYYY-MM-DD`.
 #[derive(Clone, Copy, Debug, PartialEq, Eq, PartialOrd, Ord, Hash)]
 pub struct Day {
     number: i32,
@@ -61,7 +67,7 @@ impl Day {
     }
 
     /// The day that a text names: four digits, one or two digits, and one or two digits, with `-` or `/`
-    /// between them.
+    /// between them, which may differ.
     ///
     /// `BadDay` where the text isn't of this form, or the calendar of the years 1 to 9999 hasn't that day.
     pub fn parse(text: &str) -> Result<Day, DayFault>
@@ -85,13 +91,13 @@ impl Day {
     pub fn from_number(number: i32) -> Option<Day>
         ensures { SomeIff result (IsDayNumber number) number }
     {
-        if number < -719_162 || number > 2_932_896 {
+        if number < FIRST || number > LAST {
             return None;
         }
         Some(Day { number })
     }
 
-    /// Its text, `YYYY-MM-DD`.
+    /// Its text, `YYYY-MM-DD`. The error is want of memory.
     pub fn text(self, alloc: Global) -> Result<String, AllocError>
         ensures { IfOk result (λ text. string_bytes text ≡ day_text self) }
     {

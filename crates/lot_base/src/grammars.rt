@@ -6,29 +6,45 @@ ghost use Rattle.lot_base.specs.declared.fault.NameFault.TheVariants.{BadAccount
 
 use crate::fault::NameFault;
 
+/// The longest account, in bytes.
+const MAX_ACCOUNT: usize = 128;
+
+/// The longest commodity, in bytes, which are also its characters.
+const MAX_COMMODITY: usize = 24;
+
+/// The longest note, in bytes.
+const MAX_NOTE: usize = 1_000;
+
 /// Which texts are names of one kind.
+///
+/// A further kind of name, as the label of a lot, is a further type with this trait.
 pub trait Grammar {
+    // Whether a list of bytes is a name of this kind.
     ghost is_name: { List ℕ → Bool };
 
+    // What is said of a text that is no such name.
     ghost bad: { NameFault };
 
     /// Whether the text is a name of this kind.
     fn accepts(text: &str) -> bool
         ensures { result ≡ is_name text.now };
 
-    /// What a text is called that isn't.
+    /// The fault of a text that is no name of this kind.
     fn fault() -> NameFault
         ensures { result ≡ bad };
 
+    // The fault of a text isn't want of memory.
     ghost blames_the_text: { bad ≢ Memory };
 }
 
-/// The grammar of accounts.
+/// The grammar of accounts: at least two components joined by colons, at most 128 bytes.
+///
+/// The first component is Assets, Liabilities, Equity, Income or Expenses. Each other one begins with a capital letter or
+/// a digit and goes on with letters, digits or dashes, all ASCII. After Beancount, Language Syntax; the bound on the
+/// length and ASCII alone are this project's own.
 pub struct AccountGrammar;
 
 impl Grammar for AccountGrammar {
-    ghost use Rattle.std.proofs.Common.{rules};
-
     ghost is_name = { is_account };
 
     ghost bad = { BadAccount };
@@ -37,7 +53,7 @@ impl Grammar for AccountGrammar {
 
     #[tactic(auto, unfolding(crate::specs::Name::is_account))]
     fn accepts(text: &str) -> bool {
-        text.len() <= 128
+        text.len() <= MAX_ACCOUNT
             && match text.split_once(':') {
                 Some((root, rest)) => is_root(root) && are_components(rest),
                 None => false,
@@ -94,7 +110,10 @@ fn is_component_byte(b: u8) -> bool
     b.is_ascii_alphanumeric() || b == b'-'
 }
 
-/// The grammar of commodities.
+/// The grammar of commodities: 1 to 24 characters.
+///
+/// The first is a capital letter, the last a capital letter or a digit, and each is a capital letter, a digit or one of
+/// `'`, `.`, `_` and `-`. After Beancount, Language Syntax.
 pub struct CommodityGrammar;
 
 impl Grammar for CommodityGrammar {
@@ -110,7 +129,7 @@ impl Grammar for CommodityGrammar {
         let ([first, ..], [.., last]) = (bytes, bytes) else {
             return false;
         };
-        bytes.len() <= 24
+        bytes.len() <= MAX_COMMODITY
             && are_commodity_bytes(bytes)
             && first.is_ascii_uppercase()
             && (last.is_ascii_uppercase() || last.is_ascii_digit())
@@ -135,7 +154,9 @@ fn is_commodity_byte(b: u8) -> bool
     b.is_ascii_uppercase() || b.is_ascii_digit() || matches!(b, b'\'' | b'.' | b'_' | b'-')
 }
 
-/// The grammar of notes.
+/// The grammar of notes: at most 1,000 bytes of UTF-8, none of them a control byte (below 32, or 127) but the tab.
+///
+/// This project's own.
 pub struct NoteGrammar;
 
 impl Grammar for NoteGrammar {
@@ -147,7 +168,7 @@ impl Grammar for NoteGrammar {
 
     #[tactic(auto, unfolding(crate::specs::Name::is_note))]
     fn accepts(text: &str) -> bool {
-        text.len() <= 1_000 && are_note_bytes(text.as_bytes())
+        text.len() <= MAX_NOTE && are_note_bytes(text.as_bytes())
     }
 
     fn fault() -> NameFault {

@@ -14,16 +14,18 @@ use std::fmt;
 use std::hash::{Hash, Hasher};
 use std::marker::{Model, PhantomData};
 
-/// An account: two or more components joined by colons, as `Assets:Broker`.
+/// An account, as `Assets:Broker`. Its grammar is that of `AccountGrammar`.
 pub type Account = Name<AccountGrammar>;
 
-/// A commodity, which may be a currency, as `HOOL` or `USD`.
+/// A commodity or currency, as `HOOL` or `USD`. Its grammar is that of `CommodityGrammar`.
 pub type Commodity = Name<CommodityGrammar>;
 
-/// A note on a transaction: its payee or its narration.
+/// A note on a transaction, its payee or its narration. Its grammar is that of `NoteGrammar`.
 pub type Note = Name<NoteGrammar>;
 
-/// A text of the grammar `G`, kept as it was given. Names are compared by their bytes.
+/// A text of the grammar `G`, kept as it was given.
+///
+/// A contract sees a name as the list of its bytes. Names are equal where their bytes are, and are ordered by them.
 #[derive(Drop)]
 pub struct Name<G: Grammar> {
     text: String,
@@ -43,6 +45,9 @@ impl<G: Grammar> Model for Name<G> {
 
 impl<G: Grammar> Name<G> {
     /// The name with that text.
+    ///
+    /// The fault of the grammar (`BadAccount`, `BadCommodity` or `BadNote`) exactly where the text isn't of it, and
+    /// `Memory` where there is no memory for a copy of the text.
     pub fn new(alloc: Global, text: &str) -> Result<Name<G>, NameFault>
         ensures ok { IfOk result (λ a. a ≡ text.now) }
         ensures good { IsOk result → IsTrue (G.is_name text.now) }
@@ -58,7 +63,7 @@ impl<G: Grammar> Name<G> {
         })
     }
 
-    /// Its text.
+    /// Its text, which is of the grammar.
     pub fn as_str(&self) -> &str
         ensures value { result.now ≡ self.now }
         ensures grammar { IsTrue (G.is_name self.now) }
@@ -66,7 +71,7 @@ impl<G: Grammar> Name<G> {
         self.text.as_str()
     }
 
-    /// The same name once more.
+    /// The same name once more. The error is want of memory.
     pub fn copy(&self) -> Result<Name<G>, AllocError>
         ensures { IfOk result (λ a. a ≡ self.now) }
     {
