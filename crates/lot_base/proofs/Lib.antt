@@ -1,0 +1,4 @@
+pub mod DayLemmas
+pub mod DayTextLemmas
+pub mod NameLemmas
+pub mod SplitLemmas

@@ -1,0 +1,145 @@
+ghost use Rattle.std.specs.Prelude.{◌≡◌, ◌==◌, ◌↔◌, ◌⊎◌, false, IsTrue, IfOk, IfErr, IsOk, IsErrOf, Some};
+ghost use Rattle.std.proofs.Common.{rules};
+ghost use Rattle.std.specs.Cmp.Rules.{comparing, hashing};
+ghost use Rattle.std.specs.Cmp.{partial_order_from_own_ties};
+ghost use Rattle.std.specs.Ordering.{nat_cmp, as_partial_cmp};
+ghost use Rattle.std.specs.Cmp.Lexicographic.{pointwise, slice_cmp};
+ghost use Rattle.std.specs.Hash as fed;
+
+use crate::fault::NameFault;
+use crate::grammars::{AccountGrammar, CommodityGrammar, Grammar, NoteGrammar};
+use std::alloc::{AllocError, Global};
+use std::cmp::Ordering;
+use std::fmt;
+use std::hash::{Hash, Hasher};
+use std::marker::{Model, PhantomData};
+
+/// An account, as `Assets:Broker`. Its grammar is that of `AccountGrammar`.
+pub type Account = Name<AccountGrammar>;
+
+/// A commodity or currency, as `HOOL` or `USD`. Its grammar is that of `CommodityGrammar`.
+pub type Commodity = Name<CommodityGrammar>;
+
+/// A note on a transaction, its payee or its narration. Its grammar is that of `NoteGrammar`.
+pub type Note = Name<NoteGrammar>;
+
+/// A text of the grammar `G`, kept as it was given.
+///
+/// A contract sees a name as the list of its bytes. Names are equal where their bytes are, and are ordered by them.
+#[derive(Drop)]
+pub struct Name<G: Grammar> {
+    text: String,
+    grammar: PhantomData<G>,
+}
+
+impl<G: Grammar> Model for Name<G> {
+    ghost use Rattle.std.specs.Prelude.{ℕ, List, IsTrue};
+    ghost use Rattle.std.specs.String.{string_bytes};
+
+    ghost Value = { List ℕ };
+
+    ghost view = { λ n. string_bytes n.text };
+
+    ghost invariant = { λ n. IsTrue (G.is_name (string_bytes n.text)) };
+}
+
+impl<G: Grammar> Name<G> {
+    /// The name with that text.
+    ///
+    /// The fault of the grammar (`BadAccount`, `BadCommodity` or `BadNote`) exactly where the text isn't of it, and
+    /// `Memory` where there is no memory for a copy of the text.
+    pub fn new(alloc: Global, text: &str) -> Result<Name<G>, NameFault>
+        ensures ok { IfOk result (λ a. a ≡ text.now) }
+        ensures good { IsOk result → IsTrue (G.is_name text.now) }
+        ensures bad { IsErrOf result G.bad ↔ (G.is_name text.now ≡ false) }
+        ensures fault { IfErr result (λ e. (e ≡ G.bad) ⊎ (e ≡ NameFault.Memory)) }
+    {
+        if !G::accepts(text) {
+            return Err(G::fault());
+        }
+        Ok(Name {
+            text: String::from_str(alloc, text)?,
+            grammar: PhantomData,
+        })
+    }
+
+    /// Its text, which is of the grammar.
+    pub fn as_str(&self) -> &str
+        ensures value { result.now ≡ self.now }
+        ensures grammar { IsTrue (G.is_name self.now) }
+    {
+        self.text.as_str()
+    }
+
+    /// The same name once more. The error is want of memory.
+    pub fn copy(&self) -> Result<Name<G>, AllocError>
+        ensures { IfOk result (λ a. a ≡ self.now) }
+    {
+        Ok(Name {
+            text: self.text.clone()?,
+            grammar: PhantomData,
+        })
+    }
+}
+
+impl<G: Grammar> PartialEq for Name<G> {
+    ghost eq = { pointwise ◌==◌ };
+
+    ghost laws = { Prim.search (comparing, rules) };
+
+    fn eq(&self, other: &Name<G>) -> bool {
+        self.as_str() == other.as_str()
+    }
+}
+
+impl<G: Grammar> Eq for Name<G> {
+    ghost laws = { Prim.search (comparing, rules) };
+}
+
+impl<G: Grammar> PartialOrd for Name<G> {
+    ghost partial_cmp = { as_partial_cmp (slice_cmp nat_cmp) };
+
+    ghost laws = { partial_order_from_own_ties (Prim.search (comparing, rules)) (Prim.search (comparing, rules)) };
+
+    fn partial_cmp(&self, other: &Name<G>) -> Option<Ordering> {
+        Some(self.cmp(other))
+    }
+}
+
+impl<G: Grammar> Ord for Name<G> {
+    ghost cmp = { slice_cmp nat_cmp };
+
+    ghost total = { Prim.search (comparing, rules) };
+
+    ghost matches_partial_cmp = { Prim.search (comparing, rules) };
+
+    ghost matches_eq = { Prim.search (comparing, rules) };
+
+    fn cmp(&self, other: &Name<G>) -> Ordering {
+        self.as_str().cmp(other.as_str())
+    }
+}
+
+impl<G: Grammar> Hash for Name<G> {
+    ghost hash_input = { fed.str };
+
+    ghost respects_eq = { Prim.search (hashing, rules) };
+
+    fn hash<H: Hasher>(&self, state: &mut H) {
+        self.as_str().hash(state);
+    }
+}
+
+impl<G: Grammar> fmt::Display for Name<G> {
+    ghost output = { λ n. Some n };
+
+    fn fmt<W: fmt::Write>(&self, f: &mut fmt::Formatter<W>) -> fmt::Result {
+        fmt::Display::fmt(&self.text, f)
+    }
+}
+
+impl<G: Grammar> fmt::Debug for Name<G> {
+    fn fmt<W: fmt::Write>(&self, f: &mut fmt::Formatter<W>) -> fmt::Result {
+        fmt::Debug::fmt(&self.as_str(), f)
+    }
+}
