@@ -1,3 +1,5 @@
+pub mod DateLemmas
+pub mod DateOfLemmas
 pub mod DayLemmas
 pub mod DayTextLemmas
 pub mod NameLemmas

@@ -1,4 +1,5 @@
-use Rattle.lot_base.proofs.DayLemmas.{day_text-date, IsDay-civil}
+use Rattle.lot_base.proofs.DateLemmas.{IsDay-civil}
+use Rattle.lot_base.proofs.DayLemmas.{day_text-date}
 use Rattle.lot_base.proofs.laws.day_text_is_of_the_date.Goals as goal
 
 pub returns : goal.returns

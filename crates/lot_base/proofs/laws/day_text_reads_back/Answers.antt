@@ -2,7 +2,9 @@ use Rattle.std.proofs.Common.{◌<◌, pos, arith}
 use Rattle.jiff_core.proofs.CalendarLemmas.{days_in_month_bounds}
 use Rattle.jiff_core.proofs.SignedLemmas.{signed_arith}
 use Rattle.lot_base.specs.Day.{named_day}
-use Rattle.lot_base.proofs.DayLemmas.{date_of-number, date_number-civil, day_text-date}
+use Rattle.lot_base.proofs.DateLemmas.{date_number-civil}
+use Rattle.lot_base.proofs.DateOfLemmas.{date_of-number}
+use Rattle.lot_base.proofs.DayLemmas.{day_text-date}
 use Rattle.lot_base.proofs.DayTextLemmas.{named_date-date_text}
 use Rattle.lot_base.proofs.laws.day_text_reads_back.Goals as goal
 

@@ -3,7 +3,7 @@ use Rattle.std.specs.Prelude.{option_and_then}
 use Rattle.std.specs.Int.{w16}
 use Rattle.std.proofs.lemmas.Int.{to_z_pos}
 use Rattle.lot_base.specs.Day.{named_date, named_day, date_number}
-use Rattle.lot_base.proofs.DayLemmas.{date_number-result}
+use Rattle.lot_base.proofs.DateLemmas.{date_number-result}
 use Rattle.lot_base.proofs.day.Day.parse.Goals as goal
 
 pub returns : goal.returns
