@@ -1,0 +1,98 @@
+//! The whole way: a text is read, judged on a fresh book, and answered.
+//!
+//! - `fault`: why the way ends before its end.
+//! - `status`: how it ended.
+
+mod fault;
+mod status;
+#[cfg(test)]
+mod tests;
+
+use crate::input::slurp;
+use crate::ledger::{Book, Stop};
+use crate::report::{Holdings, ReportFault, print_accepted, print_refused};
+use crate::text::{Command, read};
+use fault::{Fault, print_fault};
+use status::Status;
+use std::alloc::Global;
+use std::io::{self, Read, Write};
+
+/// Judges a ledger text on a fresh book: writes a reply to each of its commands, and then what the book holds.
+///
+/// The text is read to its end before the first command is judged, and where it can't be read or isn't ledger
+/// text, one line says so (docs/FORMATS.md, Printed texts). Answers the status of the program: 0 where all
+/// commands were accepted, 1 where some were refused, 3 for a fault of the input, 4 for a fault of the report,
+/// of the output or of memory. After a fault of the output nothing more is written.
+pub fn check<R: Read, W: Write>(alloc: Global, reader: &mut R, writer: &mut W) -> u8 {
+    let outcome = answer(alloc, reader, writer);
+    conclude(writer, outcome).unwrap_or(Status::Stopped).code()
+}
+
+/// Reads, judges and writes, up to the end or the first fault.
+fn answer<R: Read, W: Write>(
+    alloc: Global,
+    reader: &mut R,
+    writer: &mut W,
+) -> Result<Status, Fault> {
+    let text = slurp(alloc, reader)?;
+    let commands = read(alloc, &text)?;
+    let mut book = Book::new(alloc);
+    let status = run(alloc, &mut book, commands, writer)?;
+    print_held(alloc, &book, writer)?;
+    Ok(status)
+}
+
+/// Judges commands in their order, and writes a reply to each.
+fn run<W: Write>(
+    alloc: Global,
+    book: &mut Book,
+    commands: Vec<Command>,
+    writer: &mut W,
+) -> Result<Status, Fault> {
+    let mut status = Status::Accepted;
+    for (index, command) in commands.into_iter().enumerate() {
+        let reply = reply(alloc, book, index + 1, command, writer)?;
+        status = status.and(reply);
+    }
+    Ok(status)
+}
+
+/// Judges the command of that number, and writes the reply.
+fn reply<W: Write>(
+    alloc: Global,
+    book: &mut Book,
+    number: usize,
+    command: Command,
+    writer: &mut W,
+) -> Result<Status, Fault> {
+    let (written, status) = match book.judge(alloc, command) {
+        Ok(()) => (print_accepted(writer, number), Status::Accepted),
+        Err(Stop::Refused(refusal)) => (print_refused(writer, number, &refusal), Status::Refused),
+        Err(Stop::Memory) => return Err(Fault::MemoryAt { number }),
+    };
+    written.map_err(|fault| Fault::at(number, fault))?;
+    Ok(status)
+}
+
+/// Writes what the book holds.
+fn print_held<W: Write>(alloc: Global, book: &Book, writer: &mut W) -> Result<(), ReportFault> {
+    let mut holdings = Holdings::new(alloc);
+    for (position, units) in book.holdings() {
+        holdings.row(position, *units, writer)?;
+    }
+    holdings.end(writer)
+}
+
+/// Tells a fault, if there was one, and flushes what was written.
+fn conclude<W: Write>(writer: &mut W, outcome: Result<Status, Fault>) -> io::Result<Status> {
+    let status = match outcome {
+        Ok(status) => status,
+        Err(Fault::Write) => return Ok(Status::Stopped),
+        Err(fault) => {
+            print_fault(writer, fault)?;
+            fault.status()
+        }
+    };
+    writer.flush()?;
+    Ok(status)
+}

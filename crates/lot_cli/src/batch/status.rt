@@ -1,0 +1,29 @@
+/// How a run ended.
+#[derive(Clone, Copy, Debug, PartialEq, Eq)]
+pub(super) enum Status {
+    /// Every command was accepted.
+    Accepted,
+    /// Some command was refused.
+    Refused,
+    /// The input can't be read, or isn't ledger text.
+    BadInput,
+    /// The report, the output or memory stopped it.
+    Stopped,
+}
+
+impl Status {
+    /// The status of two runs, one after the other, neither of which met a fault.
+    pub fn and(self, next: Status) -> Status {
+        if self == Status::Accepted { next } else { self }
+    }
+
+    /// The number with which the program ends.
+    pub fn code(self) -> u8 {
+        match self {
+            Status::Accepted => 0,
+            Status::Refused => 1,
+            Status::BadInput => 3,
+            Status::Stopped => 4,
+        }
+    }
+}

@@ -1,0 +1,71 @@
+use super::decide::Change;
+use super::leg::{Entry, Position};
+use super::refusal::Stop;
+use crate::text::Command;
+use lot_base::{Account, Day};
+use lot_num::Units;
+use std::alloc::{AllocError, Global};
+use std::collections::{BTreeMap, btree_map};
+
+/// The accepted commands with their legs, in the order in which they were accepted.
+///
+/// What the entries open and hold is kept beside them, so that a command is judged without going over them all.
+#[derive(Drop)]
+pub(crate) struct Book {
+    entries: Vec<Entry>,
+    /// The day of each account's opening.
+    opened: BTreeMap<Account, Day>,
+    /// The units of each position, where they aren't zero.
+    held: BTreeMap<Position, Units>,
+}
+
+impl Book {
+    /// A book without entries.
+    pub fn new(alloc: Global) -> Book {
+        Book {
+            entries: Vec::new(alloc),
+            opened: BTreeMap::new(alloc),
+            held: BTreeMap::new(alloc),
+        }
+    }
+
+    /// Does a command: it becomes an entry, or is refused and the book is as it was. After want of memory the
+    /// book is to be let go.
+    pub fn judge(&mut self, alloc: Global, command: Command) -> Result<(), Stop> {
+        let change = self.decide(alloc, &command)?;
+        self.record(command, change)?;
+        Ok(())
+    }
+
+    /// The day on which the account was opened, if it was.
+    pub(super) fn opened(&self, account: &Account) -> Option<Day> {
+        self.opened.get(account).copied()
+    }
+
+    /// The units of a position, if they aren't zero.
+    pub(super) fn held(&self, position: &Position) -> Option<Units> {
+        self.held.get(position).copied()
+    }
+
+    /// The positions with units that aren't zero, in their order.
+    pub fn holdings(&self) -> btree_map::Iter<'_, Position, Units> {
+        self.held.iter()
+    }
+
+    /// Writes an accepted command and what it changes.
+    fn record(&mut self, command: Command, change: Change) -> Result<(), AllocError> {
+        if let Command::Opening(opening) = &command {
+            self.opened.insert(opening.account.copy()?, opening.day)?;
+        }
+        let Change { legs, held } = change;
+        for (position, units) in held {
+            if units.mantissa() == 0 {
+                self.held.remove(&position);
+            } else {
+                self.held.insert(position, units)?;
+            }
+        }
+        self.entries.push(Entry { command, legs })?;
+        Ok(())
+    }
+}

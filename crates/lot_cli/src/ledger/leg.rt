@@ -1,0 +1,63 @@
+use crate::text::Command;
+use lot_base::{Account, Commodity, Day};
+use lot_num::{Rate, Units};
+use std::alloc::AllocError;
+
+/// What ties units to the purchase that they came from. Keys are ordered by day, then currency, then number.
+#[derive(Debug, PartialEq, Eq, PartialOrd, Ord, Drop)]
+pub(crate) struct LotKey {
+    pub day: Day,
+    pub currency: Commodity,
+    pub number: Rate,
+}
+
+impl LotKey {
+    /// The same key once more.
+    pub fn copy(&self) -> Result<LotKey, AllocError> {
+        Ok(LotKey {
+            day: self.day,
+            currency: self.currency.copy()?,
+            number: self.number,
+        })
+    }
+}
+
+/// Where units are held: in the lot of that key, or plain. Positions are in the order of the holdings: by
+/// account, then commodity, the plain one before the lots.
+#[derive(Debug, PartialEq, Eq, PartialOrd, Ord, Drop)]
+pub(crate) struct Position {
+    pub account: Account,
+    pub commodity: Commodity,
+    pub lot: Option<LotKey>,
+}
+
+impl Position {
+    /// The same position once more.
+    pub fn copy(&self) -> Result<Position, AllocError> {
+        let lot = match &self.lot {
+            Some(lot) => Some(lot.copy()?),
+            None => None,
+        };
+        Ok(Position {
+            account: self.account.copy()?,
+            commodity: self.commodity.copy()?,
+            lot,
+        })
+    }
+}
+
+/// So many units that a posting of an entry puts into a position, or takes out of it.
+#[derive(Debug, PartialEq, Eq, Drop)]
+pub(crate) struct Leg {
+    /// The place of the posting in its transaction, from 1.
+    pub posting: usize,
+    pub position: Position,
+    pub units: Units,
+}
+
+/// An accepted command with its legs, in the order of its postings.
+#[derive(Debug, PartialEq, Eq, Drop)]
+pub(crate) struct Entry {
+    pub command: Command,
+    pub legs: Vec<Leg>,
+}

@@ -1,0 +1,13 @@
+//! The lines that are printed (docs/FORMATS.md, Printed texts).
+//!
+//! - `reply`: what became of a command.
+//! - `holdings`: what a book holds, and what its lots cost.
+//! - `line`: how a line reaches the writer.
+
+mod holdings;
+mod line;
+mod reply;
+
+pub(crate) use holdings::Holdings;
+pub(crate) use line::ReportFault;
+pub(crate) use reply::{print_accepted, print_refused};

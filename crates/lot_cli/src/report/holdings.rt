@@ -1,0 +1,105 @@
+#[cfg(test)]
+mod tests;
+
+use super::line::{ReportFault, print_line};
+use crate::ledger::{LotKey, Position};
+use lot_base::Commodity;
+use lot_num::{Units, Wide, weight};
+use std::alloc::Global;
+use std::collections::BTreeMap;
+use std::io::Write;
+
+/// The report of what is held: a row for each position that isn't at zero, in their order, and then what the
+/// lots cost in each currency.
+#[derive(Drop)]
+pub(crate) struct Holdings {
+    alloc: Global,
+    is_empty: bool,
+    /// What the lots so far cost.
+    costs: BTreeMap<Commodity, Wide>,
+}
+
+impl Holdings {
+    /// The report before its first row.
+    pub fn new(alloc: Global) -> Holdings {
+        Holdings {
+            alloc,
+            is_empty: true,
+            costs: BTreeMap::new(alloc),
+        }
+    }
+
+    /// Writes the row of one position.
+    ///
+    /// Refused with `Range` where it takes a total out of the range of weights: nothing of the row is written.
+    pub fn row<W: Write>(
+        &mut self,
+        position: &Position,
+        units: Units,
+        writer: &mut W,
+    ) -> Result<(), ReportFault> {
+        self.is_empty = false;
+        match &position.lot {
+            Some(lot) => {
+                self.add_cost(lot, units)?;
+                print_lot(self.alloc, writer, position, lot, units)
+            }
+            None => print_plain(self.alloc, writer, position, units),
+        }
+    }
+
+    /// Writes the totals, by the bytes of their currencies, or that nothing is held.
+    pub fn end<W: Write>(self, writer: &mut W) -> Result<(), ReportFault> {
+        if self.is_empty {
+            return print_line(writer, "nothing held");
+        }
+        for (currency, total) in &self.costs {
+            let total = total.text_money(self.alloc)?;
+            print_line(writer, format_args!("total cost {total} {currency}"))?;
+        }
+        Ok(())
+    }
+
+    /// Adds what the units of one lot cost.
+    fn add_cost(&mut self, lot: &LotKey, units: Units) -> Result<(), ReportFault> {
+        let cost = weight(units, lot.number);
+        let total = match self.costs.get(&lot.currency) {
+            Some(total) => total.checked_add(cost).ok_or(ReportFault::Range)?,
+            None => cost,
+        };
+        let currency = lot.currency.copy()?;
+        self.costs.insert(currency, total)?;
+        Ok(())
+    }
+}
+
+fn print_plain<W: Write>(
+    alloc: Global,
+    writer: &mut W,
+    position: &Position,
+    units: Units,
+) -> Result<(), ReportFault> {
+    let account = &position.account;
+    let units = units.text_money(alloc)?;
+    let commodity = &position.commodity;
+    print_line(writer, format_args!("{account} {units} {commodity}"))
+}
+
+fn print_lot<W: Write>(
+    alloc: Global,
+    writer: &mut W,
+    position: &Position,
+    lot: &LotKey,
+    units: Units,
+) -> Result<(), ReportFault> {
+    let account = &position.account;
+    let units = units.text(alloc)?;
+    let commodity = &position.commodity;
+    let number = lot.number.text(alloc)?;
+    let currency = &lot.currency;
+    let day = lot.day;
+    print_line(
+        writer,
+        format_args!("{account} {units} {commodity} {{{number} {currency}, {day}}}"),
+    )
+}

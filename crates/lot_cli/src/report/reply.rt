@@ -1,0 +1,38 @@
+use super::line::{ReportFault, print_line};
+use crate::ledger::Refusal;
+use std::fmt;
+use std::io::Write;
+
+/// Tells that the command of that number was accepted.
+pub(crate) fn print_accepted<W: Write>(writer: &mut W, number: usize) -> Result<(), ReportFault> {
+    print_line(writer, format_args!("{number} accepted"))
+}
+
+/// Tells why the command of that number was refused.
+pub(crate) fn print_refused<W: Write>(
+    writer: &mut W,
+    number: usize,
+    refusal: &Refusal,
+) -> Result<(), ReportFault> {
+    let cause = Cause(refusal);
+    print_line(writer, format_args!("{number} refused {cause}"))
+}
+
+/// A refusal as it is printed: its code, its name, and its argument if it has one.
+#[derive(Clone, Copy)]
+struct Cause<'a>(&'a Refusal);
+
+impl fmt::Display for Cause<'_> {
+    fn fmt<W: fmt::Write>(&self, f: &mut fmt::Formatter<W>) -> fmt::Result {
+        match self.0 {
+            Refusal::AlreadyOpen => f.write_str("L2 AlreadyOpen"),
+            Refusal::UnknownAccount { posting } => write!(f, "L3 UnknownAccount posting {posting}"),
+            Refusal::NotOpenYet { posting } => write!(f, "L4 NotOpenYet posting {posting}"),
+            Refusal::TooManyPostings => f.write_str("L8 TooManyPostings"),
+            Refusal::TwoElided => f.write_str("L9 TwoElided"),
+            Refusal::Range { posting } => write!(f, "L11 Range posting {posting}"),
+            Refusal::InexactFill { currency } => write!(f, "L12 InexactFill {currency}"),
+            Refusal::NotBalanced { currency } => write!(f, "L14 NotBalanced {currency}"),
+        }
+    }
+}
