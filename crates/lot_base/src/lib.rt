@@ -1,7 +1,9 @@
 //! Names and days: what a book calls its accounts and commodities, what it says about a transaction, and when.
 //!
-//! - `name`: `Account`, `Commodity` and `Note`, one type over three grammars.
-//! - `day`: `Day`, a day of the calendar of the years 1 to 9999.
+//! - `name`: `Account`, `Commodity` and `Note`, one type `Name` over three grammars, which stand in `grammars`.
+//! - `fault`: `NameFault`, why a text is no name.
+//! - `day`: `Day`, a day of the calendar of the years 1 to 9999, and `DayFault`.
+//! - `laws`: what holds of the definitions that the contracts cite.
 #![tactic(auto)]
 
 mod day;
