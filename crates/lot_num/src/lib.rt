@@ -3,6 +3,11 @@
 //! An amount is a whole number, its mantissa, at a fixed scale: `Units` and totals of units and `Rate`
 //! (a cost or a price) have eight decimals, and `Wide` (a weight, units times a rate) has sixteen.
 //! Nothing is ever rounded: a result that is no such number is refused.
+//!
+//! - `units`, `rate`, `wide`: the three kinds, and the weight of units at a rate.
+//! - `number_text`: what a number text says, or why it is refused.
+//! - `printed`: the shortest text of an amount.
+//! - `laws`: number text is its grammar; what is printed reads back, and is the shortest.
 #![tactic(auto)]
 
 pub mod laws;
