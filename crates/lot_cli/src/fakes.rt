@@ -34,6 +34,7 @@ impl Failing {
 }
 
 impl<'a> Script<'a> {
+    /// A reader of these bytes that was not called yet.
     pub fn new(bytes: &'a [u8], step: usize, failing: Failing, kind: ErrorKind) -> Script<'a> {
         Script {
             rest: bytes,

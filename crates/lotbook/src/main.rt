@@ -5,13 +5,25 @@ use std::env;
 use std::io::{self, BufWriter};
 use std::process::ExitCode;
 
-fn main(rt: HostRuntime) -> io::Result<ExitCode> {
-    if env::args(&rt)?.count() > 1 {
-        eprintln!(rt; "lotbook: init, post, import, holdings, gains and journal come with a later edition.")?;
-        eprintln!(rt; "Call it without words, with a ledger text on standard input: lotbook < FILE")?;
-        return Ok(ExitCode::from(2));
+fn main(rt: HostRuntime) -> ExitCode {
+    if env::args(&rt).is_ok_and(|words| words.count() > 1) {
+        let _ = eprintln!(rt;
+            "lotbook: init, post, import, holdings, gains and journal come with a later edition."
+        );
+        let _ = eprintln!(rt;
+            "Call it without words, with ledger text on standard input: lotbook < FILE"
+        );
+        return ExitCode::from(2);
     }
-    let mut output = BufWriter::new(rt.alloc(), io::writer(&rt))?;
-    let status = lot_cli::check(rt.alloc(), &mut rt.reader(), &mut output);
-    Ok(ExitCode::from(status))
+    let status = match BufWriter::new(rt.alloc(), io::writer(&rt)) {
+        Ok(mut output) => {
+            let status = lot_cli::check(rt.alloc(), &mut rt.reader(), &mut output);
+            // What could not be written is let go, where dropping the buffer would try once more.
+            let _unwritten = output.into_parts();
+            status
+        }
+        // Without memory for a buffer each line is written at once.
+        Err(_) => lot_cli::check(rt.alloc(), &mut rt.reader(), &mut io::writer(&rt)),
+    };
+    ExitCode::from(status)
 }
