@@ -1,5 +1,5 @@
 -- What is printed of an amount is a number text that says it.
-use Rattle.std.proofs.Common.{◌≡◌, ◌⊎◌, inl, inr, ℕ, zero, suc, ◌+◌, ◌-◌, ◌*◌, ◌/◌, ◌%◌, ◌^◌, ◌<◌, ◌≤◌, min, max, Bool, true, false, not, cond, List, [], ◌∷◌, ◌++◌, length, take, drop, filter, refl, ap, ◌∙◌, sym, arith, leb, nat_eq, ℤ, pos, negsuc, unsigned_abs, Result, Ok, Err, append_assoc, length-append}
+use Rattle.std.proofs.Common.{◌≡◌, inl, inr, ℕ, suc, ◌+◌, ◌*◌, ◌/◌, ◌%◌, ◌^◌, ◌<◌, ◌≤◌, Bool, true, false, not, List, [], ◌∷◌, ◌++◌, length, filter, refl, ap, ◌∙◌, arith, leb, nat_eq, ℤ, pos, negsuc, Result, Ok, Err}
 use Rattle.std.specs.Char.{is_ascii_digit}
 use Rattle.std.specs.Fmt.{decimal}
 use Rattle.std.specs.List.{list_any}
@@ -15,9 +15,9 @@ use Rattle.lot_num.specs.declared.number_text.Sign.TheVariants.{Plus, Minus}
 use Rattle.lot_num.specs.Amount.{one, IsUnits, IsRate}
 use Rattle.lot_num.specs.AmountText.{shown_decimals, point_and, magnitude_text, amount_text}
 use Rattle.lot_num.specs.NumberGrammar.{AreDigits, IsWhole, IsSign, IsFraction, IsNumberText}
-use Rattle.lot_num.specs.NumberText.{sign_of, whole_part, decimals, is_number, whole_number, first_decimals, has_excess, magnitude, read_below, with_sign, with_no_sign, units_of, rate_of, signed}
+use Rattle.lot_num.specs.NumberText.{sign_of, decimals, is_number, whole_number, first_decimals, has_excess, magnitude, read_below, with_sign, with_no_sign, units_of, rate_of}
 use Rattle.lot_num.proofs.GrammarLemmas.{test_from_digit, spelling_is_cut}
-use Rattle.lot_num.proofs.DecimalLemmas.{decimal_digits, decimal_value, shown_decimals_shown, first_decimals-short, IsShown}
+use Rattle.lot_num.proofs.DecimalLemmas.{decimal_digits, decimal_value, shown_decimals_shown, first_decimals-short}
 
 digits_are_whole : (ds : List ℕ) → AreDigits ds → 0 < length ds → IsWhole ds
 digits_are_whole [] h some = absurd (omega arith)

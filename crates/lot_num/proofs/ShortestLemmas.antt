@@ -1,9 +1,9 @@
 -- A number text that says an amount is no shorter than the printed one.
-use Rattle.std.proofs.Common.{◌≡◌, ◌⊎◌, inl, inr, ℕ, zero, suc, ◌+◌, ◌-◌, ◌*◌, ◌/◌, ◌%◌, ◌^◌, ◌<◌, ◌≤◌, min, max, Bool, true, false, not, cond, List, [], ◌∷◌, ◌++◌, length, take, filter, replicate, refl, ap, ◌∙◌, sym, rules, arith, leb, nat_eq, ℤ, pos, negsuc, neg_ℤ, Result, Ok, Err, length-append}
-use Rattle.std.specs.Char.{is_ascii_digit, digit_value}
+use Rattle.std.proofs.Common.{◌≡◌, inl, inr, ℕ, zero, suc, ◌+◌, ◌/◌, ◌%◌, ◌^◌, ◌<◌, ◌≤◌, Bool, true, false, not, cond, List, [], ◌∷◌, ◌++◌, length, take, filter, replicate, refl, ap, ◌∙◌, sym, rules, arith, leb, nat_eq, ℤ, pos, negsuc, Result, Ok, Err, length-append}
+use Rattle.std.specs.Char.{is_ascii_digit}
 use Rattle.std.specs.Fmt.{decimal}
 use Rattle.std.specs.Prelude.{if◌then◌else◌}
-use Rattle.std.specs.Str.Parse.{digits_value, AllDigits}
+use Rattle.std.specs.Str.Parse.{AllDigits}
 use Rattle.std.proofs.lemmas.Bool.{cases_lt}
 use Rattle.std.proofs.lemmas.Bool.Decides.{nat_tests}
 use Rattle.std.proofs.lemmas.Fmt.{length-decimal-le}
@@ -12,12 +12,12 @@ use Rattle.std.proofs.lemmas.Str.{digit_value_digit}
 use Rattle.std.proofs.lemmas.List.{length-take}
 use Rattle.std.proofs.Math.Nat.{pow-le-pow_right}
 use Rattle.lot_num.specs.declared.number_text.NumberFault.{NumberFault}
-use Rattle.lot_num.specs.declared.number_text.NumberFault.TheVariants.{Syntax, TooManyDecimals, TooLarge, Negative}
+use Rattle.lot_num.specs.declared.number_text.NumberFault.TheVariants.{Syntax, TooManyDecimals, TooLarge}
 use Rattle.lot_num.specs.declared.number_text.Sign.{Sign}
 use Rattle.lot_num.specs.declared.number_text.Sign.TheVariants.{Plus, Minus}
 use Rattle.lot_num.specs.Amount.{one, IsUnits}
 use Rattle.lot_num.specs.AmountText.{shown_decimals, point_and, magnitude_text, amount_text}
-use Rattle.lot_num.specs.NumberGrammar.{IsDigit, AreDigits, IsWhole, IsSign, IsFraction, IsNumberText}
+use Rattle.lot_num.specs.NumberGrammar.{AreDigits, IsWhole, IsSign, IsFraction, IsNumberText}
 use Rattle.lot_num.specs.NumberText.{sign_of, whole_part, decimals, is_number, whole_number, first_decimals, has_excess, magnitude, read_below, with_sign, with_no_sign, non_negative, units_of, rate_of, signed}
 use Rattle.lot_num.proofs.GrammarLemmas.{digit_from_test, text_is_spelled, spelling_is_cut}
 use Rattle.lot_num.proofs.DecimalLemmas.{shown_decimals_shown, first_decimals-short}
