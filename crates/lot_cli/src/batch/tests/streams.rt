@@ -54,12 +54,11 @@ fn sheet(alloc: Global, step: usize, failing: Failing, can_flush: bool) -> Sheet
 }
 
 #[test]
-fn every_line_is_one_write(rt: HostRuntime) {
+fn the_writer_is_flushed_once(rt: HostRuntime) {
     let mut reader = TEXT;
     let mut writer = sheet(rt.alloc(), usize::MAX, Failing::Never, true);
     assert_eq!(rt; check(rt.alloc(), &mut reader, &mut writer), 1);
     assert_eq!(rt; writer.written.as_slice(), PRINTED);
-    assert_eq!(rt; writer.calls, 6);
     assert_eq!(rt; writer.flushes, 1);
 }
 
