@@ -1,3 +1,7 @@
+ghost use Rattle.std.specs.Prelude.{OnOk};
+ghost use Rattle.std.specs.Io.KnownBytes.{Appends};
+ghost use Rattle.lot_cli.specs.Printed.{plain_row, lot_row, position_row};
+
 #[cfg(test)]
 mod tests;
 
@@ -37,7 +41,10 @@ impl Holdings {
         position: &Position,
         units: Units,
         writer: &mut W,
-    ) -> Result<(), ReportFault> {
+    ) -> Result<(), ReportFault>
+        ensures { OnOk result
+            (Appends (W.contents writer.old) (W.contents writer.new) (position_row position.now units)) }
+    {
         self.is_empty = false;
         match &position.lot {
             Some(lot) => {
@@ -78,7 +85,10 @@ fn print_plain<W: Write>(
     writer: &mut W,
     position: &Position,
     units: Units,
-) -> Result<(), ReportFault> {
+) -> Result<(), ReportFault>
+    ensures { OnOk result (Appends (W.contents writer.old) (W.contents writer.new)
+        (plain_row position.now.account position.now.commodity units)) }
+{
     let account = &position.account;
     let units = units.text_money(alloc)?;
     let commodity = &position.commodity;
@@ -91,7 +101,10 @@ fn print_lot<W: Write>(
     position: &Position,
     lot: &LotKey,
     units: Units,
-) -> Result<(), ReportFault> {
+) -> Result<(), ReportFault>
+    ensures { OnOk result (Appends (W.contents writer.old) (W.contents writer.new)
+        (lot_row position.now.account position.now.commodity lot.now units)) }
+{
     let account = &position.account;
     let units = units.text(alloc)?;
     let commodity = &position.commodity;

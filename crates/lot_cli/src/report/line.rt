@@ -1,3 +1,7 @@
+ghost use Rattle.std.specs.Prelude.{◌≡◌, OnOk, IfSome};
+ghost use Rattle.std.specs.Fmt.{with_newline};
+ghost use Rattle.std.specs.Io.KnownBytes.{Appends};
+
 use std::alloc::{AllocError, AllocFailed};
 use std::fmt::Display;
 use std::io::Write;
@@ -33,6 +37,9 @@ impl<T: Drop> From<AllocFailed<T>> for ReportFault {
 pub(super) fn print_line<W: Write, T: Display + Drop>(
     writer: &mut W,
     text: T,
-) -> Result<(), ReportFault> {
+) -> Result<(), ReportFault>
+    ensures { OnOk result (IfSome (with_newline (T.output text))
+        (Appends (W.contents writer.old) (W.contents writer.new))) }
+{
     writeln!(writer, "{text}").map_err(|_| ReportFault::Write)
 }

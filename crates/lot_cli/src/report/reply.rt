@@ -1,10 +1,17 @@
+ghost use Rattle.std.specs.Prelude.{OnOk};
+ghost use Rattle.std.specs.Io.KnownBytes.{Appends};
+ghost use Rattle.lot_cli.specs.Printed.{accepted_line, refused_line, cause_text};
+
 use super::line::{ReportFault, print_line};
 use crate::ledger::Refusal;
 use std::fmt;
 use std::io::Write;
 
 /// Tells that the command of that number was accepted.
-pub(crate) fn print_accepted<W: Write>(writer: &mut W, number: usize) -> Result<(), ReportFault> {
+pub(crate) fn print_accepted<W: Write>(writer: &mut W, number: usize) -> Result<(), ReportFault>
+    ensures { OnOk result
+        (Appends (W.contents writer.old) (W.contents writer.new) (accepted_line number)) }
+{
     print_line(writer, format_args!("{number} accepted"))
 }
 
@@ -13,7 +20,10 @@ pub(crate) fn print_refused<W: Write>(
     writer: &mut W,
     number: usize,
     refusal: &Refusal,
-) -> Result<(), ReportFault> {
+) -> Result<(), ReportFault>
+    ensures { OnOk result
+        (Appends (W.contents writer.old) (W.contents writer.new) (refused_line number refusal.now)) }
+{
     let cause = Cause(refusal);
     print_line(writer, format_args!("{number} refused {cause}"))
 }
@@ -23,6 +33,10 @@ pub(crate) fn print_refused<W: Write>(
 struct Cause<'a>(&'a Refusal);
 
 impl fmt::Display for Cause<'_> {
+    ghost use Rattle.std.specs.Prelude.{Some};
+
+    ghost output = { λ cause. Some (cause_text cause.0.now) };
+
     fn fmt<W: fmt::Write>(&self, f: &mut fmt::Formatter<W>) -> fmt::Result {
         match self.0 {
             Refusal::AlreadyOpen => f.write_str("L2 AlreadyOpen"),
