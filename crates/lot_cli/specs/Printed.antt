@@ -1,5 +1,6 @@
 -- The lines that are printed (docs/FORMATS.md, Printed texts), each as a function of what it tells.
-use Rattle.std.specs.Prelude.{ℕ, List, [], ◌∷◌, ◌++◌, ℤ, pos, codes, decimal, Option, Some, None}
+use Rattle.std.specs.Prelude.{ℕ, List, [], ◌∷◌, ◌++◌, ℤ, pos, codes, decimal, Bool, true, false, Option, Some, None}
+use Rattle.std.specs.List.{flat_map}
 use Rattle.lot_num.specs.AmountText.{amount_text}
 use Rattle.lot_base.specs.Day.{day_text}
 use Rattle.lot_cli.specs.declared.ledger.refusal.Refusal.{Refusal}
@@ -52,3 +53,8 @@ position_row position units = row_of position.account position.commodity positio
 
 abbrev pub total_line : List ℕ → ℤ → List ℕ
 total_line currency total = line (codes "total cost " ++ amount_text 2 16 total ++ codes " " ++ currency)
+
+-- what stands behind the rows: that there were none, or what the lots cost in each currency
+abbrev pub totals : Bool → List (List ℕ × ℤ) → List ℕ
+totals true costs = line (codes "nothing held")
+totals false costs = flat_map (λ (cost : List ℕ × ℤ). total_line cost.0 cost.1) costs

@@ -1,6 +1,6 @@
 ghost use Rattle.std.specs.Prelude.{OnOk};
 ghost use Rattle.std.specs.Io.KnownBytes.{Appends};
-ghost use Rattle.lot_cli.specs.Printed.{plain_row, lot_row, position_row};
+ghost use Rattle.lot_cli.specs.Printed.{plain_row, lot_row, position_row, total_line, totals};
 
 #[cfg(test)]
 mod tests;
@@ -56,13 +56,15 @@ impl Holdings {
     }
 
     /// Writes the totals, by the bytes of their currencies, or that nothing is held.
-    pub fn end<W: Write>(self, writer: &mut W) -> Result<(), ReportFault> {
+    pub fn end<W: Write>(self, writer: &mut W) -> Result<(), ReportFault>
+        ensures { OnOk result
+            (Appends (W.contents writer.old) (W.contents writer.new) (totals self.is_empty self.costs.entries)) }
+    {
         if self.is_empty {
             return print_line(writer, "nothing held");
         }
         for (currency, total) in &self.costs {
-            let total = total.text_money(self.alloc)?;
-            print_line(writer, format_args!("total cost {total} {currency}"))?;
+            print_total(self.alloc, writer, currency, *total)?;
         }
         Ok(())
     }
@@ -115,4 +117,17 @@ fn print_lot<W: Write>(
         writer,
         format_args!("{account} {units} {commodity} {{{number} {currency}, {day}}}"),
     )
+}
+
+fn print_total<W: Write>(
+    alloc: Global,
+    writer: &mut W,
+    currency: &Commodity,
+    total: Wide,
+) -> Result<(), ReportFault>
+    ensures { OnOk result
+        (Appends (W.contents writer.old) (W.contents writer.new) (total_line currency.now total)) }
+{
+    let total = total.text_money(alloc)?;
+    print_line(writer, format_args!("total cost {total} {currency}"))
 }
