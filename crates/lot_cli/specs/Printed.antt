@@ -5,6 +5,8 @@ use Rattle.lot_num.specs.AmountText.{amount_text}
 use Rattle.lot_base.specs.Day.{day_text}
 use Rattle.lot_cli.specs.declared.ledger.refusal.Refusal.{Refusal}
 use Rattle.lot_cli.specs.declared.ledger.refusal.Refusal.TheVariants.{AlreadyOpen, UnknownAccount, NotOpenYet, TooManyPostings, TwoElided, Range, InexactFill, NotBalanced}
+use Rattle.lot_cli.specs.declared.batch.fault.Fault.{Fault}
+use Rattle.lot_cli.specs.declared.batch.fault.Fault.TheVariants as Fault
 use Rattle.lot_cli.specs.declared.ledger.leg.LotKey.{LotKey}
 use Rattle.lot_cli.specs.declared.ledger.leg.Position.{Position}
 
@@ -29,6 +31,18 @@ accepted_line number = line (decimal number ++ codes " accepted")
 
 abbrev pub refused_line : ℕ → Refusal → List ℕ
 refused_line number refusal = line (decimal number ++ codes " refused " ++ cause_text refusal)
+
+-- ---- Faults
+
+-- the line that tells a fault; one of the writer isn't told
+abbrev pub fault_line : Fault → List ℕ
+fault_line Fault.Read = line (codes "fault K1 Read")
+fault_line Fault.TooLong = line (codes "fault K2 TooLong")
+fault_line (Fault.Syntax number) = line (codes "fault line " ++ decimal number ++ codes " X2 Syntax")
+fault_line Fault.Range = line (codes "fault P1 Range")
+fault_line Fault.Write = []
+fault_line Fault.Memory = line (codes "fault Memory")
+fault_line (Fault.MemoryAt number) = line (decimal number ++ codes " fault Memory")
 
 -- ---- Holdings
 

@@ -1,3 +1,8 @@
+ghost use Rattle.std.specs.Prelude.{◌≡◌, OnOk};
+ghost use Rattle.std.specs.Io.KnownBytes.{Appends};
+ghost use Rattle.lot_cli.specs.Printed.{fault_line};
+ghost use Rattle.lot_cli.specs.Status.{status_of};
+
 use super::status::Status;
 use crate::input::SlurpFault;
 use crate::report::ReportFault;
@@ -70,7 +75,9 @@ impl Fault {
     }
 
     /// How a run with this fault ends.
-    pub fn status(self) -> Status {
+    pub fn status(self) -> Status
+        ensures { result ≡ status_of self }
+    {
         match self {
             Fault::Read | Fault::TooLong | Fault::Syntax { .. } => Status::BadInput,
             _ => Status::Stopped,
@@ -80,14 +87,17 @@ impl Fault {
 
 /// Writes the line that tells a fault. It takes no memory, which may be what is wanting, so a line with a number
 /// is written piece by piece. A fault of the writer isn't told.
-pub(super) fn print_fault<W: Write>(writer: &mut W, fault: Fault) -> io::Result<()> {
+pub(super) fn print_fault<W: Write>(writer: &mut W, fault: Fault) -> io::Result<()>
+    ensures { OnOk result
+        (Appends (W.contents writer.old) (W.contents writer.new) (fault_line fault)) }
+{
     match fault {
         Fault::Read => writer.write_all(b"fault K1 Read\n"),
         Fault::TooLong => writer.write_all(b"fault K2 TooLong\n"),
-        Fault::Syntax { line } => write!(writer, "fault line {line} X2 Syntax\n"),
+        Fault::Syntax { line } => writeln!(writer, "fault line {line} X2 Syntax"),
         Fault::Range => writer.write_all(b"fault P1 Range\n"),
         Fault::Write => Ok(()),
         Fault::Memory => writer.write_all(b"fault Memory\n"),
-        Fault::MemoryAt { number } => write!(writer, "{number} fault Memory\n"),
+        Fault::MemoryAt { number } => writeln!(writer, "{number} fault Memory"),
     }
 }

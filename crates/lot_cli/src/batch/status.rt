@@ -1,3 +1,6 @@
+ghost use Rattle.std.specs.Prelude.{◌≡◌};
+ghost use Rattle.lot_cli.specs.Status.{code_of, status_after};
+
 /// How a run ended.
 #[derive(Clone, Copy, Debug, PartialEq, Eq)]
 pub(super) enum Status {
@@ -13,12 +16,16 @@ pub(super) enum Status {
 
 impl Status {
     /// The status of two runs, one after the other, neither of which met a fault.
-    pub fn and(self, next: Status) -> Status {
+    pub fn and(self, next: Status) -> Status
+        ensures { result ≡ status_after self next }
+    {
         if self == Status::Accepted { next } else { self }
     }
 
     /// The number with which the program ends.
-    pub fn code(self) -> u8 {
+    pub fn code(self) -> u8
+        ensures { result ≡ code_of self }
+    {
         match self {
             Status::Accepted => 0,
             Status::Refused => 1,

@@ -1,0 +1,30 @@
+-- How a run ends (docs/RULES.md, The program).
+use Rattle.std.specs.Prelude.{ℕ}
+use Rattle.lot_cli.specs.declared.batch.fault.Fault.{Fault}
+use Rattle.lot_cli.specs.declared.batch.fault.Fault.TheVariants.{Read, TooLong, Syntax, Range, Write, Memory, MemoryAt}
+use Rattle.lot_cli.specs.declared.batch.status.Status.{Status}
+use Rattle.lot_cli.specs.declared.batch.status.Status.TheVariants.{Accepted, Refused, BadInput, Stopped}
+
+-- the number with which the program ends
+abbrev pub code_of : Status → ℕ
+code_of Accepted = 0
+code_of Refused = 1
+code_of BadInput = 3
+code_of Stopped = 4
+
+-- one refused command is enough for a run to count as refused
+abbrev pub status_after : Status → Status → Status
+status_after Accepted next = next
+status_after Refused next = Refused
+status_after BadInput next = BadInput
+status_after Stopped next = Stopped
+
+-- a fault of the input is the input's; every other one stops the run
+abbrev pub status_of : Fault → Status
+status_of Read = BadInput
+status_of TooLong = BadInput
+status_of (Syntax line) = BadInput
+status_of Range = Stopped
+status_of Write = Stopped
+status_of Memory = Stopped
+status_of (MemoryAt number) = Stopped
