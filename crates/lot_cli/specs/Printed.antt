@@ -6,7 +6,6 @@ use Rattle.lot_base.specs.Day.{day_text}
 use Rattle.lot_cli.specs.declared.ledger.refusal.Refusal.{Refusal}
 use Rattle.lot_cli.specs.declared.ledger.refusal.Refusal.TheVariants.{AlreadyOpen, UnknownAccount, NotOpenYet, TooManyPostings, TwoElided, Range, InexactFill, NotBalanced}
 use Rattle.lot_cli.specs.declared.batch.fault.Fault.{Fault}
-use Rattle.lot_cli.specs.declared.batch.fault.Fault.TheVariants as Fault
 use Rattle.lot_cli.specs.declared.ledger.leg.LotKey.{LotKey}
 use Rattle.lot_cli.specs.declared.ledger.leg.Position.{Position}
 
@@ -42,7 +41,7 @@ fault_line (Fault.Syntax number) = line (codes "fault line " ++ decimal number +
 fault_line Fault.Range = line (codes "fault P1 Range")
 fault_line Fault.Write = []
 fault_line Fault.Memory = line (codes "fault Memory")
-fault_line (Fault.MemoryAt number) = line (decimal number ++ codes " fault Memory")
+fault_line (Fault.MemoryAt number) = decimal number ++ line (codes " fault Memory")
 
 -- ---- Holdings
 
