@@ -1,5 +1,5 @@
 -- How a run ends (docs/RULES.md, The program).
-use Rattle.std.specs.Prelude.{ℕ}
+use Rattle.std.specs.Prelude.{◌≡◌, ◌⊎◌, ℕ}
 use Rattle.lot_cli.specs.declared.batch.fault.Fault.{Fault}
 use Rattle.lot_cli.specs.declared.batch.fault.Fault.TheVariants.{Read, TooLong, Syntax, Range, Write, Memory, MemoryAt}
 use Rattle.lot_cli.specs.declared.batch.status.Status.{Status}
@@ -11,6 +11,10 @@ code_of Accepted = 0
 code_of Refused = 1
 code_of BadInput = 3
 code_of Stopped = 4
+
+-- a number with which a run without words ends
+abbrev pub IsStatus : ℕ → Type 0
+IsStatus n = (n ≡ 0) ⊎ (n ≡ 1) ⊎ (n ≡ 3) ⊎ (n ≡ 4)
 
 -- one refused command is enough for a run to count as refused
 abbrev pub status_after : Status → Status → Status

@@ -3,6 +3,8 @@
 //! - `fault`: why the way ends before its end.
 //! - `status`: how it ended.
 
+ghost use Rattle.lot_cli.specs.Status.{IsStatus};
+
 mod fault;
 mod status;
 #[cfg(test)]
@@ -23,7 +25,9 @@ use std::io::{self, Read, Write};
 /// text, one line says so (docs/FORMATS.md, Printed texts). Answers the status of the program: 0 where all
 /// commands were accepted, 1 where some were refused, 3 for a fault of the input, 4 for a fault of the report,
 /// of the output or of memory. After a fault of the output nothing more is written.
-pub fn check<R: Read, W: Write>(alloc: Global, reader: &mut R, writer: &mut W) -> u8 {
+pub fn check<R: Read, W: Write>(alloc: Global, reader: &mut R, writer: &mut W) -> u8
+    ensures { IsStatus result }
+{
     let outcome = answer(alloc, reader, writer);
     conclude(writer, outcome).unwrap_or(Status::Stopped).code()
 }

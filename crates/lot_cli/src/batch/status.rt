@@ -1,5 +1,5 @@
 ghost use Rattle.std.specs.Prelude.{◌≡◌};
-ghost use Rattle.lot_cli.specs.Status.{code_of, status_after};
+ghost use Rattle.lot_cli.specs.Status.{code_of, status_after, IsStatus};
 
 /// How a run ended.
 #[derive(Clone, Copy, Debug, PartialEq, Eq)]
@@ -24,7 +24,8 @@ impl Status {
 
     /// The number with which the program ends.
     pub fn code(self) -> u8
-        ensures { result ≡ code_of self }
+        ensures value { result ≡ code_of self }
+        ensures status { IsStatus result }
     {
         match self {
             Status::Accepted => 0,

@@ -1,3 +1,5 @@
+ghost use Rattle.std.specs.Prelude.{◌≡◌, IfOk};
+
 use crate::text::Command;
 use lot_base::{Account, Commodity, Day};
 use lot_num::{Rate, Units};
@@ -13,7 +15,9 @@ pub(crate) struct LotKey {
 
 impl LotKey {
     /// The same key once more.
-    pub fn copy(&self) -> Result<LotKey, AllocError> {
+    pub fn copy(&self) -> Result<LotKey, AllocError>
+        ensures { IfOk result (λ key. key ≡ self.now) }
+    {
         Ok(LotKey {
             day: self.day,
             currency: self.currency.copy()?,
@@ -33,7 +37,9 @@ pub(crate) struct Position {
 
 impl Position {
     /// The same position once more.
-    pub fn copy(&self) -> Result<Position, AllocError> {
+    pub fn copy(&self) -> Result<Position, AllocError>
+        ensures { IfOk result (λ position. position ≡ self.now) }
+    {
         let lot = match &self.lot {
             Some(lot) => Some(lot.copy()?),
             None => None,
