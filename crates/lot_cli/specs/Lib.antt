@@ -1,2 +1,11 @@
+pub mod Sum
+pub mod Leg
+pub mod Balance
+pub mod Step
+pub mod Book
+pub mod Text
 pub mod Printed
+pub mod Report
 pub mod Status
+pub mod Written
+pub mod Answer

@@ -11,8 +11,8 @@ mod status;
 mod tests;
 
 use crate::input::slurp;
-use crate::ledger::{Book, Stop};
-use crate::report::{Holdings, ReportFault, print_accepted, print_refused};
+use crate::ledger::Book;
+use crate::report::{Holdings, ReportFault, print_reply};
 use crate::text::{Command, read};
 use fault::{Fault, print_fault};
 use status::Status;
@@ -40,42 +40,29 @@ fn answer<R: Read, W: Write>(
 ) -> Result<Status, Fault> {
     let text = slurp(alloc, reader)?;
     let commands = read(alloc, &text)?;
-    let mut book = Book::new(alloc);
-    let status = run(alloc, &mut book, commands, writer)?;
+    let (book, status) = run(alloc, commands, writer)?;
     print_held(alloc, &book, writer)?;
     Ok(status)
 }
 
-/// Judges commands in their order, and writes a reply to each.
+/// Judges commands in their order on a fresh book, and writes a reply to each.
 fn run<W: Write>(
     alloc: Global,
-    book: &mut Book,
     commands: Vec<Command>,
     writer: &mut W,
-) -> Result<Status, Fault> {
+) -> Result<(Book, Status), Fault> {
+    let mut book = Book::new(alloc);
     let mut status = Status::Accepted;
     for (index, command) in commands.into_iter().enumerate() {
-        let reply = reply(alloc, book, index + 1, command, writer)?;
-        status = status.and(reply);
+        let number = index + 1;
+        let (next, verdict) = book
+            .judge(alloc, command)
+            .map_err(|_| Fault::MemoryAt { number })?;
+        book = next;
+        print_reply(writer, number, &verdict)?;
+        status = status.and(Status::of_verdict(&verdict));
     }
-    Ok(status)
-}
-
-/// Judges the command of that number, and writes the reply.
-fn reply<W: Write>(
-    alloc: Global,
-    book: &mut Book,
-    number: usize,
-    command: Command,
-    writer: &mut W,
-) -> Result<Status, Fault> {
-    let (written, status) = match book.judge(alloc, command) {
-        Ok(()) => (print_accepted(writer, number), Status::Accepted),
-        Err(Stop::Refused(refusal)) => (print_refused(writer, number, &refusal), Status::Refused),
-        Err(Stop::Memory) => return Err(Fault::MemoryAt { number }),
-    };
-    written.map_err(|fault| Fault::at(number, fault))?;
-    Ok(status)
+    Ok((book, status))
 }
 
 /// Writes what the book holds.

@@ -10,4 +10,4 @@ mod reply;
 
 pub(crate) use holdings::Holdings;
 pub(crate) use line::ReportFault;
-pub(crate) use reply::{print_accepted, print_refused};
+pub(crate) use reply::print_reply;

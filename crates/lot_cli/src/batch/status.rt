@@ -1,6 +1,8 @@
 ghost use Rattle.std.specs.Prelude.{◌≡◌};
 ghost use Rattle.lot_cli.specs.Status.{code_of, status_after, IsStatus};
 
+use crate::ledger::Verdict;
+
 /// How a run ended.
 #[derive(Clone, Copy, Debug, PartialEq, Eq)]
 pub(super) enum Status {
@@ -15,6 +17,14 @@ pub(super) enum Status {
 }
 
 impl Status {
+    /// The status of a run of one command.
+    pub fn of_verdict(verdict: &Verdict) -> Status {
+        match verdict {
+            Verdict::Accepted => Status::Accepted,
+            Verdict::Refused(_) => Status::Refused,
+        }
+    }
+
     /// The status of two runs, one after the other, neither of which met a fault.
     pub fn and(self, next: Status) -> Status
         ensures { result ≡ status_after self next }

@@ -1,6 +1,7 @@
 use super::decide::Change;
 use super::leg::{Entry, Position};
 use super::refusal::Stop;
+use super::verdict::Verdict;
 use crate::text::Command;
 use lot_base::{Account, Day};
 use lot_num::Units;
@@ -29,12 +30,14 @@ impl Book {
         }
     }
 
-    /// Does a command: it becomes an entry, or is refused and the book is as it was. After want of memory the
-    /// book is to be let go.
-    pub fn judge(&mut self, alloc: Global, command: Command) -> Result<(), Stop> {
-        let change = self.decide(alloc, &command)?;
-        self.record(command, change)?;
-        Ok(())
+    /// Judges a command, and answers the book with its verdict: the command has become its last entry, or the book
+    /// is as it was. For want of memory the book is lost.
+    pub fn judge(self, alloc: Global, command: Command) -> Result<(Book, Verdict), AllocError> {
+        match self.decide(alloc, &command) {
+            Ok(change) => Ok((self.record(command, change)?, Verdict::Accepted)),
+            Err(Stop::Refused(refusal)) => Ok((self, Verdict::Refused(refusal))),
+            Err(Stop::Memory) => Err(AllocError),
+        }
     }
 
     /// The day on which the account was opened, if it was.
@@ -47,13 +50,18 @@ impl Book {
         self.held.get(position).copied()
     }
 
+    /// The place of the entry that comes next, from 1.
+    pub(super) fn next_entry(&self) -> usize {
+        self.entries.len() + 1
+    }
+
     /// The positions with units that aren't zero, in their order.
     pub fn holdings(&self) -> btree_map::Iter<'_, Position, Units> {
         self.held.iter()
     }
 
     /// Writes an accepted command and what it changes.
-    fn record(&mut self, command: Command, change: Change) -> Result<(), AllocError> {
+    fn record(mut self, command: Command, change: Change) -> Result<Book, AllocError> {
         if let Command::Opening(opening) = &command {
             self.opened.insert(opening.account.copy()?, opening.day)?;
         }
@@ -66,6 +74,6 @@ impl Book {
             }
         }
         self.entries.push(Entry { command, legs })?;
-        Ok(())
+        Ok(self)
     }
 }

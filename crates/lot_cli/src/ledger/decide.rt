@@ -2,6 +2,7 @@ use super::balance::Residuals;
 use super::book::Book;
 use super::leg::{Leg, LotKey, Position};
 use super::refusal::{Refusal, Stop};
+use crate::items::Items;
 use crate::text::{Amount, Command, Cost, Opening, Posting, Transaction};
 use lot_base::{Account, Day};
 use lot_num::Units;
@@ -14,14 +15,14 @@ const MOST_POSTINGS: usize = 64;
 /// What an accepted command changes: its legs, and what each position that they touch holds after them.
 #[derive(Drop)]
 pub(super) struct Change {
-    pub legs: Vec<Leg>,
+    pub legs: Items<Leg>,
     pub held: BTreeMap<Position, Units>,
 }
 
 impl Change {
     fn new(alloc: Global) -> Change {
         Change {
-            legs: Vec::new(alloc),
+            legs: Items::new(alloc),
             held: BTreeMap::new(alloc),
         }
     }
@@ -93,7 +94,9 @@ impl Book {
         for (index, posting) in postings.iter().enumerate() {
             if let Some(amount) = &posting.amount {
                 let leg = Leg {
+                    entry: self.next_entry(),
                     posting: index + 1,
+                    place: 1,
                     position: position_of(&posting.account, amount, day)?,
                     units: amount.units,
                 };
@@ -111,14 +114,16 @@ impl Book {
         elided: Elided<'_>,
         change: &mut Change,
     ) -> Result<(), Stop> {
-        for (currency, units) in residuals.fills(alloc)? {
+        for (index, (currency, units)) in residuals.fills(alloc)?.into_iter().enumerate() {
             let position = Position {
                 account: elided.account.copy()?,
                 commodity: currency,
                 lot: None,
             };
             let leg = Leg {
+                entry: self.next_entry(),
                 posting: elided.posting,
+                place: index + 1,
                 position,
                 units,
             };

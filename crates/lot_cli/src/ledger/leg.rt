@@ -1,5 +1,6 @@
 ghost use Rattle.std.specs.Prelude.{◌≡◌, IfOk};
 
+use crate::items::Items;
 use crate::text::Command;
 use lot_base::{Account, Commodity, Day};
 use lot_num::{Rate, Units};
@@ -53,17 +54,21 @@ impl Position {
 }
 
 /// So many units that a posting of an entry puts into a position, or takes out of it.
-#[derive(Debug, PartialEq, Eq, Drop)]
+#[derive(Drop)]
 pub(crate) struct Leg {
+    /// The place of the entry in its book, from 1.
+    pub entry: usize,
     /// The place of the posting in its transaction, from 1.
     pub posting: usize,
+    /// The place of the leg among those of its posting, from 1.
+    pub place: usize,
     pub position: Position,
     pub units: Units,
 }
 
 /// An accepted command with its legs, in the order of its postings.
-#[derive(Debug, PartialEq, Eq, Drop)]
+#[derive(Drop)]
 pub(crate) struct Entry {
     pub command: Command,
-    pub legs: Vec<Leg>,
+    pub legs: Items<Leg>,
 }

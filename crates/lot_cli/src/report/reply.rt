@@ -3,12 +3,24 @@ ghost use Rattle.std.specs.Io.KnownBytes.{Appends};
 ghost use Rattle.lot_cli.specs.Printed.{accepted_line, refused_line, cause_text};
 
 use super::line::{ReportFault, print_line};
-use crate::ledger::Refusal;
+use crate::ledger::{Refusal, Verdict};
 use std::fmt;
 use std::io::Write;
 
+/// Tells what is said of the command of that number.
+pub(crate) fn print_reply<W: Write>(
+    writer: &mut W,
+    number: usize,
+    verdict: &Verdict,
+) -> Result<(), ReportFault> {
+    match verdict {
+        Verdict::Accepted => print_accepted(writer, number),
+        Verdict::Refused(refusal) => print_refused(writer, number, refusal),
+    }
+}
+
 /// Tells that the command of that number was accepted.
-pub(crate) fn print_accepted<W: Write>(writer: &mut W, number: usize) -> Result<(), ReportFault>
+fn print_accepted<W: Write>(writer: &mut W, number: usize) -> Result<(), ReportFault>
     ensures { OnOk result
         (Appends (W.contents writer.old) (W.contents writer.new) (accepted_line number)) }
 {
@@ -16,7 +28,7 @@ pub(crate) fn print_accepted<W: Write>(writer: &mut W, number: usize) -> Result<
 }
 
 /// Tells why the command of that number was refused.
-pub(crate) fn print_refused<W: Write>(
+fn print_refused<W: Write>(
     writer: &mut W,
     number: usize,
     refusal: &Refusal,

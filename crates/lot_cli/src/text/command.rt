@@ -1,8 +1,9 @@
+use crate::items::Items;
 use lot_base::{Account, Commodity, Day, Note};
 use lot_num::{Rate, Units};
 
 /// What a ledger text asks for (docs/FORMATS.md, Ledger text).
-#[derive(Debug, PartialEq, Eq, Drop)]
+#[derive(Drop)]
 pub(crate) enum Command {
     Opening(Opening),
     Transaction(Transaction),
@@ -16,11 +17,11 @@ pub(crate) struct Opening {
 }
 
 /// Amounts move between accounts on one day.
-#[derive(Debug, PartialEq, Eq, Drop)]
+#[derive(Drop)]
 pub(crate) struct Transaction {
     pub day: Day,
     pub narration: Option<Note>,
-    pub postings: Vec<Posting>,
+    pub postings: Items<Posting>,
 }
 
 /// One line of a transaction. A posting without amount takes what the others leave over.

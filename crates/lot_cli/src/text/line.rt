@@ -1,4 +1,5 @@
 use super::command::{Amount, Cost, Opening, Posting, Transaction};
+use crate::items::Items;
 use lot_base::{Account, Commodity, Day, DayFault, NameFault, Note};
 use lot_num::{NumberFault, Rate, Units};
 use std::alloc::{AllocError, AllocFailed, Global};
@@ -93,7 +94,7 @@ fn transaction(alloc: Global, day: Day, narration: Option<Note>) -> Transaction 
     Transaction {
         day,
         narration,
-        postings: Vec::new(alloc),
+        postings: Items::new(alloc),
     }
 }
 

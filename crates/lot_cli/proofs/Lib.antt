@@ -1,0 +1,5 @@
+pub mod TextLemmas
+pub mod BalanceLemmas
+pub mod BookLemmas
+pub mod LawLemmas
+pub mod PrintLemmas

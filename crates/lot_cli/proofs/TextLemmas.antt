@@ -1,0 +1,1 @@
+-- Lines, forms, and what they say together.

@@ -1,0 +1,62 @@
+-- The report of what is held: its rows, and what the lots cost in each currency (docs/FORMATS.md, Printed texts).
+use Rattle.std.specs.Prelude.{◌≡◌, ℕ, ◌^◌, Bool, not, IsTrue, nat_le, if◌then◌else◌, List, [], ◌∷◌, ◌++◌, flat_map, Option, None, Some, ℤ, pos, ◌*ℤ◌, unsigned_abs, ⊤, codes}
+use Rattle.std.specs.Ordering.{nat_cmp, is_eq}
+use Rattle.std.specs.Cmp.Lexicographic.{slice_cmp}
+use Rattle.std.specs.List.{list_all, list_any}
+use Rattle.std.specs.List.Sorted.{IsStrictlySortedBy}
+use Rattle.std.specs.Map.{keys_of, lookup}
+use Rattle.lot_cli.specs.declared.ledger.leg.LotKey.{LotKey}
+use Rattle.lot_cli.specs.declared.ledger.leg.Position.{Position}
+use Rattle.lot_cli.specs.Sum.{same_name, sum_in}
+use Rattle.lot_cli.specs.Printed.{line, position_row, total_line}
+
+-- ---- Costs.
+
+-- what the units of a row cost, in which currency; plain units have no cost
+abbrev pub cost_of : Option LotKey → ℤ → List (List ℕ × ℤ)
+cost_of None units = []
+cost_of (Some lot) units = (lot.currency, units *ℤ pos lot.number) ∷ []
+
+abbrev pub costs_of : List (Position × ℤ) → List (List ℕ × ℤ)
+costs_of rows = flat_map (λ (row : Position × ℤ). cost_of row.0.lot row.1) rows
+
+-- what the lots cost in each currency in which one does, by the bytes of the currencies
+pub record AreTotals (rows : List (Position × ℤ)) (totals : List (List ℕ × ℤ)) : Type 0 where
+  pub in_order : IsStrictlySortedBy (slice_cmp nat_cmp) (keys_of totals)
+  pub each : (currency : List ℕ) → lookup (λ name. is_eq (slice_cmp nat_cmp currency name)) totals
+      ≡ (if list_any (λ (cost : List ℕ × ℤ). same_name currency cost.0) (costs_of rows) then Some (sum_in (costs_of rows) currency) else None)
+
+-- ---- Totals stay in range, row by row.
+
+abbrev pub is_wide : ℤ → Bool
+is_wide z = nat_le (unsigned_abs z) (10 ^ 38)
+
+-- whether the total to which a row adds is in range behind those before it
+abbrev pub fits : List (Position × ℤ) → Position × ℤ → Bool
+fits before row = list_all (λ (cost : List ℕ × ℤ). is_wide (sum_in (costs_of (before ++ row ∷ [])) cost.0)) (cost_of row.0.lot row.1)
+
+-- each of the rows fits behind those before it
+abbrev pub AllFit : List (Position × ℤ) → List (Position × ℤ) → Type 0
+AllFit before [] = ⊤
+AllFit before (row ∷ rows) = IsTrue (fits before row) × AllFit (before ++ row ∷ []) rows
+
+-- ---- Texts.
+
+abbrev pub rows_text : List (Position × ℤ) → List ℕ
+rows_text rows = flat_map (λ (row : Position × ℤ). position_row row.0 row.1) rows
+
+-- what stands behind the rows: that there were none, or the totals
+abbrev pub totals_text : List (Position × ℤ) → List (List ℕ × ℤ) → List ℕ
+totals_text [] totals = line (codes "nothing held")
+totals_text (row ∷ rows) totals = flat_map (λ (total : List ℕ × ℤ). total_line total.0 total.1) totals
+
+-- the report of rows, where all totals stay in range
+abbrev pub IsReport : List (Position × ℤ) → List ℕ → Type 0
+IsReport rows text =
+    AllFit [] rows × (totals : List (List ℕ × ℤ)) × AreTotals rows totals × (text ≡ rows_text rows ++ totals_text rows totals)
+
+-- the text of the rows before the first with which a total leaves the range
+abbrev pub IsReportToFault : List (Position × ℤ) → List ℕ → Type 0
+IsReportToFault rows text =
+    (before : List (Position × ℤ)) × (row : Position × ℤ) × (after : List (Position × ℤ))
+    × AllFit [] before × IsTrue (not (fits before row)) × (rows ≡ before ++ row ∷ after) × (text ≡ rows_text before)

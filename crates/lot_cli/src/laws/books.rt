@@ -1,0 +1,1 @@
+//! Of steps and books.
