@@ -6,6 +6,8 @@ use Rattle.lot_cli.specs.declared.ledger.leg.Leg.{Leg}
 use Rattle.lot_cli.specs.declared.ledger.leg.Entry.{Entry}
 use Rattle.lot_cli.specs.declared.ledger.refusal.Refusal.{Refusal}
 use Rattle.lot_cli.specs.declared.ledger.refusal.Refusal.TheVariants.{AlreadyOpen, UnknownAccount, NotOpenYet, TooManyPostings, TwoElided, Range, InexactFill, NotBalanced}
+use Rattle.lot_cli.specs.declared.ledger.refusal.Stop.{Stop}
+use Rattle.lot_cli.specs.declared.ledger.refusal.Stop.TheVariants.{Refused, Memory}
 use Rattle.lot_cli.specs.declared.text.command.Posting.{Posting}
 use Rattle.lot_cli.specs.declared.text.command.Command.{Command}
 use Rattle.lot_cli.specs.declared.text.command.Command.TheVariants.{Opening, Transaction}
@@ -85,6 +87,11 @@ refusals book t =
     ∷ out_of_range (legs_of book ++ first_legs (length book + 1) t) (fill_legs (length book + 1) t)
     ∷ not_balanced (empty_postings 1 t.postings) (residuals (first_legs (length book + 1) t))
     ∷ []
+
+-- a part of the judgement stops at the refusal that it found, or for want of memory
+abbrev pub Stops : Option Refusal → Stop → Type 0
+Stops found (Refused refusal) = found ≡ Some refusal
+Stops found Memory = ⊤
 
 -- ---- Step.
 

@@ -1,6 +1,6 @@
 -- Ledger text: which commands it says, by its lines and their forms (after Beancount's Language Syntax; the exact
 -- form is this project's own: docs/FORMATS.md, What is read today).
-use Rattle.std.specs.Prelude.{◌≡◌, ◌≢◌, ◌⊎◌, ℕ, ◌+◌, ◌==◌, ◌||◌, Bool, not, IsTrue, List, [], ◌∷◌, ◌++◌, length, codes, Option, None, Some, Ok, ℤ, pos, int_lt}
+use Rattle.std.specs.Prelude.{◌≡◌, ◌≢◌, ◌⊎◌, ℕ, ◌+◌, ◌==◌, ◌||◌, Bool, not, IsTrue, List, [], ◌∷◌, ◌++◌, length, codes, Option, None, Some, Ok, ℤ, pos, int_lt, ⊤}
 use Rattle.std.specs.List.{AllZip, list_all}
 use Rattle.std.specs.Str.{IsUtf8}
 use Rattle.lot_num.specs.NumberText.{units_of, rate_of}
@@ -11,6 +11,8 @@ use Rattle.lot_cli.specs.declared.text.command.Posting.{Posting}
 use Rattle.lot_cli.specs.declared.text.command.Amount.{Amount}
 use Rattle.lot_cli.specs.declared.text.command.Cost.{Cost}
 use Rattle.lot_cli.specs.declared.text.command.Command.{Command}
+use Rattle.lot_cli.specs.declared.text.reader.TextFault.{TextFault}
+use Rattle.lot_cli.specs.declared.text.reader.TextFault.TheVariants.{Syntax, Memory}
 use Rattle.lot_cli.specs.declared.text.command.Command.TheVariants.{Opening, Transaction}
 
 -- ---- Forms of a line, which is UTF-8. Its line end isn't part of it.
@@ -102,3 +104,8 @@ Reads text commands = (lines : List (List ℕ)) × IsTextOf lines text × Says l
 -- the number of the first line of a text that no commands fit
 abbrev pub IsFaultAt : List ℕ → ℕ → Type 0
 IsFaultAt text number = (lines : List (List ℕ)) × IsTextOf lines text × IsFirstFault lines number
+
+-- the fault of a text is at its first faulty line; want of memory may always be answered
+abbrev pub IsFaultOf : List ℕ → TextFault → Type 0
+IsFaultOf text (Syntax number) = IsFaultAt text number
+IsFaultOf text Memory = ⊤

@@ -1,49 +1,55 @@
+ghost use Rattle.std.specs.Prelude.{◌≡◌, ◌≤◌, [], None, not, length, map, filter, IfOk, IfErr, OnOk};
+ghost use Rattle.std.specs.Option.{option_map};
+ghost use Rattle.lot_cli.specs.declared.ledger.refusal.Refusal.TheVariants.{InexactFill};
+ghost use Rattle.lot_cli.specs.Balance.{residuals, opposite, is_units, is_zero};
+ghost use Rattle.lot_cli.specs.Step.{Stops, first_currency, not_balanced};
+
+use super::leg::Leg;
 use super::refusal::{Refusal, Stop};
-use crate::text::{Amount, Posting};
 use indexmap::IndexMap;
 use lot_base::Commodity;
-use lot_num::{Units, Wide, weight};
-use std::alloc::Global;
+use lot_num::{Units, Wide};
+use std::alloc::{AllocError, Global};
+use std::marker::Model;
 
-/// What a transaction leaves over in each currency, in the order in which the currencies first appear.
+/// What legs leave over in each currency, in the order in which the currencies first appear. A contract sees the
+/// currencies, each beside its residual.
 #[derive(Drop)]
 pub(super) struct Residuals {
     sums: IndexMap<Commodity, Wide>,
 }
 
+impl Model for Residuals {
+    ghost use Rattle.std.specs.Prelude.{ℕ, ℤ, List};
+
+    ghost Value = { List (List ℕ × ℤ) };
+
+    ghost view = { λ r. r.sums.entries };
+}
+
 impl Residuals {
-    /// What postings leave over. Those without amount weigh nothing.
-    pub fn of(alloc: Global, postings: &[Posting]) -> Result<Residuals, Stop> {
+    /// What the legs leave over. The sum of so few weights always is a `Wide`.
+    pub fn of(alloc: Global, legs: &[Leg]) -> Result<Residuals, AllocError>
+        requires { length legs.now ≤ 64 }
+        ensures { IfOk result (λ r. r ≡ residuals legs.now) }
+    {
         let mut residuals = Residuals {
             sums: IndexMap::new(alloc),
         };
-        for (index, posting) in postings.iter().enumerate() {
-            if let Some(amount) = &posting.amount {
-                residuals.add(index + 1, amount)?;
-            }
+        for leg in legs {
+            residuals.add(leg)?;
         }
         Ok(residuals)
     }
 
-    /// Adds the weight of the amount of that posting: its units at their cost, or else the units themselves.
-    fn add(&mut self, posting: usize, amount: &Amount) -> Result<(), Stop> {
-        match &amount.cost {
-            Some(cost) => {
-                self.add_weight(posting, &cost.currency, weight(amount.units, cost.number))
-            }
-            None => self.add_weight(posting, &amount.commodity, amount.units.wide()),
-        }
-    }
-
-    fn add_weight(
-        &mut self,
-        posting: usize,
-        currency: &Commodity,
-        weight: Wide,
-    ) -> Result<(), Stop> {
+    /// Adds the weight of one more leg.
+    fn add(&mut self, leg: &Leg) -> Result<(), AllocError> {
+        let (currency, weight) = leg.weight();
         let sum = match self.sums.get(currency) {
-            // A transaction has at most 64 weights, each of at most 10^34, so their sum always is a `Wide`.
-            Some(sum) => sum.checked_add(weight).ok_or(Refusal::Range { posting })?,
+            Some(sum) => match sum.checked_add(weight) {
+                Some(sum) => sum,
+                None => unreachable!(),
+            },
             None => weight,
         };
         self.sums.insert(currency.copy()?, sum)?;
@@ -51,7 +57,10 @@ impl Residuals {
     }
 
     /// Refused where some currency doesn't sum to zero.
-    pub fn balanced(&self) -> Result<(), Stop> {
+    pub fn balanced(&self) -> Result<(), Stop>
+        ensures ok { OnOk result (not_balanced [] self.now ≡ None) }
+        ensures refused { IfErr result (λ stop. Stops (not_balanced [] self.now) stop) }
+    {
         for (currency, sum) in &self.sums {
             if sum.mantissa() != 0 {
                 let currency = currency.copy()?;
@@ -63,7 +72,13 @@ impl Residuals {
 
     /// What the posting without amount takes: the opposite of each sum that isn't zero. Refused where some sum
     /// is no units.
-    pub fn fills(&self, alloc: Global) -> Result<Vec<(Commodity, Units)>, Stop> {
+    pub fn fills(&self, alloc: Global) -> Result<Vec<(Commodity, Units)>, Stop>
+        ensures exact { OnOk result (first_currency (λ z. not (is_units z)) self.now ≡ None) }
+        ensures fills { IfOk result (λ fills. fills.items
+            ≡ map (λ r. (r.0, opposite r.1)) (filter (λ r. not (is_zero r.1)) self.now)) }
+        ensures refused { IfErr result (λ stop.
+            Stops (option_map InexactFill (first_currency (λ z. not (is_units z)) self.now)) stop) }
+    {
         let mut fills = Vec::new(alloc);
         for (currency, sum) in &self.sums {
             let currency = currency.copy()?;

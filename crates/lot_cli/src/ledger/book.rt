@@ -1,3 +1,7 @@
+ghost use Rattle.std.specs.Prelude.{◌≡◌, [], IfOk};
+ghost use Rattle.lot_cli.specs.Leg.{IsInventory, legs_of};
+ghost use Rattle.lot_cli.specs.Book.{Judges};
+
 use super::decide::Change;
 use super::leg::{Entry, Position};
 use super::refusal::Stop;
@@ -6,7 +10,8 @@ use crate::text::Command;
 use lot_base::{Account, Day};
 use lot_num::Units;
 use std::alloc::{AllocError, Global};
-use std::collections::{BTreeMap, btree_map};
+use std::collections::BTreeMap;
+use std::marker::Model;
 
 /// The accepted commands with their legs, in the order in which they were accepted.
 ///
@@ -20,9 +25,20 @@ pub(crate) struct Book {
     held: BTreeMap<Position, Units>,
 }
 
+impl Model for Book {
+    ghost use Rattle.std.specs.Prelude.{List};
+    ghost use Rattle.lot_cli.specs.declared.ledger.leg.Entry.{Entry};
+
+    ghost Value = { List Entry };
+
+    ghost view = { λ b. b.entries.items };
+}
+
 impl Book {
     /// A book without entries.
-    pub fn new(alloc: Global) -> Book {
+    pub fn new(alloc: Global) -> Book
+        ensures { result ≡ [] }
+    {
         Book {
             entries: Vec::new(alloc),
             opened: BTreeMap::new(alloc),
@@ -32,7 +48,9 @@ impl Book {
 
     /// Judges a command, and answers the book with its verdict: the command has become its last entry, or the book
     /// is as it was. For want of memory the book is lost.
-    pub fn judge(self, alloc: Global, command: Command) -> Result<(Book, Verdict), AllocError> {
+    pub fn judge(self, alloc: Global, command: Command) -> Result<(Book, Verdict), AllocError>
+        ensures { IfOk result (λ judged. Judges self command judged.1 judged.0) }
+    {
         match self.decide(alloc, &command) {
             Ok(change) => Ok((self.record(command, change)?, Verdict::Accepted)),
             Err(Stop::Refused(refusal)) => Ok((self, Verdict::Refused(refusal))),
@@ -55,9 +73,11 @@ impl Book {
         self.entries.len() + 1
     }
 
-    /// The positions with units that aren't zero, in their order.
-    pub fn holdings(&self) -> btree_map::Iter<'_, Position, Units> {
-        self.held.iter()
+    /// The positions with units that aren't zero, in their order, and what each holds.
+    pub fn holdings(&self) -> &BTreeMap<Position, Units>
+        ensures { IsInventory (legs_of self.now) result.now.entries }
+    {
+        &self.held
     }
 
     /// Writes an accepted command and what it changes.

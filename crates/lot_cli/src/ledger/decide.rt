@@ -55,7 +55,7 @@ impl Book {
         let elided = only_elided(postings)?;
         let mut change = Change::new(alloc);
         self.post_amounts(postings, transaction.day, &mut change)?;
-        let residuals = Residuals::of(alloc, postings)?;
+        let residuals = Residuals::of(alloc, change.legs.as_slice())?;
         match elided {
             Some(elided) => self.fill(alloc, &residuals, elided, &mut change)?,
             None => residuals.balanced()?,

@@ -1,9 +1,10 @@
 ghost use Rattle.std.specs.Prelude.{◌≡◌, IfOk};
+ghost use Rattle.lot_cli.specs.Balance.{weight_of};
 
 use crate::items::Items;
 use crate::text::Command;
 use lot_base::{Account, Commodity, Day};
-use lot_num::{Rate, Units};
+use lot_num::{Rate, Units, Wide, weight};
 use std::alloc::AllocError;
 
 /// What ties units to the purchase that they came from. Keys are ordered by day, then currency, then number.
@@ -64,6 +65,19 @@ pub(crate) struct Leg {
     pub place: usize,
     pub position: Position,
     pub units: Units,
+}
+
+impl Leg {
+    /// Where it weighs, and how much: in a lot its units times the lot's number, in the lot's currency; else the
+    /// units themselves.
+    pub fn weight(&self) -> (&Commodity, Wide)
+        ensures { (result.0.now, result.1) ≡ weight_of self.now }
+    {
+        match &self.position.lot {
+            Some(lot) => (&lot.currency, weight(self.units, lot.number)),
+            None => (&self.position.commodity, self.units.wide()),
+        }
+    }
 }
 
 /// An accepted command with its legs, in the order of its postings.

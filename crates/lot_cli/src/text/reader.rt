@@ -1,4 +1,5 @@
-ghost use Rattle.std.specs.Prelude.{length};
+ghost use Rattle.std.specs.Prelude.{length, IfOk, IfErr};
+ghost use Rattle.lot_cli.specs.Text.{Reads, IsFaultOf};
 ghost use Rattle.std.specs.Iterator.{at_most};
 
 use super::command::{Command, Transaction};
@@ -34,7 +35,10 @@ impl From<AllocError> for TextFault {
 }
 
 /// The commands that a ledger text says (docs/FORMATS.md, Ledger text). The first faulty line decides.
-pub(crate) fn read(alloc: Global, text: &[u8]) -> Result<Vec<Command>, TextFault> {
+pub(crate) fn read(alloc: Global, text: &[u8]) -> Result<Vec<Command>, TextFault>
+    ensures commands { IfOk result (λ commands. Reads text.now commands.items) }
+    ensures fault { IfErr result (λ fault. IsFaultOf text.now fault) }
+{
     let mut reading = Reading::new(alloc);
     let mut number = 0u64;
     for line in (Lines { rest: text }) {
