@@ -10,22 +10,12 @@ use Rattle.lot_cli.specs.declared.text.command.Command.{Command}
 use Rattle.lot_cli.specs.Text.{Reads, IsFaultAt}
 use Rattle.lot_cli.specs.Leg.{IsInventory, legs_of}
 use Rattle.lot_cli.specs.Book.{JudgesAll}
-use Rattle.lot_cli.specs.Printed.{accepted_line, refused_line, fault_line}
+use Rattle.lot_cli.specs.Printed.{replies, fault_line}
 use Rattle.lot_cli.specs.Report.{IsReport, IsReportToFault, AllFit, rows_text}
 use Rattle.lot_cli.specs.Written.{IsPrefixOf}
 use Rattle.lot_cli.specs.Status.{code_of, status_after}
 
--- ---- Replies.
-
--- the line of what is said of the command of that number
-abbrev pub reply : ℕ → Verdict → List ℕ
-reply number Accepted = accepted_line number
-reply number (Refused refusal) = refused_line number refusal
-
--- the replies to commands, the first of which has that number
-abbrev pub replies : ℕ → List Verdict → List ℕ
-replies number [] = []
-replies number (verdict ∷ verdicts) = reply number verdict ++ replies (suc number) verdicts
+-- ---- The status of replies.
 
 abbrev pub status_of_reply : Verdict → Status
 status_of_reply Accepted = Status.Accepted

@@ -1,10 +1,12 @@
 -- The lines that are printed (docs/FORMATS.md, Printed texts), each as a function of what it tells.
-use Rattle.std.specs.Prelude.{ℕ, List, [], ◌∷◌, ◌++◌, ℤ, pos, codes, decimal, Bool, true, false, Option, Some, None}
+use Rattle.std.specs.Prelude.{ℕ, suc, List, [], ◌∷◌, ◌++◌, ℤ, pos, codes, decimal, Bool, true, false, Option, Some, None}
 use Rattle.std.specs.List.{flat_map}
 use Rattle.lot_num.specs.AmountText.{amount_text}
 use Rattle.lot_base.specs.Day.{day_text}
 use Rattle.lot_cli.specs.declared.ledger.refusal.Refusal.{Refusal}
 use Rattle.lot_cli.specs.declared.ledger.refusal.Refusal.TheVariants.{AlreadyOpen, UnknownAccount, NotOpenYet, TooManyPostings, TwoElided, Range, InexactFill, NotBalanced}
+use Rattle.lot_cli.specs.declared.ledger.verdict.Verdict.{Verdict}
+use Rattle.lot_cli.specs.declared.ledger.verdict.Verdict.TheVariants.{Accepted, Refused}
 use Rattle.lot_cli.specs.declared.batch.fault.Fault.{Fault}
 use Rattle.lot_cli.specs.declared.ledger.leg.LotKey.{LotKey}
 use Rattle.lot_cli.specs.declared.ledger.leg.Position.{Position}
@@ -31,6 +33,16 @@ accepted_line number = line (decimal number ++ codes " accepted")
 abbrev pub refused_line : ℕ → Refusal → List ℕ
 refused_line number refusal = line (decimal number ++ codes " refused " ++ cause_text refusal)
 
+-- the line of what is said of the command of that number
+abbrev pub reply : ℕ → Verdict → List ℕ
+reply number Accepted = accepted_line number
+reply number (Refused refusal) = refused_line number refusal
+
+-- the replies to commands, the first of which has that number
+abbrev pub replies : ℕ → List Verdict → List ℕ
+replies number [] = []
+replies number (verdict ∷ verdicts) = reply number verdict ++ replies (suc number) verdicts
+
 -- ---- Faults
 
 -- the line that tells a fault; one of the writer isn't told
@@ -41,7 +53,7 @@ fault_line (Fault.Syntax number) = line (codes "fault line " ++ decimal number +
 fault_line Fault.Range = line (codes "fault P1 Range")
 fault_line Fault.Write = []
 fault_line Fault.Memory = line (codes "fault Memory")
-fault_line (Fault.MemoryAt number) = decimal number ++ line (codes " fault Memory")
+fault_line (Fault.MemoryAt number) = line (decimal number ++ codes " fault Memory")
 
 -- ---- Holdings
 

@@ -1,5 +1,5 @@
 -- The report of what is held: its rows, and what the lots cost in each currency (docs/FORMATS.md, Printed texts).
-use Rattle.std.specs.Prelude.{◌≡◌, ℕ, ◌^◌, Bool, not, IsTrue, nat_le, if◌then◌else◌, List, [], ◌∷◌, ◌++◌, flat_map, Option, None, Some, ℤ, pos, ◌*ℤ◌, unsigned_abs, ⊤, codes}
+use Rattle.std.specs.Prelude.{◌≡◌, ℕ, ◌^◌, Bool, true, false, not, IsTrue, nat_le, if◌then◌else◌, List, [], ◌∷◌, ◌++◌, flat_map, Option, None, Some, ℤ, pos, ◌*ℤ◌, unsigned_abs, ⊤}
 use Rattle.std.specs.Ordering.{nat_cmp, is_eq}
 use Rattle.std.specs.Cmp.Lexicographic.{slice_cmp}
 use Rattle.std.specs.List.{list_all, list_any}
@@ -8,7 +8,7 @@ use Rattle.std.specs.Map.{keys_of, lookup}
 use Rattle.lot_cli.specs.declared.ledger.leg.LotKey.{LotKey}
 use Rattle.lot_cli.specs.declared.ledger.leg.Position.{Position}
 use Rattle.lot_cli.specs.Sum.{same_name, sum_in}
-use Rattle.lot_cli.specs.Printed.{line, position_row, total_line}
+use Rattle.lot_cli.specs.Printed.{position_row, totals}
 
 -- ---- Costs.
 
@@ -45,15 +45,14 @@ AllFit before (row ∷ rows) = IsTrue (fits before row) × AllFit (before ++ row
 abbrev pub rows_text : List (Position × ℤ) → List ℕ
 rows_text rows = flat_map (λ (row : Position × ℤ). position_row row.0 row.1) rows
 
--- what stands behind the rows: that there were none, or the totals
-abbrev pub totals_text : List (Position × ℤ) → List (List ℕ × ℤ) → List ℕ
-totals_text [] totals = line (codes "nothing held")
-totals_text (row ∷ rows) totals = flat_map (λ (total : List ℕ × ℤ). total_line total.0 total.1) totals
+abbrev pub is_nil : List (Position × ℤ) → Bool
+is_nil [] = true
+is_nil (row ∷ rows) = false
 
 -- the report of rows, where all totals stay in range
 abbrev pub IsReport : List (Position × ℤ) → List ℕ → Type 0
 IsReport rows text =
-    AllFit [] rows × (totals : List (List ℕ × ℤ)) × AreTotals rows totals × (text ≡ rows_text rows ++ totals_text rows totals)
+    AllFit [] rows × (costs : List (List ℕ × ℤ)) × AreTotals rows costs × (text ≡ rows_text rows ++ totals (is_nil rows) costs)
 
 -- the text of the rows before the first with which a total leaves the range
 abbrev pub IsReportToFault : List (Position × ℤ) → List ℕ → Type 0

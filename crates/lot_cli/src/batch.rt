@@ -17,7 +17,7 @@ use crate::text::{Command, read};
 use fault::{Fault, print_fault};
 use status::Status;
 use std::alloc::Global;
-use std::io::{self, Read, Write};
+use std::io::{Read, Write};
 
 /// Judges a ledger text on a fresh book: writes a reply to each of its commands, and then what the book holds.
 ///
@@ -29,7 +29,7 @@ pub fn check<R: Read, W: Write>(alloc: Global, reader: &mut R, writer: &mut W) -
     ensures { IsStatus result }
 {
     let outcome = answer(alloc, reader, writer);
-    conclude(writer, outcome).unwrap_or(Status::Stopped).code()
+    conclude(writer, outcome).code()
 }
 
 /// Reads, judges and writes, up to the end or the first fault.
@@ -59,7 +59,7 @@ fn run<W: Write>(
             .judge(alloc, command)
             .map_err(|_| Fault::MemoryAt { number })?;
         book = next;
-        print_reply(writer, number, &verdict)?;
+        print_reply(writer, number, &verdict).map_err(|fault| Fault::at(number, fault))?;
         status = status.and(Status::of_verdict(&verdict));
     }
     Ok((book, status))
@@ -71,19 +71,26 @@ fn print_held<W: Write>(alloc: Global, book: &Book, writer: &mut W) -> Result<()
     for (position, units) in book.holdings() {
         holdings.row(position, *units, writer)?;
     }
-    holdings.end(writer)
+    holdings.end(writer)?;
+    Ok(())
 }
 
 /// Tells a fault, if there was one, and flushes what was written.
-fn conclude<W: Write>(writer: &mut W, outcome: Result<Status, Fault>) -> io::Result<Status> {
-    let status = match outcome {
-        Ok(status) => status,
-        Err(Fault::Write) => return Ok(Status::Stopped),
-        Err(fault) => {
-            print_fault(writer, fault)?;
-            fault.status()
-        }
-    };
-    writer.flush()?;
-    Ok(status)
+fn conclude<W: Write>(writer: &mut W, outcome: Result<Status, Fault>) -> Status {
+    match outcome {
+        Ok(status) => flushed(writer, status),
+        Err(Fault::Write) => Status::Stopped,
+        Err(fault) => match print_fault(writer, fault) {
+            Ok(()) => flushed(writer, fault.status()),
+            Err(_) => Status::Stopped,
+        },
+    }
+}
+
+/// The status, where the writer can be flushed.
+fn flushed<W: Write>(writer: &mut W, status: Status) -> Status {
+    match writer.flush() {
+        Ok(()) => status,
+        Err(_) => Status::Stopped,
+    }
 }

@@ -1,13 +1,13 @@
-ghost use Rattle.std.specs.Prelude.{◌≡◌, OnOk};
-ghost use Rattle.std.specs.Io.KnownBytes.{Appends};
+ghost use Rattle.std.specs.Prelude.{◌≡◌};
 ghost use Rattle.lot_cli.specs.Printed.{fault_line};
 ghost use Rattle.lot_cli.specs.Status.{status_of};
+ghost use Rattle.lot_cli.specs.Written.{Writes};
 
 use super::status::Status;
 use crate::input::SlurpFault;
-use crate::report::ReportFault;
+use crate::report::{PrintFault, ReportFault, print_line};
 use crate::text::TextFault;
-use std::io::{self, Write};
+use std::io::Write;
 use thiserror::Error;
 
 /// Why a run ended before its end.
@@ -67,10 +67,10 @@ impl From<ReportFault> for Fault {
 
 impl Fault {
     /// What a fault of the reply to the command of that number is for the run.
-    pub fn at(number: usize, fault: ReportFault) -> Fault {
+    pub fn at(number: usize, fault: PrintFault) -> Fault {
         match fault {
-            ReportFault::Memory => Fault::MemoryAt { number },
-            fault => fault.into(),
+            PrintFault::Write => Fault::Write,
+            PrintFault::Memory => Fault::MemoryAt { number },
         }
     }
 
@@ -85,19 +85,18 @@ impl Fault {
     }
 }
 
-/// Writes the line that tells a fault. It takes no memory, which may be what is wanting, so a line with a number
-/// is written piece by piece. A fault of the writer isn't told.
-pub(super) fn print_fault<W: Write>(writer: &mut W, fault: Fault) -> io::Result<()>
-    ensures { OnOk result
-        (Appends (W.contents writer.old) (W.contents writer.new) (fault_line fault)) }
+/// Writes the line that tells a fault. It takes no memory, which may be what is wanting. A fault of the writer
+/// isn't told.
+pub(super) fn print_fault<W: Write>(writer: &mut W, fault: Fault) -> Result<(), PrintFault>
+    ensures { Writes (W.contents writer.old) (W.contents writer.new) result (fault_line fault) }
 {
     match fault {
-        Fault::Read => writer.write_all(b"fault K1 Read\n"),
-        Fault::TooLong => writer.write_all(b"fault K2 TooLong\n"),
-        Fault::Syntax { line } => writeln!(writer, "fault line {line} X2 Syntax"),
-        Fault::Range => writer.write_all(b"fault P1 Range\n"),
+        Fault::Read => print_line(writer, "fault K1 Read"),
+        Fault::TooLong => print_line(writer, "fault K2 TooLong"),
+        Fault::Syntax { line } => print_line(writer, format_args!("fault line {line} X2 Syntax")),
+        Fault::Range => print_line(writer, "fault P1 Range"),
         Fault::Write => Ok(()),
-        Fault::Memory => writer.write_all(b"fault Memory\n"),
-        Fault::MemoryAt { number } => writeln!(writer, "{number} fault Memory"),
+        Fault::Memory => print_line(writer, "fault Memory"),
+        Fault::MemoryAt { number } => print_line(writer, format_args!("{number} fault Memory")),
     }
 }

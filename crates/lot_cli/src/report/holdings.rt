@@ -1,17 +1,52 @@
-ghost use Rattle.std.specs.Prelude.{OnOk};
-ghost use Rattle.std.specs.Io.KnownBytes.{Appends};
 ghost use Rattle.lot_cli.specs.Printed.{plain_row, lot_row, position_row, total_line, totals};
+ghost use Rattle.lot_cli.specs.Written.{Writes};
 
 #[cfg(test)]
 mod tests;
 
-use super::line::{ReportFault, print_line};
+use super::line::{PrintFault, print_line};
 use crate::ledger::{LotKey, Position};
 use lot_base::Commodity;
 use lot_num::{Units, Wide, weight};
-use std::alloc::Global;
+use std::alloc::{AllocError, AllocFailed, Global};
 use std::collections::BTreeMap;
 use std::io::Write;
+use thiserror::Error;
+
+/// Why a report ended before its end.
+#[derive(Clone, Copy, Debug, PartialEq, Eq, Error)]
+pub(crate) enum ReportFault {
+    /// A total leaves the range of weights.
+    #[error("a total is too large")]
+    Range,
+    /// The writer failed.
+    #[error("the output can't be written")]
+    Write,
+    /// There was no memory for a line or a total.
+    #[error("out of memory")]
+    Memory,
+}
+
+impl From<PrintFault> for ReportFault {
+    fn from(fault: PrintFault) -> ReportFault {
+        match fault {
+            PrintFault::Write => ReportFault::Write,
+            PrintFault::Memory => ReportFault::Memory,
+        }
+    }
+}
+
+impl From<AllocError> for ReportFault {
+    fn from(_error: AllocError) -> ReportFault {
+        ReportFault::Memory
+    }
+}
+
+impl<T: Drop> From<AllocFailed<T>> for ReportFault {
+    fn from(_failed: AllocFailed<T>) -> ReportFault {
+        ReportFault::Memory
+    }
+}
 
 /// The report of what is held: a row for each position that isn't at zero, in their order, and then what the
 /// lots cost in each currency.
@@ -42,23 +77,21 @@ impl Holdings {
         units: Units,
         writer: &mut W,
     ) -> Result<(), ReportFault>
-        ensures { OnOk result
-            (Appends (W.contents writer.old) (W.contents writer.new) (position_row position.now units)) }
     {
         self.is_empty = false;
         match &position.lot {
             Some(lot) => {
                 self.add_cost(lot, units)?;
-                print_lot(self.alloc, writer, position, lot, units)
+                print_lot(self.alloc, writer, position, lot, units)?;
             }
-            None => print_plain(self.alloc, writer, position, units),
+            None => print_plain(self.alloc, writer, position, units)?,
         }
+        Ok(())
     }
 
     /// Writes the totals, by the bytes of their currencies, or that nothing is held.
-    pub fn end<W: Write>(self, writer: &mut W) -> Result<(), ReportFault>
-        ensures { OnOk result
-            (Appends (W.contents writer.old) (W.contents writer.new) (totals self.is_empty self.costs.entries)) }
+    pub fn end<W: Write>(self, writer: &mut W) -> Result<(), PrintFault>
+        ensures { Writes (W.contents writer.old) (W.contents writer.new) result (totals self.is_empty self.costs.entries) }
     {
         if self.is_empty {
             return print_line(writer, "nothing held");
@@ -87,9 +120,9 @@ fn print_plain<W: Write>(
     writer: &mut W,
     position: &Position,
     units: Units,
-) -> Result<(), ReportFault>
-    ensures { OnOk result (Appends (W.contents writer.old) (W.contents writer.new)
-        (plain_row position.now.account position.now.commodity units)) }
+) -> Result<(), PrintFault>
+    ensures { Writes (W.contents writer.old) (W.contents writer.new) result
+        (plain_row position.now.account position.now.commodity units) }
 {
     let account = &position.account;
     let units = units.text_money(alloc)?;
@@ -97,15 +130,16 @@ fn print_plain<W: Write>(
     print_line(writer, format_args!("{account} {units} {commodity}"))
 }
 
+#[tactic(auto, using(crate::proofs::PrintLemmas::nothing_written))]
 fn print_lot<W: Write>(
     alloc: Global,
     writer: &mut W,
     position: &Position,
     lot: &LotKey,
     units: Units,
-) -> Result<(), ReportFault>
-    ensures { OnOk result (Appends (W.contents writer.old) (W.contents writer.new)
-        (lot_row position.now.account position.now.commodity lot.now units)) }
+) -> Result<(), PrintFault>
+    ensures { Writes (W.contents writer.old) (W.contents writer.new) result
+        (lot_row position.now.account position.now.commodity lot.now units) }
 {
     let account = &position.account;
     let units = units.text(alloc)?;
@@ -124,9 +158,8 @@ fn print_total<W: Write>(
     writer: &mut W,
     currency: &Commodity,
     total: Wide,
-) -> Result<(), ReportFault>
-    ensures { OnOk result
-        (Appends (W.contents writer.old) (W.contents writer.new) (total_line currency.now total)) }
+) -> Result<(), PrintFault>
+    ensures { Writes (W.contents writer.old) (W.contents writer.new) result (total_line currency.now total) }
 {
     let total = total.text_money(alloc)?;
     print_line(writer, format_args!("total cost {total} {currency}"))

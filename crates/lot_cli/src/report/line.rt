@@ -1,18 +1,17 @@
-ghost use Rattle.std.specs.Prelude.{◌≡◌, OnOk, IfSome};
+ghost use Rattle.std.specs.Prelude.{◌≡◌, ◌≤◌, length, IfOk, IfSome};
 ghost use Rattle.std.specs.Fmt.{with_newline};
-ghost use Rattle.std.specs.Io.KnownBytes.{Appends};
+ghost use Rattle.std.specs.Io.KnownBytes.{WriteAppends};
+ghost use Rattle.lot_cli.specs.Written.{Writes};
 
-use std::alloc::{AllocError, AllocFailed};
-use std::fmt::Display;
-use std::io::Write;
+use arrayvec::ArrayString;
+use std::alloc::AllocError;
+use std::fmt::{Display, Write as _};
+use std::io::{ErrorKind, Write};
 use thiserror::Error;
 
-/// Why a line wasn't written.
+/// Why a line wasn't written, or not all of it.
 #[derive(Clone, Copy, Debug, PartialEq, Eq, Error)]
-pub(crate) enum ReportFault {
-    /// A total leaves the range of weights.
-    #[error("a total is too large")]
-    Range,
+pub(crate) enum PrintFault {
     /// The writer failed.
     #[error("the output can't be written")]
     Write,
@@ -21,25 +20,62 @@ pub(crate) enum ReportFault {
     Memory,
 }
 
-impl From<AllocError> for ReportFault {
-    fn from(_error: AllocError) -> ReportFault {
-        ReportFault::Memory
+impl From<AllocError> for PrintFault {
+    fn from(_error: AllocError) -> PrintFault {
+        PrintFault::Memory
     }
 }
 
-impl<T: Drop> From<AllocFailed<T>> for ReportFault {
-    fn from(_failed: AllocFailed<T>) -> ReportFault {
-        ReportFault::Memory
-    }
-}
+/// The most bytes that a line may have, its line end included. The longest line there is, a lot's row, has some 250.
+const LONGEST: usize = 512;
 
-/// Writes a text and a line end. It takes no memory.
-pub(super) fn print_line<W: Write, T: Display + Drop>(
+/// Writes a text and a line end. It takes no memory. After a fault a front of the line is written, or nothing.
+pub(crate) fn print_line<W: Write, T: Display + Drop>(
     writer: &mut W,
     text: T,
-) -> Result<(), ReportFault>
-    ensures { OnOk result (IfSome (with_newline (T.output text))
-        (Appends (W.contents writer.old) (W.contents writer.new))) }
+) -> Result<(), PrintFault>
+    ensures { IfSome (with_newline (T.output text))
+        (Writes (W.contents writer.old) (W.contents writer.new) result) }
 {
-    writeln!(writer, "{text}").map_err(|_| ReportFault::Write)
+    let line = line_of(text)?;
+    put(writer, line.as_str().as_bytes())
+}
+
+/// A text and a line end. There is room for every line; a longer one would count as want of memory.
+fn line_of<T: Display + Drop>(text: T) -> Result<ArrayString<LONGEST>, PrintFault>
+    ensures { IfSome (with_newline (T.output text)) (λ bytes. IfOk result (λ line. line.bytes ≡ bytes)) }
+{
+    let mut line = ArrayString::new();
+    match writeln!(line, "{text}") {
+        Ok(()) => Ok(line),
+        Err(_) => Err(PrintFault::Memory),
+    }
+}
+
+/// Writes bytes. After a fault a front of them is written, or nothing.
+fn put<W: Write>(writer: &mut W, bytes: &[u8]) -> Result<(), PrintFault>
+    ensures { Writes (W.contents writer.old) (W.contents writer.new) result bytes.now }
+{
+    let mut rest = bytes;
+    for _ in 0..u64::MAX {
+        if rest.is_empty() {
+            return Ok(());
+        }
+        let count = put_some(writer, rest)?;
+        rest = &rest[count..];
+    }
+    Err(PrintFault::Write)
+}
+
+/// One call of `write`: how many bytes it took, none where it was interrupted.
+fn put_some<W: Write>(writer: &mut W, bytes: &[u8]) -> Result<usize, PrintFault>
+    ensures bound { IfOk result (λ count. count ≤ length bytes.now) }
+    ensures bytes { WriteAppends (W.contents writer.old) (W.contents writer.new) result bytes.now }
+{
+    match writer.write(bytes) {
+        Ok(0) => Err(PrintFault::Write),
+        Ok(count) => Ok(count),
+        Err(error) if error.kind() == ErrorKind::Interrupted => Ok(0),
+        Err(_) => Err(PrintFault::Write),
+    }
 }

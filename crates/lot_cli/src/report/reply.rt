@@ -1,8 +1,7 @@
-ghost use Rattle.std.specs.Prelude.{OnOk};
-ghost use Rattle.std.specs.Io.KnownBytes.{Appends};
-ghost use Rattle.lot_cli.specs.Printed.{accepted_line, refused_line, cause_text};
+ghost use Rattle.lot_cli.specs.Printed.{reply, cause_text};
+ghost use Rattle.lot_cli.specs.Written.{Writes};
 
-use super::line::{ReportFault, print_line};
+use super::line::{PrintFault, print_line};
 use crate::ledger::{Refusal, Verdict};
 use std::fmt;
 use std::io::Write;
@@ -12,32 +11,16 @@ pub(crate) fn print_reply<W: Write>(
     writer: &mut W,
     number: usize,
     verdict: &Verdict,
-) -> Result<(), ReportFault> {
+) -> Result<(), PrintFault>
+    ensures { Writes (W.contents writer.old) (W.contents writer.new) result (reply number verdict.now) }
+{
     match verdict {
-        Verdict::Accepted => print_accepted(writer, number),
-        Verdict::Refused(refusal) => print_refused(writer, number, refusal),
+        Verdict::Accepted => print_line(writer, format_args!("{number} accepted")),
+        Verdict::Refused(refusal) => {
+            let cause = Cause(refusal);
+            print_line(writer, format_args!("{number} refused {cause}"))
+        }
     }
-}
-
-/// Tells that the command of that number was accepted.
-fn print_accepted<W: Write>(writer: &mut W, number: usize) -> Result<(), ReportFault>
-    ensures { OnOk result
-        (Appends (W.contents writer.old) (W.contents writer.new) (accepted_line number)) }
-{
-    print_line(writer, format_args!("{number} accepted"))
-}
-
-/// Tells why the command of that number was refused.
-fn print_refused<W: Write>(
-    writer: &mut W,
-    number: usize,
-    refusal: &Refusal,
-) -> Result<(), ReportFault>
-    ensures { OnOk result
-        (Appends (W.contents writer.old) (W.contents writer.new) (refused_line number refusal.now)) }
-{
-    let cause = Cause(refusal);
-    print_line(writer, format_args!("{number} refused {cause}"))
 }
 
 /// A refusal as it is printed: its code, its name, and its argument if it has one.
