@@ -3,3 +3,4 @@ pub mod BalanceLemmas
 pub mod BookLemmas
 pub mod LawLemmas
 pub mod PrintLemmas
+pub mod CostLemmas

@@ -7,6 +7,7 @@ use Rattle.std.specs.List.Sorted.{IsStrictlySortedBy}
 use Rattle.std.specs.Map.{keys_of, lookup}
 use Rattle.lot_cli.specs.declared.ledger.leg.LotKey.{LotKey}
 use Rattle.lot_cli.specs.declared.ledger.leg.Position.{Position}
+use Rattle.lot_cli.specs.declared.report.holdings.Holdings.{Holdings}
 use Rattle.lot_cli.specs.Sum.{same_name, sum_in}
 use Rattle.lot_cli.specs.Printed.{position_row, totals}
 
@@ -20,11 +21,19 @@ cost_of (Some lot) units = (lot.currency, units *ℤ pos lot.number) ∷ []
 abbrev pub costs_of : List (Position × ℤ) → List (List ℕ × ℤ)
 costs_of rows = flat_map (λ (row : Position × ℤ). cost_of row.0.lot row.1) rows
 
--- what the lots cost in each currency in which one does, by the bytes of the currencies
-pub record AreTotals (rows : List (Position × ℤ)) (totals : List (List ℕ × ℤ)) : Type 0 where
+-- whether a currency is that of some cost
+abbrev pub is_named : List ℕ → List (List ℕ × ℤ) → Bool
+is_named currency costs = list_any (λ (cost : List ℕ × ℤ). same_name currency cost.0) costs
+
+-- the sum of the costs in each currency of one, by the bytes of the currencies
+pub record AreSums (costs totals : List (List ℕ × ℤ)) : Type 0 where
   pub in_order : IsStrictlySortedBy (slice_cmp nat_cmp) (keys_of totals)
   pub each : (currency : List ℕ) → lookup (λ name. is_eq (slice_cmp nat_cmp currency name)) totals
-      ≡ (if list_any (λ (cost : List ℕ × ℤ). same_name currency cost.0) (costs_of rows) then Some (sum_in (costs_of rows) currency) else None)
+      ≡ (if is_named currency costs then Some (sum_in costs currency) else None)
+
+-- what the lots of rows cost
+abbrev pub AreTotals : List (Position × ℤ) → List (List ℕ × ℤ) → Type 0
+AreTotals rows totals = AreSums (costs_of rows) totals
 
 -- ---- Totals stay in range, row by row.
 
@@ -40,14 +49,18 @@ abbrev pub AllFit : List (Position × ℤ) → List (Position × ℤ) → Type 0
 AllFit before [] = ⊤
 AllFit before (row ∷ rows) = IsTrue (fits before row) × AllFit (before ++ row ∷ []) rows
 
+abbrev pub is_nil : List (Position × ℤ) → Bool
+is_nil [] = true
+is_nil (row ∷ rows) = false
+
+-- what a report keeps that has taken these rows and no other
+abbrev pub HasTaken : List (Position × ℤ) → Holdings → Type 0
+HasTaken rows report = (report.is_empty ≡ is_nil rows) × AreTotals rows report.costs.entries
+
 -- ---- Texts.
 
 abbrev pub rows_text : List (Position × ℤ) → List ℕ
 rows_text rows = flat_map (λ (row : Position × ℤ). position_row row.0 row.1) rows
-
-abbrev pub is_nil : List (Position × ℤ) → Bool
-is_nil [] = true
-is_nil (row ∷ rows) = false
 
 -- the report of rows, where all totals stay in range
 abbrev pub IsReport : List (Position × ℤ) → List ℕ → Type 0

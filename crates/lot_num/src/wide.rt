@@ -33,6 +33,9 @@ impl Wide {
     /// The largest absolute mantissa: 10^38.
     const GREATEST: u128 = 100_000_000_000_000_000_000_000_000_000_000_000_000;
 
+    /// No weight: what a sum starts from.
+    pub const ZERO: Wide = Wide { mantissa: 0 };
+
     /// The weight with a mantissa at scale 16, or `None` where it is above 10^38 in absolute value.
     pub fn from_mantissa(mantissa: i128) -> Option<Wide>
         ensures { SomeIff result (IsWide mantissa) mantissa }

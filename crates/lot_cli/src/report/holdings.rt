@@ -1,3 +1,7 @@
+ghost use Rattle.std.specs.Prelude.{◌≡◌, ℕ, List, [], ◌∷◌, ◌++◌, ℤ, pos, ◌+ℤ◌, ◌*ℤ◌, SomeIff, OnOk, IsErrOf};
+ghost use Rattle.lot_num.specs.Amount.{IsWide};
+ghost use Rattle.lot_cli.specs.Sum.{sum_in};
+ghost use Rattle.lot_cli.specs.Report.{AreSums};
 ghost use Rattle.lot_cli.specs.Printed.{plain_row, lot_row, position_row, total_line, totals};
 ghost use Rattle.lot_cli.specs.Written.{Writes};
 
@@ -37,12 +41,22 @@ impl From<PrintFault> for ReportFault {
 }
 
 impl From<AllocError> for ReportFault {
+    ghost use Rattle.std.specs.Prelude.{◌≡◌};
+    ghost use Rattle.lot_cli.specs.declared.report.holdings.ReportFault.TheVariants.{Memory};
+
+    ghost from_gives = { λ _ e. e ≡ Memory };
+
     fn from(_error: AllocError) -> ReportFault {
         ReportFault::Memory
     }
 }
 
 impl<T: Drop> From<AllocFailed<T>> for ReportFault {
+    ghost use Rattle.std.specs.Prelude.{◌≡◌};
+    ghost use Rattle.lot_cli.specs.declared.report.holdings.ReportFault.TheVariants.{Memory};
+
+    ghost from_gives = { λ _ e. e ≡ Memory };
+
     fn from(_failed: AllocFailed<T>) -> ReportFault {
         ReportFault::Memory
     }
@@ -103,15 +117,31 @@ impl Holdings {
     }
 
     /// Adds what the units of one lot cost.
-    fn add_cost(&mut self, lot: &LotKey, units: Units) -> Result<(), ReportFault> {
-        let cost = weight(units, lot.number);
-        let total = match self.costs.get(&lot.currency) {
-            Some(total) => total.checked_add(cost).ok_or(ReportFault::Range)?,
-            None => cost,
-        };
-        let currency = lot.currency.copy()?;
-        self.costs.insert(currency, total)?;
-        Ok(())
+    fn add_cost(&mut self, lot: &LotKey, units: Units) -> Result<(), ReportFault>
+        ensures taken { (costs : List (List ℕ × ℤ)) → AreSums costs self.old.costs.entries
+            → OnOk result (AreSums (costs ++ (lot.now.currency, units *ℤ pos lot.now.number) ∷ []) self.new.costs.entries) }
+        ensures fits { (costs : List (List ℕ × ℤ)) → AreSums costs self.old.costs.entries
+            → OnOk result (IsWide (sum_in costs lot.now.currency +ℤ units *ℤ pos lot.now.number)) }
+        ensures range { (costs : List (List ℕ × ℤ)) → AreSums costs self.old.costs.entries
+            → IsErrOf result ReportFault.Range → IsWide (sum_in costs lot.now.currency +ℤ units *ℤ pos lot.now.number) → ⊥ }
+        ensures rest { self.new.is_empty ≡ self.old.is_empty }
+    {
+        match self.total_with(&lot.currency, weight(units, lot.number)) {
+            Some(total) => {
+                self.costs.insert(lot.currency.copy()?, total)?;
+                Ok(())
+            }
+            None => Err(ReportFault::Range),
+        }
+    }
+
+    /// The total in a currency with one more cost, where it is in range.
+    fn total_with(&self, currency: &Commodity, cost: Wide) -> Option<Wide>
+        ensures { (costs : List (List ℕ × ℤ)) → AreSums costs self.now.costs.entries
+            → SomeIff result (IsWide (sum_in costs currency.now +ℤ cost)) (sum_in costs currency.now +ℤ cost) }
+    {
+        let total = self.costs.get(currency).copied().unwrap_or(Wide::ZERO);
+        total.checked_add(cost)
     }
 }
 
