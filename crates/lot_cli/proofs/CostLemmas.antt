@@ -1,7 +1,7 @@
 -- Sums of costs in each currency.
-use Rattle.std.proofs.Common.{◌≡◌, ℕ, List, [], ◌∷◌, ◌++◌, refl, sym, ap, ◌∙◌, subst}
-use Rattle.std.specs.Prelude.{Bool, true, false, cond, ◌||◌, ◌&&◌, ◌==◌, if◌then◌else◌, Option, None, Some, ℤ, pos, ◌+ℤ◌, map, filter}
-use Rattle.std.specs.List.{list_any}
+use Rattle.std.proofs.Common.{rules, inl, inr, IsTrue, ◌≡◌, ℕ, List, [], ◌∷◌, ◌++◌, refl, sym, ap, ◌∙◌, subst, append_assoc, append-nil}
+use Rattle.std.specs.Prelude.{Result, Ok, Err, OnOk, IsErrOf, IsErrAnd, ◌⊎◌, Bool, not, ◌*ℤ◌, true, false, cond, ◌||◌, ◌&&◌, ◌==◌, if◌then◌else◌, Option, None, Some, ℤ, pos, ◌+ℤ◌, map, filter}
+use Rattle.std.specs.List.{list_any, list_all}
 use Rattle.std.specs.List.Sorted.{IsStrictlySortedBy}
 use Rattle.std.specs.Map.{keys_of, lookup}
 use Rattle.std.specs.Ordering.{nat_cmp, is_eq}
@@ -10,8 +10,17 @@ use Rattle.std.specs.Option.{unwrap_or}
 use mathlib.Core.Bool.{true≢false}
 use native.Mathlib.Omega.{arith}
 use Rattle.std.proofs.lemmas.Int.{ints}
+use Rattle.lot_cli.specs.Printed.{position_row}
+use Rattle.lot_cli.specs.Written.{AppendsFront}
 use Rattle.lot_cli.specs.Sum.{sum_of, sum_in, same_name}
-use Rattle.lot_cli.specs.Report.{AreSums, is_named}
+use Rattle.lot_cli.specs.declared.ledger.leg.LotKey.{LotKey}
+use Rattle.lot_cli.specs.declared.ledger.leg.Position.{Position}
+use Rattle.lot_cli.specs.declared.report.line.PrintFault.{PrintFault}
+use Rattle.lot_cli.specs.declared.report.holdings.Holdings.{Holdings}
+use Rattle.lot_cli.specs.declared.report.holdings.ReportFault.{ReportFault}
+use Rattle.lot_cli.specs.declared.report.holdings.ReportFault.TheVariants.{Range, Write, Memory}
+use Rattle.lot_num.specs.Amount.{IsWide}
+use Rattle.lot_cli.specs.Report.{AreSums, AreTotals, TakesCost, TakesRow, report_fault, is_named, costs_of, cost_of, fits, is_nil, is_wide}
 
 pub sum_of_snoc : (zs : List ℤ) (z : ℤ) → sum_of (zs ++ z ∷ []) ≡ sum_of zs +ℤ z
 sum_of_snoc [] z = omega (arith, ints)
@@ -134,3 +143,61 @@ sums_under_copy costs totals new currency copy cost total sums updated order sam
     sums_step costs totals new currency cost total sums
       (λ name. updated name ∙ ap (λ key. cond (is_eq (slice_cmp nat_cmp key name)) (Some total) (lookup (λ other. is_eq (slice_cmp nat_cmp name other)) totals)) same)
       order is
+
+-- ---- Rows.
+
+costs_snoc : (rows : List (Position × ℤ)) (row : Position × ℤ) → costs_of (rows ++ row ∷ []) ≡ costs_of rows ++ cost_of row.0.lot row.1
+costs_snoc [] row = append-nil (cost_of row.0.lot row.1)
+costs_snoc (first ∷ rows) row =
+    ap (λ costs. cost_of first.0.lot first.1 ++ costs) (costs_snoc rows row)
+    ∙ sym (append_assoc (cost_of first.0.lot first.1) (costs_of rows) (cost_of row.0.lot row.1))
+
+snoc_is_some : (rows : List (Position × ℤ)) (row : Position × ℤ) → false ≡ is_nil (rows ++ row ∷ [])
+snoc_is_some [] row = refl
+snoc_is_some (first ∷ rows) row = refl
+
+same_itself : (name : List ℕ) → same_name name name ≡ true
+same_itself name = (bytes_decides name name).1 refl
+
+costs_with_lot : (rows : List (Position × ℤ)) (row : Position × ℤ) (lot : LotKey) → row.0.lot ≡ Some lot
+    → costs_of (rows ++ row ∷ []) ≡ costs_of rows ++ (lot.currency, row.1 *ℤ pos lot.number) ∷ []
+costs_with_lot rows row lot in_lot = costs_snoc rows row ∙ ap (λ l. costs_of rows ++ cost_of l row.1) in_lot
+
+fits_is_wide : (rows : List (Position × ℤ)) (row : Position × ℤ) (lot : LotKey) → row.0.lot ≡ Some lot
+    → fits rows row ≡ (is_wide (sum_in (costs_of rows) lot.currency +ℤ row.1 *ℤ pos lot.number) && true)
+fits_is_wide rows row lot in_lot =
+    ap (λ l. list_all (λ (cost : List ℕ × ℤ). is_wide (sum_in (costs_of (rows ++ row ∷ [])) cost.0)) (cost_of l row.1)) in_lot
+    ∙ ap (λ z. is_wide z && true)
+      (ap (λ costs. sum_in costs lot.currency) (costs_with_lot rows row lot in_lot)
+        ∙ sum_in_added (costs_of rows) (lot.currency, row.1 *ℤ pos lot.number) lot.currency (same_itself lot.currency))
+
+wide_is : (z : ℤ) → IsWide z → (is_wide z && true) ≡ true
+wide_is z wide = search (rules)
+
+not_wide_is : (z : ℤ) → (IsWide z → ⊥) → not (is_wide z && true) ≡ true
+not_wide_is z wide = search (rules)
+
+-- what the addition of a lot's cost says of the row
+pub takes_lot : (rows : List (Position × ℤ)) (row : Position × ℤ) (lot : LotKey) (report : Holdings) (result : Result (Unit {0}) ReportFault)
+    → row.0.lot ≡ Some lot
+    → OnOk result (AreSums (costs_of rows ++ (lot.currency, row.1 *ℤ pos lot.number) ∷ []) report.costs.entries)
+    → OnOk result (IsWide (sum_in (costs_of rows) lot.currency +ℤ row.1 *ℤ pos lot.number))
+    → (IsErrOf result Range → IsWide (sum_in (costs_of rows) lot.currency +ℤ row.1 *ℤ pos lot.number) → ⊥)
+    → report.is_empty ≡ false → TakesCost rows row report result
+takes_lot rows row lot report (Ok done) in_lot taken wide range some =
+    (fits_is_wide rows row lot in_lot ∙ wide_is (sum_in (costs_of rows) lot.currency +ℤ row.1 *ℤ pos lot.number) wide,
+    (some ∙ snoc_is_some rows row,
+    subst (λ costs. AreSums costs report.costs.entries) (sym (costs_with_lot rows row lot in_lot)) taken))
+takes_lot rows row lot report (Err Range) in_lot taken wide range some =
+    ap not (fits_is_wide rows row lot in_lot) ∙ not_wide_is (sum_in (costs_of rows) lot.currency +ℤ row.1 *ℤ pos lot.number) (range refl)
+takes_lot rows row lot report (Err Write) in_lot taken wide range some = tt
+takes_lot rows row lot report (Err Memory) in_lot taken wide range some = tt
+
+-- a row that was taken, and isn't written whole
+pub stops_at_row : (rows : List (Position × ℤ)) (row : Position × ℤ) (report : Holdings) (old new : Option (List ℕ))
+    (fault : PrintFault) (result : Result (Unit {0}) ReportFault)
+    → IsTrue (fits rows row) → AppendsFront old new (position_row row.0 row.1)
+    → IsErrAnd result (λ e. e ≡ report_fault fault) → TakesRow rows row report old new result
+stops_at_row rows row report old new fault (Ok done) taken front fails = absurd fails
+stops_at_row rows row report old new PrintFault.Write (Err e) taken front fails = rw (fails) (inr (taken, front))
+stops_at_row rows row report old new PrintFault.Memory (Err e) taken front fails = rw (fails) (inr (taken, front))

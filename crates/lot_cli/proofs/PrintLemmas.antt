@@ -32,3 +32,4 @@ pub nothing_written : {A E : Type 0} (held : Option (List ℕ)) (result : Result
     → IsErr result → Writes held held result text
 nothing_written held (Ok x) text fails = absurd (true≢false (sym fails))
 nothing_written held (Err e) text fails = ([], (text, refl), Appends-nil held)
+

@@ -1,5 +1,5 @@
 -- The report of what is held: its rows, and what the lots cost in each currency (docs/FORMATS.md, Printed texts).
-use Rattle.std.specs.Prelude.{◌≡◌, ℕ, ◌^◌, Bool, true, false, not, IsTrue, nat_le, if◌then◌else◌, List, [], ◌∷◌, ◌++◌, flat_map, Option, None, Some, ℤ, pos, ◌*ℤ◌, unsigned_abs, ⊤}
+use Rattle.std.specs.Prelude.{◌≡◌, ◌⊎◌, Result, Ok, Err, ℕ, ◌^◌, Bool, true, false, not, IsTrue, nat_le, if◌then◌else◌, List, [], ◌∷◌, ◌++◌, flat_map, Option, None, Some, ℤ, pos, ◌*ℤ◌, unsigned_abs, ⊤}
 use Rattle.std.specs.Ordering.{nat_cmp, is_eq}
 use Rattle.std.specs.Cmp.Lexicographic.{slice_cmp}
 use Rattle.std.specs.List.{list_all, list_any}
@@ -7,9 +7,14 @@ use Rattle.std.specs.List.Sorted.{IsStrictlySortedBy}
 use Rattle.std.specs.Map.{keys_of, lookup}
 use Rattle.lot_cli.specs.declared.ledger.leg.LotKey.{LotKey}
 use Rattle.lot_cli.specs.declared.ledger.leg.Position.{Position}
+use Rattle.std.specs.Io.KnownBytes.{Appends}
+use Rattle.lot_cli.specs.declared.report.line.PrintFault.{PrintFault}
 use Rattle.lot_cli.specs.declared.report.holdings.Holdings.{Holdings}
+use Rattle.lot_cli.specs.declared.report.holdings.ReportFault.{ReportFault}
+use Rattle.lot_cli.specs.declared.report.holdings.ReportFault.TheVariants.{Range, Write, Memory}
 use Rattle.lot_cli.specs.Sum.{same_name, sum_in}
 use Rattle.lot_cli.specs.Printed.{position_row, totals}
+use Rattle.lot_cli.specs.Written.{AppendsFront}
 
 -- ---- Costs.
 
@@ -56,6 +61,32 @@ is_nil (row ∷ rows) = false
 -- what a report keeps that has taken these rows and no other
 abbrev pub HasTaken : List (Position × ℤ) → Holdings → Type 0
 HasTaken rows report = (report.is_empty ≡ is_nil rows) × AreTotals rows report.costs.entries
+
+-- what becomes of a report that takes one more row: it fits, or it doesn't, or memory is wanting
+abbrev pub TakesCost : List (Position × ℤ) → Position × ℤ → Holdings → Result (Unit {0}) ReportFault → Type 0
+TakesCost rows row report (Ok done) = IsTrue (fits rows row) × HasTaken (rows ++ row ∷ []) report
+TakesCost rows row report (Err Range) = IsTrue (not (fits rows row))
+TakesCost rows row report (Err Write) = ⊤
+TakesCost rows row report (Err Memory) = ⊤
+
+-- what a fault of a line is for the report
+abbrev pub report_fault : PrintFault → ReportFault
+report_fault PrintFault.Write = Write
+report_fault PrintFault.Memory = Memory
+
+-- a row that isn't written whole: nothing of it is, or a front of it where it fits
+abbrev pub StopsAtRow : List (Position × ℤ) → Position × ℤ → Option (List ℕ) → Option (List ℕ) → Type 0
+StopsAtRow rows row old new =
+    Appends old new [] ⊎ (IsTrue (fits rows row) × AppendsFront old new (position_row row.0 row.1))
+
+-- the same, and what is written of the row
+abbrev pub TakesRow : List (Position × ℤ) → Position × ℤ → Holdings → Option (List ℕ) → Option (List ℕ)
+    → Result (Unit {0}) ReportFault → Type 0
+TakesRow rows row report old new (Ok done) =
+    IsTrue (fits rows row) × HasTaken (rows ++ row ∷ []) report × Appends old new (position_row row.0 row.1)
+TakesRow rows row report old new (Err Range) = IsTrue (not (fits rows row)) × Appends old new []
+TakesRow rows row report old new (Err Write) = StopsAtRow rows row old new
+TakesRow rows row report old new (Err Memory) = StopsAtRow rows row old new
 
 -- ---- Texts.
 

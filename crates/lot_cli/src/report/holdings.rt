@@ -1,7 +1,8 @@
 ghost use Rattle.std.specs.Prelude.{◌≡◌, ℕ, List, [], ◌∷◌, ◌++◌, ℤ, pos, ◌+ℤ◌, ◌*ℤ◌, SomeIff, OnOk, IsErrOf};
 ghost use Rattle.lot_num.specs.Amount.{IsWide};
 ghost use Rattle.lot_cli.specs.Sum.{sum_in};
-ghost use Rattle.lot_cli.specs.Report.{AreSums};
+ghost use Rattle.lot_cli.specs.declared.ledger.leg.Position.{Position as PositionValue};
+ghost use Rattle.lot_cli.specs.Report.{AreSums, HasTaken, TakesCost, TakesRow};
 ghost use Rattle.lot_cli.specs.Printed.{plain_row, lot_row, position_row, total_line, totals};
 ghost use Rattle.lot_cli.specs.Written.{Writes};
 
@@ -32,6 +33,11 @@ pub(crate) enum ReportFault {
 }
 
 impl From<PrintFault> for ReportFault {
+    ghost use Rattle.std.specs.Prelude.{◌≡◌};
+    ghost use Rattle.lot_cli.specs.Report.{report_fault};
+
+    ghost from_gives = { λ fault e. e ≡ report_fault fault };
+
     fn from(fault: PrintFault) -> ReportFault {
         match fault {
             PrintFault::Write => ReportFault::Write,
@@ -91,15 +97,11 @@ impl Holdings {
         units: Units,
         writer: &mut W,
     ) -> Result<(), ReportFault>
+        ensures { (rows : List (PositionValue × ℤ)) → HasTaken rows self.old
+            → TakesRow rows (position.now, units) self.new (W.contents writer.old) (W.contents writer.new) result }
     {
-        self.is_empty = false;
-        match &position.lot {
-            Some(lot) => {
-                self.add_cost(lot, units)?;
-                print_lot(self.alloc, writer, position, lot, units)?;
-            }
-            None => print_plain(self.alloc, writer, position, units)?,
-        }
+        self.take_cost(position, units)?;
+        print_row(self.alloc, writer, position, units)?;
         Ok(())
     }
 
@@ -114,6 +116,18 @@ impl Holdings {
             print_total(self.alloc, writer, currency, *total)?;
         }
         Ok(())
+    }
+
+    /// Takes what the units of one more row cost; plain units cost nothing.
+    fn take_cost(&mut self, position: &Position, units: Units) -> Result<(), ReportFault>
+        ensures { (rows : List (PositionValue × ℤ)) → HasTaken rows self.old
+            → TakesCost rows (position.now, units) self.new result }
+    {
+        self.is_empty = false;
+        match &position.lot {
+            Some(lot) => self.add_cost(lot, units),
+            None => Ok(()),
+        }
     }
 
     /// Adds what the units of one lot cost.
@@ -142,6 +156,20 @@ impl Holdings {
     {
         let total = self.costs.get(currency).copied().unwrap_or(Wide::ZERO);
         total.checked_add(cost)
+    }
+}
+
+fn print_row<W: Write>(
+    alloc: Global,
+    writer: &mut W,
+    position: &Position,
+    units: Units,
+) -> Result<(), PrintFault>
+    ensures { Writes (W.contents writer.old) (W.contents writer.new) result (position_row position.now units) }
+{
+    match &position.lot {
+        Some(lot) => print_lot(alloc, writer, position, lot, units),
+        None => print_plain(alloc, writer, position, units),
     }
 }
 
