@@ -7,7 +7,7 @@ use Rattle.std.specs.Fmt.{WritesText}
 use Rattle.std.proofs.lemmas.Fmt.{contents_after_writes}
 use Rattle.std.specs.Io.KnownBytes.{Appends}
 use Rattle.std.proofs.KnownBytes.{Appends-nil, Appends-trans}
-use Rattle.lot_cli.specs.Written.{Writes}
+use Rattle.lot_cli.specs.Written.{AppendsFront, Writes}
 
 -- a call that takes some bytes off the front of the rest
 pub put_step : (a b c : Option (List ℕ)) (bytes written rest : List ℕ) (n : ℕ)
@@ -33,3 +33,18 @@ pub nothing_written : {A E : Type 0} (held : Option (List ℕ)) (result : Result
 nothing_written held (Ok x) text fails = absurd (true≢false (sym fails))
 nothing_written held (Err e) text fails = ([], (text, refl), Appends-nil held)
 
+
+-- a front of the next line, behind the lines before it
+pub front_step : (a b c : Option (List ℕ)) (written line rest whole : List ℕ) → Appends a b written → AppendsFront b c line
+    → written ++ (line ++ rest) ≡ whole → AppendsFront a c whole
+front_step a b c written line rest whole before now is =
+    (written ++ now.0,
+    (now.1.0 ++ rest, sym is ∙ ap (λ xs. written ++ (xs ++ rest)) now.1.1
+      ∙ ap (λ xs. written ++ xs) (append_assoc now.0 now.1.0 rest) ∙ sym (append_assoc written now.0 (now.1.0 ++ rest))),
+    Appends-trans a b c written now.0 before now.2)
+
+-- what a fault leaves
+pub writes_front : {A E : Type 0} (a c : Option (List ℕ)) (result : Result A E) (whole : List ℕ) → IsErr result
+    → AppendsFront a c whole → Writes a c result whole
+writes_front a c (Ok x) whole fails front = absurd (true≢false (sym fails))
+writes_front a c (Err e) whole fails front = front
