@@ -2,4 +2,5 @@ pub mod TextLemmas
 pub mod BalanceLemmas
 pub mod BookLemmas
 pub mod LawLemmas
+pub mod LawBalance
 pub mod PrintLemmas

@@ -1,12 +1,20 @@
 //! Of steps and books.
 ghost use Rattle.std.specs.Prelude.{◌≡◌, List};
+ghost use Rattle.std.specs.List.{AllByRecursion};
 ghost use Rattle.lot_cli.specs.declared.ledger.leg.Entry.{Entry};
 ghost use Rattle.lot_cli.specs.declared.text.command.Command.{Command};
 ghost use Rattle.lot_cli.specs.Step.{Outcome, Step};
+ghost use Rattle.lot_cli.specs.Book.{IsBook};
+ghost use Rattle.lot_cli.specs.Laws.{Balances};
 
 /// On every book each command comes to an outcome, and to no other: it is accepted with the one list of legs, or
 /// refused for the one cause.
 pub fn a_step_has_one_outcome()
     ensures some { (book : List Entry) (command : Command) → (outcome : Outcome) × Step book command outcome }
     ensures one { (book : List Entry) (command : Command) (a b : Outcome) → Step book command a → Step book command b → a ≡ b }
+{}
+
+/// Every entry of a book balances: in each currency the weights of its legs sum to zero, exactly.
+pub fn every_transaction_balances()
+    ensures { (entries : List Entry) → IsBook entries → AllByRecursion (λ (entry : Entry). Balances entry.legs) entries }
 {}
