@@ -1,11 +1,13 @@
 //! Of steps and books.
-ghost use Rattle.std.specs.Prelude.{◌≡◌, List};
+ghost use Rattle.std.specs.Prelude.{◌≡◌, ℕ, ℤ, List};
 ghost use Rattle.std.specs.List.{AllByRecursion};
 ghost use Rattle.lot_cli.specs.declared.ledger.leg.Entry.{Entry};
+ghost use Rattle.lot_cli.specs.declared.ledger.leg.Position.{Position};
 ghost use Rattle.lot_cli.specs.declared.text.command.Command.{Command};
+ghost use Rattle.lot_cli.specs.Leg.{IsInventory, legs_of};
 ghost use Rattle.lot_cli.specs.Step.{Outcome, Step};
 ghost use Rattle.lot_cli.specs.Book.{IsBook};
-ghost use Rattle.lot_cli.specs.Laws.{Balances};
+ghost use Rattle.lot_cli.specs.Laws.{Balances, bought, at_cost};
 
 /// On every book each command comes to an outcome, and to no other: it is accepted with the one list of legs, or
 /// refused for the one cause.
@@ -17,4 +19,10 @@ pub fn a_step_has_one_outcome()
 /// Every entry of a book balances: in each currency the weights of its legs sum to zero, exactly.
 pub fn every_transaction_balances()
     ensures { (entries : List Entry) → IsBook entries → AllByRecursion (λ (entry : Entry). Balances entry.legs) entries }
+{}
+
+/// What the holdings of a book show of a commodity in lots of an account is what its commands bought there, no
+/// unit more and no unit less.
+pub fn units_at_cost_are_those_bought()
+    ensures { (entries : List Entry) (rows : List (Position × ℤ)) (account commodity : List ℕ) → IsBook entries → IsInventory (legs_of entries) rows → at_cost rows account commodity ≡ bought entries account commodity }
 {}
