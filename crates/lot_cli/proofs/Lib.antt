@@ -5,4 +5,5 @@ pub mod LawLemmas
 pub mod LawBalance
 pub mod LawOrder
 pub mod LawHoldings
+pub mod LawBooks
 pub mod PrintLemmas

@@ -3,10 +3,12 @@ ghost use Rattle.std.specs.Prelude.{◌≡◌, ℕ, ℤ, List};
 ghost use Rattle.std.specs.List.{AllByRecursion};
 ghost use Rattle.lot_cli.specs.declared.ledger.leg.Entry.{Entry};
 ghost use Rattle.lot_cli.specs.declared.ledger.leg.Position.{Position};
+ghost use Rattle.lot_cli.specs.declared.ledger.leg.Leg.{Leg};
+ghost use Rattle.lot_cli.specs.declared.ledger.verdict.Verdict.{Verdict};
 ghost use Rattle.lot_cli.specs.declared.text.command.Command.{Command};
 ghost use Rattle.lot_cli.specs.Leg.{IsInventory, legs_of};
 ghost use Rattle.lot_cli.specs.Step.{Outcome, Step};
-ghost use Rattle.lot_cli.specs.Book.{IsBook};
+ghost use Rattle.lot_cli.specs.Book.{JudgesAll, IsBook};
 ghost use Rattle.lot_cli.specs.Laws.{Balances, bought, at_cost};
 
 /// On every book each command comes to an outcome, and to no other: it is accepted with the one list of legs, or
@@ -25,4 +27,16 @@ pub fn every_transaction_balances()
 /// unit more and no unit less.
 pub fn units_at_cost_are_those_bought()
     ensures { (entries : List Entry) (rows : List (Position × ℤ)) (account commodity : List ℕ) → IsBook entries → IsInventory (legs_of entries) rows → at_cost rows account commodity ≡ bought entries account commodity }
+{}
+
+/// Commands that are judged one after another make a book of a book, and there is one list of verdicts and one
+/// book to which they come.
+pub fn judged_commands_make_a_book()
+    ensures book { (before : List Entry) (commands : List Command) (verdicts : List Verdict) (after : List Entry) → JudgesAll before commands verdicts after → IsBook before → IsBook after }
+    ensures one { (before : List Entry) (commands : List Command) (vs ws : List Verdict) (after other : List Entry) → JudgesAll before commands vs after → JudgesAll before commands ws other → (vs ≡ ws) × (after ≡ other) }
+{}
+
+/// Legs have one inventory.
+pub fn a_book_has_one_inventory()
+    ensures { (legs : List Leg) (rows others : List (Position × ℤ)) → IsInventory legs rows → IsInventory legs others → rows ≡ others }
 {}
