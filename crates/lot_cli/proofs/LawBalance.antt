@@ -1,14 +1,13 @@
 -- That the entries of a book balance.
-use Rattle.std.specs.Prelude.{◌≡◌, ℕ, zero, suc, ◌%◌, ◌==◌, ◌&&◌, ◌||◌, Bool, true, false, cond, not, nat_lt, ◌^◌, ◌*◌, List, [], ◌∷◌, ◌++◌, map, filter, find, length, Option, None, Some, ℤ, pos, negsuc, ◌+ℤ◌, ◌*ℤ◌, neg_ℤ, int_div, int_rem, unsigned_abs}
+use Rattle.std.specs.Prelude.{◌≡◌, ℕ, zero, suc, ◌%◌, ◌==◌, ◌||◌, Bool, true, false, cond, not, ◌*◌, List, [], ◌∷◌, ◌++◌, map, filter, find, length, Option, None, Some, ℤ, pos, negsuc, ◌+ℤ◌, ◌*ℤ◌, neg_ℤ, int_div, int_rem, unsigned_abs}
 use Rattle.std.specs.List.{AllByRecursion, list_any}
 use Rattle.std.specs.Option.{option_map}
-use Rattle.std.specs.Ordering.{int_eq}
-use Rattle.std.specs.Cmp.Lexicographic.{pointwise, bytes_decides}
-use Rattle.std.proofs.Common.{refl, sym, ap, subst, ◌∙◌, ◌⊎◌, inl, inr, arith, ◌+◌}
+use Rattle.std.specs.Cmp.Lexicographic.{bytes_decides}
+use Rattle.std.proofs.Common.{refl, sym, ap, subst, ◌∙◌, arith, ◌+◌}
 use Rattle.std.specs.Cmp.{first_so, signed_Decides}
 use Rattle.std.proofs.lemmas.Bool.{eqb-true}
-use Rattle.std.proofs.lemmas.Int.{quot-rem, ints}
-use Rattle.std.proofs.Math.IntN.{+ℤ_assoc, +ℤ_comm, +ℤ_idl, +ℤ_idr, +ℤ_invr, neg_ℤ-+ℤ, neg_ℤ-neg_ℤ}
+use Rattle.std.proofs.lemmas.Int.{quot-rem}
+use Rattle.std.proofs.Math.IntN.{+ℤ_idl, +ℤ_idr, +ℤ_invr, neg_ℤ-+ℤ, neg_ℤ-neg_ℤ}
 use Rattle.lot_num.specs.Amount.{one}
 use Rattle.lot_cli.specs.declared.ledger.leg.Leg.{Leg}
 use Rattle.lot_cli.specs.declared.ledger.leg.Entry.{Entry}
@@ -16,47 +15,37 @@ use Rattle.lot_cli.specs.declared.ledger.refusal.Refusal.{Refusal}
 use Rattle.lot_cli.specs.declared.ledger.refusal.Refusal.TheVariants.{InexactFill, NotBalanced}
 use Rattle.lot_cli.specs.declared.text.command.Command.{Command}
 use Rattle.lot_cli.specs.declared.text.command.Command.TheVariants.{Opening, Transaction}
-use Rattle.lot_cli.specs.declared.text.command.Transaction.{Transaction as TransactionOf}
-use Rattle.lot_cli.specs.Sum.{sum_of, sum_in, same_name, first_appearances}
-use Rattle.lot_cli.specs.Balance.{weight_of, is_units, is_zero, opposite, residuals, legs_for, fill_of, first_legs, fill_legs, empty_postings}
-use Rattle.lot_cli.specs.Step.{Accept, Step, NoneHolds, refusals, first_currency, inexact_fill, not_balanced}
+use Rattle.lot_cli.specs.Sum.{sum_in, same_name, first_appearances}
+use Rattle.lot_cli.specs.Balance.{weight_of, is_units, is_zero, opposite, residuals, legs_for, fill_of, first_legs, empty_postings}
+use Rattle.lot_cli.specs.Step.{Accept, Step, NoneHolds, refusals, inexact_fill, not_balanced}
 use Rattle.lot_cli.specs.Book.{Continues, IsBook}
 use Rattle.lot_cli.specs.Laws.{Balances}
+use Rattle.lot_cli.proofs.LawSums.{by_bool, sum_where-cons, sum_where_here, sum_where_apart, sum_where-append}
 
 -- ---- Names.
 
 same_name_exact : (a b : List ℕ) → same_name a b ≡ true → a ≡ b
 same_name_exact a b e = (bytes_decides a b).0 e
 
-same_name_itself : (a : List ℕ) → same_name a a ≡ true
-same_name_itself a = (bytes_decides a a).1 refl
-
-by_bool : {P : Type 0} (b : Bool) → (b ≡ true → P) → (b ≡ false → P) → P
-by_bool true f g = f refl
-by_bool false f g = g refl
-
 -- ---- Sums in a name.
 
--- what one pair adds in a name
+abbrev in_name : List ℕ → List ℕ × ℤ → Bool
+in_name name pair = same_name name pair.0
+
+abbrev number : List ℕ × ℤ → ℤ
+number pair = pair.1
+
 sum_in-cons : (p : List ℕ × ℤ) (ps : List (List ℕ × ℤ)) (name : List ℕ) → sum_in (p ∷ ps) name ≡ cond (same_name name p.0) (p.1 +ℤ sum_in ps name) (sum_in ps name)
-sum_in-cons p ps name = elim (same_name name p.0) as (λ b. sum_of (map (λ (q : List ℕ × ℤ). q.1) (cond b (p ∷ filter (λ (q : List ℕ × ℤ). same_name name q.0) ps) (filter (λ (q : List ℕ × ℤ). same_name name q.0) ps))) ≡ cond b (p.1 +ℤ sum_in ps name) (sum_in ps name)) [
-    | true ↦ refl
-    | false ↦ refl
-  ]
+sum_in-cons p ps name = sum_where-cons (in_name name) number p ps
 
 sum_in_here : (p : List ℕ × ℤ) (ps : List (List ℕ × ℤ)) (name : List ℕ) → same_name name p.0 ≡ true → sum_in (p ∷ ps) name ≡ p.1 +ℤ sum_in ps name
-sum_in_here p ps name e = sum_in-cons p ps name ∙ ap (λ b. cond b (p.1 +ℤ sum_in ps name) (sum_in ps name)) e
+sum_in_here p ps name = sum_where_here (in_name name) number p ps
 
 sum_in_apart : (p : List ℕ × ℤ) (ps : List (List ℕ × ℤ)) (name : List ℕ) → same_name name p.0 ≡ false → sum_in (p ∷ ps) name ≡ sum_in ps name
-sum_in_apart p ps name e = sum_in-cons p ps name ∙ ap (λ b. cond b (p.1 +ℤ sum_in ps name) (sum_in ps name)) e
+sum_in_apart p ps name = sum_where_apart (in_name name) number p ps
 
-pub sum_in-append : (ps qs : List (List ℕ × ℤ)) (name : List ℕ) → sum_in (ps ++ qs) name ≡ sum_in ps name +ℤ sum_in qs name
-sum_in-append [] qs name = sym (+ℤ_idl (sum_in qs name))
-sum_in-append (p ∷ ps) qs name =
-    let rest = sum_in-append ps qs name in
-    by_bool (same_name name p.0)
-    (λ e. sum_in_here p (ps ++ qs) name e ∙ ap (λ z. p.1 +ℤ z) rest ∙ sym (+ℤ_assoc p.1 (sum_in ps name) (sum_in qs name)) ∙ ap (λ z. z +ℤ sum_in qs name) (sym (sum_in_here p ps name e)))
-    (λ e. sum_in_apart p (ps ++ qs) name e ∙ rest ∙ ap (λ z. z +ℤ sum_in qs name) (sym (sum_in_apart p ps name e)))
+sum_in-append : (ps qs : List (List ℕ × ℤ)) (name : List ℕ) → sum_in (ps ++ qs) name ≡ sum_in ps name +ℤ sum_in qs name
+sum_in-append ps qs name = sum_where-append (in_name name) number ps qs
 
 -- ---- Residuals.
 
@@ -73,7 +62,7 @@ beside_without_it f name [] = refl
 beside_without_it f name (other ∷ names) = by_bool (same_name name other)
     (λ e. ap (λ b. sum_in (beside f (cond (not b) (other ∷ without name names) (without name names))) name) e ∙ beside_without_it f name names)
     (λ e. ap (λ b. sum_in (beside f (cond (not b) (other ∷ without name names) (without name names))) name) e
-        ∙ sum_in_apart (other, f other) (beside f (without name names)) name e ∙ beside_without_it f name names)
+    ∙ sum_in_apart (other, f other) (beside f (without name names)) name e ∙ beside_without_it f name names)
 
 beside_without : (f : List ℕ → ℤ) (gone name : List ℕ) → same_name name gone ≡ false → (names : List (List ℕ)) → sum_in (beside f (without gone names)) name ≡ sum_in (beside f names) name
 unfolding beside without
@@ -82,11 +71,11 @@ beside_without f gone name apart (other ∷ names) =
     let rest = beside_without f gone name apart names in
     by_bool (same_name gone other)
     (λ e. ap (λ b. sum_in (beside f (cond (not b) (other ∷ without gone names) (without gone names))) name) e ∙ rest
-        ∙ sym (sum_in_apart (other, f other) (beside f names) name (ap (same_name name) (sym (same_name_exact gone other e)) ∙ apart)))
+    ∙ sym (sum_in_apart (other, f other) (beside f names) name (ap (same_name name) (sym (same_name_exact gone other e)) ∙ apart)))
     (λ e. ap (λ b. sum_in (beside f (cond (not b) (other ∷ without gone names) (without gone names))) name) e
-        ∙ sum_in-cons (other, f other) (beside f (without gone names)) name
-        ∙ ap (λ z. cond (same_name name other) (f other +ℤ z) z) rest
-        ∙ sym (sum_in-cons (other, f other) (beside f names) name))
+    ∙ sum_in-cons (other, f other) (beside f (without gone names)) name
+    ∙ ap (λ z. cond (same_name name other) (f other +ℤ z) z) rest
+    ∙ sym (sum_in-cons (other, f other) (beside f names) name))
 
 -- the names of a list, each once, have the numbers that the names have
 beside_first : (f : List ℕ → ℤ) (name : List ℕ) (names : List (List ℕ)) → sum_in (beside f (first_appearances names)) name ≡ cond (list_any (same_name name) names) (f name) (pos 0)
@@ -94,14 +83,14 @@ unfolding beside without
 beside_first f name [] = refl
 beside_first f name (first ∷ names) = by_bool (same_name name first)
     (λ e. sum_in_here (first, f first) (beside f (without first (first_appearances names))) name e
-        ∙ ap (λ z. f first +ℤ z) (ap (λ n. sum_in (beside f (without first (first_appearances names))) n) (same_name_exact name first e) ∙ beside_without_it f first (first_appearances names))
-        ∙ +ℤ_idr (f first)
-        ∙ ap f (sym (same_name_exact name first e))
-        ∙ ap (λ b. cond (b || list_any (same_name name) names) (f name) (pos 0)) (sym e))
+    ∙ ap (λ z. f first +ℤ z) (ap (λ n. sum_in (beside f (without first (first_appearances names))) n) (same_name_exact name first e) ∙ beside_without_it f first (first_appearances names))
+    ∙ +ℤ_idr (f first)
+    ∙ ap f (sym (same_name_exact name first e))
+    ∙ ap (λ b. cond (b || list_any (same_name name) names) (f name) (pos 0)) (sym e))
     (λ e. sum_in_apart (first, f first) (beside f (without first (first_appearances names))) name e
-        ∙ beside_without f first name e (first_appearances names)
-        ∙ beside_first f name names
-        ∙ ap (λ b. cond (b || list_any (same_name name) names) (f name) (pos 0)) (sym e))
+    ∙ beside_without f first name e (first_appearances names)
+    ∙ beside_first f name names
+    ∙ ap (λ b. cond (b || list_any (same_name name) names) (f name) (pos 0)) (sym e))
 
 -- a name that no pair has sums to zero
 nothing_in : (name : List ℕ) (ps : List (List ℕ × ℤ)) → cond (list_any (same_name name) (map (λ (p : List ℕ × ℤ). p.0) ps)) (sum_in ps name) (pos 0) ≡ sum_in ps name
@@ -109,8 +98,8 @@ nothing_in name [] = refl
 nothing_in name (p ∷ ps) = by_bool (same_name name p.0)
     (λ e. ap (λ b. cond (b || list_any (same_name name) (map (λ (p : List ℕ × ℤ). p.0) ps)) (sum_in (p ∷ ps) name) (pos 0)) e)
     (λ e. ap (λ b. cond (b || list_any (same_name name) (map (λ (p : List ℕ × ℤ). p.0) ps)) (sum_in (p ∷ ps) name) (pos 0)) e
-        ∙ ap (λ z. cond (list_any (same_name name) (map (λ (p : List ℕ × ℤ). p.0) ps)) z (pos 0)) (sum_in_apart p ps name e)
-        ∙ nothing_in name ps ∙ sym (sum_in_apart p ps name e))
+    ∙ ap (λ z. cond (list_any (same_name name) (map (λ (p : List ℕ × ℤ). p.0) ps)) z (pos 0)) (sum_in_apart p ps name e)
+    ∙ nothing_in name ps ∙ sym (sum_in_apart p ps name e))
 
 -- what the residuals have in a currency is what the weights have there
 residuals_sum : (legs : List Leg) (currency : List ℕ) → sum_in (residuals legs) currency ≡ sum_in (map weight_of legs) currency
@@ -152,8 +141,8 @@ legs_weigh entry posting account place (r ∷ rs) name h =
     let more = map weight_of (legs_for entry posting account (suc place) rs) in
     by_bool (same_name name r.0)
     (λ e. sum_in_here (r.0, opposite r.1 *ℤ pos one) more name e
-        ∙ ap (λ z. z +ℤ sum_in more name) (opposite_weighs r.1 h.0) ∙ ap (λ z. neg_ℤ r.1 +ℤ z) rest
-        ∙ sym (neg_ℤ-+ℤ r.1 (sum_in rs name)) ∙ ap neg_ℤ (sym (sum_in_here r rs name e)))
+    ∙ ap (λ z. z +ℤ sum_in more name) (opposite_weighs r.1 h.0) ∙ ap (λ z. neg_ℤ r.1 +ℤ z) rest
+    ∙ sym (neg_ℤ-+ℤ r.1 (sum_in rs name)) ∙ ap neg_ℤ (sym (sum_in_here r rs name e)))
     (λ e. sum_in_apart (r.0, opposite r.1 *ℤ pos one) more name e ∙ rest ∙ ap neg_ℤ (sym (sum_in_apart r rs name e)))
 
 left_over : List (List ℕ × ℤ) → List (List ℕ × ℤ)
@@ -163,9 +152,9 @@ units_left_over : (rs : List (List ℕ × ℤ)) → AreUnits rs → AreUnits (le
 unfolding AreUnits left_over
 units_left_over [] h = tt
 units_left_over (r ∷ rs) h = elim (not (is_zero r.1)) as (λ b. AllByRecursion (λ (r : List ℕ × ℤ). is_units r.1 ≡ true) (cond b (r ∷ left_over rs) (left_over rs))) [
-    | true ↦ (h.0, units_left_over rs h.1)
-    | false ↦ units_left_over rs h.1
-  ]
+  | true ↦ (h.0, units_left_over rs h.1)
+  | false ↦ units_left_over rs h.1
+]
 
 -- a residual of zero adds nothing
 left_over_sum : (rs : List (List ℕ × ℤ)) (name : List ℕ) → sum_in (left_over rs) name ≡ sum_in rs name
@@ -175,11 +164,11 @@ left_over_sum (r ∷ rs) name =
     let rest = left_over_sum rs name in
     by_bool (is_zero r.1)
     (λ e. ap (λ b. sum_in (cond (not b) (r ∷ left_over rs) (left_over rs)) name) e ∙ rest
-        ∙ by_bool (same_name name r.0)
-            (λ s. sym (+ℤ_idl (sum_in rs name)) ∙ ap (λ z. z +ℤ sum_in rs name) (sym ((signed_Decides r.1 (pos 0)).0 e)) ∙ sym (sum_in_here r rs name s))
-            (λ s. sym (sum_in_apart r rs name s)))
+    ∙ by_bool (same_name name r.0)
+    (λ s. sym (+ℤ_idl (sum_in rs name)) ∙ ap (λ z. z +ℤ sum_in rs name) (sym ((signed_Decides r.1 (pos 0)).0 e)) ∙ sym (sum_in_here r rs name s))
+    (λ s. sym (sum_in_apart r rs name s)))
     (λ e. ap (λ b. sum_in (cond (not b) (r ∷ left_over rs) (left_over rs)) name) e
-        ∙ sum_in-cons r (left_over rs) name ∙ ap (λ z. cond (same_name name r.0) (r.1 +ℤ z) z) rest ∙ sym (sum_in-cons r rs name))
+    ∙ sum_in-cons r (left_over rs) name ∙ ap (λ z. cond (same_name name r.0) (r.1 +ℤ z) z) rest ∙ sym (sum_in-cons r rs name))
 
 -- ---- What the conditions say that don't hold.
 
@@ -232,8 +221,8 @@ filled_balances entry (place ∷ more) legs exact balanced currency =
     ap (λ ws. sum_in ws currency) (map-append-weights legs (fill_of entry (place ∷ more) (residuals legs)))
     ∙ sum_in-append (map weight_of legs) (map weight_of (fill_of entry (place ∷ more) (residuals legs))) currency
     ∙ ap (λ z. sum_in (map weight_of legs) currency +ℤ z)
-        (legs_weigh entry place.0 place.1 1 (left_over (residuals legs)) currency (units_left_over (residuals legs) units)
-        ∙ ap neg_ℤ (left_over_sum (residuals legs) currency ∙ residuals_sum legs currency))
+    (legs_weigh entry place.0 place.1 1 (left_over (residuals legs)) currency (units_left_over (residuals legs) units)
+    ∙ ap neg_ℤ (left_over_sum (residuals legs) currency ∙ residuals_sum legs currency))
     ∙ +ℤ_invr (sum_in (map weight_of legs) currency)
 
 step_balances : (book : List Entry) (command : Command) (legs : List Leg) → Step book command (Accept legs) → Balances legs

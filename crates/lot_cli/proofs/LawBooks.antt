@@ -1,26 +1,16 @@
--- That judged commands make one book, and that legs have one inventory.
-use Rattle.std.specs.Prelude.{◌≡◌, ℕ, List, [], ◌∷◌, ◌++◌, Bool, true, false, cond, ◌&&◌, T, Option, None, Some, ℤ}
-use Rattle.std.specs.declared.cmp.Ordering.{Ordering}
-use Rattle.std.specs.declared.cmp.Ordering.TheVariants.{Less, Equal, Greater}
-use Rattle.std.specs.List.{AllByRecursion}
-use Rattle.std.specs.List.Sorted.{IsStrictlySortedBy}
-use Rattle.std.specs.Map.{keys_of, lookup}
-use Rattle.std.specs.FinMap.Entries.{find, is_sorted, below_all, same_entries}
-use Rattle.std.specs.Ordering.{is_lt}
+-- That judged commands make one book.
+use Rattle.std.specs.Prelude.{◌≡◌, List, [], ◌∷◌, ◌++◌}
 use Rattle.std.proofs.Common.{refl, sym, ap, subst, ◌∙◌, append_assoc}
 use Rattle.std.proofs.lemmas.List.{append-nil}
-use Rattle.lot_cli.specs.declared.ledger.leg.Position.{Position}
 use Rattle.lot_cli.specs.declared.ledger.leg.Leg.{Leg}
 use Rattle.lot_cli.specs.declared.ledger.leg.Entry.{Entry}
 use Rattle.lot_cli.specs.declared.ledger.refusal.Refusal.{Refusal}
 use Rattle.lot_cli.specs.declared.ledger.verdict.Verdict.{Verdict}
 use Rattle.lot_cli.specs.declared.ledger.verdict.Verdict.TheVariants.{Accepted, Refused}
 use Rattle.lot_cli.specs.declared.text.command.Command.{Command}
-use Rattle.lot_cli.specs.Leg.{position_cmp, same_position, held, non_zero, IsInventory}
 use Rattle.lot_cli.specs.Step.{Outcome, Accept, Refuse, Step}
 use Rattle.lot_cli.specs.Book.{Judges, JudgesAll, Continues, IsBook}
-use Rattle.lot_cli.proofs.LawLemmas.{one_outcome}
-use Rattle.lot_cli.proofs.LawOrder.{positions_total, exact_positions}
+use Rattle.lot_cli.proofs.LawLemmas.{some_outcome, one_outcome}
 
 -- ---- Judged commands make a book.
 
@@ -41,7 +31,19 @@ judged_book before (command ∷ commands) [] after h book = absurd h
 judged_book before (command ∷ commands) (verdict ∷ verdicts) after h book =
     judged_book h.0 commands verdicts after h.2 (judged_once before command verdict h.0 h.1 book)
 
--- ---- There is one book to which they come.
+-- ---- Commands come to a book, and to no other.
+
+judged_by : (before : List Entry) (command : Command) (outcome : Outcome) → Step before command outcome → (verdict : Verdict) × (mid : List Entry) × Judges before command verdict mid
+judged_by before command (Accept legs) step = (Accepted, before ++ record { command = command; legs = legs } ∷ [], (legs, step, refl))
+judged_by before command (Refuse refusal) step = (Refused refusal, before, (step, refl))
+
+pub some_judgement : (before : List Entry) (commands : List Command) → (verdicts : List Verdict) × (after : List Entry) × JudgesAll before commands verdicts after
+some_judgement before [] = ([], before, refl)
+some_judgement before (command ∷ commands) =
+    let outcome = some_outcome before command in
+    let first = judged_by before command outcome.0 outcome.1 in
+    let rest = some_judgement first.1 commands in
+    (first.0 ∷ rest.0, rest.1, (first.1, first.2, rest.2))
 
 same_legs : (legs more : List Leg) → Accept legs ≡ Accept more → legs ≡ more
 same_legs legs more e = cc
@@ -70,27 +72,3 @@ judged_alike before (command ∷ commands) (v ∷ vs) (w ∷ ws) after other h k
     let first = alike before command v w h.0 k.0 h.1 k.1 in
     let rest = judged_alike h.0 commands vs ws after other h.2 (subst (λ mid. JudgesAll mid commands ws other) (sym first.1) k.2) in
     (ap (λ (u : Verdict). u ∷ vs) first.0 ∙ ap (λ us. w ∷ us) rest.0, rest.1)
-
--- ---- Legs have one inventory.
-
-found_by_order : (rows : List (Position × ℤ)) (p : Position) → find position_cmp p rows ≡ lookup (same_position p) rows
-found_by_order [] p = refl
-found_by_order (row ∷ rows) p = ap (cond (same_position p row.0) (Some row.1)) (found_by_order rows p)
-
-below_rows : (p : Position) (rows : List (Position × ℤ)) → AllByRecursion (λ (q : Position). position_cmp p q ≡ Less) (keys_of rows) → T (below_all position_cmp p rows)
-below_rows p [] h = tt
-below_rows p (row ∷ rows) h = subst (λ o. T (is_lt o && below_all position_cmp p rows)) (sym h.0) (below_rows p rows h.1)
-
-both_hold : (a b : Bool) → T a → T b → T (a && b)
-both_hold true b s t = t
-both_hold false b s t = absurd s
-
-rows_sorted : (rows : List (Position × ℤ)) → IsStrictlySortedBy position_cmp (keys_of rows) → T (is_sorted position_cmp rows)
-unfolding IsStrictlySortedBy
-rows_sorted [] h = tt
-rows_sorted (row ∷ rows) h = both_hold (below_all position_cmp row.0 rows) (is_sorted position_cmp rows) (below_rows row.0 rows h.0) (rows_sorted rows h.1)
-
-pub one_inventory : (legs : List Leg) (rows others : List (Position × ℤ)) → IsInventory legs rows → IsInventory legs others → rows ≡ others
-one_inventory legs rows others h k =
-    same_entries position_cmp positions_total exact_positions rows others (rows_sorted rows h.in_order) (rows_sorted others k.in_order)
-    (λ p. found_by_order rows p ∙ h.each p ∙ sym (k.each p) ∙ sym (found_by_order others p))

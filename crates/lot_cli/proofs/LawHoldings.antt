@@ -1,6 +1,5 @@
 -- What a book holds at cost is what its commands bought.
 use Rattle.std.specs.Prelude.{◌≡◌, ℕ, zero, suc, ◌≤◌, ◌&&◌, Bool, true, false, cond, not, List, [], ◌∷◌, ◌++◌, map, filter, length, Option, None, Some, ℤ, pos, ◌+ℤ◌}
-use Rattle.std.specs.declared.cmp.Ordering.{Ordering}
 use Rattle.std.specs.declared.cmp.Ordering.TheVariants.{Less}
 use Rattle.std.specs.List.{AllByRecursion}
 use Rattle.std.specs.List.Sorted.{IsStrictlySortedBy}
@@ -8,9 +7,8 @@ use Rattle.std.specs.Map.{keys_of, lookup}
 use Rattle.std.specs.Option.{is_some}
 use Rattle.std.specs.Ordering.{int_eq, is_eq}
 use Rattle.std.specs.Cmp.{signed_Decides}
-use Rattle.std.proofs.Common.{refl, sym, ap, subst, ◌∙◌, arith, ◌+◌}
+use Rattle.std.proofs.Common.{refl, sym, ap, ◌∙◌, arith, ◌+◌}
 use Rattle.std.proofs.Math.IntN.{+ℤ_assoc, +ℤ_comm, +ℤ_idl, +ℤ_idr}
-use Rattle.lot_cli.specs.declared.ledger.leg.LotKey.{LotKey}
 use Rattle.lot_cli.specs.declared.ledger.leg.Position.{Position}
 use Rattle.lot_cli.specs.declared.ledger.leg.Leg.{Leg}
 use Rattle.lot_cli.specs.declared.ledger.leg.Entry.{Entry}
@@ -26,39 +24,7 @@ use Rattle.lot_cli.specs.Step.{Step, Accept}
 use Rattle.lot_cli.specs.Book.{Continues, IsBook}
 use Rattle.lot_cli.specs.Laws.{units_at_cost, bought_by, bought_in, bought, is_lot_of, at_cost}
 use Rattle.lot_cli.proofs.LawOrder.{one_position, same_itself}
-
-by_bool : {P : Type 0} (b : Bool) → (b ≡ true → P) → (b ≡ false → P) → P
-by_bool true f g = f refl
-by_bool false f g = g refl
-
-not_both : (b : Bool) → b ≡ true → b ≡ false → ⊥
-not_both true e f = cc
-not_both false e f = cc
-
--- ---- Sums over what passes a test.
-
-abbrev sum_where : {X : Type 0} → (X → Bool) → (X → ℤ) → List X → ℤ
-sum_where p f xs = sum_of (map f (filter p xs))
-
-sum_where-cons : {X : Type 0} (p : X → Bool) (f : X → ℤ) (x : X) (xs : List X) → sum_where p f (x ∷ xs) ≡ cond (p x) (f x +ℤ sum_where p f xs) (sum_where p f xs)
-sum_where-cons p f x xs = elim (p x) as (λ b. sum_of (map f (cond b (x ∷ filter p xs) (filter p xs))) ≡ cond b (f x +ℤ sum_where p f xs) (sum_where p f xs)) [
-    | true ↦ refl
-    | false ↦ refl
-  ]
-
-sum_where_here : {X : Type 0} (p : X → Bool) (f : X → ℤ) (x : X) (xs : List X) → p x ≡ true → sum_where p f (x ∷ xs) ≡ f x +ℤ sum_where p f xs
-sum_where_here p f x xs e = sum_where-cons p f x xs ∙ ap (λ b. cond b (f x +ℤ sum_where p f xs) (sum_where p f xs)) e
-
-sum_where_apart : {X : Type 0} (p : X → Bool) (f : X → ℤ) (x : X) (xs : List X) → p x ≡ false → sum_where p f (x ∷ xs) ≡ sum_where p f xs
-sum_where_apart p f x xs e = sum_where-cons p f x xs ∙ ap (λ b. cond b (f x +ℤ sum_where p f xs) (sum_where p f xs)) e
-
-sum_where-append : {X : Type 0} (p : X → Bool) (f : X → ℤ) (xs ys : List X) → sum_where p f (xs ++ ys) ≡ sum_where p f xs +ℤ sum_where p f ys
-sum_where-append p f [] ys = sym (+ℤ_idl (sum_where p f ys))
-sum_where-append p f (x ∷ xs) ys =
-    let rest = sum_where-append p f xs ys in
-    by_bool (p x)
-    (λ e. sum_where_here p f x (xs ++ ys) e ∙ ap (λ z. f x +ℤ z) rest ∙ sym (+ℤ_assoc (f x) (sum_where p f xs) (sum_where p f ys)) ∙ ap (λ z. z +ℤ sum_where p f ys) (sym (sum_where_here p f x xs e)))
-    (λ e. sum_where_apart p f x (xs ++ ys) e ∙ rest ∙ ap (λ z. z +ℤ sum_where p f ys) (sym (sum_where_apart p f x xs e)))
+use Rattle.lot_cli.proofs.LawSums.{by_bool, sum_where, sum_where-cons, sum_where_here, sum_where_apart, sum_where-append}
 
 -- ---- The legs of one position, and the others.
 
@@ -75,7 +41,7 @@ held_apart_itself p [] = refl
 held_apart_itself p (leg ∷ legs) = by_bool (same_position p leg.position)
     (λ e. ap (λ b. held (cond (not b) (leg ∷ apart_from p legs) (apart_from p legs)) p) e ∙ held_apart_itself p legs)
     (λ e. ap (λ b. held (cond (not b) (leg ∷ apart_from p legs) (apart_from p legs)) p) e
-        ∙ sum_where_apart (λ (l : Leg). same_position p l.position) (λ (l : Leg). l.units) leg (apart_from p legs) e ∙ held_apart_itself p legs)
+    ∙ sum_where_apart (λ (l : Leg). same_position p l.position) (λ (l : Leg). l.units) leg (apart_from p legs) e ∙ held_apart_itself p legs)
 
 held_apart : (p q : Position) → same_position q p ≡ false → (legs : List Leg) → held (apart_from p legs) q ≡ held legs q
 unfolding apart_from
@@ -84,11 +50,11 @@ held_apart p q other (leg ∷ legs) =
     let rest = held_apart p q other legs in
     by_bool (same_position p leg.position)
     (λ e. ap (λ b. held (cond (not b) (leg ∷ apart_from p legs) (apart_from p legs)) q) e ∙ rest
-        ∙ sym (sum_where_apart (λ (l : Leg). same_position q l.position) (λ (l : Leg). l.units) leg legs (ap (same_position q) (sym (one_position p leg.position e)) ∙ other)))
+    ∙ sym (sum_where_apart (λ (l : Leg). same_position q l.position) (λ (l : Leg). l.units) leg legs (ap (same_position q) (sym (one_position p leg.position e)) ∙ other)))
     (λ e. ap (λ b. held (cond (not b) (leg ∷ apart_from p legs) (apart_from p legs)) q) e
-        ∙ sum_where-cons (λ (l : Leg). same_position q l.position) (λ (l : Leg). l.units) leg (apart_from p legs)
-        ∙ ap (λ z. cond (same_position q leg.position) (leg.units +ℤ z) z) rest
-        ∙ sym (sum_where-cons (λ (l : Leg). same_position q l.position) (λ (l : Leg). l.units) leg legs))
+    ∙ sum_where-cons (λ (l : Leg). same_position q l.position) (λ (l : Leg). l.units) leg (apart_from p legs)
+    ∙ ap (λ z. cond (same_position q leg.position) (leg.units +ℤ z) z) rest
+    ∙ sym (sum_where-cons (λ (l : Leg). same_position q l.position) (λ (l : Leg). l.units) leg legs))
 
 -- one leg of the position, by whether that passes
 with_one : (b : Bool) (u s h t : ℤ) → s ≡ cond b h (pos 0) +ℤ t → cond b (u +ℤ s) s ≡ cond b (u +ℤ h) (pos 0) +ℤ t
@@ -107,15 +73,15 @@ split_at passes p (leg ∷ legs) =
     let rest = split_at passes p legs in
     by_bool (same_position p leg.position)
     (λ e. sum_where-cons (λ (l : Leg). passes l.position) (λ (l : Leg). l.units) leg legs
-        ∙ ap (λ q. cond (passes q) (leg.units +ℤ in_those passes legs) (in_those passes legs)) (sym (one_position p leg.position e))
-        ∙ with_one (passes p) leg.units (in_those passes legs) (held legs p) (in_those passes (apart_from p legs)) rest
-        ∙ ap (λ z. cond (passes p) z (pos 0) +ℤ in_those passes (apart_from p legs)) (sym (sum_where_here (λ (l : Leg). same_position p l.position) (λ (l : Leg). l.units) leg legs e))
-        ∙ ap (λ b. cond (passes p) (held (leg ∷ legs) p) (pos 0) +ℤ in_those passes (cond (not b) (leg ∷ apart_from p legs) (apart_from p legs))) (sym e))
+    ∙ ap (λ q. cond (passes q) (leg.units +ℤ in_those passes legs) (in_those passes legs)) (sym (one_position p leg.position e))
+    ∙ with_one (passes p) leg.units (in_those passes legs) (held legs p) (in_those passes (apart_from p legs)) rest
+    ∙ ap (λ z. cond (passes p) z (pos 0) +ℤ in_those passes (apart_from p legs)) (sym (sum_where_here (λ (l : Leg). same_position p l.position) (λ (l : Leg). l.units) leg legs e))
+    ∙ ap (λ b. cond (passes p) (held (leg ∷ legs) p) (pos 0) +ℤ in_those passes (cond (not b) (leg ∷ apart_from p legs) (apart_from p legs))) (sym e))
     (λ e. sum_where-cons (λ (l : Leg). passes l.position) (λ (l : Leg). l.units) leg legs
-        ∙ with_other (passes leg.position) leg.units (in_those passes legs) (cond (passes p) (held legs p) (pos 0)) (in_those passes (apart_from p legs)) rest
-        ∙ ap (λ z. cond (passes p) (held legs p) (pos 0) +ℤ z) (sym (sum_where-cons (λ (l : Leg). passes l.position) (λ (l : Leg). l.units) leg (apart_from p legs)))
-        ∙ ap (λ z. cond (passes p) z (pos 0) +ℤ in_those passes (leg ∷ apart_from p legs)) (sym (sum_where_apart (λ (l : Leg). same_position p l.position) (λ (l : Leg). l.units) leg legs e))
-        ∙ ap (λ b. cond (passes p) (held (leg ∷ legs) p) (pos 0) +ℤ in_those passes (cond (not b) (leg ∷ apart_from p legs) (apart_from p legs))) (sym e))
+    ∙ with_other (passes leg.position) leg.units (in_those passes legs) (cond (passes p) (held legs p) (pos 0)) (in_those passes (apart_from p legs)) rest
+    ∙ ap (λ z. cond (passes p) (held legs p) (pos 0) +ℤ z) (sym (sum_where-cons (λ (l : Leg). passes l.position) (λ (l : Leg). l.units) leg (apart_from p legs)))
+    ∙ ap (λ z. cond (passes p) z (pos 0) +ℤ in_those passes (leg ∷ apart_from p legs)) (sym (sum_where_apart (λ (l : Leg). same_position p l.position) (λ (l : Leg). l.units) leg legs e))
+    ∙ ap (λ b. cond (passes p) (held (leg ∷ legs) p) (pos 0) +ℤ in_those passes (cond (not b) (leg ∷ apart_from p legs) (apart_from p legs))) (sym e))
 
 front_gone : (leg : Leg) (legs : List Leg) → apart_from leg.position (leg ∷ legs) ≡ apart_from leg.position legs
 unfolding apart_from
@@ -152,7 +118,7 @@ nothing_in_those passes (suc most) (leg ∷ legs) within h =
     ∙ ap (λ z. cond (passes p) z (pos 0) +ℤ in_those passes (apart_from p (leg ∷ legs))) (h p)
     ∙ ap (λ ls. cond (passes p) (pos 0) (pos 0) +ℤ in_those passes ls) gone
     ∙ ap (λ z. cond (passes p) (pos 0) (pos 0) +ℤ z) (nothing_in_those passes most (apart_from p legs) (fewer p legs most (omega arith))
-        (λ q. ap (λ ls. held ls q) (sym gone) ∙ still_nothing p (leg ∷ legs) h q))
+    (λ q. ap (λ ls. held ls q) (sym gone) ∙ still_nothing p (leg ∷ legs) h q))
     ∙ none_and_none (passes p)
 
 -- ---- Rows hold what legs hold.
@@ -172,6 +138,7 @@ from_some v z e = by_bool (int_eq z (pos 0))
   where
     some_none : (z : ℤ) → ◌≡◌ {A = Option ℤ} (Some z) None → ⊥
     some_none z e = cc
+
     some_some : (v z : ℤ) → ◌≡◌ {A = Option ℤ} (Some v) (Some z) → v ≡ z
     some_some v z e = cc
 
@@ -197,9 +164,9 @@ rows_as_legs passes (row ∷ rows) legs sorted each =
     let p = row.0 in
     let units : row.1 ≡ held legs p = from_some row.1 (held legs p) (ap (λ b. cond b (Some row.1) (lookup (same_position p) rows)) (sym (same_itself p)) ∙ each p) in
     let rest = rows_as_legs passes rows (apart_from p legs) sorted.1 (λ q. by_bool (same_position q p)
-        (λ e. ap (λ r. lookup (same_position r) rows) (one_position q p e) ∙ none_behind p rows sorted.0
-            ∙ ap non_zero (sym (held_apart_itself p legs)) ∙ ap (λ r. non_zero (held (apart_from p legs) r)) (sym (one_position q p e)))
-        (λ e. ap (λ b. cond b (Some row.1) (lookup (same_position q) rows)) (sym e) ∙ each q ∙ ap non_zero (sym (held_apart p q e legs)))) in
+    (λ e. ap (λ r. lookup (same_position r) rows) (one_position q p e) ∙ none_behind p rows sorted.0
+    ∙ ap non_zero (sym (held_apart_itself p legs)) ∙ ap (λ r. non_zero (held (apart_from p legs) r)) (sym (one_position q p e)))
+    (λ e. ap (λ b. cond b (Some row.1) (lookup (same_position q) rows)) (sym e) ∙ each q ∙ ap non_zero (sym (held_apart p q e legs)))) in
     sum_where-cons (λ (r : Position × ℤ). passes r.0) (λ (r : Position × ℤ). r.1) row rows
     ∙ with_row (passes p) row.1 (held legs p) (in_rows passes rows) (in_those passes (apart_from p legs)) units rest
     ∙ sym (split_at passes p legs)

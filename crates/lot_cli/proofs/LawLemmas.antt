@@ -32,13 +32,13 @@ opening_outcome (Some day) = inr (λ e. cc)
 
 pub some_outcome : (book : List Entry) (command : Command) → (outcome : Outcome) × Step book command outcome
 some_outcome book (Opening o) = elim (opening_outcome (opened_on book o.account)) [
-    | inl e ↦ (Accept [], (e, refl))
-    | inr ne ↦ (Refuse AlreadyOpen, (ne, refl))
-  ]
+  | inl e ↦ (Accept [], (e, refl))
+  | inr ne ↦ (Refuse AlreadyOpen, (ne, refl))
+]
 some_outcome book (Transaction t) = elim (some_first (refusals book t)) [
-    | inl none ↦ (Accept _, (none, refl))
-    | inr found ↦ (Refuse found.0, found.1)
-  ]
+  | inl none ↦ (Accept _, (none, refl))
+  | inr found ↦ (Refuse found.0, found.1)
+]
 
 pub one_outcome : (book : List Entry) (command : Command) (a b : Outcome) → Step book command a → Step book command b → a ≡ b
 one_outcome book (Opening o) (Accept ls) (Accept ms) h k = ap Accept (h.1 ∙ sym k.1)

@@ -2,8 +2,10 @@ pub mod TextLemmas
 pub mod BalanceLemmas
 pub mod BookLemmas
 pub mod LawLemmas
+pub mod LawSums
 pub mod LawBalance
 pub mod LawOrder
 pub mod LawHoldings
 pub mod LawBooks
+pub mod LawInventory
 pub mod PrintLemmas
