@@ -15,7 +15,8 @@ use Rattle.lot_cli.specs.Balance.{weight_of}
 abbrev pub Balances : List Leg → Type 0
 Balances legs = (currency : List ℕ) → sum_in (map weight_of legs) currency ≡ pos 0
 
--- ---- What was bought: of the commands alone, which know neither legs nor lots.
+-- ---- What was bought: of the commands alone, which know neither legs nor lots. A ledger text has a cost at units
+-- above zero alone; other units would count with their sign, so that what is sold at cost is taken off.
 
 -- the units of an amount in the commodity, where it has a cost
 abbrev pub units_at_cost : List ℕ → Option Amount → ℤ
