@@ -2,5 +2,11 @@ pub mod TextLemmas
 pub mod BalanceLemmas
 pub mod BookLemmas
 pub mod LawLemmas
+pub mod LawSums
+pub mod LawBalance
+pub mod LawOrder
+pub mod LawHoldings
+pub mod LawBooks
+pub mod LawInventory
 pub mod PrintLemmas
 pub mod CostLemmas

@@ -3,6 +3,7 @@ pub mod Leg
 pub mod Balance
 pub mod Step
 pub mod Book
+pub mod Laws
 pub mod Text
 pub mod Printed
 pub mod Report

@@ -1,0 +1,109 @@
+-- Legs have one inventory: each position with what it holds, in the order of the positions.
+use Rattle.std.specs.Prelude.{◌≡◌, List, [], ◌∷◌, map, Bool, true, false, cond, not, ◌&&◌, T, None, Some, ℤ, pos}
+use Rattle.std.specs.declared.cmp.Ordering.{Ordering}
+use Rattle.std.specs.declared.cmp.Ordering.TheVariants.{Less, Equal, Greater}
+use Rattle.std.specs.FinMap.{FinMap, entries, entries_sorted, from_entries, retain_keys, get, get-entries, get-retain_keys, get-from_entries}
+use Rattle.std.specs.FinMap.Entries.{find, is_sorted, below_all, same_entries}
+use Rattle.std.specs.List.{AllByRecursion}
+use Rattle.std.specs.List.Sorted.{IsStrictlySortedBy}
+use Rattle.std.specs.Map.{keys_of, lookup}
+use Rattle.std.specs.Ordering.{is_lt, int_eq}
+use Rattle.std.specs.Cmp.{signed_Decides}
+use Rattle.std.proofs.Common.{refl, sym, ap, subst, ◌∙◌, ◌⊎◌, inl, inr, ⊎_elim}
+use Rattle.std.proofs.lemmas.Bool.{true≢false}
+use Rattle.lot_cli.specs.declared.ledger.leg.Position.{Position}
+use Rattle.lot_cli.specs.declared.ledger.leg.Leg.{Leg}
+use Rattle.lot_cli.specs.Leg.{position_cmp, same_position, held, non_zero, IsInventory}
+use Rattle.lot_cli.proofs.LawOrder.{positions_total, exact_positions, one_position}
+use Rattle.lot_cli.proofs.LawSums.{by_bool, sum_where_apart}
+
+found_by_order : (rows : List (Position × ℤ)) (p : Position) → find position_cmp p rows ≡ lookup (same_position p) rows
+found_by_order [] p = refl
+found_by_order (row ∷ rows) p = ap (cond (same_position p row.0) (Some row.1)) (found_by_order rows p)
+
+below_rows : (p : Position) (rows : List (Position × ℤ)) → AllByRecursion (λ (q : Position). position_cmp p q ≡ Less) (keys_of rows) → T (below_all position_cmp p rows)
+below_rows p [] h = tt
+below_rows p (row ∷ rows) h = subst (λ o. T (is_lt o && below_all position_cmp p rows)) (sym h.0) (below_rows p rows h.1)
+
+both_hold : (a b : Bool) → T a → T b → T (a && b)
+both_hold true b s t = t
+both_hold false b s t = absurd s
+
+rows_sorted : (rows : List (Position × ℤ)) → IsStrictlySortedBy position_cmp (keys_of rows) → T (is_sorted position_cmp rows)
+unfolding IsStrictlySortedBy
+rows_sorted [] h = tt
+rows_sorted (row ∷ rows) h = both_hold (below_all position_cmp row.0 rows) (is_sorted position_cmp rows) (below_rows row.0 rows h.0) (rows_sorted rows h.1)
+
+pub one_inventory : (legs : List Leg) (rows others : List (Position × ℤ)) → IsInventory legs rows → IsInventory legs others → rows ≡ others
+one_inventory legs rows others h k =
+    same_entries position_cmp positions_total exact_positions rows others (rows_sorted rows h.in_order) (rows_sorted others k.in_order)
+    (λ p. found_by_order rows p ∙ h.each p ∙ sym (k.each p) ∙ sym (found_by_order others p))
+
+-- ---- There is one.
+
+first_holds : (a b : Bool) → T (a && b) → T a
+first_holds true b h = tt
+first_holds false b h = h
+
+second_holds : (a b : Bool) → T (a && b) → T b
+second_holds true b h = h
+second_holds false b h = absurd h
+
+is_less : (o : Ordering) → T (is_lt o) → o ≡ Less
+is_less Less h = refl
+is_less Equal h = absurd h
+is_less Greater h = absurd h
+
+keys_above : (p : Position) (rows : List (Position × ℤ)) → T (below_all position_cmp p rows) → AllByRecursion (λ (q : Position). position_cmp p q ≡ Less) (keys_of rows)
+keys_above p [] h = tt
+keys_above p (row ∷ rows) h = (
+  is_less (position_cmp p row.0) (first_holds (is_lt (position_cmp p row.0)) (below_all position_cmp p rows) h),
+  keys_above p rows (second_holds (is_lt (position_cmp p row.0)) (below_all position_cmp p rows) h),
+)
+
+keys_sorted : (rows : List (Position × ℤ)) → T (is_sorted position_cmp rows) → IsStrictlySortedBy position_cmp (keys_of rows)
+unfolding IsStrictlySortedBy
+keys_sorted [] h = tt
+keys_sorted (row ∷ rows) h = (
+  keys_above row.0 rows (first_holds (below_all position_cmp row.0 rows) (is_sorted position_cmp rows) h),
+  keys_sorted rows (second_holds (below_all position_cmp row.0 rows) (is_sorted position_cmp rows) h),
+)
+
+-- each leg's position beside a number
+with_numbers : (Position → ℤ) → List Leg → List (Position × ℤ)
+with_numbers f legs = map (λ (leg : Leg). (leg.position, f leg.position)) legs
+
+-- a position with a leg is found with its number, and one without holds nothing
+found_or_empty : (f : Position → ℤ) (legs : List Leg) (p : Position) → (find position_cmp p (with_numbers f legs) ≡ Some (f p)) ⊎ (held legs p ≡ pos 0)
+unfolding with_numbers
+found_or_empty f [] p = inr refl
+found_or_empty f (leg ∷ legs) p = by_bool (same_position p leg.position)
+    (λ e. inl (ap (λ b. cond b (Some (f leg.position)) (find position_cmp p (with_numbers f legs))) e ∙ ap (λ q. Some (f q)) (sym (one_position p leg.position e))))
+    (λ e. ⊎_elim
+    (λ h. inl (ap (λ b. cond b (Some (f leg.position)) (find position_cmp p (with_numbers f legs))) e ∙ h))
+    (λ h. inr (sum_where_apart (λ (l : Leg). same_position p l.position) (λ (l : Leg). l.units) leg legs e ∙ h))
+    (found_or_empty f legs p))
+
+-- the map of what the positions of legs hold, where that isn't zero
+holdings : List Leg → FinMap position_cmp ℤ
+holdings legs = retain_keys (from_entries (with_numbers (held legs) legs)) (λ p. not (int_eq (held legs p) (pos 0)))
+
+get-holdings : (legs : List Leg) (p : Position) → get (holdings legs) p ≡ non_zero (held legs p)
+unfolding holdings
+get-holdings legs p =
+    get-retain_keys (from_entries (with_numbers (held legs) legs)) (λ p. not (int_eq (held legs p) (pos 0))) p (λ q e. ap (λ q. not (int_eq (held legs q) (pos 0))) (sym (exact_positions p q e)))
+    ∙ ap (λ o. cond (not (int_eq (held legs p) (pos 0))) o None) (get-from_entries positions_total (with_numbers (held legs) legs) p)
+    ∙ by_bool (int_eq (held legs p) (pos 0))
+    (λ e. ap (λ b. cond (not b) (find position_cmp p (with_numbers (held legs) legs)) None) e ∙ ap (λ b. cond b None (Some (held legs p))) (sym e))
+    (λ e. ap (λ b. cond (not b) (find position_cmp p (with_numbers (held legs) legs)) None) e
+    ∙ ⊎_elim (λ h. h) (λ h. absurd (true≢false (sym ((signed_Decides (held legs p) (pos 0)).1 h) ∙ e))) (found_or_empty (held legs) legs p)
+    ∙ ap (λ b. cond b None (Some (held legs p))) (sym e))
+
+pub some_inventory : (legs : List Leg) → (rows : List (Position × ℤ)) × IsInventory legs rows
+some_inventory legs = (
+  entries (holdings legs),
+  record {
+    in_order = keys_sorted (entries (holdings legs)) (entries_sorted (holdings legs));
+    each = λ p. sym (found_by_order (entries (holdings legs)) p) ∙ sym (get-entries (holdings legs) p) ∙ get-holdings legs p;
+  },
+)
