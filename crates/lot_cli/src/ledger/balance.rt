@@ -1,7 +1,7 @@
-ghost use Rattle.std.specs.Prelude.{◌≡◌, ◌≤◌, [], None, not, length, map, filter, IfOk, IfErr, OnOk};
+ghost use Rattle.std.specs.Prelude.{◌≡◌, ◌<◌, ◌≤◌, ◌^◌, unsigned_abs, [], None, not, length, map, filter, IfOk, IfErr, OnOk};
 ghost use Rattle.std.specs.Option.{option_map};
 ghost use Rattle.lot_cli.specs.declared.ledger.refusal.Refusal.TheVariants.{InexactFill};
-ghost use Rattle.lot_cli.specs.Balance.{residuals, opposite, is_units, is_zero};
+ghost use Rattle.lot_cli.specs.Balance.{residuals, add_weight, AreWithin, opposite, is_units, is_zero};
 ghost use Rattle.lot_cli.specs.Step.{Stops, first_currency, not_balanced};
 
 use super::leg::Leg;
@@ -37,14 +37,18 @@ impl Residuals {
             sums: IndexMap::new(alloc),
         };
         for leg in legs {
-            residuals.add(leg)?;
+            let (currency, weight) = leg.weight();
+            residuals.add(currency, weight)?;
         }
         Ok(residuals)
     }
 
-    /// Adds the weight of one more leg.
-    fn add(&mut self, leg: &Leg) -> Result<(), AllocError> {
-        let (currency, weight) = leg.weight();
+    /// Adds one more weight to what is left over in its currency.
+    fn add(&mut self, currency: &Commodity, weight: Wide) -> Result<(), AllocError>
+        requires room { AreWithin 63 self.now }
+        requires small { unsigned_abs weight < 10 ^ 34 }
+        ensures { OnOk result (self.new ≡ add_weight self.old (currency.now, weight)) }
+    {
         let sum = match self.sums.get(currency) {
             Some(sum) => match sum.checked_add(weight) {
                 Some(sum) => sum,
