@@ -1,5 +1,5 @@
 -- Weights and residuals.
-use Rattle.std.proofs.Common.{◌≡◌, ◌≢◌, ℕ, zero, suc, ◌+◌, ◌*◌, ◌/◌, ◌%◌, ◌^◌, ◌<◌, ℤ, pos, negsuc, ◌*ℤ◌, neg_ℤ, Bool, true, false, cond, not, ◌&&◌, List, [], ◌∷◌, map, filter, Option, None, Some, refl, ap, ◌∙◌, sym, true≢false, arith, eqb, ltb}
+use Rattle.std.proofs.Common.{◌≡◌, ◌≢◌, ℕ, zero, suc, ◌*◌, ◌/◌, ◌%◌, ◌^◌, ◌<◌, ℤ, pos, negsuc, ◌*ℤ◌, neg_ℤ, Bool, true, false, not, ◌&&◌, List, ◌∷◌, map, filter, Some, refl, ap, ◌∙◌, sym, true≢false, arith, eqb, ltb}
 use Rattle.std.specs.Prelude.{int_div, unsigned_abs}
 use Rattle.std.proofs.lemmas.Bool.Decides.{nat_tests, Decides-int_eq}
 use Rattle.std.proofs.lemmas.Int.{unsigned_abs-mul}
@@ -50,10 +50,11 @@ opposite_exact (negsuc a) h =
 -- the units that a weight is
 weight_from_units : (z : ℤ) → is_units z ≡ true → (u : ℤ) × IsUnits u × (z ≡ u *ℤ pos one)
 weight_from_units (pos a) h = (pos (a / one), (divided a h).1, ap pos (sym (divided a h).0))
-weight_from_units (negsuc a) h =
-    (neg_ℤ (pos (suc a / one)),
-     rw (size_of_negative (suc a / one)) (divided (suc a) h).1,
-     sym (times_negative (suc a / one) ∙ ap (λ n. neg_ℤ (pos n)) (divided (suc a) h).0))
+weight_from_units (negsuc a) h = (
+  neg_ℤ (pos (suc a / one)),
+  rw (size_of_negative (suc a / one)) (divided (suc a) h).1,
+  sym (times_negative (suc a / one) ∙ ap (λ n. neg_ℤ (pos n)) (divided (suc a) h).0),
+)
 
 pub no_units_from_weight : (z : ℤ) → ((u : ℤ) → IsUnits u → z ≡ u *ℤ pos one → ⊥) → is_units z ≡ false
 no_units_from_weight z none = by (is_units z) refl
@@ -105,12 +106,7 @@ no_units-passes currency z u rs within same = rw (units_from_weight z u within s
 pub no_units-stops : (currency : List ℕ) (z : ℤ) (rs : List (List ℕ × ℤ)) → ((u : ℤ) → IsUnits u → z ≡ u *ℤ pos one → ⊥) → first_currency no_units ((currency, z) ∷ rs) ≡ Some currency
 no_units-stops currency z rs none = rw (no_units_from_weight z none) refl
 
--- zero is not taken up
-pub fills_of-zero : (currency : List ℕ) (z u : ℤ) (rs : List (List ℕ × ℤ)) → z ≡ u *ℤ pos one → u ≡ pos 0 → fills_of ((currency, z) ∷ rs) ≡ fills_of rs
-fills_of-zero currency z u rs same zero_units =
-    let is : is_zero z ≡ true = ap is_zero (same ∙ ap (λ v. v *ℤ pos one) zero_units) in
-    rw is refl
-
+-- what takes up one more that isn't zero
 pub fills_of-more : (currency : List ℕ) (z u : ℤ) (rs : List (List ℕ × ℤ)) → z ≡ u *ℤ pos one → u ≢ pos 0 → fills_of ((currency, z) ∷ rs) ≡ (currency, neg_ℤ u) ∷ fills_of rs
 fills_of-more currency z u rs same other =
     let isnt : is_zero z ≡ false = ap is_zero same ∙ units_is_zero u ∙ not_zero u other in

@@ -1,5 +1,5 @@
 -- One more leg: its weight is added to the residual of its currency.
-use Rattle.std.proofs.Common.{◌≡◌, ℕ, suc, ◌+◌, ◌*◌, ◌^◌, ◌≤◌, ◌<◌, ℤ, pos, ◌+ℤ◌, Bool, true, false, cond, not, ◌||◌, List, [], ◌∷◌, ◌++◌, length, get_or, take, map, filter, Option, None, Some, refl, ap, ◌∙◌, sym, true≢false, arith}
+use Rattle.std.proofs.Common.{◌≡◌, ℕ, ◌+◌, ◌*◌, ◌^◌, ◌≤◌, ◌<◌, ℤ, pos, ◌+ℤ◌, Bool, true, false, cond, not, ◌||◌, List, [], ◌∷◌, ◌++◌, length, get_or, take, map, filter, None, Some, refl, ap, ◌∙◌, sym, true≢false, arith}
 use Rattle.std.specs.Prelude.{⊤, unsigned_abs}
 use Rattle.std.specs.List.{AllByRecursion, list_any}
 use Rattle.std.specs.Map.{lookup}
@@ -8,7 +8,7 @@ use Rattle.std.proofs.lemmas.Int.{ints}
 use Rattle.std.proofs.lemmas.List.{map-append, take_more}
 use Rattle.indexmap.specs.IndexMap.{insert_entry}
 use Rattle.lot_cli.specs.declared.ledger.leg.Leg.{Leg}
-use Rattle.lot_cli.specs.Sum.{same_name, sum_of, sum_in, first_appearances}
+use Rattle.lot_cli.specs.Sum.{same_name, sum_in, first_appearances}
 use Rattle.lot_cli.specs.Balance.{weight_of, currencies, residuals, add_weight, AreWithin}
 
 by_bool : {P : Type 0} (b : Bool) → (b ≡ true → P) → (b ≡ false → P) → P
@@ -41,19 +41,19 @@ without-added : (m n : List ℕ) (ks : List (List ℕ)) → same_name m n ≡ fa
 without-added m n [] e = rw e refl
 without-added m n (k ∷ ks) e = by_bool (same_name n k)
     (λ here.
-        let apart : same_name m k ≡ false = ap (same_name m) (sym (one_name n k here)) ∙ e in
-        rw (here, apart) (rw here refl))
+    let apart : same_name m k ≡ false = ap (same_name m) (sym (one_name n k here)) ∙ e in
+    rw (here, apart) (rw here refl))
     (λ there. by_bool (same_name m k)
-        (λ gone. rw (there, gone) (without-added m n ks e))
-        (λ kept. rw (there, kept) (rw there (ap (λ rest. k ∷ rest) (without-added m n ks e)))))
+    (λ gone. rw (there, gone) (without-added m n ks e))
+    (λ kept. rw (there, kept) (rw there (ap (λ rest. k ∷ rest) (without-added m n ks e)))))
 
 first_appearances-push : (names : List (List ℕ)) (n : List ℕ) → first_appearances (names ++ n ∷ []) ≡ add_name (first_appearances names) n
 first_appearances-push [] n = refl
 first_appearances-push (m ∷ names) n =
     ap (λ ks. m ∷ without m ks) (first_appearances-push names n)
     ∙ by_bool (same_name n m)
-        (λ here. rw here (ap (λ ks. m ∷ ks) (without-added_itself m n (first_appearances names) (name_turned n m true here))))
-        (λ there. rw there (ap (λ ks. m ∷ ks) (without-added m n (first_appearances names) (name_turned n m false there))))
+    (λ here. rw here (ap (λ ks. m ∷ ks) (without-added_itself m n (first_appearances names) (name_turned n m true here))))
+    (λ there. rw there (ap (λ ks. m ∷ ks) (without-added m n (first_appearances names) (name_turned n m false there))))
 
 -- no name stands twice
 abbrev AreApart : List (List ℕ) → Type 0
@@ -87,8 +87,8 @@ any_without : (m n : List ℕ) (ks : List (List ℕ)) → same_name n m ≡ fals
 any_without m n [] e = refl
 any_without m n (k ∷ ks) e = by_bool (same_name m k)
     (λ gone.
-        let apart : same_name n k ≡ false = ap (same_name n) (sym (one_name m k gone)) ∙ e in
-        rw (gone, apart) (any_without m n ks e))
+    let apart : same_name n k ≡ false = ap (same_name n) (sym (one_name m k gone)) ∙ e in
+    rw (gone, apart) (any_without m n ks e))
     (λ kept. rw kept (ap (λ b. same_name n k || b) (any_without m n ks e)))
 
 any_first_appearances : (n : List ℕ) (names : List (List ℕ)) → list_any (same_name n) (first_appearances names) ≡ list_any (same_name n) names
@@ -117,17 +117,17 @@ sum_in-push name (p ∷ ws) w =
     sum_in-cons name p (ws ++ w ∷ [])
     ∙ ap (λ z. cond (same_name name p.0) (p.1 +ℤ z) z) (sum_in-push name ws w)
     ∙ by_bool (same_name name w.0)
-        (λ adds. by_bool (same_name name p.0)
-            (λ here. rw (adds, here) (moved p.1 (sum_in ws name) w.1))
-            (λ there. rw (adds, there) refl))
-        (λ stays. rw stays (sym (sum_in-cons name p ws)))
+    (λ adds. by_bool (same_name name p.0)
+    (λ here. rw (adds, here) (moved p.1 (sum_in ws name) w.1))
+    (λ there. rw (adds, there) refl))
+    (λ stays. rw stays (sym (sum_in-cons name p ws)))
 
 sum_in-absent : (name : List ℕ) (ws : List (List ℕ × ℤ)) → list_any (same_name name) (map name_of ws) ≡ false → sum_in ws name ≡ pos 0
 sum_in-absent name [] none = refl
 sum_in-absent name (p ∷ ws) none = by_bool (same_name name p.0)
     (λ here. absurd (true≢false (sym (ap (λ b. b || list_any (same_name name) (map name_of ws)) here) ∙ none)))
     (λ there. sum_in-cons name p ws ∙ ap (λ b. cond b (p.1 +ℤ sum_in ws name) (sum_in ws name)) there
-        ∙ sum_in-absent name ws (sym (ap (λ b. b || list_any (same_name name) (map name_of ws)) there) ∙ none))
+    ∙ sum_in-absent name ws (sym (ap (λ b. b || list_any (same_name name) (map name_of ws)) there) ∙ none))
 
 -- ---- Names beside numbers.
 
@@ -148,12 +148,12 @@ beside-add_name : (f g : List ℕ → ℤ) (n : List ℕ) (weight : ℤ) (ks : L
 beside-add_name f g n weight [] adds apart new = ap (λ z. (n, z) ∷ []) (new refl)
 beside-add_name f g n weight (k ∷ ks) adds apart new = by_bool (same_name n k)
     (λ here.
-        let same : n ≡ k = one_name n k here in
-        let all = rw (← same) at apart.0 in
-        rw here (λ i. (k, adds.here k (name_turned n k true here) i) ∷ beside_others f g n weight ks adds all i))
+    let same : n ≡ k = one_name n k here in
+    let all = rw (← same) at apart.0 in
+    rw here (λ i. (k, adds.here k (name_turned n k true here) i) ∷ beside_others f g n weight ks adds all i))
     (λ there.
-        let rest = beside-add_name f g n weight ks adds apart.1 (λ none. new (ap (λ b. b || list_any (same_name n) ks) there ∙ none)) in
-        rw there (λ i. (k, adds.there k (name_turned n k false there) i) ∷ rest i))
+    let rest = beside-add_name f g n weight ks adds apart.1 (λ none. new (ap (λ b. b || list_any (same_name n) ks) there ∙ none)) in
+    rw there (λ i. (k, adds.there k (name_turned n k false there) i) ∷ rest i))
 
 -- ---- One more weight, and one more leg.
 
@@ -169,7 +169,7 @@ sums_of-push ws w =
     } in
     let itself : same_name w.0 w.0 ≡ true = (bytes_decides w.0 w.0).1 refl in
     let new : list_any (same_name w.0) (currencies ws) ≡ false → sum_in more w.0 ≡ w.1 = λ none.
-        adds.here w.0 itself ∙ ap (λ z. z +ℤ w.1) (sum_in-absent w.0 ws (sym (any_first_appearances w.0 (map name_of ws)) ∙ none)) ∙ first w.1 in
+    adds.here w.0 itself ∙ ap (λ z. z +ℤ w.1) (sum_in-absent w.0 ws (sym (any_first_appearances w.0 (map name_of ws)) ∙ none)) ∙ first w.1 in
     ap (λ names. beside (sum_in more) (first_appearances names)) (map-append name_of ws (w ∷ []))
     ∙ ap (beside (sum_in more)) (first_appearances-push (map name_of ws) w.0)
     ∙ beside-add_name (sum_in ws) (sum_in more) w.0 w.1 (currencies ws) adds (AreApart-first_appearances (map name_of ws)) new
@@ -195,20 +195,20 @@ pub insert_entry-adds : (rs : List (List ℕ × ℤ)) (currency : List ℕ) (sum
 insert_entry-adds [] currency sum weight e = absurd cc
 insert_entry-adds (r ∷ rs) currency sum weight e = by_bool (same_name currency r.0)
     (λ here.
-        let same : Some r.1 ≡ Some sum = sym (ap (λ b. cond b (Some r.1) (lookup (same_name currency) rs)) here) ∙ e in
-        let is : sum ≡ r.1 = cc in
-        rw here (ap (λ z. (r.0, z +ℤ weight) ∷ rs) is))
+    let same : Some r.1 ≡ Some sum = sym (ap (λ b. cond b (Some r.1) (lookup (same_name currency) rs)) here) ∙ e in
+    let is : sum ≡ r.1 = cc in
+    rw here (ap (λ z. (r.0, z +ℤ weight) ∷ rs) is))
     (λ there.
-        let later = sym (ap (λ b. cond b (Some r.1) (lookup (same_name currency) rs)) there) ∙ e in
-        rw there (ap (λ rest. r ∷ rest) (insert_entry-adds rs currency sum weight later)))
+    let later = sym (ap (λ b. cond b (Some r.1) (lookup (same_name currency) rs)) there) ∙ e in
+    rw there (ap (λ rest. r ∷ rest) (insert_entry-adds rs currency sum weight later)))
 
 pub insert_entry-begins : (rs : List (List ℕ × ℤ)) (currency : List ℕ) (weight : ℤ) → lookup (same_name currency) rs ≡ None → insert_entry same_name rs currency weight ≡ add_weight rs (currency, weight)
 insert_entry-begins [] currency weight e = refl
 insert_entry-begins (r ∷ rs) currency weight e = by_bool (same_name currency r.0)
     (λ here. let some : Some r.1 ≡ None = sym (ap (λ b. cond b (Some r.1) (lookup (same_name currency) rs)) here) ∙ e in absurd cc)
     (λ there.
-        let later = sym (ap (λ b. cond b (Some r.1) (lookup (same_name currency) rs)) there) ∙ e in
-        rw there (ap (λ rest. r ∷ rest) (insert_entry-begins rs currency weight later)))
+    let later = sym (ap (λ b. cond b (Some r.1) (lookup (same_name currency) rs)) there) ∙ e in
+    rw there (ap (λ rest. r ∷ rest) (insert_entry-begins rs currency weight later)))
 
 -- ---- Bounds.
 
@@ -216,9 +216,9 @@ pub lookup-within : (n : ℕ) (rs : List (List ℕ × ℤ)) (currency : List ℕ
 lookup-within n [] currency sum all e = absurd cc
 lookup-within n (r ∷ rs) currency sum all e = by_bool (same_name currency r.0)
     (λ here.
-        let same : Some r.1 ≡ Some sum = sym (ap (λ b. cond b (Some r.1) (lookup (same_name currency) rs)) here) ∙ e in
-        let is : r.1 ≡ sum = cc in
-        rw is at all.0)
+    let same : Some r.1 ≡ Some sum = sym (ap (λ b. cond b (Some r.1) (lookup (same_name currency) rs)) here) ∙ e in
+    let is : r.1 ≡ sum = cc in
+    rw is at all.0)
     (λ there. lookup-within n rs currency sum all.1 (sym (ap (λ b. cond b (Some r.1) (lookup (same_name currency) rs)) there) ∙ e))
 
 pub AreWithin-more : (n m : ℕ) (rs : List (List ℕ × ℤ)) → n ≤ m → AreWithin n rs → AreWithin m rs

@@ -22,9 +22,12 @@ lot_at day (Some cost) = Some (record { day = day; currency = cost.currency; num
 -- the leg of a posting with an amount: with a cost into the lot of that cost and the transaction's day, else plain
 abbrev pub amount_leg : ℕ → ℕ → ℤ → List ℕ → Amount → Leg
 amount_leg entry place day account amount = record {
-  entry = entry; posting = place; place = 1;
+  entry = entry;
+  posting = place;
+  place = 1;
   position = record { account = account; commodity = amount.commodity; lot = lot_at day amount.cost };
-  units = amount.units }
+  units = amount.units;
+}
 
 abbrev pub posting_legs : ℕ → ℕ → ℤ → List ℕ → Option Amount → List Leg
 posting_legs entry place day account None = []
@@ -87,9 +90,13 @@ opposite z = neg_ℤ (int_div z (pos one))
 abbrev pub legs_for : ℕ → ℕ → List ℕ → ℕ → List (List ℕ × ℤ) → List Leg
 legs_for entry posting account place [] = []
 legs_for entry posting account place (r ∷ rs) =
-    record { entry = entry; posting = posting; place = place;
+    record {
+      entry = entry;
+      posting = posting;
+      place = place;
       position = record { account = account; commodity = r.0; lot = None };
-      units = opposite r.1 } ∷ legs_for entry posting account (suc place) rs
+      units = opposite r.1;
+    } ∷ legs_for entry posting account (suc place) rs
 
 abbrev pub fill_of : ℕ → List (ℕ × List ℕ) → List (List ℕ × ℤ) → List Leg
 fill_of entry [] rs = []

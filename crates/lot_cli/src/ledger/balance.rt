@@ -28,7 +28,7 @@ impl Model for Residuals {
 }
 
 impl Residuals {
-    /// What the legs leave over. The sum of so few weights always is a `Wide`.
+    /// What the legs leave over.
     pub fn of(alloc: Global, legs: &[Leg]) -> Result<Residuals, AllocError>
         requires { length legs.now ≤ 64 }
         ensures { IfOk result (λ r. r ≡ residuals legs.now) }
@@ -43,7 +43,7 @@ impl Residuals {
         Ok(residuals)
     }
 
-    /// Adds one more weight to what is left over in its currency.
+    /// Adds one more weight to what is left over in its currency. The sum of so few weights always is a `Wide`.
     fn add(&mut self, currency: &Commodity, weight: Wide) -> Result<(), AllocError>
         requires room { AreWithin 63 self.now }
         requires small { unsigned_abs weight < 10 ^ 34 }
@@ -85,11 +85,13 @@ impl Residuals {
     {
         let mut fills = Vec::new(alloc);
         for (currency, sum) in &self.sums {
-            let currency = currency.copy()?;
             match sum.to_units() {
                 Some(units) if units.mantissa() == 0 => {}
-                Some(units) => fills.push((currency, units.negated()))?,
-                None => return Err(Refusal::InexactFill { currency }.into()),
+                Some(units) => fills.push((currency.copy()?, units.negated()))?,
+                None => {
+                    let currency = currency.copy()?;
+                    return Err(Refusal::InexactFill { currency }.into());
+                }
             }
         }
         Ok(fills)

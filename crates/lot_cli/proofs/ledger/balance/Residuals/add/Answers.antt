@@ -1,5 +1,5 @@
 -- The sum so far is bounded, so the new one is a weight; the entry takes it in place, or goes last.
-use Rattle.std.proofs.Common.{◌≡◌, Some, None, List, ℕ, ℤ, ◌+ℤ◌, sym, ap, ◌∙◌, arith}
+use Rattle.std.proofs.Common.{◌≡◌, Some, None, ◌+ℤ◌, sym, ap, ◌∙◌, arith}
 use Rattle.std.specs.Map.{lookup}
 use Rattle.indexmap.specs.IndexMap.{insert_entry}
 use Rattle.lot_cli.specs.Sum.{same_name}
