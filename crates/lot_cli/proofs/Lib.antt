@@ -1,5 +1,6 @@
 pub mod TextLemmas
 pub mod BalanceLemmas
+pub mod BalanceResiduals
 pub mod BookLemmas
 pub mod LawLemmas
 pub mod LawSums

@@ -1,6 +1,7 @@
 -- What a transaction weighs, and what it leaves over (after Beancount's Language Syntax).
-use Rattle.std.specs.Prelude.{ℕ, suc, ◌*◌, ◌^◌, ◌%◌, ◌==◌, ◌&&◌, Bool, not, nat_lt, if◌then◌else◌, List, [], ◌∷◌, ◌++◌, map, filter, Option, None, Some, ℤ, pos, ◌*ℤ◌, neg_ℤ, int_div, unsigned_abs}
+use Rattle.std.specs.Prelude.{ℕ, suc, ◌*◌, ◌^◌, ◌%◌, ◌≤◌, ◌==◌, ◌&&◌, Bool, not, nat_lt, if◌then◌else◌, List, [], ◌∷◌, ◌++◌, map, filter, Option, None, Some, ℤ, pos, ◌+ℤ◌, ◌*ℤ◌, neg_ℤ, int_div, unsigned_abs}
 use Rattle.std.specs.Ordering.{int_eq}
+use Rattle.std.specs.List.{AllByRecursion}
 use Rattle.std.specs.Option.{is_none}
 use Rattle.lot_num.specs.Amount.{one}
 use Rattle.lot_cli.specs.declared.ledger.leg.LotKey.{LotKey}
@@ -9,7 +10,7 @@ use Rattle.lot_cli.specs.declared.text.command.Posting.{Posting}
 use Rattle.lot_cli.specs.declared.text.command.Amount.{Amount}
 use Rattle.lot_cli.specs.declared.text.command.Cost.{Cost}
 use Rattle.lot_cli.specs.declared.text.command.Transaction.{Transaction}
-use Rattle.lot_cli.specs.Sum.{sum_in, first_appearances}
+use Rattle.lot_cli.specs.Sum.{same_name, sum_in, first_appearances}
 
 -- ---- The legs of the postings with amounts.
 
@@ -21,9 +22,12 @@ lot_at day (Some cost) = Some (record { day = day; currency = cost.currency; num
 -- the leg of a posting with an amount: with a cost into the lot of that cost and the transaction's day, else plain
 abbrev pub amount_leg : ℕ → ℕ → ℤ → List ℕ → Amount → Leg
 amount_leg entry place day account amount = record {
-  entry = entry; posting = place; place = 1;
+  entry = entry;
+  posting = place;
+  place = 1;
   position = record { account = account; commodity = amount.commodity; lot = lot_at day amount.cost };
-  units = amount.units }
+  units = amount.units;
+}
 
 abbrev pub posting_legs : ℕ → ℕ → ℤ → List ℕ → Option Amount → List Leg
 posting_legs entry place day account None = []
@@ -53,6 +57,15 @@ currencies weights = first_appearances (map (λ (w : List ℕ × ℤ). w.0) weig
 abbrev pub residuals : List Leg → List (List ℕ × ℤ)
 residuals legs = map (λ (currency : List ℕ). (currency, sum_in (map weight_of legs) currency)) (currencies (map weight_of legs))
 
+-- residuals once one more weight is added: in place, or behind the others where its currency is new
+abbrev pub add_weight : List (List ℕ × ℤ) → List ℕ × ℤ → List (List ℕ × ℤ)
+add_weight [] w = w ∷ []
+add_weight (r ∷ rs) w = if same_name w.0 r.0 then (r.0, r.1 +ℤ w.1) ∷ rs else r ∷ add_weight rs w
+
+-- each residual is at most so many times 10^34, which no weight reaches
+abbrev pub AreWithin : ℕ → List (List ℕ × ℤ) → Type 0
+AreWithin n rs = AllByRecursion (λ (r : List ℕ × ℤ). unsigned_abs r.1 ≤ n * 10 ^ 34) rs
+
 -- whether a weight is so many units: it has no decimal past the eighth, and is in range
 abbrev pub is_units : ℤ → Bool
 is_units z = (unsigned_abs z % one == 0) && nat_lt (unsigned_abs z) (10 ^ 18 * one)
@@ -77,9 +90,13 @@ opposite z = neg_ℤ (int_div z (pos one))
 abbrev pub legs_for : ℕ → ℕ → List ℕ → ℕ → List (List ℕ × ℤ) → List Leg
 legs_for entry posting account place [] = []
 legs_for entry posting account place (r ∷ rs) =
-    record { entry = entry; posting = posting; place = place;
+    record {
+      entry = entry;
+      posting = posting;
+      place = place;
       position = record { account = account; commodity = r.0; lot = None };
-      units = opposite r.1 } ∷ legs_for entry posting account (suc place) rs
+      units = opposite r.1;
+    } ∷ legs_for entry posting account (suc place) rs
 
 abbrev pub fill_of : ℕ → List (ℕ × List ℕ) → List (List ℕ × ℤ) → List Leg
 fill_of entry [] rs = []

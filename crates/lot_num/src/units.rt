@@ -1,4 +1,4 @@
-ghost use Rattle.std.specs.Prelude.{◌≡◌, ℤ, pos, ◌+ℤ◌, ◌*ℤ◌, neg_ℤ, SomeIff, IfOk};
+ghost use Rattle.std.specs.Prelude.{◌≡◌, ◌<◌, ◌^◌, ℤ, pos, ◌+ℤ◌, ◌*ℤ◌, neg_ℤ, unsigned_abs, SomeIff, IfOk};
 ghost use Rattle.std.specs.String.{string_bytes};
 
 use crate::number_text::{NumberFault, read};
@@ -72,7 +72,8 @@ impl Units {
 
     /// The same amount at scale 16, as a weight.
     pub fn wide(self) -> Wide
-        ensures { result ≡ self *ℤ pos one }
+        ensures value { result ≡ self *ℤ pos one }
+        ensures bound { unsigned_abs result < 10 ^ 26 }
     {
         Wide::exactly(i128::from(self.mantissa) * 100_000_000)
     }

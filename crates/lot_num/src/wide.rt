@@ -1,4 +1,4 @@
-ghost use Rattle.std.specs.Prelude.{◌≡◌, ℤ, pos, ◌+ℤ◌, ◌*ℤ◌, neg_ℤ, SomeIff, IfOk, IfSome};
+ghost use Rattle.std.specs.Prelude.{◌≡◌, ◌<◌, ◌^◌, ℤ, pos, ◌+ℤ◌, ◌*ℤ◌, neg_ℤ, unsigned_abs, SomeIff, IfOk, IfSome};
 ghost use Rattle.std.specs.String.{string_bytes};
 
 use crate::printed::{Decimals, amount_text};
@@ -100,7 +100,8 @@ impl Wide {
 
 /// The exact weight of so many units at a rate, which always is a weight: units times rate, at scale 16.
 pub fn weight(units: Units, rate: Rate) -> Wide
-    ensures { result ≡ units *ℤ pos rate }
+    ensures value { result ≡ units *ℤ pos rate }
+    ensures bound { unsigned_abs result < 10 ^ 34 }
 {
     Wide::exactly(i128::from(units.mantissa()) * i128::from(rate.mantissa()))
 }

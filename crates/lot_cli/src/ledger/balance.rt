@@ -1,7 +1,7 @@
-ghost use Rattle.std.specs.Prelude.{◌≡◌, ◌≤◌, [], None, not, length, map, filter, IfOk, IfErr, OnOk};
+ghost use Rattle.std.specs.Prelude.{◌≡◌, ◌<◌, ◌≤◌, ◌^◌, unsigned_abs, [], None, not, length, map, filter, IfOk, IfErr, OnOk};
 ghost use Rattle.std.specs.Option.{option_map};
 ghost use Rattle.lot_cli.specs.declared.ledger.refusal.Refusal.TheVariants.{InexactFill};
-ghost use Rattle.lot_cli.specs.Balance.{residuals, opposite, is_units, is_zero};
+ghost use Rattle.lot_cli.specs.Balance.{residuals, add_weight, AreWithin, opposite, is_units, is_zero};
 ghost use Rattle.lot_cli.specs.Step.{Stops, first_currency, not_balanced};
 
 use super::leg::Leg;
@@ -28,7 +28,7 @@ impl Model for Residuals {
 }
 
 impl Residuals {
-    /// What the legs leave over. The sum of so few weights always is a `Wide`.
+    /// What the legs leave over.
     pub fn of(alloc: Global, legs: &[Leg]) -> Result<Residuals, AllocError>
         requires { length legs.now ≤ 64 }
         ensures { IfOk result (λ r. r ≡ residuals legs.now) }
@@ -37,14 +37,18 @@ impl Residuals {
             sums: IndexMap::new(alloc),
         };
         for leg in legs {
-            residuals.add(leg)?;
+            let (currency, weight) = leg.weight();
+            residuals.add(currency, weight)?;
         }
         Ok(residuals)
     }
 
-    /// Adds the weight of one more leg.
-    fn add(&mut self, leg: &Leg) -> Result<(), AllocError> {
-        let (currency, weight) = leg.weight();
+    /// Adds one more weight to what is left over in its currency. The sum of so few weights always is a `Wide`.
+    fn add(&mut self, currency: &Commodity, weight: Wide) -> Result<(), AllocError>
+        requires room { AreWithin 63 self.now }
+        requires small { unsigned_abs weight < 10 ^ 34 }
+        ensures { OnOk result (self.new ≡ add_weight self.old (currency.now, weight)) }
+    {
         let sum = match self.sums.get(currency) {
             Some(sum) => match sum.checked_add(weight) {
                 Some(sum) => sum,
@@ -81,11 +85,13 @@ impl Residuals {
     {
         let mut fills = Vec::new(alloc);
         for (currency, sum) in &self.sums {
-            let currency = currency.copy()?;
             match sum.to_units() {
                 Some(units) if units.mantissa() == 0 => {}
-                Some(units) => fills.push((currency, units.negated()))?,
-                None => return Err(Refusal::InexactFill { currency }.into()),
+                Some(units) => fills.push((currency.copy()?, units.negated()))?,
+                None => {
+                    let currency = currency.copy()?;
+                    return Err(Refusal::InexactFill { currency }.into());
+                }
             }
         }
         Ok(fills)

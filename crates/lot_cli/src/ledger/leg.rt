@@ -1,4 +1,4 @@
-ghost use Rattle.std.specs.Prelude.{◌≡◌, IfOk};
+ghost use Rattle.std.specs.Prelude.{◌≡◌, ◌<◌, ◌^◌, unsigned_abs, IfOk};
 ghost use Rattle.lot_cli.specs.Balance.{weight_of};
 
 use crate::items::Items;
@@ -71,7 +71,8 @@ impl Leg {
     /// Where it weighs, and how much: in a lot its units times the lot's number, in the lot's currency; else the
     /// units themselves.
     pub fn weight(&self) -> (&Commodity, Wide)
-        ensures { (result.0.now, result.1) ≡ weight_of self.now }
+        ensures value { (result.0.now, result.1) ≡ weight_of self.now }
+        ensures bound { unsigned_abs result.1 < 10 ^ 34 }
     {
         match &self.position.lot {
             Some(lot) => (&lot.currency, weight(self.units, lot.number)),
