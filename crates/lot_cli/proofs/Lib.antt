@@ -11,3 +11,4 @@ pub mod LawBooks
 pub mod LawInventory
 pub mod PrintLemmas
 pub mod CostLemmas
+pub mod RowLemmas

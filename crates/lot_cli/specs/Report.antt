@@ -103,3 +103,17 @@ abbrev pub IsReportToFault : List (Position × ℤ) → List ℕ → Type 0
 IsReportToFault rows text =
     (before : List (Position × ℤ)) × (row : Position × ℤ) × (after : List (Position × ℤ))
     × AllFit [] before × IsTrue (not (fits before row)) × (rows ≡ before ++ row ∷ after) × (text ≡ rows_text before)
+
+-- the text of some rows at the front, or of the whole report
+abbrev pub IsReportFront : List (Position × ℤ) → List ℕ → Type 0
+IsReportFront rows text =
+    ((before : List (Position × ℤ)) × (after : List (Position × ℤ)) × AllFit [] before × (rows ≡ before ++ after) × (text ≡ rows_text before))
+    ⊎ IsReport rows text
+
+-- what is written of rows: the report; or the rows before the one with which a total leaves the range; or, where
+-- memory is wanting or the writer fails, a front of the report
+abbrev pub WritesReport : List (Position × ℤ) → Option (List ℕ) → Option (List ℕ) → Result (Unit {0}) ReportFault → Type 0
+WritesReport rows old new (Ok done) = (text : List ℕ) × IsReport rows text × Appends old new text
+WritesReport rows old new (Err Range) = (text : List ℕ) × IsReportToFault rows text × Appends old new text
+WritesReport rows old new (Err Write) = (text : List ℕ) × IsReportFront rows text × AppendsFront old new text
+WritesReport rows old new (Err Memory) = (text : List ℕ) × IsReportFront rows text × AppendsFront old new text

@@ -12,7 +12,7 @@ mod tests;
 
 use crate::input::slurp;
 use crate::ledger::Book;
-use crate::report::{Holdings, ReportFault, print_reply};
+use crate::report::{print_holdings, print_reply};
 use crate::text::{Command, read};
 use fault::{Fault, print_fault};
 use status::Status;
@@ -41,7 +41,7 @@ fn answer<R: Read, W: Write>(
     let text = slurp(alloc, reader)?;
     let commands = read(alloc, &text)?;
     let (book, status) = run(alloc, commands, writer)?;
-    print_held(alloc, &book, writer)?;
+    print_holdings(alloc, book.holdings(), writer)?;
     Ok(status)
 }
 
@@ -63,16 +63,6 @@ fn run<W: Write>(
         status = status.and(Status::of_verdict(&verdict));
     }
     Ok((book, status))
-}
-
-/// Writes what the book holds.
-fn print_held<W: Write>(alloc: Global, book: &Book, writer: &mut W) -> Result<(), ReportFault> {
-    let mut holdings = Holdings::new(alloc);
-    for (position, units) in book.holdings() {
-        holdings.row(position, *units, writer)?;
-    }
-    holdings.end(writer)?;
-    Ok(())
 }
 
 /// Tells a fault, if there was one, and flushes what was written.

@@ -8,6 +8,6 @@ mod holdings;
 mod line;
 mod reply;
 
-pub(crate) use holdings::{Holdings, ReportFault};
+pub(crate) use holdings::{ReportFault, print_holdings};
 pub(crate) use line::{PrintFault, print_line};
 pub(crate) use reply::print_reply;

@@ -2,7 +2,7 @@ ghost use Rattle.std.specs.Prelude.{◌≡◌, ℕ, List, [], ◌∷◌, ◌++�
 ghost use Rattle.lot_num.specs.Amount.{IsWide};
 ghost use Rattle.lot_cli.specs.Sum.{sum_in};
 ghost use Rattle.lot_cli.specs.declared.ledger.leg.Position.{Position as PositionValue};
-ghost use Rattle.lot_cli.specs.Report.{AreSums, HasTaken, TakesCost, TakesRow};
+ghost use Rattle.lot_cli.specs.Report.{AreSums, HasTaken, TakesCost, TakesRow, WritesReport};
 ghost use Rattle.lot_cli.specs.Printed.{plain_row, lot_row, position_row, total_line, totals};
 ghost use Rattle.lot_cli.specs.Written.{Writes};
 
@@ -68,10 +68,30 @@ impl<T: Drop> From<AllocFailed<T>> for ReportFault {
     }
 }
 
+/// Writes the report of what is held: a row for each position, in their order, and then what the lots cost in each
+/// currency.
+///
+/// Refused with `Range` at the first row with which a total leaves the range of weights: that row isn't written, and
+/// no total is. After another fault a front of the report is written.
+pub(crate) fn print_holdings<W: Write>(
+    alloc: Global,
+    held: &BTreeMap<Position, Units>,
+    writer: &mut W,
+) -> Result<(), ReportFault>
+    ensures { WritesReport held.now.entries (W.contents writer.old) (W.contents writer.new) result }
+{
+    let mut holdings = Holdings::new(alloc);
+    for (position, units) in held {
+        holdings.row(position, *units, writer)?;
+    }
+    holdings.end(writer)?;
+    Ok(())
+}
+
 /// The report of what is held: a row for each position that isn't at zero, in their order, and then what the
 /// lots cost in each currency.
 #[derive(Drop)]
-pub(crate) struct Holdings {
+struct Holdings {
     alloc: Global,
     is_empty: bool,
     /// What the lots so far cost.
@@ -80,7 +100,9 @@ pub(crate) struct Holdings {
 
 impl Holdings {
     /// The report before its first row.
-    pub fn new(alloc: Global) -> Holdings {
+    fn new(alloc: Global) -> Holdings
+        ensures { HasTaken [] result }
+    {
         Holdings {
             alloc,
             is_empty: true,
@@ -91,7 +113,7 @@ impl Holdings {
     /// Writes the row of one position.
     ///
     /// Refused with `Range` where it takes a total out of the range of weights: nothing of the row is written.
-    pub fn row<W: Write>(
+    fn row<W: Write>(
         &mut self,
         position: &Position,
         units: Units,
@@ -106,7 +128,7 @@ impl Holdings {
     }
 
     /// Writes the totals, by the bytes of their currencies, or that nothing is held.
-    pub fn end<W: Write>(self, writer: &mut W) -> Result<(), PrintFault>
+    fn end<W: Write>(self, writer: &mut W) -> Result<(), PrintFault>
         ensures { Writes (W.contents writer.old) (W.contents writer.new) result (totals self.is_empty self.costs.entries) }
     {
         if self.is_empty {
