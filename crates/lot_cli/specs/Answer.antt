@@ -1,30 +1,26 @@
 -- What `check` writes for an input, and with which status it ends.
-use Rattle.std.specs.Prelude.{◌≡◌, ◌⊎◌, ℕ, suc, ◌<◌, ◌≤◌, List, [], ◌∷◌, ◌++◌, length, ℤ}
+use Rattle.std.specs.Io.KnownBytes.{Appends}
+use Rattle.std.specs.Prelude.{◌≡◌, ◌⊎◌, Option, Result, Ok, Err, ℕ, suc, ◌<◌, ◌≤◌, List, [], ◌∷◌, ◌++◌, length, ℤ}
 use Rattle.lot_cli.specs.declared.batch.fault.Fault.{Fault}
 use Rattle.lot_cli.specs.declared.batch.status.Status.{Status}
 use Rattle.lot_cli.specs.declared.ledger.leg.Position.{Position}
 use Rattle.lot_cli.specs.declared.ledger.leg.Entry.{Entry}
 use Rattle.lot_cli.specs.declared.ledger.verdict.Verdict.{Verdict}
-use Rattle.lot_cli.specs.declared.ledger.verdict.Verdict.TheVariants.{Accepted, Refused}
 use Rattle.lot_cli.specs.declared.text.command.Command.{Command}
 use Rattle.lot_cli.specs.Text.{Reads, IsFaultAt}
 use Rattle.lot_cli.specs.Leg.{IsInventory, legs_of}
 use Rattle.lot_cli.specs.Book.{JudgesAll}
 use Rattle.lot_cli.specs.Printed.{replies, fault_line}
 use Rattle.lot_cli.specs.Report.{IsReport, IsReportToFault, AllFit, rows_text}
-use Rattle.lot_cli.specs.Written.{IsPrefixOf}
-use Rattle.lot_cli.specs.Status.{code_of, status_after}
+use Rattle.lot_cli.specs.Written.{IsPrefixOf, AppendsFront}
+use Rattle.lot_cli.specs.Status.{code_of, status_of_verdict, status_after}
 
 -- ---- The status of replies.
-
-abbrev pub status_of_reply : Verdict → Status
-status_of_reply Accepted = Status.Accepted
-status_of_reply (Refused refusal) = Status.Refused
 
 -- one refusal is enough for a run to count as refused
 abbrev pub status_of_replies : List Verdict → Status
 status_of_replies [] = Status.Accepted
-status_of_replies (verdict ∷ verdicts) = status_after (status_of_reply verdict) (status_of_replies verdicts)
+status_of_replies (verdict ∷ verdicts) = status_after (status_of_verdict verdict) (status_of_replies verdicts)
 
 -- ---- The whole answer.
 
@@ -97,6 +93,21 @@ abbrev pub IsStopped : List ℕ → List ℕ → ℕ → Type 0
 IsStopped input written status =
     (front : List ℕ) × (told : List ℕ) × (text : List ℕ) × IsFront input front × IsStopLine text × IsPrefixOf told text
     × (written ≡ front ++ told) × (status ≡ 4)
+
+-- ---- Runs: commands judged on a fresh book, with a reply to each.
+
+-- the replies to some commands at the front are written, the last of them perhaps in part
+abbrev pub StopsInRun : List Command → Option (List ℕ) → Option (List ℕ) → Type 0
+StopsInRun commands old new =
+    (done : List Command) × (rest : List Command) × (verdicts : List Verdict) × (book : List Entry)
+    × (commands ≡ done ++ rest) × JudgesAll [] done verdicts book × AppendsFront old new (replies 1 verdicts)
+
+-- what a run of commands writes and answers: the replies to all, and the book after them
+abbrev pub Runs : List Command → Option (List ℕ) → Option (List ℕ) → Result (List Entry × Status) Fault → Type 0
+Runs commands old new (Ok ran) =
+    (verdicts : List Verdict) × JudgesAll [] commands verdicts ran.0 × Appends old new (replies 1 verdicts)
+    × (ran.1 ≡ status_of_replies verdicts)
+Runs commands old new (Err fault) = StopsInRun commands old new × ((fault ≡ Fault.Write) ⊎ ((number : ℕ) × (fault ≡ Fault.MemoryAt number)))
 
 -- ---- The theorem.
 

@@ -2,6 +2,7 @@
 use Rattle.std.specs.Prelude.{◌≡◌, ◌⊎◌, ℕ}
 use Rattle.lot_cli.specs.declared.batch.fault.Fault.{Fault}
 use Rattle.lot_cli.specs.declared.batch.fault.Fault.TheVariants.{Read, TooLong, Syntax, Range, Write, Memory, MemoryAt}
+use Rattle.lot_cli.specs.declared.ledger.verdict.Verdict.{Verdict}
 use Rattle.lot_cli.specs.declared.batch.status.Status.{Status}
 use Rattle.lot_cli.specs.declared.batch.status.Status.TheVariants.{Accepted, Refused, BadInput, Stopped}
 
@@ -15,6 +16,11 @@ code_of Stopped = 4
 -- a number with which a run without words ends
 abbrev pub IsStatus : ℕ → Type 0
 IsStatus n = (n ≡ 0) ⊎ (n ≡ 1) ⊎ (n ≡ 3) ⊎ (n ≡ 4)
+
+-- the status of a run of one command
+abbrev pub status_of_verdict : Verdict → Status
+status_of_verdict Verdict.Accepted = Accepted
+status_of_verdict (Verdict.Refused refusal) = Refused
 
 -- one refused command is enough for a run to count as refused
 abbrev pub status_after : Status → Status → Status

@@ -4,6 +4,7 @@
 //! - `status`: how it ended.
 
 ghost use Rattle.lot_cli.specs.Status.{IsStatus};
+ghost use Rattle.lot_cli.specs.Answer.{Runs};
 
 mod fault;
 mod status;
@@ -50,7 +51,9 @@ fn run<W: Write>(
     alloc: Global,
     commands: Vec<Command>,
     writer: &mut W,
-) -> Result<(Book, Status), Fault> {
+) -> Result<(Book, Status), Fault>
+    ensures { Runs commands.items (W.contents writer.old) (W.contents writer.new) result }
+{
     let mut book = Book::new(alloc);
     let mut status = Status::Accepted;
     for (index, command) in commands.into_iter().enumerate() {

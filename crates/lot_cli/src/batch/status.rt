@@ -1,5 +1,5 @@
 ghost use Rattle.std.specs.Prelude.{◌≡◌};
-ghost use Rattle.lot_cli.specs.Status.{code_of, status_after, IsStatus};
+ghost use Rattle.lot_cli.specs.Status.{code_of, status_of_verdict, status_after, IsStatus};
 
 use crate::ledger::Verdict;
 
@@ -18,7 +18,9 @@ pub(super) enum Status {
 
 impl Status {
     /// The status of a run of one command.
-    pub fn of_verdict(verdict: &Verdict) -> Status {
+    pub fn of_verdict(verdict: &Verdict) -> Status
+        ensures { result ≡ status_of_verdict verdict.now }
+    {
         match verdict {
             Verdict::Accepted => Status::Accepted,
             Verdict::Refused(_) => Status::Refused,
