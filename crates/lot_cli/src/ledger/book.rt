@@ -1,5 +1,6 @@
-ghost use Rattle.std.specs.Prelude.{◌≡◌, [], IfOk};
-ghost use Rattle.lot_cli.specs.Leg.{IsInventory, legs_of};
+ghost use Rattle.std.specs.Prelude.{◌≡◌, ◌+◌, ◌++◌, ◌∷◌, [], length, IfOk};
+ghost use Rattle.lot_cli.specs.Leg.{IsInventory, TellsHeld, held, legs_of, non_zero};
+ghost use Rattle.lot_cli.specs.Step.{Step, Accept, opened_on};
 ghost use Rattle.lot_cli.specs.Book.{Judges};
 
 use super::decide::Change;
@@ -28,10 +29,13 @@ pub(crate) struct Book {
 impl Model for Book {
     ghost use Rattle.std.specs.Prelude.{List};
     ghost use Rattle.lot_cli.specs.declared.ledger.leg.Entry.{Entry};
+    ghost use Rattle.lot_cli.specs.Book.{IsKept};
 
     ghost Value = { List Entry };
 
     ghost view = { λ b. b.entries.items };
+
+    ghost invariant = { λ b. IsKept b.entries.items b.opened b.held };
 }
 
 impl Book {
@@ -59,17 +63,23 @@ impl Book {
     }
 
     /// The day on which the account was opened, if it was.
-    pub(super) fn opened(&self, account: &Account) -> Option<Day> {
+    pub(super) fn opened(&self, account: &Account) -> Option<Day>
+        ensures { result ≡ opened_on self.now account.now }
+    {
         self.opened.get(account).copied()
     }
 
     /// The units of a position, if they aren't zero.
-    pub(super) fn held(&self, position: &Position) -> Option<Units> {
+    pub(super) fn held(&self, position: &Position) -> Option<Units>
+        ensures { result ≡ non_zero (held (legs_of self.now) position.now) }
+    {
         self.held.get(position).copied()
     }
 
     /// The place of the entry that comes next, from 1.
-    pub(super) fn next_entry(&self) -> usize {
+    pub(super) fn next_entry(&self) -> usize
+        ensures { result ≡ length self.now + 1 }
+    {
         self.entries.len() + 1
     }
 
@@ -81,19 +91,34 @@ impl Book {
     }
 
     /// Writes an accepted command and what it changes.
-    fn record(mut self, command: Command, change: Change) -> Result<Book, AllocError> {
+    fn record(self, command: Command, change: Change) -> Result<Book, AllocError>
+        requires step { Step self command (Accept change.legs) }
+        requires held { TellsHeld (legs_of self) change.legs change.held.entries }
+        ensures { IfOk result (λ book. book ≡ self ++ record { command = command; legs = change.legs } ∷ []) }
+    {
+        let Book {
+            mut entries,
+            mut opened,
+            mut held,
+        } = self;
         if let Command::Opening(opening) = &command {
-            self.opened.insert(opening.account.copy()?, opening.day)?;
+            opened.insert(opening.account.copy()?, opening.day)?;
         }
-        let Change { legs, held } = change;
-        for (position, units) in held {
+        for (position, units) in change.held {
             if units.mantissa() == 0 {
-                self.held.remove(&position);
+                held.remove(&position);
             } else {
-                self.held.insert(position, units)?;
+                held.insert(position, units)?;
             }
         }
-        self.entries.push(Entry { command, legs })?;
-        Ok(self)
+        entries.push(Entry {
+            command,
+            legs: change.legs,
+        })?;
+        Ok(Book {
+            entries,
+            opened,
+            held,
+        })
     }
 }
