@@ -29,7 +29,7 @@ use Rattle.lot_cli.specs.declared.ledger.refusal.Refusal.TheVariants.{Range}
 use Rattle.lot_cli.specs.declared.ledger.refusal.Stop.{Stop}
 use Rattle.lot_cli.specs.declared.ledger.refusal.Stop.TheVariants.{Refused, Memory}
 use Rattle.lot_cli.specs.declared.text.command.Posting.{Posting}
-use Rattle.lot_cli.specs.Balance.{amount_legs, posting_legs}
+use Rattle.lot_cli.specs.Balance.{amount_legs, posting_legs, legs_for, opposite}
 use Rattle.lot_cli.specs.Step.{Stops, breaking_posting, out_of_range}
 
 -- ---- the order of the positions
@@ -213,3 +213,31 @@ amounts-turn entry day postings index posting inside is =
     ap (amount_legs entry (index + 1) day) (drop_more postings index posting inside)
     ∙ ap (λ (p : Posting). posting_legs entry (index + 1) day p.account p.amount ++ amount_legs entry (suc (index + 1)) day (drop (index + 1) postings)) (sym is)
     ∙ ap (λ place. posting_legs entry (index + 1) day posting.account posting.amount ++ amount_legs entry place day (drop (index + 1) postings)) (sym (add-one (index + 1)))
+
+-- ---- the legs of a fill
+
+-- plain legs of so many units in each currency, numbered on from a place
+abbrev pub filled : ℕ → ℕ → List ℕ → ℕ → List (List ℕ × ℤ) → List Leg
+filled entry posting account place [] = []
+filled entry posting account place (fill ∷ fills) =
+    record {
+      entry = entry;
+      posting = posting;
+      place = place;
+      position = record { account = account; commodity = fill.0; lot = None };
+      units = fill.1;
+    } ∷ filled entry posting account (place + 1) fills
+
+pub legs_for-filled : (entry posting : ℕ) (account : List ℕ) (place : ℕ) (rs : List (List ℕ × ℤ))
+    → legs_for entry posting account place rs ≡ filled entry posting account place (map (λ (r : List ℕ × ℤ). (r.0, opposite r.1)) rs)
+legs_for-filled entry posting account place [] = refl
+legs_for-filled entry posting account place (r ∷ rs) =
+    let first : Leg =
+        record {
+          entry = entry;
+          posting = posting;
+          place = place;
+          position = record { account = account; commodity = r.0; lot = None };
+          units = opposite r.1;
+        } in
+    ap (λ n. first ∷ legs_for entry posting account n rs) (sym (add-one place)) ∙ ap (λ legs. first ∷ legs) (legs_for-filled entry posting account (place + 1) rs)
