@@ -10,7 +10,9 @@ use Rattle.std.specs.Cmp.Lexicographic.{slice_cmp, options_total}
 use Rattle.std.specs.FinMap.{IsAntisymmetric, nat_cmp-IsAntisymmetric, slice_cmp-IsAntisymmetric}
 use Rattle.std.proofs.lemmas.Map.Lookups.{exact_signed, exact_bytes, exact_unsigned}
 use Rattle.std.proofs.lemmas.Cmp.{nat_cmp_total, int_cmp_total, nat_list_cmp_total, on_total, then_total, tied_itself, eq_by_cmp_equiv}
-use Rattle.std.proofs.lemmas.Bool.{cases_Bool}
+use Rattle.std.proofs.lemmas.Bool.{cases_Bool, cases_lt}
+use Rattle.std.proofs.lemmas.Bool.Decides.{nat_tests}
+use Rattle.lot_cli.specs.declared.text.command.Amount.{Amount}
 use Rattle.std.proofs.Common.{inl, inr}
 use Rattle.std.proofs.lemmas.List.{map-append, append-nil}
 use Rattle.std.proofs.lemmas.List.Elements.{filter-append}
@@ -22,7 +24,7 @@ use Rattle.lot_cli.specs.Sum.{sum_of}
 use Rattle.lot_cli.specs.Leg.{lot_cmp, position_cmp, same_position, held, TellsHeld, non_zero}
 use Rattle.std.specs.Prelude.{nat_lt, unsigned_abs}
 use Rattle.std.specs.Option.{option_map}
-use Rattle.std.proofs.Common.{length, get_or, drop, add-one}
+use Rattle.std.proofs.Common.{◌≤◌, length-append, length, get_or, drop, add-one}
 use Rattle.std.proofs.lemmas.List.{drop_more}
 use Rattle.lot_cli.specs.declared.ledger.refusal.Refusal.{Refusal}
 use Rattle.lot_cli.specs.declared.ledger.refusal.Refusal.TheVariants.{Range}
@@ -30,7 +32,7 @@ use Rattle.lot_cli.specs.declared.ledger.refusal.Stop.{Stop}
 use Rattle.lot_cli.specs.declared.ledger.refusal.Stop.TheVariants.{Refused, Memory}
 use Rattle.lot_cli.specs.declared.text.command.Posting.{Posting}
 use Rattle.lot_cli.specs.Balance.{amount_legs, posting_legs, legs_for, opposite}
-use Rattle.lot_cli.specs.Step.{Stops, breaking_posting, out_of_range}
+use Rattle.lot_cli.specs.Step.{Stops, breaking_posting, out_of_range, too_many_postings}
 
 -- ---- the order of the positions
 
@@ -241,3 +243,23 @@ legs_for-filled entry posting account place (r ∷ rs) =
           units = opposite r.1;
         } in
     ap (λ n. first ∷ legs_for entry posting account n rs) (sym (add-one place)) ∙ ap (λ legs. first ∷ legs) (legs_for-filled entry posting account (place + 1) rs)
+
+-- ---- how many legs a transaction has
+
+-- no posting gives more than one leg
+pub amount_legs-few : (entry place : ℕ) (day : ℤ) (postings : List Posting) → length (amount_legs entry place day postings) ≤ length postings
+amount_legs-few entry place day [] = omega arith
+amount_legs-few entry place day (posting ∷ postings) =
+    let more = amount_legs-few entry (suc place) day postings in
+    rw (length-append (posting_legs entry place day posting.account posting.amount) (amount_legs entry (suc place) day postings)) (by posting.amount more)
+  where
+    by : (amount : Option Amount) → length (amount_legs entry (suc place) day postings) ≤ length postings
+        → length (posting_legs entry place day posting.account amount) + length (amount_legs entry (suc place) day postings) ≤ suc (length postings)
+    by None more = omega arith
+    by (Some amount) more = omega arith
+
+pub few-postings : (postings : List Posting) → too_many_postings postings ≡ None → length postings ≤ 64
+few-postings postings e = elim (cases_lt 64 (length postings)) [
+  | inl many ↦ absurd (grind (arith, nat_tests))
+  | inr few ↦ few
+]
