@@ -87,7 +87,7 @@ position_total =
     then_total (on_total (λ (p : Position). p.account) nat_list_cmp_total)
     (then_total (on_total (λ (p : Position). p.commodity) nat_list_cmp_total) (on_total (λ (p : Position). p.lot) (options_total lot_total)))
 
-equal_from : (o : Ordering) → is_eq o ≡ true → o ≡ Equal
+pub equal_from : (o : Ordering) → is_eq o ≡ true → o ≡ Equal
 equal_from Less e = absurd (cc)
 equal_from Equal e = refl
 equal_from Greater e = absurd (cc)
@@ -117,7 +117,7 @@ held-push legs leg p =
     by true = sum_of-push (map (λ (l : Leg). l.units) (filter (λ (l : Leg). same_position p l.position) legs)) leg.units
     by false = ap sum_of (append-nil (map (λ (l : Leg). l.units) (filter (λ (l : Leg). same_position p l.position) legs)))
 
-same_back : (p q : Position) → same_position p q ≡ same_position q p
+pub same_back : (p q : Position) → same_position p q ≡ same_position q p
 same_back p q = (eq_by_cmp_equiv position_total).symm p q
 
 -- a leg leaves what is held elsewhere
@@ -235,13 +235,13 @@ pub legs_for-filled : (entry posting : ℕ) (account : List ℕ) (place : ℕ) (
 legs_for-filled entry posting account place [] = refl
 legs_for-filled entry posting account place (r ∷ rs) =
     let first : Leg =
-        record {
-          entry = entry;
-          posting = posting;
-          place = place;
-          position = record { account = account; commodity = r.0; lot = None };
-          units = opposite r.1;
-        } in
+    record {
+      entry = entry;
+      posting = posting;
+      place = place;
+      position = record { account = account; commodity = r.0; lot = None };
+      units = opposite r.1;
+    } in
     ap (λ n. first ∷ legs_for entry posting account n rs) (sym (add-one place)) ∙ ap (λ legs. first ∷ legs) (legs_for-filled entry posting account (place + 1) rs)
 
 -- ---- how many legs a transaction has

@@ -1,5 +1,6 @@
 pub mod TextLemmas
 pub mod BalanceLemmas
 pub mod BookLemmas
+pub mod BookRecord
 pub mod LawLemmas
 pub mod PrintLemmas

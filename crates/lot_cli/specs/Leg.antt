@@ -47,3 +47,8 @@ legs_of entries = flat_map (λ (entry : Entry). entry.legs) entries
 abbrev pub TellsHeld : List Leg → List Leg → List (Position × ℤ) → Type 0
 TellsHeld before legs told =
     (position : Position) → unwrap_or (lookup (same_position position) told) (held before position) ≡ held (before ++ legs) position
+
+-- what a position has once it is told: the new sum unless it is zero, or what it had where nothing is told of it
+abbrev pub settled : Option ℤ → Option ℤ → Option ℤ
+settled None had = had
+settled (Some sum) had = non_zero sum

@@ -1,6 +1,11 @@
-ghost use Rattle.std.specs.Prelude.{◌≡◌, ◌+◌, ◌++◌, ◌∷◌, [], length, IfOk};
-ghost use Rattle.lot_cli.specs.Leg.{IsInventory, TellsHeld, held, legs_of, non_zero};
-ghost use Rattle.lot_cli.specs.Step.{Step, Accept, opened_on};
+ghost use Rattle.std.specs.Prelude.{◌≡◌, ℕ, ◌+◌, List, ◌++◌, ◌∷◌, [], length, IfOk, OnOk, if◌then◌else◌};
+ghost use Rattle.std.specs.BTreeMap.{IsOrdered, get};
+ghost use Rattle.std.specs.Cmp.Lexicographic.{slice_cmp};
+ghost use Rattle.std.specs.Option.{option_or};
+ghost use Rattle.std.specs.Ordering.{nat_cmp};
+ghost use Rattle.lot_cli.specs.declared.ledger.leg.Position.{Position};
+ghost use Rattle.lot_cli.specs.Leg.{IsInventory, TellsHeld, held, legs_of, non_zero, position_cmp, same_position, settled};
+ghost use Rattle.lot_cli.specs.Step.{Step, Accept, opened_on, opening_day};
 ghost use Rattle.lot_cli.specs.Book.{Judges};
 
 use super::decide::Change;
@@ -101,16 +106,8 @@ impl Book {
             mut opened,
             mut held,
         } = self;
-        if let Command::Opening(opening) = &command {
-            opened.insert(opening.account.copy()?, opening.day)?;
-        }
-        for (position, units) in change.held {
-            if units.mantissa() == 0 {
-                held.remove(&position);
-            } else {
-                held.insert(position, units)?;
-            }
-        }
+        keep_opening(&mut opened, &command)?;
+        keep_held(&mut held, change.held)?;
         entries.push(Entry {
             command,
             legs: change.legs,
@@ -121,4 +118,49 @@ impl Book {
             held,
         })
     }
+}
+
+/// Keeps the day of an opening. Of a transaction nothing is kept here.
+fn keep_opening(opened: &mut BTreeMap<Account, Day>, command: &Command) -> Result<(), AllocError>
+    ensures { OnOk result ((account : List ℕ) → get (slice_cmp nat_cmp) opened.new account
+        ≡ option_or (opening_day account command.now) (get (slice_cmp nat_cmp) opened.old account)) }
+{
+    if let Command::Opening(opening) = command {
+        opened.insert(opening.account.copy()?, opening.day)?;
+    }
+    Ok(())
+}
+
+/// Keeps what the positions of a change hold. A position that holds nothing any more is forgotten.
+fn keep_held(
+    held: &mut BTreeMap<Position, Units>,
+    changed: BTreeMap<Position, Units>,
+) -> Result<(), AllocError>
+    requires { IsOrdered position_cmp held.old }
+    ensures each { OnOk result ((position : Position) → get position_cmp held.new position
+        ≡ settled (get position_cmp changed position) (get position_cmp held.old position)) }
+    ensures ordered { OnOk result (IsOrdered position_cmp held.new) }
+{
+    for (position, units) in changed {
+        keep_units(held, position, units)?;
+    }
+    Ok(())
+}
+
+/// Keeps the units of a position, or forgets it where they are zero.
+fn keep_units(
+    held: &mut BTreeMap<Position, Units>,
+    position: Position,
+    units: Units,
+) -> Result<(), AllocError>
+    ensures each { OnOk result ((other : Position) → get position_cmp held.new other
+        ≡ if same_position position other then non_zero units else get position_cmp held.old other) }
+    ensures ordered { OnOk result (IsOrdered position_cmp held.new) }
+{
+    if units.mantissa() == 0 {
+        held.remove(&position);
+    } else {
+        held.insert(position, units)?;
+    }
+    Ok(())
 }
