@@ -1,12 +1,12 @@
 -- `position` finds the first posting at which the closure answers true.
-use Rattle.std.proofs.Common.{◌≡◌, suc, Option, Some, None, refl, sym, ap, ◌∙◌, rules, tests, add-one}
+use Rattle.std.proofs.Common.{◌≡◌, suc, Some, sym, ap, ◌∙◌, rules, tests, add-one}
 use Rattle.std.specs.Prelude.{position}
 use Rattle.std.specs.Option.{option_map, is_none}
 use Rattle.std.proofs.lemmas.Iterator.{YieldsList-from_slice}
 use Rattle.std.proofs.lemmas.Iterator.Search.{position_from_yields_List}
 use Rattle.lot_cli.specs.declared.ledger.refusal.Refusal.TheVariants.{UnknownAccount}
 use Rattle.lot_cli.specs.declared.text.command.Posting.{Posting}
-use Rattle.lot_cli.specs.Step.{opened_on, opens_after}
+use Rattle.lot_cli.specs.Step.{opened_on}
 use Rattle.lot_cli.proofs.ledger.book.Book.every_account_known.Goals as goal
 
 pub returns-in-Some : goal.returns-in-Some

@@ -1,9 +1,8 @@
 -- What is found in the change or in the book is what the position holds before the leg.
-use Rattle.std.proofs.Common.{◌≡◌, ◌∙◌, sym, ap, Some, None, ℤ, pos, ◌+ℤ◌, arith, rules, to_z, of_z, w64, SFits}
+use Rattle.std.proofs.Common.{◌≡◌, ◌∙◌, sym, Some, None, pos, ◌+ℤ◌, arith, rules, to_z, of_z, w64, SFits}
 use Rattle.std.specs.Map.{lookup}
-use Rattle.std.specs.Option.{option_or, SomeIff}
+use Rattle.std.specs.Option.{option_or}
 use Rattle.std.proofs.lemmas.Int.{ints, to_z-of_z}
-use Rattle.lot_num.specs.Amount.{IsUnits}
 use Rattle.lot_cli.specs.Leg.{held, legs_of, non_zero, same_position}
 use Rattle.lot_cli.proofs.BookLemmas.{held-after}
 use Rattle.lot_cli.proofs.ledger.book.Book.held_after.Goals as goal

@@ -1,5 +1,4 @@
 -- The entries that were, and the new one behind them.
-use Rattle.std.proofs.Common.{sym}
 use Rattle.lot_cli.specs.Leg.{TellsHeld, legs_of}
 use Rattle.lot_cli.specs.Step.{Step, Accept}
 use Rattle.lot_cli.proofs.BookRecord.{IsKept-push}
