@@ -1,38 +1,29 @@
--- What is held, leg by leg, and the order of the positions.
-use Rattle.std.proofs.Common.{◌≡◌, ℕ, suc, ◌+◌, ◌<◌, ◌^◌, Bool, true, false, cond, List, [], ◌∷◌, ◌++◌, map, Option, Some, None, Ordering, refl, sym, ap, ◌∙◌, arith, append_assoc, ℤ, pos, ◌+ℤ◌}
+-- What is held, leg by leg, the order of the positions, and the legs of a transaction.
+use Rattle.std.proofs.Common.{◌≡◌, ℕ, suc, ◌+◌, ◌≤◌, inl, inr, Bool, true, false, cond, List, [], ◌∷◌, ◌++◌, length, drop, map, Option, Some, None, Ordering, refl, sym, ap, ◌∙◌, arith, add-one, append_assoc, length-append, ℤ, pos, ◌+ℤ◌}
 use Rattle.std.specs.declared.cmp.Ordering.TheVariants.{Less, Equal, Greater}
+use Rattle.std.specs.Cmp.{IsTotalOrder}
+use Rattle.std.specs.Cmp.Lexicographic.{options_total}
+use Rattle.std.specs.FinMap.{IsAntisymmetric}
 use Rattle.std.specs.List.{filter}
-use Rattle.std.specs.Ordering.{nat_cmp, int_cmp, int_eq, is_eq, ordering_then}
 use Rattle.std.specs.Map.{lookup}
 use Rattle.std.specs.Option.{option_cmp, option_or, unwrap_or}
-use Rattle.std.specs.Cmp.{IsTotalOrder}
-use Rattle.std.specs.Cmp.Lexicographic.{slice_cmp, options_total}
-use Rattle.std.specs.FinMap.{IsAntisymmetric, nat_cmp-IsAntisymmetric, slice_cmp-IsAntisymmetric}
-use Rattle.std.proofs.lemmas.Map.Lookups.{exact_signed, exact_bytes, exact_unsigned}
-use Rattle.std.proofs.lemmas.Cmp.{nat_cmp_total, int_cmp_total, nat_list_cmp_total, on_total, then_total, tied_itself, eq_by_cmp_equiv}
+use Rattle.std.specs.Ordering.{int_eq, is_eq, ordering_then}
 use Rattle.std.proofs.lemmas.Bool.{cases_Bool, cases_lt}
 use Rattle.std.proofs.lemmas.Bool.Decides.{nat_tests}
-use Rattle.lot_cli.specs.declared.text.command.Amount.{Amount}
-use Rattle.std.proofs.Common.{inl, inr}
+use Rattle.std.proofs.lemmas.Cmp.{nat_cmp_total, int_cmp_total, nat_list_cmp_total, on_total, then_total, tied_itself, eq_by_cmp_equiv}
+use Rattle.std.proofs.lemmas.Int.{ints}
 use Rattle.std.proofs.lemmas.List.{map-append, append-nil}
 use Rattle.std.proofs.lemmas.List.Elements.{filter-append}
-use Rattle.std.proofs.lemmas.Int.{ints}
+use Rattle.std.proofs.lemmas.Map.Lookups.{exact_signed, exact_bytes, exact_unsigned}
 use Rattle.lot_cli.specs.declared.ledger.leg.LotKey.{LotKey}
 use Rattle.lot_cli.specs.declared.ledger.leg.Position.{Position}
 use Rattle.lot_cli.specs.declared.ledger.leg.Leg.{Leg}
+use Rattle.lot_cli.specs.declared.text.command.Amount.{Amount}
+use Rattle.lot_cli.specs.declared.text.command.Posting.{Posting}
 use Rattle.lot_cli.specs.Sum.{sum_of}
 use Rattle.lot_cli.specs.Leg.{lot_cmp, position_cmp, same_position, held, TellsHeld, non_zero}
-use Rattle.std.specs.Prelude.{nat_lt, unsigned_abs}
-use Rattle.std.specs.Option.{option_map}
-use Rattle.std.proofs.Common.{◌≤◌, length-append, length, get_or, drop, add-one}
-use Rattle.std.proofs.lemmas.List.{drop_more}
-use Rattle.lot_cli.specs.declared.ledger.refusal.Refusal.{Refusal}
-use Rattle.lot_cli.specs.declared.ledger.refusal.Refusal.TheVariants.{Range}
-use Rattle.lot_cli.specs.declared.ledger.refusal.Stop.{Stop}
-use Rattle.lot_cli.specs.declared.ledger.refusal.Stop.TheVariants.{Refused, Memory}
-use Rattle.lot_cli.specs.declared.text.command.Posting.{Posting}
 use Rattle.lot_cli.specs.Balance.{amount_legs, posting_legs, legs_for, opposite}
-use Rattle.lot_cli.specs.Step.{Stops, breaking_posting, out_of_range, too_many_postings}
+use Rattle.lot_cli.specs.Step.{too_many_postings}
 
 -- ---- the order of the positions
 
@@ -167,54 +158,11 @@ TellsHeld-push before legs leg told new after tells is updates q =
 pub TellsHeld-none : (before : List Leg) → TellsHeld before [] []
 TellsHeld-none before q = ap (λ ls. held ls q) (sym (append-nil before))
 
--- ---- legs whose position holds no units after them
-
-breaking-more : (before : List Leg) (leg : Leg) (legs : List Leg) → breaking_posting before (leg ∷ []) ≡ None
-    → breaking_posting before (leg ∷ legs) ≡ breaking_posting (before ++ leg ∷ []) legs
-breaking-more before leg legs = by (nat_lt (unsigned_abs (held (before ++ leg ∷ []) leg.position)) (10 ^ 18))
-  where
-    by : (b : Bool) → cond b None (Some leg.posting) ≡ None → cond b (breaking_posting (before ++ leg ∷ []) legs) (Some leg.posting) ≡ breaking_posting (before ++ leg ∷ []) legs
-    by true e = refl
-    by false e = absurd (cc)
-
-breaking-here : (before : List Leg) (leg : Leg) (legs : List Leg) (posting : ℕ) → breaking_posting before (leg ∷ []) ≡ Some posting
-    → breaking_posting before (leg ∷ legs) ≡ Some posting
-breaking-here before leg legs posting = by (nat_lt (unsigned_abs (held (before ++ leg ∷ []) leg.position)) (10 ^ 18))
-  where
-    by : (b : Bool) → cond b None (Some leg.posting) ≡ Some posting → cond b (breaking_posting (before ++ leg ∷ []) legs) (Some leg.posting) ≡ Some posting
-    by true e = absurd (cc)
-    by false e = e
-
-none_from : (o : Option ℕ) → option_map Range o ≡ None → o ≡ None
-none_from None e = refl
-none_from (Some n) e = absurd (cc)
-
--- a leg that leaves its position in range is followed by the others
-pub range-more : (before : List Leg) (leg : Leg) (legs : List Leg) → out_of_range before (leg ∷ []) ≡ None
-    → out_of_range before (leg ∷ legs) ≡ out_of_range (before ++ leg ∷ []) legs
-range-more before leg legs e = ap (option_map Range) (breaking-more before leg legs (none_from _ e))
-
-range_from : (o p : Option ℕ) (refusal : Refusal) → ((n : ℕ) → o ≡ Some n → p ≡ Some n) → option_map Range o ≡ Some refusal → option_map Range p ≡ Some refusal
-range_from None p refusal h e = absurd (cc)
-range_from (Some n) p refusal h e = ap (option_map Range) (h n refl) ∙ e
-
--- a leg that doesn't is the first to break it
-pub range-stop : (before : List Leg) (leg : Leg) (legs : List Leg) (stop : Stop) → Stops (out_of_range before (leg ∷ [])) stop → Stops (out_of_range before (leg ∷ legs)) stop
-range-stop before leg legs (Refused refusal) h = range_from _ _ refusal (breaking-here before leg legs) h
-range-stop before leg legs Memory h = tt
-
 -- ---- the legs of the postings with amounts
 
 -- what the postings from a place on give
 abbrev pub amounts_from : ℕ → ℤ → List Posting → ℕ → List Leg
 amounts_from entry day postings index = amount_legs entry (index + 1) day (drop index postings)
-
-pub amounts-turn : (entry : ℕ) (day : ℤ) (postings : List Posting) (index : ℕ) (posting : Posting) → index < length postings → posting ≡ get_or postings index posting
-    → amounts_from entry day postings index ≡ posting_legs entry (index + 1) day posting.account posting.amount ++ amounts_from entry day postings (index + 1)
-amounts-turn entry day postings index posting inside is =
-    ap (amount_legs entry (index + 1) day) (drop_more postings index posting inside)
-    ∙ ap (λ (p : Posting). posting_legs entry (index + 1) day p.account p.amount ++ amount_legs entry (suc (index + 1)) day (drop (index + 1) postings)) (sym is)
-    ∙ ap (λ place. posting_legs entry (index + 1) day posting.account posting.amount ++ amount_legs entry place day (drop (index + 1) postings)) (sym (add-one (index + 1)))
 
 -- ---- the legs of a fill
 

@@ -17,6 +17,7 @@ use lot_base::{Account, Day};
 use lot_num::Units;
 use std::alloc::{AllocError, Global};
 use std::collections::BTreeMap;
+use std::marker::Model;
 
 /// The most postings that a transaction may have.
 const MOST_POSTINGS: usize = 64;
@@ -151,16 +152,16 @@ impl Book {
         change: &mut Change,
     ) -> Result<(), Stop>
         requires held { TellsHeld (legs_of self.now) change.old.legs change.old.held.entries }
-        ensures exact { OnOk result (inexact_fill ((elided.entry.posting, elided.entry.account.now) ∷ []) residuals.now ≡ None) }
+        ensures exact { OnOk result (inexact_fill (elided.entry ∷ []) residuals.now ≡ None) }
         ensures legs { OnOk result (change.new.legs ≡ change.old.legs
-            ++ fill_of (length self.now + 1) ((elided.entry.posting, elided.entry.account.now) ∷ []) residuals.now) }
+            ++ fill_of (length self.now + 1) (elided.entry ∷ []) residuals.now) }
         ensures held { OnOk result (TellsHeld (legs_of self.now) change.new.legs change.new.held.entries) }
         ensures in_range { OnOk result (out_of_range (legs_of self.now ++ change.old.legs)
-            (fill_of (length self.now + 1) ((elided.entry.posting, elided.entry.account.now) ∷ []) residuals.now) ≡ None) }
+            (fill_of (length self.now + 1) (elided.entry ∷ []) residuals.now) ≡ None) }
         ensures refused { IfErr result (λ stop. Stops
-            (option_or (inexact_fill ((elided.entry.posting, elided.entry.account.now) ∷ []) residuals.now)
+            (option_or (inexact_fill (elided.entry ∷ []) residuals.now)
             (out_of_range (legs_of self.now ++ change.old.legs)
-            (fill_of (length self.now + 1) ((elided.entry.posting, elided.entry.account.now) ∷ []) residuals.now))) stop) }
+            (fill_of (length self.now + 1) (elided.entry ∷ []) residuals.now))) stop) }
     {
         for (index, (currency, units)) in residuals.fills(alloc)?.into_iter().enumerate() {
             let position = Position {
@@ -215,11 +216,19 @@ impl Book {
     }
 }
 
-/// The posting without amount: its place, from 1, and its account.
-#[derive(Clone, Copy)]
+/// The posting without amount: its place, from 1, and its account. A contract sees the two as a pair.
+#[derive(Drop)]
 struct Elided<'a> {
     posting: usize,
     account: &'a Account,
+}
+
+impl<'a> Model for Elided<'a> {
+    ghost use Rattle.std.specs.Prelude.{ℕ, List};
+
+    ghost Value = { ℕ × List ℕ };
+
+    ghost view = { λ e. (e.posting, e.account.now) };
 }
 
 fn few_postings(postings: &[Posting]) -> Result<(), Refusal>
@@ -236,7 +245,7 @@ fn few_postings(postings: &[Posting]) -> Result<(), Refusal>
 fn only_elided(postings: &[Posting]) -> Result<Option<Elided<'_>>, Refusal>
     ensures { MatchResult result
         (λ elided. MatchOption elided (empty_postings 1 postings.now ≡ [])
-        (λ elided. empty_postings 1 postings.now ≡ (elided.posting, elided.account.now) ∷ []))
+        (λ elided. empty_postings 1 postings.now ≡ elided ∷ []))
         (λ refusal. two_elided (empty_postings 1 postings.now) ≡ Some refusal) }
 {
     let mut elided = None;

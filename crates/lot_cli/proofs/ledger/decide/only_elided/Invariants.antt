@@ -6,4 +6,4 @@ use Rattle.lot_cli.proofs.ledger.decide.only_elided.Given as goal
 abbrev pub invariant-loop-index : goal.invariant-loop-index
 invariant-loop-index l =
     let left = empty_postings (l.index + 1) (drop l.index l.postings) in
-    MatchOption l.elided (empty_postings 1 l.postings ≡ left) (λ elided. empty_postings 1 l.postings ≡ (elided.posting, elided.account.now) ∷ left)
+    MatchOption l.elided (empty_postings 1 l.postings ≡ left) (λ elided. empty_postings 1 l.postings ≡ elided ∷ left)

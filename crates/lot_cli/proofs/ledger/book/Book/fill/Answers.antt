@@ -9,8 +9,8 @@ use Rattle.lot_cli.proofs.ledger.book.Book.fill.Goals as goal
 pub loop-index-init : goal.loop-index-init
 loop-index-init c =
     let entry = length c.args.self.now + 1 in
-    let posting = c.args.elided.posting in
-    let account = c.args.elided.account.now in
+    let posting = c.elided.inside.posting in
+    let account = c.elided.inside.account.now in
     let rs = filter (λ (r : List ℕ × ℤ). not (is_zero r.1)) c.args.residuals.now in
     let it = c.into_iter-index-iterator.result in
     let items : it.iter.rest.items ≡ map (λ (r : List ℕ × ℤ). (r.0, opposite r.1)) rs = ap (λ it. it.iter.rest.items) c.into_iter-index-iterator.ensures.into_iter_gives ∙ ap (λ it. it.rest.items) c.enumerate-index-items.ensures.source ∙ c.into_iter.ensures.rest ∙ c.in_ok-fills.ensures.fills in

@@ -9,8 +9,8 @@ use Rattle.lot_cli.proofs.ledger.book.Book.fill.Given as goal
 abbrev pub invariant-loop-index : goal.invariant-loop-index
 invariant-loop-index l =
     let entry = length l.self + 1 in
-    let all = fill_of entry ((l.elided.posting, l.elided.account.now) ∷ []) l.residuals in
-    let left = filled entry l.elided.posting l.elided.account.now (l.index-iterator.count + 1) l.index-iterator.iter.rest.items in
+    let all = fill_of entry ((l.elided-inside.posting, l.elided-inside.account.now) ∷ []) l.residuals in
+    let left = filled entry l.elided-inside.posting l.elided-inside.account.now (l.index-iterator.count + 1) l.index-iterator.iter.rest.items in
     record {
       tells : TellsHeld (legs_of l.self) l.change.legs l.change.held.entries;
       legs : l.change.legs ++ left ≡ l.fn.change.legs ++ all;

@@ -12,5 +12,5 @@ invariant_of-result c =
     let step : Step book.entries.items command (Accept change.legs) = rw c.self.view_is c.requires.step in
     let tells : TellsHeld (legs_of book.entries.items) change.legs change.held.entries = rw c.self.view_is c.requires.held in
     rw c.in_ok-push.ensures.items
-        (IsKept-push book.entries.items command change.legs book.opened c.keep_opening.new.opened book.held c.keep_held.new.held change.held c.self.invariant step tells
-        c.in_ok-keep_opening.ensures c.in_ok-keep_held.ensures.each c.in_ok-keep_held.ensures.ordered)
+    (IsKept-push book.entries.items command change.legs book.opened c.keep_opening.new.opened book.held c.keep_held.new.held change.held c.self.invariant step tells
+    c.in_ok-keep_opening.ensures c.in_ok-keep_held.ensures.each c.in_ok-keep_held.ensures.ordered)
