@@ -1,1 +1,213 @@
--- What a book holds and opens.
+-- What is held, leg by leg, the order of the positions, and the legs of a transaction.
+use Rattle.std.proofs.Common.{◌≡◌, ℕ, suc, ◌+◌, ◌≤◌, inl, inr, Bool, true, false, cond, List, [], ◌∷◌, ◌++◌, length, drop, map, Option, Some, None, Ordering, refl, sym, ap, ◌∙◌, arith, add-one, append_assoc, length-append, ℤ, pos, ◌+ℤ◌}
+use Rattle.std.specs.declared.cmp.Ordering.TheVariants.{Less, Equal, Greater}
+use Rattle.std.specs.Cmp.{IsTotalOrder}
+use Rattle.std.specs.Cmp.Lexicographic.{options_total}
+use Rattle.std.specs.FinMap.{IsAntisymmetric}
+use Rattle.std.specs.List.{filter}
+use Rattle.std.specs.Map.{lookup}
+use Rattle.std.specs.Option.{option_cmp, option_or, unwrap_or}
+use Rattle.std.specs.Ordering.{int_eq, is_eq, ordering_then}
+use Rattle.std.proofs.lemmas.Bool.{cases_Bool, cases_lt}
+use Rattle.std.proofs.lemmas.Bool.Decides.{nat_tests}
+use Rattle.std.proofs.lemmas.Cmp.{nat_cmp_total, int_cmp_total, nat_list_cmp_total, on_total, then_total, tied_itself, eq_by_cmp_equiv}
+use Rattle.std.proofs.lemmas.Int.{ints}
+use Rattle.std.proofs.lemmas.List.{map-append, append-nil}
+use Rattle.std.proofs.lemmas.List.Elements.{filter-append}
+use Rattle.std.proofs.lemmas.Map.Lookups.{exact_signed, exact_bytes, exact_unsigned}
+use Rattle.lot_cli.specs.declared.ledger.leg.LotKey.{LotKey}
+use Rattle.lot_cli.specs.declared.ledger.leg.Position.{Position}
+use Rattle.lot_cli.specs.declared.ledger.leg.Leg.{Leg}
+use Rattle.lot_cli.specs.declared.text.command.Amount.{Amount}
+use Rattle.lot_cli.specs.declared.text.command.Posting.{Posting}
+use Rattle.lot_cli.specs.Sum.{sum_of}
+use Rattle.lot_cli.specs.Leg.{lot_cmp, position_cmp, same_position, held, TellsHeld, non_zero}
+use Rattle.lot_cli.specs.Balance.{amount_legs, posting_legs, legs_for, opposite}
+use Rattle.lot_cli.specs.Step.{too_many_postings}
+
+-- ---- the order of the positions
+
+then_first : (o p : Ordering) → ordering_then o p ≡ Equal → o ≡ Equal
+then_first Less p e = e
+then_first Equal p e = refl
+then_first Greater p e = e
+
+then_second : (o p : Ordering) → ordering_then o p ≡ Equal → p ≡ Equal
+then_second Less p e = absurd (cc)
+then_second Equal p e = e
+then_second Greater p e = absurd (cc)
+
+abbrev lot : ℤ → List ℕ → ℕ → LotKey
+lot day currency number = record { day = day; currency = currency; number = number }
+
+lot_from : (a b : LotKey) → a.day ≡ b.day → a.currency ≡ b.currency → a.number ≡ b.number → a ≡ b
+lot_from a b d c n =
+    ap (λ day. lot day a.currency a.number) d ∙ ap (λ currency. lot b.day currency a.number) c ∙ ap (lot b.day b.currency) n
+
+lot_exact : IsAntisymmetric lot_cmp
+lot_exact a b e =
+    let rest = then_second _ _ e in
+    lot_from a b (exact_signed _ _ (then_first _ _ e)) (exact_bytes _ _ (then_first _ _ rest)) (exact_unsigned _ _ (then_second _ _ rest))
+
+lots_exact : IsAntisymmetric (option_cmp lot_cmp)
+lots_exact None None e = refl
+lots_exact None (Some b) e = absurd (cc)
+lots_exact (Some a) None e = absurd (cc)
+lots_exact (Some a) (Some b) e = ap Some (lot_exact a b e)
+
+abbrev position : List ℕ → List ℕ → Option LotKey → Position
+position account commodity lot = record { account = account; commodity = commodity; lot = lot }
+
+position_from : (p q : Position) → p.account ≡ q.account → p.commodity ≡ q.commodity → p.lot ≡ q.lot → p ≡ q
+position_from p q a c l =
+    ap (λ account. position account p.commodity p.lot) a ∙ ap (λ commodity. position q.account commodity p.lot) c ∙ ap (position q.account q.commodity) l
+
+-- positions that compare alike are one
+pub position_exact : IsAntisymmetric position_cmp
+position_exact p q e =
+    let rest = then_second _ _ e in
+    position_from p q (exact_bytes _ _ (then_first _ _ e)) (exact_bytes _ _ (then_first _ _ rest)) (lots_exact _ _ (then_second _ _ rest))
+
+lot_total : IsTotalOrder lot_cmp
+lot_total =
+    then_total (on_total (λ (a : LotKey). a.day) int_cmp_total)
+    (then_total (on_total (λ (a : LotKey). a.currency) nat_list_cmp_total) (on_total (λ (a : LotKey). a.number) nat_cmp_total))
+
+pub position_total : IsTotalOrder position_cmp
+position_total =
+    then_total (on_total (λ (p : Position). p.account) nat_list_cmp_total)
+    (then_total (on_total (λ (p : Position). p.commodity) nat_list_cmp_total) (on_total (λ (p : Position). p.lot) (options_total lot_total)))
+
+pub equal_from : (o : Ordering) → is_eq o ≡ true → o ≡ Equal
+equal_from Less e = absurd (cc)
+equal_from Equal e = refl
+equal_from Greater e = absurd (cc)
+
+pub same_position-itself : (p : Position) → same_position p p ≡ true
+same_position-itself p = ap is_eq (tied_itself position_total p)
+
+pub same_position-is : (p q : Position) → same_position p q ≡ true → p ≡ q
+same_position-is p q e = position_exact p q (equal_from _ e)
+
+-- ---- sums
+
+sum_of-push : (zs : List ℤ) (z : ℤ) → sum_of (zs ++ z ∷ []) ≡ sum_of zs +ℤ z
+sum_of-push [] z = omega (arith, ints)
+sum_of-push (y ∷ zs) z = let more = sum_of-push zs z in omega (arith, ints)
+
+-- one more leg adds its units where it stands
+pub held-push : (legs : List Leg) (leg : Leg) (p : Position)
+    → held (legs ++ leg ∷ []) p ≡ cond (same_position p leg.position) (held legs p +ℤ leg.units) (held legs p)
+held-push legs leg p =
+    let here = λ (l : Leg). same_position p l.position in
+    let units = λ (l : Leg). l.units in
+    ap (λ ls. sum_of (map units ls)) (filter-append here legs (leg ∷ [])) ∙ ap sum_of (map-append units (filter here legs) (filter here (leg ∷ []))) ∙ by (same_position p leg.position)
+  where
+    by : (b : Bool) → sum_of (map (λ (l : Leg). l.units) (filter (λ (l : Leg). same_position p l.position) legs) ++ map (λ (l : Leg). l.units) (cond b (leg ∷ []) []))
+        ≡ cond b (held legs p +ℤ leg.units) (held legs p)
+    by true = sum_of-push (map (λ (l : Leg). l.units) (filter (λ (l : Leg). same_position p l.position) legs)) leg.units
+    by false = ap sum_of (append-nil (map (λ (l : Leg). l.units) (filter (λ (l : Leg). same_position p l.position) legs)))
+
+pub same_back : (p q : Position) → same_position p q ≡ same_position q p
+same_back p q = (eq_by_cmp_equiv position_total).symm p q
+
+-- a leg leaves what is held elsewhere
+held-elsewhere : (legs : List Leg) (leg : Leg) (q : Position) → same_position leg.position q ≡ false → held (legs ++ leg ∷ []) q ≡ held legs q
+held-elsewhere legs leg q apart =
+    held-push legs leg q ∙ ap (λ b. cond b (held legs q +ℤ leg.units) (held legs q)) (same_back q leg.position ∙ apart)
+
+held-here : (legs : List Leg) (leg : Leg) → held (legs ++ leg ∷ []) leg.position ≡ held legs leg.position +ℤ leg.units
+held-here legs leg =
+    held-push legs leg leg.position ∙ ap (λ b. cond b (held legs leg.position +ℤ leg.units) (held legs leg.position)) (same_position-itself leg.position)
+
+zero_from : (z : ℤ) → int_eq z (pos 0) ≡ true → z ≡ pos 0
+zero_from z e = grind (arith, ints)
+
+non_zero-or : (z : ℤ) → unwrap_or (non_zero z) (pos 0) ≡ z
+non_zero-or z = elim (cases_Bool (int_eq z (pos 0))) [
+  | inl zero ↦ rw zero (sym (zero_from z zero))
+  | inr other ↦ rw other refl
+]
+
+told-or : (told : Option ℤ) (z : ℤ) → unwrap_or (option_or told (non_zero z)) (pos 0) ≡ unwrap_or told z
+told-or None z = non_zero-or z
+told-or (Some t) z = refl
+
+-- what a position holds after one more leg there
+pub held-after : (before legs : List Leg) (leg : Leg) (told : List (Position × ℤ)) (found : Option ℤ) → TellsHeld before legs told
+    → found ≡ option_or (lookup (same_position leg.position) told) (non_zero (held before leg.position))
+    → held (before ++ legs ++ leg ∷ []) leg.position ≡ unwrap_or found (pos 0) +ℤ leg.units
+held-after before legs leg told found tells is =
+    held-here (before ++ legs) leg ∙ ap (λ z. z +ℤ leg.units) (sym (tells leg.position) ∙ sym (told-or (lookup (same_position leg.position) told) (held before leg.position)) ∙ ap (λ (o : Option ℤ). unwrap_or o (pos 0)) (sym is))
+
+-- what is told stays right where the leg's position is told anew
+pub TellsHeld-push : (before legs : List Leg) (leg : Leg) (told new : List (Position × ℤ)) (after : ℤ) → TellsHeld before legs told
+    → after ≡ held (before ++ legs ++ leg ∷ []) leg.position
+    → ((q : Position) → lookup (same_position q) new ≡ cond (same_position leg.position q) (Some after) (lookup (same_position q) told))
+    → TellsHeld before (legs ++ leg ∷ []) new
+TellsHeld-push before legs leg told new after tells is updates q =
+    ap (λ o. unwrap_or o (held before q)) (updates q) ∙ by ∙ ap (λ ls. held ls q) (append_assoc before legs (leg ∷ []))
+  where
+    by : unwrap_or (cond (same_position leg.position q) (Some after) (lookup (same_position q) told)) (held before q) ≡ held (before ++ legs ++ leg ∷ []) q
+    by = elim (cases_Bool (same_position leg.position q)) [
+      | inl here ↦ rw here (is ∙ ap (held (before ++ legs ++ leg ∷ [])) (same_position-is leg.position q here))
+      | inr apart ↦ rw apart (tells q ∙ sym (held-elsewhere (before ++ legs) leg q apart))
+    ]
+
+-- at first nothing is told
+pub TellsHeld-none : (before : List Leg) → TellsHeld before [] []
+TellsHeld-none before q = ap (λ ls. held ls q) (sym (append-nil before))
+
+-- ---- the legs of the postings with amounts
+
+-- what the postings from a place on give
+abbrev pub amounts_from : ℕ → ℤ → List Posting → ℕ → List Leg
+amounts_from entry day postings index = amount_legs entry (index + 1) day (drop index postings)
+
+-- ---- the legs of a fill
+
+-- plain legs of so many units in each currency, numbered on from a place
+abbrev pub filled : ℕ → ℕ → List ℕ → ℕ → List (List ℕ × ℤ) → List Leg
+filled entry posting account place [] = []
+filled entry posting account place (fill ∷ fills) =
+    record {
+      entry = entry;
+      posting = posting;
+      place = place;
+      position = record { account = account; commodity = fill.0; lot = None };
+      units = fill.1;
+    } ∷ filled entry posting account (place + 1) fills
+
+pub legs_for-filled : (entry posting : ℕ) (account : List ℕ) (place : ℕ) (rs : List (List ℕ × ℤ))
+    → legs_for entry posting account place rs ≡ filled entry posting account place (map (λ (r : List ℕ × ℤ). (r.0, opposite r.1)) rs)
+legs_for-filled entry posting account place [] = refl
+legs_for-filled entry posting account place (r ∷ rs) =
+    let first : Leg =
+    record {
+      entry = entry;
+      posting = posting;
+      place = place;
+      position = record { account = account; commodity = r.0; lot = None };
+      units = opposite r.1;
+    } in
+    ap (λ n. first ∷ legs_for entry posting account n rs) (sym (add-one place)) ∙ ap (λ legs. first ∷ legs) (legs_for-filled entry posting account (place + 1) rs)
+
+-- ---- how many legs a transaction has
+
+-- no posting gives more than one leg
+pub amount_legs-few : (entry place : ℕ) (day : ℤ) (postings : List Posting) → length (amount_legs entry place day postings) ≤ length postings
+amount_legs-few entry place day [] = omega arith
+amount_legs-few entry place day (posting ∷ postings) =
+    let more = amount_legs-few entry (suc place) day postings in
+    rw (length-append (posting_legs entry place day posting.account posting.amount) (amount_legs entry (suc place) day postings)) (by posting.amount more)
+  where
+    by : (amount : Option Amount) → length (amount_legs entry (suc place) day postings) ≤ length postings
+        → length (posting_legs entry place day posting.account amount) + length (amount_legs entry (suc place) day postings) ≤ suc (length postings)
+    by None more = omega arith
+    by (Some amount) more = omega arith
+
+pub few-postings : (postings : List Posting) → too_many_postings postings ≡ None → length postings ≤ 64
+few-postings postings e = elim (cases_lt 64 (length postings)) [
+  | inl many ↦ absurd (grind (arith, nat_tests))
+  | inr few ↦ few
+]

@@ -2,6 +2,7 @@ pub mod TextLemmas
 pub mod BalanceLemmas
 pub mod BalanceResiduals
 pub mod BookLemmas
+pub mod BookRecord
 pub mod LawLemmas
 pub mod LawSums
 pub mod LawBalance

@@ -1,11 +1,16 @@
 -- Books: lists of entries, each of which is the acceptance that a step gives on the entries before it.
-use Rattle.std.specs.Prelude.{◌≡◌, List, [], ◌∷◌, ◌++◌, ⊤}
+use Rattle.std.specs.Prelude.{◌≡◌, ℕ, ℤ, List, [], ◌∷◌, ◌++◌, ⊤}
+use Rattle.std.specs.Ordering.{nat_cmp}
+use Rattle.std.specs.Cmp.Lexicographic.{slice_cmp}
+use Rattle.std.specs.BTreeMap.{BTreeMap, get}
 use Rattle.lot_cli.specs.declared.ledger.leg.Leg.{Leg}
+use Rattle.lot_cli.specs.declared.ledger.leg.Position.{Position}
 use Rattle.lot_cli.specs.declared.ledger.leg.Entry.{Entry}
 use Rattle.lot_cli.specs.declared.ledger.verdict.Verdict.{Verdict}
 use Rattle.lot_cli.specs.declared.ledger.verdict.Verdict.TheVariants.{Accepted, Refused}
 use Rattle.lot_cli.specs.declared.text.command.Command.{Command}
-use Rattle.lot_cli.specs.Step.{Step, Accept, Refuse}
+use Rattle.lot_cli.specs.Leg.{IsInventory, legs_of}
+use Rattle.lot_cli.specs.Step.{Step, Accept, Refuse, opened_on}
 
 -- a command judged on a book: what is said of it, and the book after it
 abbrev pub Judges : List Entry → Command → Verdict → List Entry → Type 0
@@ -29,3 +34,9 @@ Continues before (entry ∷ entries) =
 
 abbrev pub IsBook : List Entry → Type 0
 IsBook entries = Continues [] entries
+
+-- What a book keeps beside its entries says what they come to: the day on which each account was opened, and the
+-- inventory of their legs.
+pub record IsKept (entries : List Entry) (opened : BTreeMap (List ℕ) ℤ) (held : BTreeMap Position ℤ) : Type 0 where
+  pub openings : (account : List ℕ) → get (slice_cmp nat_cmp) opened account ≡ opened_on entries account
+  pub inventory : IsInventory (legs_of entries) held.entries

@@ -1,8 +1,8 @@
 -- Legs, and what they hold: a holding is a sum over all legs ever booked (after Beancount's How Inventories Work).
-use Rattle.std.specs.Prelude.{◌≡◌, ℕ, Bool, List, map, filter, flat_map, Option, None, Some, ℤ, pos, if◌then◌else◌}
+use Rattle.std.specs.Prelude.{◌≡◌, ℕ, Bool, List, ◌++◌, map, filter, flat_map, Option, None, Some, ℤ, pos, if◌then◌else◌}
 use Rattle.std.specs.declared.cmp.Ordering.{Ordering}
 use Rattle.std.specs.Ordering.{nat_cmp, int_cmp, int_eq, is_eq, ordering_then}
-use Rattle.std.specs.Option.{option_cmp}
+use Rattle.std.specs.Option.{option_cmp, unwrap_or}
 use Rattle.std.specs.Cmp.Lexicographic.{slice_cmp}
 use Rattle.std.specs.List.Sorted.{IsStrictlySortedBy}
 use Rattle.std.specs.Map.{keys_of, lookup}
@@ -42,3 +42,13 @@ pub record IsInventory (legs : List Leg) (rows : List (Position × ℤ)) : Type 
 -- all legs of a book, in the order of its entries
 abbrev pub legs_of : List Entry → List Leg
 legs_of entries = flat_map (λ (entry : Entry). entry.legs) entries
+
+-- What more legs change is told rightly: after them each position holds what is told of it, or else what it held before.
+abbrev pub TellsHeld : List Leg → List Leg → List (Position × ℤ) → Type 0
+TellsHeld before legs told =
+    (position : Position) → unwrap_or (lookup (same_position position) told) (held before position) ≡ held (before ++ legs) position
+
+-- what a position has once it is told: the new sum unless it is zero, or what it had where nothing is told of it
+abbrev pub settled : Option ℤ → Option ℤ → Option ℤ
+settled None had = had
+settled (Some sum) had = non_zero sum

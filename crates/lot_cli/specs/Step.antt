@@ -119,3 +119,8 @@ Step book (Opening o) (Refuse refusal) = (opened_on book o.account ≢ None) × 
 Step book (Transaction t) (Accept legs) =
     NoneHolds (refusals book t) × (legs ≡ first_legs (length book + 1) t ++ fill_legs (length book + 1) t)
 Step book (Transaction t) (Refuse refusal) = IsFirst (refusals book t) refusal
+
+-- the judgement of a command stops at the refusal that the step gives, or for want of memory
+abbrev pub StopsStep : List Entry → Command → Stop → Type 0
+StopsStep book command (Refused refusal) = Step book command (Refuse refusal)
+StopsStep book command Memory = ⊤
