@@ -9,8 +9,8 @@ use Rattle.lot_cli.specs.declared.ledger.verdict.Verdict.{Verdict}
 use Rattle.lot_cli.specs.declared.text.command.Command.{Command}
 use Rattle.lot_cli.specs.Text.{Reads, IsFaultAt}
 use Rattle.lot_cli.specs.Leg.{IsInventory, legs_of}
-use Rattle.lot_cli.specs.Book.{JudgesAll}
-use Rattle.lot_cli.specs.Printed.{replies, fault_line}
+use Rattle.lot_cli.specs.Book.{Judges, JudgesAll}
+use Rattle.lot_cli.specs.Printed.{reply, replies, fault_line}
 use Rattle.lot_cli.specs.Report.{IsReport, IsReportToFault, AllFit, rows_text}
 use Rattle.lot_cli.specs.Written.{IsPrefixOf, AppendsFront}
 use Rattle.lot_cli.specs.Status.{code_of, status_of_verdict, status_after}
@@ -96,18 +96,35 @@ IsStopped input written status =
 
 -- ---- Runs: commands judged on a fresh book, with a reply to each.
 
+-- why a run ends before its end: the writer fails, or memory is wanting at the command of some number
+abbrev pub EndsRun : Fault → Type 0
+EndsRun fault = (fault ≡ Fault.Write) ⊎ ((number : ℕ) × (fault ≡ Fault.MemoryAt number))
+
+-- nothing, or the reply to a command
+abbrev pub IsReplyOrNone : List Entry → Command → ℕ → List ℕ → Type 0
+IsReplyOrNone before command number text =
+    (text ≡ []) ⊎ ((verdict : Verdict) × (after : List Entry) × Judges before command verdict after × (text ≡ reply number verdict))
+
+-- a command of that number is judged on a book, and its reply is written
+abbrev pub Replies : List Entry → Command → ℕ → Option (List ℕ) → Option (List ℕ) → Result (List Entry × Status) Fault → Type 0
+Replies before command number old new (Ok replied) =
+    (verdict : Verdict) × Judges before command verdict replied.0 × Appends old new (reply number verdict)
+    × (replied.1 ≡ status_of_verdict verdict)
+Replies before command number old new (Err fault) =
+    (text : List ℕ) × IsReplyOrNone before command number text × AppendsFront old new text × EndsRun fault
+
 -- the replies to some commands at the front are written, the last of them perhaps in part
 abbrev pub StopsInRun : List Command → Option (List ℕ) → Option (List ℕ) → Type 0
 StopsInRun commands old new =
     (done : List Command) × (rest : List Command) × (verdicts : List Verdict) × (book : List Entry)
     × (commands ≡ done ++ rest) × JudgesAll [] done verdicts book × AppendsFront old new (replies 1 verdicts)
 
--- what a run of commands writes and answers: the replies to all, and the book after them
+-- what a run of commands on a fresh book writes and answers: the replies to all, and the book after them
 abbrev pub Runs : List Command → Option (List ℕ) → Option (List ℕ) → Result (List Entry × Status) Fault → Type 0
 Runs commands old new (Ok ran) =
     (verdicts : List Verdict) × JudgesAll [] commands verdicts ran.0 × Appends old new (replies 1 verdicts)
     × (ran.1 ≡ status_of_replies verdicts)
-Runs commands old new (Err fault) = StopsInRun commands old new × ((fault ≡ Fault.Write) ⊎ ((number : ℕ) × (fault ≡ Fault.MemoryAt number)))
+Runs commands old new (Err fault) = StopsInRun commands old new × EndsRun fault
 
 -- ---- The theorem.
 

@@ -3,6 +3,7 @@ use Rattle.std.specs.Prelude.{◌≡◌, ◌⊎◌, ℕ}
 use Rattle.lot_cli.specs.declared.batch.fault.Fault.{Fault}
 use Rattle.lot_cli.specs.declared.batch.fault.Fault.TheVariants.{Read, TooLong, Syntax, Range, Write, Memory, MemoryAt}
 use Rattle.lot_cli.specs.declared.ledger.verdict.Verdict.{Verdict}
+use Rattle.lot_cli.specs.declared.report.line.PrintFault.{PrintFault}
 use Rattle.lot_cli.specs.declared.batch.status.Status.{Status}
 use Rattle.lot_cli.specs.declared.batch.status.Status.TheVariants.{Accepted, Refused, BadInput, Stopped}
 
@@ -28,6 +29,11 @@ status_after Accepted next = next
 status_after Refused next = Refused
 status_after BadInput next = BadInput
 status_after Stopped next = Stopped
+
+-- what a fault of the reply to the command of that number is for a run
+abbrev pub fault_at : ℕ → PrintFault → Fault
+fault_at number PrintFault.Write = Write
+fault_at number PrintFault.Memory = MemoryAt number
 
 -- a fault of the input is the input's; every other one stops the run
 abbrev pub status_of : Fault → Status

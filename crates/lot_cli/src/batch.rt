@@ -4,7 +4,7 @@
 //! - `status`: how it ended.
 
 ghost use Rattle.lot_cli.specs.Status.{IsStatus};
-ghost use Rattle.lot_cli.specs.Answer.{Runs};
+ghost use Rattle.lot_cli.specs.Answer.{Replies, Runs};
 
 mod fault;
 mod status;
@@ -57,15 +57,30 @@ fn run<W: Write>(
     let mut book = Book::new(alloc);
     let mut status = Status::Accepted;
     for (index, command) in commands.into_iter().enumerate() {
-        let number = index + 1;
-        let (next, verdict) = book
-            .judge(alloc, command)
-            .map_err(|_| Fault::MemoryAt { number })?;
+        let (next, replied) = reply(alloc, book, index + 1, command, writer)?;
         book = next;
-        print_reply(writer, number, &verdict).map_err(|fault| Fault::at(number, fault))?;
-        status = status.and(Status::of_verdict(&verdict));
+        status = status.and(replied);
     }
     Ok((book, status))
+}
+
+/// Judges the command of that number, and writes the reply.
+fn reply<W: Write>(
+    alloc: Global,
+    book: Book,
+    number: usize,
+    command: Command,
+    writer: &mut W,
+) -> Result<(Book, Status), Fault>
+    ensures { Replies book command number (W.contents writer.old) (W.contents writer.new) result }
+{
+    let Ok((book, verdict)) = book.judge(alloc, command) else {
+        return Err(Fault::MemoryAt { number });
+    };
+    match print_reply(writer, number, &verdict) {
+        Ok(()) => Ok((book, Status::of_verdict(&verdict))),
+        Err(fault) => Err(Fault::at(number, fault)),
+    }
 }
 
 /// Tells a fault, if there was one, and flushes what was written.

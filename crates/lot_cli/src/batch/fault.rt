@@ -1,6 +1,6 @@
 ghost use Rattle.std.specs.Prelude.{◌≡◌};
 ghost use Rattle.lot_cli.specs.Printed.{fault_line};
-ghost use Rattle.lot_cli.specs.Status.{status_of};
+ghost use Rattle.lot_cli.specs.Status.{fault_at, status_of};
 ghost use Rattle.lot_cli.specs.Written.{Writes};
 
 use super::status::Status;
@@ -67,7 +67,9 @@ impl From<ReportFault> for Fault {
 
 impl Fault {
     /// What a fault of the reply to the command of that number is for the run.
-    pub fn at(number: usize, fault: PrintFault) -> Fault {
+    pub fn at(number: usize, fault: PrintFault) -> Fault
+        ensures { result ≡ fault_at number fault }
+    {
         match fault {
             PrintFault::Write => Fault::Write,
             PrintFault::Memory => Fault::MemoryAt { number },
