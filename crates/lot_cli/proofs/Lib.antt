@@ -13,3 +13,4 @@ pub mod LawInventory
 pub mod PrintLemmas
 pub mod CostLemmas
 pub mod RowLemmas
+pub mod RunLemmas
