@@ -11,3 +11,6 @@ pub mod LawBooks
 pub mod LawInventory
 pub mod PrintLemmas
 pub mod CostLemmas
+pub mod LawAnswersMaps
+pub mod LawAnswersReports
+pub mod LawAnswers
