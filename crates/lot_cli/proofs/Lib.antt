@@ -1,3 +1,5 @@
+pub mod TextCuts
+pub mod TextForms
 pub mod TextLemmas
 pub mod BalanceLemmas
 pub mod BookLemmas

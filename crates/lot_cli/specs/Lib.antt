@@ -4,6 +4,7 @@ pub mod Balance
 pub mod Step
 pub mod Book
 pub mod Text
+pub mod Reading
 pub mod Printed
 pub mod Report
 pub mod Status

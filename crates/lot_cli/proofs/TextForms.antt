@@ -1,0 +1,1 @@
+-- What the forms of a line say is what is read of it.
