@@ -1,7 +1,7 @@
 -- Ledger text as it is read, from its front on: what each part of a line comes to, and what a line does to the
 -- commands so far. That this is what the forms of a line say is proved, both ways, in proofs/TextForms.antt and
 -- proofs/TextLemmas.antt.
-use Rattle.std.specs.Prelude.{◌≡◌, ℕ, ◌==◌, ◌&&◌, Bool, if◌then◌else◌, List, [], ◌∷◌, ◌++◌, codes, Option, Some, None, option_and_then, option_map, Result, Ok, Err, ℤ, pos, int_lt, ⊤}
+use Rattle.std.specs.Prelude.{◌≡◌, ◌≢◌, ◌⊎◌, ℕ, ◌==◌, ◌&&◌, Bool, if◌then◌else◌, List, [], ◌∷◌, ◌++◌, codes, Option, Some, None, option_and_then, option_map, Result, Ok, Err, ℤ, pos, int_lt, ⊤}
 use Rattle.std.specs.List.{list_all}
 use Rattle.std.specs.Cmp.Lexicographic.{pointwise}
 use Rattle.std.specs.Result.{result_ok}
@@ -21,7 +21,10 @@ use Rattle.lot_cli.specs.declared.text.line.Line.{Line}
 use Rattle.lot_cli.specs.declared.text.line.Line.TheVariants.{Opening as SaysOpening, Transaction as SaysHead, Posting as SaysPosting}
 use Rattle.lot_cli.specs.declared.text.line.LineFault.{LineFault}
 use Rattle.lot_cli.specs.declared.text.line.LineFault.TheVariants.{Syntax, Memory}
-use Rattle.lot_cli.specs.Text.{is_plain}
+use Rattle.lot_cli.specs.declared.text.reader.TextFault.{TextFault}
+use Rattle.lot_cli.specs.declared.text.reader.TextFault.TheVariants.{Syntax as SyntaxAt, Memory as NoRoom}
+use Rattle.lot_cli.specs.Text.{is_plain, IsLine}
+use denote.Ref.{Bor}
 
 infixl 10 ◌>>=◌
 abbrev pub ◌>>=◌ : {A B : Type 0} → Option A → (A → Option B) → Option B
@@ -166,3 +169,24 @@ put commands (Some t) (SaysPosting p) =
 -- the two after one more line, where it fits there
 unfoldable pub take_line : List Command → Option TransactionOf → List ℕ → Option (List Command × Option TransactionOf)
 take_line commands pending line = line_of line >>= put commands pending
+
+-- the two after more lines, where they fit there
+abbrev pub take_lines : List Command → Option TransactionOf → List (List ℕ) → Option (List Command × Option TransactionOf)
+take_lines commands pending [] = Some (commands, pending)
+take_lines commands pending (line ∷ lines) = take_line commands pending line >>= λ after. take_lines after.0 after.1 lines
+
+-- ---- The lines of a text, one after another.
+
+-- a line is taken off the front of a text: up to its line end, or all of a text that has none
+abbrev pub TakesLine : List ℕ → List ℕ → List ℕ → Type 0
+TakesLine text line rest = IsLine line × ((text ≡ line ++ 10 ∷ rest) ⊎ ((text ≡ line) × (line ≢ []) × (rest ≡ [])))
+
+-- a line, unless the text is empty
+abbrev pub GivesLine : List ℕ → Option (Bor (List ℕ)) → List ℕ → Type 0
+GivesLine text None rest = (text ≡ []) × (rest ≡ [])
+GivesLine text (Some line) rest = TakesLine text line.now rest
+
+-- what the fault of a line is for the text
+abbrev pub of_line : LineFault → ℕ → TextFault
+of_line Syntax number = SyntaxAt number
+of_line Memory number = NoRoom
