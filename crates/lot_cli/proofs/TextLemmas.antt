@@ -1,9 +1,12 @@
 -- What lines say together, as they are read one after another, and the lines of a text.
-use Rattle.std.proofs.Common.{◌≡◌, ◌≢◌, ◌⊎◌, inl, inr, ℕ, ◌+◌, ◌<◌, ◌≤◌, Bool, true, false, cond, ◌&&◌, List, [], ◌∷◌, ◌++◌, length, Option, Some, None, refl, ap, ◌∙◌, sym, subst, arith, eqb, append_assoc, length-append}
-use Rattle.std.specs.Prelude.{option_and_then, not}
-use Rattle.std.specs.List.{AllZip, list_all, onto_first}
+use Rattle.std.proofs.Common.{◌≡◌, ◌≢◌, ◌⊎◌, inl, inr, ℕ, ◌+◌, ◌<◌, ◌≤◌, Bool, true, false, cond, ◌&&◌, List, [], ◌∷◌, ◌++◌, length, Option, Some, None, refl, ap, ◌∙◌, sym, subst, arith, eqb, append_assoc, length-append, ◌-◌, take, drop, get_or}
+use Rattle.std.specs.Prelude.{option_and_then, not, nat_lt}
+use Rattle.std.specs.List.{AllZip, list_all, onto_first, position, position_or_len}
 use Rattle.std.proofs.lemmas.Bool.{and_parts, and_from, not-true, not_from_false, eqb-true, cases_order}
-use Rattle.std.proofs.lemmas.List.{append-nil, append_cancel_left}
+use Rattle.std.proofs.lemmas.List.{append-nil, append_cancel_left, take-append-drop, drop_more, take_all, get_or-take, length-take, length-drop}
+use Rattle.std.proofs.lemmas.List.Elements.{All-from_get_or}
+use Rattle.std.proofs.lemmas.List.Sums.{list_all-from_AllPass, fails_before_first, passes_at_first}
+use Rattle.std.proofs.lemmas.Bool.Decides.{nat_tests}
 use Rattle.std.proofs.lemmas.Option.{none-some, same_Some, some_pair_parts, option_and_then_some}
 use Rattle.lot_cli.specs.declared.text.command.Opening.{Opening as OpeningOf}
 use Rattle.lot_cli.specs.declared.text.command.Transaction.{Transaction as TransactionOf}
@@ -12,8 +15,11 @@ use Rattle.lot_cli.specs.declared.text.command.Command.{Command}
 use Rattle.lot_cli.specs.declared.text.command.Command.TheVariants.{Opening, Transaction}
 use Rattle.lot_cli.specs.declared.text.line.Line.{Line}
 use Rattle.lot_cli.specs.declared.text.line.Line.TheVariants.{Opening as SaysOpening, Transaction as SaysHead, Posting as SaysPosting}
-use Rattle.lot_cli.specs.Text.{IsOpening, IsHead, IsPosting, Says, IsFirstFault, IsLine, IsTextOf, Reads, IsFaultAt, is_within_line}
-use Rattle.lot_cli.specs.Reading.{line_of, closed, put, take_line, take_lines, TakesLine}
+use Rattle.lot_cli.specs.Text.{IsOpening, IsHead, IsPosting, Says, IsFirstFault, IsLine, IsTextOf, Reads, IsFaultAt, IsFaultOf, is_within_line}
+use Rattle.lot_cli.specs.declared.text.line.LineFault.{LineFault}
+use Rattle.lot_cli.specs.declared.text.line.LineFault.TheVariants.{Syntax, Memory}
+use Rattle.lot_cli.specs.declared.text.reader.TextFault.{TextFault}
+use Rattle.lot_cli.specs.Reading.{line_of, closed, put, take_line, take_lines, TakesLine, of_line}
 use Rattle.lot_cli.proofs.TextForms.{LineSays, line_says, line_reads}
 
 then_is : {A B : Type 0} (f : A → Option B) (o : Option A) (x : A) → o ≡ Some x → option_and_then f o ≡ f x
@@ -251,3 +257,48 @@ fault-at lines text rest line behind number commands pending front takes place r
 pub reads-at : (lines : List (List ℕ)) (text : List ℕ) (commands : List Command) (pending : Option TransactionOf)
     → IsFront lines text [] → take_lines [] None lines ≡ Some (commands, pending) → Reads text (closed commands pending)
 reads-at lines text commands pending front read = (lines, front-whole lines text front, read_says lines commands pending read)
+
+-- ---- The search for a line end.
+
+within-prefix : (text : List ℕ) → IsLine (take (position_or_len (λ b. eqb b 10) text) text)
+within-prefix text =
+    let at = position_or_len (λ b. eqb b 10) text in
+    list_all-from_AllPass is_within_line (take at text)
+    (All-from_get_or (λ b. is_within_line b ≡ true) (take at text) 0
+    (λ i h. let place : i < at = omega (arith, length-take at text) in
+    rw (get_or-take at text i 0 place) (not_from_false _ (fails_before_first (λ b. eqb b 10) text i 0 place))))
+
+place_of : (at end place : ℕ) → Some place ≡ cond (nat_lt at end) (Some at) None → (place ≡ at) × (at < end)
+place_of at end place e = grind (arith, nat_tests)
+
+no_place : (at end : ℕ) → None ≡ cond (nat_lt at end) (Some at) None → end ≤ at
+no_place at end e = grind (arith, nat_tests)
+
+pub line-found : (text : List ℕ) (at : ℕ) → Some at ≡ position (λ b. eqb b 10) text
+    → TakesLine text (take at text) (take (length text - (at + 1)) (drop (at + 1) text))
+line-found text at e =
+    let found = place_of (position_or_len (λ b. eqb b 10) text) (length text) at e in
+    let lt : at < length text = omega (arith, found.0, found.1) in
+    let rest : take (length text - (at + 1)) (drop (at + 1) text) ≡ drop (at + 1) text = take_all _ _ (omega (arith, length-drop (at + 1) text)) in
+    let end : get_or text at 0 ≡ 10 = rw found.0 (eqb-true _ 10 (passes_at_first (λ b. eqb b 10) text 0 found.1)) in
+    let split : text ≡ take at text ++ 10 ∷ drop (at + 1) text =
+      sym (take-append-drop at text) ∙ ap (λ t. take at text ++ t) (drop_more text at 0 lt ∙ ap (λ b. b ∷ drop (at + 1) text) end) in
+    (subst (λ (n : ℕ). IsLine (take n text)) (sym found.0) (within-prefix text), inl (rw rest split))
+
+pub line-last : (text : List ℕ) → None ≡ position (λ b. eqb b 10) text → text ≢ [] → TakesLine text text []
+line-last text e some =
+    let whole : take (position_or_len (λ b. eqb b 10) text) text ≡ text = take_all _ text (no_place _ (length text) e) in
+    (subst (λ (t : List ℕ). IsLine t) whole (within-prefix text), inr (refl, some, refl))
+
+-- ---- What the reader answers.
+
+-- a posting more
+pub post-is : (commands : List Command) (pending : Option TransactionOf) (t : TransactionOf) (p : Posting) (ps : List Posting)
+    → pending ≡ Some t → ps ≡ t.postings ++ p ∷ []
+    → put commands pending (SaysPosting p) ≡ Some (commands, Some (record { day = t.day; narration = t.narration; postings = ps }))
+post-is commands pending t p ps e f = rw (e, f) refl
+
+pub fault-of : (text : List ℕ) (answer : TextFault) (fault : LineFault) (number : ℕ) → (fault ≡ Syntax → IsFaultAt text number)
+    → answer ≡ of_line fault number → IsFaultOf text answer
+fault-of text answer Syntax number h e = rw e (h refl)
+fault-of text answer Memory number h e = rw e tt
