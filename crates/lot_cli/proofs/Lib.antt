@@ -1,4 +1,7 @@
+pub mod TextCuts
+pub mod TextForms
 pub mod TextLemmas
+pub mod TextLaws
 pub mod BalanceLemmas
 pub mod BalanceResiduals
 pub mod BookLemmas
