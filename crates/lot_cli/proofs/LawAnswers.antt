@@ -13,17 +13,12 @@ use Rattle.lot_cli.specs.Leg.{IsInventory, legs_of}
 use Rattle.lot_cli.specs.Printed.{fault_line, replies, reply}
 use Rattle.lot_cli.specs.Report.{IsReport, IsReportToFault, rows_text}
 use Rattle.lot_cli.specs.Status.{code_of}
-use Rattle.lot_cli.specs.Text.{Reads, IsFaultAt}
+use Rattle.lot_cli.specs.Text.{IsFaultAt}
 use Rattle.lot_cli.specs.Written.{IsPrefixOf}
 use Rattle.lot_cli.proofs.LawAnswersReports.{one_report, one_report_to_fault, whole_or_to_fault, front_of_report, front_of_report_to_fault}
 use Rattle.lot_cli.proofs.LawBooks.{judged_alike}
 use Rattle.lot_cli.proofs.LawInventory.{one_inventory}
-
--- a text says one list of commands, or has one first faulty line
-pub record IsOneReading : Type 0 where
-  pub commands : (text : List ℕ) (a b : List Command) → Reads text a → Reads text b → a ≡ b
-  pub fault : (text : List ℕ) (m n : ℕ) → IsFaultAt text m → IsFaultAt text n → m ≡ n
-  pub either : (text : List ℕ) (commands : List Command) (n : ℕ) → Reads text commands → IsFaultAt text n → ⊥
+use Rattle.lot_cli.proofs.TextLaws.{reads_one, fault_one, not_both}
 
 -- ---- Fronts of texts.
 
@@ -38,10 +33,10 @@ front_behind start a b h = (h.0, ap (λ text. start ++ text) h.1 ∙ sym (append
 
 -- ---- Inputs that are judged.
 
-one_judgement : IsOneReading → (input : List ℕ) (vs ws : List Verdict) (rows others : List (Position × ℤ))
+one_judgement : (input : List ℕ) (vs ws : List Verdict) (rows others : List (Position × ℤ))
     → IsJudged input vs rows → IsJudged input ws others → (vs ≡ ws) × (rows ≡ others)
-one_judgement reading input vs ws rows others h k =
-    let commands = reading.commands input h.commands k.commands h.reads k.reads in
+one_judgement input vs ws rows others h k =
+    let commands = reads_one input h.commands k.commands h.reads k.reads in
     let same = judged_alike [] h.commands vs ws h.book k.book h.judged (subst (λ cs. JudgesAll [] cs ws k.book) (sym commands) k.judged) in
     (same.0, one_inventory (legs_of h.book) rows others h.inventory (subst (λ book. IsInventory (legs_of book) others) (sym same.1) k.inventory))
 
@@ -60,10 +55,10 @@ replies_in_front number (verdict ∷ verdicts) more =
     front_behind (reply number verdict) (replies (suc number) verdicts) (replies (suc number) (verdicts ++ more)) (replies_in_front (suc number) verdicts more)
 
 -- the replies to a front of the commands are a front of the replies to all
-front_of_replies : IsOneReading → (input text : List ℕ) (verdicts : List Verdict) (rows : List (Position × ℤ))
+front_of_replies : (input text : List ℕ) (verdicts : List Verdict) (rows : List (Position × ℤ))
     → AreReplies input text → IsJudged input verdicts rows → IsPrefixOf text (replies 1 verdicts)
-front_of_replies reading input text verdicts rows h k =
-    let commands = reading.commands input k.commands (h.0 ++ h.1) k.reads h.5 in
+front_of_replies input text verdicts rows h k =
+    let commands = reads_one input k.commands (h.0 ++ h.1) k.reads h.5 in
     let parts = judged_in_front [] h.0 h.1 verdicts k.book (subst (λ cs. JudgesAll [] cs verdicts k.book) commands k.judged) in
     let same = (judged_alike [] h.0 parts.0 h.2 parts.2 h.3 parts.3 h.6).0 in
     let front = replies_in_front 1 parts.0 parts.1 in
@@ -81,69 +76,69 @@ too_long input a b s t h (inr (inr (inl k))) = apart (length input) limit h.0 k.
 too_long input a b s t h (inr (inr (inr k))) = apart (length input) limit h.0 k.3.short
 
 -- no input has a faulty line and is judged
-no_verdicts : {P : Type 0} → IsOneReading → (input : List ℕ) (number : ℕ) (verdicts : List Verdict) (rows : List (Position × ℤ))
+no_verdicts : {P : Type 0} → (input : List ℕ) (number : ℕ) (verdicts : List Verdict) (rows : List (Position × ℤ))
     → IsFaultAt input number → IsJudged input verdicts rows → P
-no_verdicts reading input number verdicts rows h k = absurd (reading.either input k.commands number k.reads h)
+no_verdicts input number verdicts rows h k = absurd (not_both input k.commands number k.reads h)
 
-no_text : IsOneReading → (input a b : List ℕ) (s t : ℕ) → IsNoText input a s → IsAnswer input b t → (a ≡ b) × (s ≡ t)
-no_text reading input a b s t h (inl k) = apart (length input) limit k.0 h.0
-no_text reading input a b s t h (inr (inl k)) =
-    (h.3 ∙ ap (λ number. fault_line (Fault.Syntax number)) (reading.fault input h.1 k.1 h.2 k.2) ∙ sym k.3, h.4 ∙ sym k.4)
-no_text reading input a b s t h (inr (inr (inl k))) = no_verdicts reading input h.1 k.0 k.1 h.2 k.3
-no_text reading input a b s t h (inr (inr (inr k))) = no_verdicts reading input h.1 k.0 k.1 h.2 k.3
+no_text : (input a b : List ℕ) (s t : ℕ) → IsNoText input a s → IsAnswer input b t → (a ≡ b) × (s ≡ t)
+no_text input a b s t h (inl k) = apart (length input) limit k.0 h.0
+no_text input a b s t h (inr (inl k)) =
+    (h.3 ∙ ap (λ number. fault_line (Fault.Syntax number)) (fault_one input h.1 k.1 h.2 k.2) ∙ sym k.3, h.4 ∙ sym k.4)
+no_text input a b s t h (inr (inr (inl k))) = no_verdicts input h.1 k.0 k.1 h.2 k.3
+no_text input a b s t h (inr (inr (inr k))) = no_verdicts input h.1 k.0 k.1 h.2 k.3
 
-whole_alike : IsOneReading → (input a b : List ℕ) (s t : ℕ) → IsWhole input a s → IsWhole input b t → (a ≡ b) × (s ≡ t)
-whole_alike reading input a b s t h k =
-    let same = one_judgement reading input h.0 k.0 h.1 k.1 h.3 k.3 in
+whole_alike : (input a b : List ℕ) (s t : ℕ) → IsWhole input a s → IsWhole input b t → (a ≡ b) × (s ≡ t)
+whole_alike input a b s t h k =
+    let same = one_judgement input h.0 k.0 h.1 k.1 h.3 k.3 in
     let report = one_report k.1 h.2 k.2 (subst (λ rows. IsReport rows h.2) same.1 h.4) k.4 in (
       h.5 ∙ ap (λ vs. replies 1 vs ++ h.2) same.0 ∙ ap (λ text. replies 1 k.0 ++ text) report ∙ sym k.5,
       h.6 ∙ ap (λ vs. code_of (status_of_replies vs)) same.0 ∙ sym k.6,
     )
 
-broken_alike : IsOneReading → (input a b : List ℕ) (s t : ℕ) → IsBroken input a s → IsBroken input b t → (a ≡ b) × (s ≡ t)
-broken_alike reading input a b s t h k =
-    let same = one_judgement reading input h.0 k.0 h.1 k.1 h.3 k.3 in
+broken_alike : (input a b : List ℕ) (s t : ℕ) → IsBroken input a s → IsBroken input b t → (a ≡ b) × (s ≡ t)
+broken_alike input a b s t h k =
+    let same = one_judgement input h.0 k.0 h.1 k.1 h.3 k.3 in
     let report = one_report_to_fault k.1 h.2 k.2 (subst (λ rows. IsReportToFault rows h.2) same.1 h.4) k.4 in (
       h.5 ∙ ap (λ vs. replies 1 vs ++ (h.2 ++ fault_line Fault.Range)) same.0 ∙ ap (λ text. replies 1 k.0 ++ (text ++ fault_line Fault.Range)) report ∙ sym k.5,
       h.6 ∙ sym k.6,
     )
 
 -- no answer is whole and broken
-whole_or_broken : {P : Type 0} → IsOneReading → (input a b : List ℕ) (s t : ℕ) → IsWhole input a s → IsBroken input b t → P
-whole_or_broken reading input a b s t h k =
-    let same = one_judgement reading input h.0 k.0 h.1 k.1 h.3 k.3 in
+whole_or_broken : {P : Type 0} → (input a b : List ℕ) (s t : ℕ) → IsWhole input a s → IsBroken input b t → P
+whole_or_broken input a b s t h k =
+    let same = one_judgement input h.0 k.0 h.1 k.1 h.3 k.3 in
     absurd (whole_or_to_fault k.1 h.2 k.2 (subst (λ rows. IsReport rows h.2) same.1 h.4) k.4)
 
-whole : IsOneReading → (input a b : List ℕ) (s t : ℕ) → IsWhole input a s → IsAnswer input b t → (a ≡ b) × (s ≡ t)
-whole reading input a b s t h (inl k) = apart (length input) limit k.0 h.3.short
-whole reading input a b s t h (inr (inl k)) = no_verdicts reading input k.1 h.0 h.1 k.2 h.3
-whole reading input a b s t h (inr (inr (inl k))) = whole_alike reading input a b s t h k
-whole reading input a b s t h (inr (inr (inr k))) = whole_or_broken reading input a b s t h k
+whole : (input a b : List ℕ) (s t : ℕ) → IsWhole input a s → IsAnswer input b t → (a ≡ b) × (s ≡ t)
+whole input a b s t h (inl k) = apart (length input) limit k.0 h.3.short
+whole input a b s t h (inr (inl k)) = no_verdicts input k.1 h.0 h.1 k.2 h.3
+whole input a b s t h (inr (inr (inl k))) = whole_alike input a b s t h k
+whole input a b s t h (inr (inr (inr k))) = whole_or_broken input a b s t h k
 
-broken : IsOneReading → (input a b : List ℕ) (s t : ℕ) → IsBroken input a s → IsAnswer input b t → (a ≡ b) × (s ≡ t)
-broken reading input a b s t h (inl k) = apart (length input) limit k.0 h.3.short
-broken reading input a b s t h (inr (inl k)) = no_verdicts reading input k.1 h.0 h.1 k.2 h.3
-broken reading input a b s t h (inr (inr (inl k))) = whole_or_broken reading input b a t s k h
-broken reading input a b s t h (inr (inr (inr k))) = broken_alike reading input a b s t h k
+broken : (input a b : List ℕ) (s t : ℕ) → IsBroken input a s → IsAnswer input b t → (a ≡ b) × (s ≡ t)
+broken input a b s t h (inl k) = apart (length input) limit k.0 h.3.short
+broken input a b s t h (inr (inl k)) = no_verdicts input k.1 h.0 h.1 k.2 h.3
+broken input a b s t h (inr (inr (inl k))) = whole_or_broken input b a t s k h
+broken input a b s t h (inr (inr (inr k))) = broken_alike input a b s t h k
 
-pub one_answer : IsOneReading → (input a b : List ℕ) (s t : ℕ) → IsAnswer input a s → IsAnswer input b t → (a ≡ b) × (s ≡ t)
-one_answer reading input a b s t (inl h) k = too_long input a b s t h k
-one_answer reading input a b s t (inr (inl h)) k = no_text reading input a b s t h k
-one_answer reading input a b s t (inr (inr (inl h))) k = whole reading input a b s t h k
-one_answer reading input a b s t (inr (inr (inr h))) k = broken reading input a b s t h k
+pub one_answer : (input a b : List ℕ) (s t : ℕ) → IsAnswer input a s → IsAnswer input b t → (a ≡ b) × (s ≡ t)
+one_answer input a b s t (inl h) k = too_long input a b s t h k
+one_answer input a b s t (inr (inl h)) k = no_text input a b s t h k
+one_answer input a b s t (inr (inr (inl h))) k = whole input a b s t h k
+one_answer input a b s t (inr (inr (inr h))) k = broken input a b s t h k
 
 -- ---- Fronts of the answer.
 
-no_replies : {P : Type 0} → IsOneReading → (input text : List ℕ) (number : ℕ) → AreReplies input text → IsFaultAt input number → P
-no_replies reading input text number h k = absurd (reading.either input (h.0 ++ h.1) number h.5 k)
+no_replies : {P : Type 0} → (input text : List ℕ) (number : ℕ) → AreReplies input text → IsFaultAt input number → P
+no_replies input text number h k = absurd (not_both input (h.0 ++ h.1) number h.5 k)
 
-replies_are_front : IsOneReading → (input part text : List ℕ) (status : ℕ) → AreReplies input part → IsAnswer input text status → IsPrefixOf part text
-replies_are_front reading input part text status h (inl k) = apart (length input) limit k.0 h.4
-replies_are_front reading input part text status h (inr (inl k)) = no_replies reading input part k.1 h k.2
-replies_are_front reading input part text status h (inr (inr (inl k))) =
-    subst (IsPrefixOf part) (sym k.5) (front_of_more part (replies 1 k.0) k.2 (front_of_replies reading input part k.0 k.1 h k.3))
-replies_are_front reading input part text status h (inr (inr (inr k))) =
-    subst (IsPrefixOf part) (sym k.5) (front_of_more part (replies 1 k.0) (k.2 ++ fault_line Fault.Range) (front_of_replies reading input part k.0 k.1 h k.3))
+replies_are_front : (input part text : List ℕ) (status : ℕ) → AreReplies input part → IsAnswer input text status → IsPrefixOf part text
+replies_are_front input part text status h (inl k) = apart (length input) limit k.0 h.4
+replies_are_front input part text status h (inr (inl k)) = no_replies input part k.1 h k.2
+replies_are_front input part text status h (inr (inr (inl k))) =
+    subst (IsPrefixOf part) (sym k.5) (front_of_more part (replies 1 k.0) k.2 (front_of_replies input part k.0 k.1 h k.3))
+replies_are_front input part text status h (inr (inr (inr k))) =
+    subst (IsPrefixOf part) (sym k.5) (front_of_more part (replies 1 k.0) (k.2 ++ fault_line Fault.Range) (front_of_replies input part k.0 k.1 h k.3))
 
 -- the same replies, and behind them a front of what the answer has there
 front_behind_replies : (verdicts others : List Verdict) (rows part report text : List ℕ) → verdicts ≡ others
@@ -152,27 +147,27 @@ front_behind_replies verdicts others rows part report text same is told front =
     subst (λ a. IsPrefixOf a text) (ap (λ vs. replies 1 vs ++ rows) (sym same) ∙ sym is)
     (subst (IsPrefixOf (replies 1 others ++ rows)) (sym told) (front_behind (replies 1 others) rows report front))
 
-rows_are_front : IsOneReading → (input part text : List ℕ) (status : ℕ) → AreRows input part → IsAnswer input text status → IsPrefixOf part text
-rows_are_front reading input part text status h (inl k) = apart (length input) limit k.0 h.3.short
-rows_are_front reading input part text status h (inr (inl k)) = no_verdicts reading input k.1 h.0 (h.1 ++ h.2) k.2 h.3
-rows_are_front reading input part text status h (inr (inr (inl k))) =
-    let same = one_judgement reading input h.0 k.0 (h.1 ++ h.2) k.1 h.3 k.3 in
+rows_are_front : (input part text : List ℕ) (status : ℕ) → AreRows input part → IsAnswer input text status → IsPrefixOf part text
+rows_are_front input part text status h (inl k) = apart (length input) limit k.0 h.3.short
+rows_are_front input part text status h (inr (inl k)) = no_verdicts input k.1 h.0 (h.1 ++ h.2) k.2 h.3
+rows_are_front input part text status h (inr (inr (inl k))) =
+    let same = one_judgement input h.0 k.0 (h.1 ++ h.2) k.1 h.3 k.3 in
     front_behind_replies h.0 k.0 (rows_text h.1) part k.2 text same.0 h.5 k.5
     (front_of_report h.1 h.2 k.2 (subst (λ rows. IsReport rows k.2) (sym same.1) k.4))
-rows_are_front reading input part text status h (inr (inr (inr k))) =
-    let same = one_judgement reading input h.0 k.0 (h.1 ++ h.2) k.1 h.3 k.3 in
+rows_are_front input part text status h (inr (inr (inr k))) =
+    let same = one_judgement input h.0 k.0 (h.1 ++ h.2) k.1 h.3 k.3 in
     front_behind_replies h.0 k.0 (rows_text h.1) part (k.2 ++ fault_line Fault.Range) text same.0 h.5 k.5
     (front_of_more (rows_text h.1) k.2 (fault_line Fault.Range)
     (front_of_report_to_fault h.1 h.2 k.2 h.4 (subst (λ rows. IsReportToFault rows k.2) (sym same.1) k.4)))
 
-part_is_front : IsOneReading → (input part text : List ℕ) (status : ℕ)
+part_is_front : (input part text : List ℕ) (status : ℕ)
     → (part ≡ []) ⊎ AreReplies input part ⊎ AreRows input part ⊎ ((s : ℕ) × IsAnswer input part s)
     → IsAnswer input text status → IsPrefixOf part text
-part_is_front reading input part text status (inl e) k = (text, ap (λ start. start ++ text) (sym e))
-part_is_front reading input part text status (inr (inl h)) k = replies_are_front reading input part text status h k
-part_is_front reading input part text status (inr (inr (inl h))) k = rows_are_front reading input part text status h k
-part_is_front reading input part text status (inr (inr (inr h))) k =
-    ([], sym (one_answer reading input part text h.0 status h.1 k).0 ∙ sym (append-nil part))
+part_is_front input part text status (inl e) k = (text, ap (λ start. start ++ text) (sym e))
+part_is_front input part text status (inr (inl h)) k = replies_are_front input part text status h k
+part_is_front input part text status (inr (inr (inl h))) k = rows_are_front input part text status h k
+part_is_front input part text status (inr (inr (inr h))) k =
+    ([], sym (one_answer input part text h.0 status h.1 k).0 ∙ sym (append-nil part))
 
-pub front_of_answer : IsOneReading → (input front text : List ℕ) (status : ℕ) → IsFront input front → IsAnswer input text status → IsPrefixOf front text
-front_of_answer reading input front text status h k = front_of_front front h.0 text h.1 (part_is_front reading input h.0 text status h.2 k)
+pub front_of_answer : (input front text : List ℕ) (status : ℕ) → IsFront input front → IsAnswer input text status → IsPrefixOf front text
+front_of_answer input front text status h k = front_of_front front h.0 text h.1 (part_is_front input h.0 text status h.2 k)
