@@ -1,4 +1,7 @@
+pub mod TextCuts
+pub mod TextForms
 pub mod TextLemmas
+pub mod TextLaws
 pub mod BalanceLemmas
 pub mod BalanceResiduals
 pub mod BookLemmas
@@ -14,3 +17,6 @@ pub mod PrintLemmas
 pub mod CostLemmas
 pub mod RowLemmas
 pub mod RunLemmas
+pub mod LawAnswersMaps
+pub mod LawAnswersReports
+pub mod LawAnswers

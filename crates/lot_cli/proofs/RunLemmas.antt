@@ -1,12 +1,86 @@
 -- Runs of commands.
-use Rattle.std.proofs.Common.{inl, inr, ◌≡◌, ℕ, List, [], ◌∷◌, ◌++◌, refl, sym, ap, ◌∙◌, subst, append_assoc, append-nil}
-use Rattle.std.specs.Prelude.{Option, Result, Ok, Err}
+use Rattle.std.proofs.Common.{inl, inr, ◌≡◌, ℕ, List, [], ◌∷◌, ◌++◌, length, refl, sym, ap, ◌∙◌, subst, append_assoc, append-nil}
+use Rattle.std.specs.Prelude.{suc, ◌+◌, Option, Result, Ok, Err}
+use native.Mathlib.Omega.{arith}
+use Rattle.std.specs.Io.KnownBytes.{Appends}
+use Rattle.std.proofs.KnownBytes.{Appends-trans}
 use Rattle.lot_cli.specs.declared.report.line.PrintFault.{PrintFault}
 use Rattle.lot_cli.specs.declared.batch.fault.Fault.{Fault}
-use Rattle.lot_cli.specs.Status.{fault_at}
-use Rattle.lot_cli.specs.Answer.{EndsRun}
+use Rattle.lot_cli.specs.declared.batch.status.Status.{Status}
+use Rattle.lot_cli.specs.declared.ledger.leg.Entry.{Entry}
+use Rattle.lot_cli.specs.declared.ledger.verdict.Verdict.{Verdict}
+use Rattle.lot_cli.specs.declared.text.command.Command.{Command}
+use Rattle.lot_cli.specs.Status.{fault_at, status_after, status_of_verdict}
+use Rattle.lot_cli.specs.Printed.{reply, replies}
+use Rattle.lot_cli.specs.Book.{Judges, JudgesAll}
+use Rattle.lot_cli.specs.Written.{AppendsFront}
+use Rattle.lot_cli.specs.Answer.{EndsRun, Replies, Runs, StopsInRun, status_of_replies}
+use Rattle.lot_cli.proofs.PrintLemmas.{front_step}
 
 -- a fault of a reply ends a run
 pub ends_at : (number : ℕ) (fault : PrintFault) (e : Fault) → e ≡ fault_at number fault → EndsRun e
 ends_at number PrintFault.Write e is = inl is
 ends_at number PrintFault.Memory e is = inr (number, is)
+
+-- ---- One command more.
+
+judges_more : (before : List Entry) (done : List Command) (verdicts : List Verdict) (mid after : List Entry) (command : Command) (verdict : Verdict)
+    → JudgesAll before done verdicts mid → Judges mid command verdict after
+    → JudgesAll before (done ++ command ∷ []) (verdicts ++ verdict ∷ []) after
+judges_more before [] [] mid after command verdict all one =
+    (after, subst (λ b. Judges b command verdict after) all one, refl)
+judges_more before [] (v ∷ verdicts) mid after command verdict all one = absurd all
+judges_more before (c ∷ done) [] mid after command verdict all one = absurd all
+judges_more before (c ∷ done) (v ∷ verdicts) mid after command verdict all one =
+    (all.0, all.1, judges_more all.0 done verdicts mid after command verdict all.2 one)
+
+replies_more : (number : ℕ) (verdicts : List Verdict) (verdict : Verdict)
+    → replies number (verdicts ++ verdict ∷ []) ≡ replies number verdicts ++ reply (length verdicts + number) verdict
+replies_more number [] verdict = append-nil (reply number verdict)
+replies_more number (v ∷ verdicts) verdict =
+    ap (λ text. reply number v ++ text) (replies_more (suc number) verdicts verdict)
+    ∙ sym (append_assoc (reply number v) (replies (suc number) verdicts) (reply (length verdicts + suc number) verdict))
+    ∙ ap (λ n. (reply number v ++ replies (suc number) verdicts) ++ reply n verdict) (omega arith)
+
+after_accepted : (verdict : Verdict) → status_after (status_of_verdict verdict) Status.Accepted ≡ status_of_verdict verdict
+after_accepted Verdict.Accepted = refl
+after_accepted (Verdict.Refused refusal) = refl
+
+regroup : (a b c : Status) → status_after a (status_after b c) ≡ status_after (status_after a b) c
+regroup Status.Accepted b c = refl
+regroup Status.Refused b c = refl
+regroup Status.BadInput b c = refl
+regroup Status.Stopped b c = refl
+
+status_more : (verdicts : List Verdict) (verdict : Verdict)
+    → status_of_replies (verdicts ++ verdict ∷ []) ≡ status_after (status_of_replies verdicts) (status_of_verdict verdict)
+status_more [] verdict = after_accepted verdict
+status_more (v ∷ verdicts) verdict =
+    ap (λ s. status_after (status_of_verdict v) s) (status_more verdicts verdict)
+    ∙ regroup (status_of_verdict v) (status_of_replies verdicts) (status_of_verdict verdict)
+
+-- ---- A run so far.
+
+-- some commands were judged and replied to, so many in number, and these are left
+abbrev pub RanSoFar : List Command → List Command → ℕ → List Entry → Status → Option (List ℕ) → Option (List ℕ) → Type 0
+RanSoFar commands left count book status old new =
+    (done : List Command) × (verdicts : List Verdict) × (commands ≡ done ++ left) × (count ≡ length verdicts)
+    × JudgesAll [] done verdicts book × Appends old new (replies 1 verdicts) × (status ≡ status_of_replies verdicts)
+
+next_number : (number count : ℕ) (verdicts : List Verdict) → count ≡ length verdicts → number ≡ count + 1 → number ≡ length verdicts + 1
+next_number number count verdicts so_far is = omega (arith, so_far, is)
+
+pub run_next : (commands left rest : List Command) (command : Command) (count number : ℕ) (book next : List Entry) (status replied : Status)
+    (old mid new : Option (List ℕ))
+    → RanSoFar commands left count book status old mid → left ≡ command ∷ rest → number ≡ count + 1
+    → Replies book command number mid new (Ok (next, replied))
+    → RanSoFar commands rest (count + 1) next (status_after status replied) old new
+run_next commands left rest command count number book next status replied old mid new so_far is numbered (verdict, judged, written, said) =
+    let (done, verdicts, split, counted, all, before, status_is) = so_far in
+    (done ++ command ∷ [], verdicts ++ verdict ∷ [],
+    split ∙ ap (λ cs. done ++ cs) is ∙ sym (append_assoc done (command ∷ []) rest),
+    ?,
+    judges_more [] done verdicts book next command verdict all judged,
+    subst (Appends old new) (sym (replies_more 1 verdicts verdict ∙ ap (λ n. replies 1 verdicts ++ reply n verdict) (sym (next_number number count verdicts counted numbered))))
+      (Appends-trans old mid new _ _ before written),
+    ap (λ s. status_after s replied) status_is ∙ ap (λ s. status_after (status_of_replies verdicts) s) said ∙ sym (status_more verdicts verdict))

@@ -5,6 +5,7 @@ pub mod Step
 pub mod Book
 pub mod Laws
 pub mod Text
+pub mod Reading
 pub mod Printed
 pub mod Report
 pub mod Status

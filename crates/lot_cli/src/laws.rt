@@ -2,6 +2,8 @@
 //!
 //! - `books`: of steps and books.
 //! - `texts`: of ledger texts.
+//! - `answers`: of the answer to an input.
 
+pub mod answers;
 pub mod books;
 pub mod texts;

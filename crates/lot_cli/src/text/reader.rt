@@ -1,8 +1,10 @@
-ghost use Rattle.std.specs.Prelude.{length, IfOk, IfErr};
-ghost use Rattle.lot_cli.specs.Text.{Reads, IsFaultOf};
+ghost use Rattle.std.specs.Prelude.{◌≡◌, Some, None, [], ◌∷◌, ◌++◌, length, IfOk, IfErr, OnOk, OnErr};
 ghost use Rattle.std.specs.Iterator.{at_most};
+ghost use Rattle.lot_cli.specs.Text.{Reads, IsFaultOf};
+ghost use Rattle.lot_cli.specs.Reading.{closed, put, take_line, GivesLine, of_line};
+ghost use Rattle.lot_cli.specs.declared.text.line.LineFault.TheVariants.{Syntax};
 
-use super::command::{Command, Transaction};
+use super::command::{Command, Opening, Posting, Transaction};
 use super::line::{Line, LineFault, parse};
 use std::alloc::{AllocError, Global};
 use thiserror::Error;
@@ -20,7 +22,9 @@ pub(crate) enum TextFault {
 
 impl TextFault {
     /// What a fault of that line is for the text.
-    fn of_line(fault: LineFault, line: u64) -> TextFault {
+    fn of_line(fault: LineFault, line: u64) -> TextFault
+        ensures { result ≡ of_line fault line }
+    {
         match fault {
             LineFault::Syntax => TextFault::Syntax { line },
             LineFault::Memory => TextFault::Memory,
@@ -29,6 +33,11 @@ impl TextFault {
 }
 
 impl From<AllocError> for TextFault {
+    ghost use Rattle.std.specs.Prelude.{◌≡◌};
+    ghost use Rattle.lot_cli.specs.declared.text.reader.TextFault.TheVariants.{Memory};
+
+    ghost from_gives = { λ _ e. e ≡ Memory };
+
     fn from(_error: AllocError) -> TextFault {
         TextFault::Memory
     }
@@ -43,9 +52,9 @@ pub(crate) fn read(alloc: Global, text: &[u8]) -> Result<Vec<Command>, TextFault
     let mut number = 0u64;
     for line in (Lines { rest: text }) {
         number += 1;
-        reading
-            .take(alloc, line)
-            .map_err(|fault| TextFault::of_line(fault, number))?;
+        if let Err(fault) = reading.take(alloc, line) {
+            return Err(TextFault::of_line(fault, number));
+        }
     }
     Ok(reading.finish()?)
 }
@@ -58,6 +67,8 @@ struct Lines<'a> {
 
 impl<'a> Iterator for Lines<'a> {
     type Item = &'a [u8];
+
+    ghost next_gives = { λ s line t. GivesLine s.rest.now line t.rest.now };
 
     ghost remaining = { λ s. at_most (length s.rest.now) };
 
@@ -84,46 +95,82 @@ impl<'a> Iterator for Lines<'a> {
 #[derive(Drop)]
 struct Reading {
     commands: Vec<Command>,
-    open: Option<Transaction>,
+    pending: Option<Transaction>,
 }
 
 impl Reading {
-    fn new(alloc: Global) -> Reading {
+    fn new(alloc: Global) -> Reading
+        ensures commands { result.commands.items ≡ [] }
+        ensures pending { result.pending ≡ None }
+    {
         Reading {
             commands: Vec::new(alloc),
-            open: None,
+            pending: None,
         }
     }
 
     /// Takes what the next line says.
-    fn take(&mut self, alloc: Global, line: &[u8]) -> Result<(), LineFault> {
+    #[tactic(auto, unfolding(crate::specs::Reading::take_line))]
+    fn take(&mut self, alloc: Global, line: &[u8]) -> Result<(), LineFault>
+        ensures ok { OnOk result (take_line self.old.commands.items self.old.pending line.now
+            ≡ Some (self.new.commands.items, self.new.pending)) }
+        ensures fault { IfErr result (λ fault. fault ≡ Syntax
+            → take_line self.old.commands.items self.old.pending line.now ≡ None) }
+    {
         match parse(alloc, line)? {
-            Line::Posting(posting) => {
-                let transaction = self.open.as_mut().ok_or(LineFault::Syntax)?;
-                transaction.postings.push(posting)?;
-            }
-            Line::Transaction(transaction) => {
-                self.close()?;
-                self.open = Some(transaction);
-            }
-            Line::Opening(opening) => {
-                self.close()?;
-                self.commands.push(Command::Opening(opening))?;
-            }
+            Line::Posting(posting) => self.post(posting),
+            Line::Transaction(transaction) => Ok(self.begin(transaction)?),
+            Line::Opening(opening) => Ok(self.open(opening)?),
         }
+    }
+
+    /// Puts a posting behind those of the transaction so far.
+    fn post(&mut self, posting: Posting) -> Result<(), LineFault>
+        ensures ok { OnOk result (put self.old.commands.items self.old.pending (Line.Posting posting)
+            ≡ Some (self.new.commands.items, self.new.pending)) }
+        ensures fault { IfErr result (λ fault. fault ≡ Syntax
+            → put self.old.commands.items self.old.pending (Line.Posting posting) ≡ None) }
+    {
+        let transaction = self.pending.as_mut().ok_or(LineFault::Syntax)?;
+        transaction.postings.push(posting)?;
+        Ok(())
+    }
+
+    /// A transaction begins, to which the next postings belong.
+    fn begin(&mut self, transaction: Transaction) -> Result<(), AllocError>
+        ensures { OnOk result (put self.old.commands.items self.old.pending (Line.Transaction transaction)
+            ≡ Some (self.new.commands.items, self.new.pending)) }
+    {
+        self.close()?;
+        self.pending = Some(transaction);
+        Ok(())
+    }
+
+    /// An account is opened.
+    fn open(&mut self, opening: Opening) -> Result<(), AllocError>
+        ensures { OnOk result (put self.old.commands.items self.old.pending (Line.Opening opening)
+            ≡ Some (self.new.commands.items, self.new.pending)) }
+    {
+        self.close()?;
+        self.commands.push(Command::Opening(opening))?;
         Ok(())
     }
 
     /// From here on no posting belongs to the transaction so far.
-    fn close(&mut self) -> Result<(), AllocError> {
-        if let Some(transaction) = self.open.take() {
+    fn close(&mut self) -> Result<(), AllocError>
+        ensures commands { OnOk result (self.new.commands.items ≡ closed self.old.commands.items self.old.pending) }
+        ensures pending { OnOk result (self.new.pending ≡ None) }
+    {
+        if let Some(transaction) = self.pending.take() {
             self.commands.push(Command::Transaction(transaction))?;
         }
         Ok(())
     }
 
     /// All commands, once there is no line left.
-    fn finish(mut self) -> Result<Vec<Command>, AllocError> {
+    fn finish(mut self) -> Result<Vec<Command>, AllocError>
+        ensures { IfOk result (λ commands. commands.items ≡ closed self.commands.items self.pending) }
+    {
         self.close()?;
         Ok(self.commands)
     }
