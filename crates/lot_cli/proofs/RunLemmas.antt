@@ -36,7 +36,10 @@ judges_more before (c ∷ done) (v ∷ verdicts) mid after command verdict all o
 
 replies_more : (number : ℕ) (verdicts : List Verdict) (verdict : Verdict)
     → replies number (verdicts ++ verdict ∷ []) ≡ replies number verdicts ++ reply (length verdicts + number) verdict
-replies_more number [] verdict = append-nil (reply number verdict)
+replies_more number [] verdict = append-nil (reply number verdict) ∙ ap (λ n. reply n verdict) (counted_on number)
+  where
+    counted_on : (n : ℕ) → n ≡ 0 + n
+    counted_on n = omega arith
 replies_more number (v ∷ verdicts) verdict =
     ap (λ text. reply number v ++ text) (replies_more (suc number) verdicts verdict)
     ∙ sym (append_assoc (reply number v) (replies (suc number) verdicts) (reply (length verdicts + suc number) verdict))
@@ -59,6 +62,10 @@ status_more (v ∷ verdicts) verdict =
     ap (λ s. status_after (status_of_verdict v) s) (status_more verdicts verdict)
     ∙ regroup (status_of_verdict v) (status_of_replies verdicts) (status_of_verdict verdict)
 
+length_more : (verdicts : List Verdict) (verdict : Verdict) → length (verdicts ++ verdict ∷ []) ≡ length verdicts + 1
+length_more [] verdict = refl
+length_more (v ∷ verdicts) verdict = let more : length (verdicts ++ verdict ∷ []) ≡ length verdicts + 1 = length_more verdicts verdict in omega (arith, more)
+
 -- ---- A run so far.
 
 -- some commands were judged and replied to, so many in number, and these are left
@@ -70,17 +77,44 @@ RanSoFar commands left count book status old new =
 next_number : (number count : ℕ) (verdicts : List Verdict) → count ≡ length verdicts → number ≡ count + 1 → number ≡ length verdicts + 1
 next_number number count verdicts so_far is = omega (arith, so_far, is)
 
-pub run_next : (commands left rest : List Command) (command : Command) (count number : ℕ) (book next : List Entry) (status replied : Status)
+pub run_next : (commands left rest : List Command) (command : Command) (count number later : ℕ) (book next : List Entry) (status replied both : Status)
     (old mid new : Option (List ℕ))
-    → RanSoFar commands left count book status old mid → left ≡ command ∷ rest → number ≡ count + 1
-    → Replies book command number mid new (Ok (next, replied))
-    → RanSoFar commands rest (count + 1) next (status_after status replied) old new
-run_next commands left rest command count number book next status replied old mid new so_far is numbered (verdict, judged, written, said) =
+    → RanSoFar commands left count book status old mid → left ≡ command ∷ rest → number ≡ count + 1 → later ≡ count + 1
+    → Replies book command number mid new (Ok (next, replied)) → both ≡ status_after status replied
+    → RanSoFar commands rest later next both old new
+run_next commands left rest command count number later book next status replied both old mid new so_far is numbered counted_on (verdict, judged, written, said) joined =
     let (done, verdicts, split, counted, all, before, status_is) = so_far in
     (done ++ command ∷ [], verdicts ++ verdict ∷ [],
     split ∙ ap (λ cs. done ++ cs) is ∙ sym (append_assoc done (command ∷ []) rest),
-    ?,
+    counted_on ∙ ap (λ n. n + 1) counted ∙ sym (length_more verdicts verdict),
     judges_more [] done verdicts book next command verdict all judged,
     subst (Appends old new) (sym (replies_more 1 verdicts verdict ∙ ap (λ n. replies 1 verdicts ++ reply n verdict) (sym (next_number number count verdicts counted numbered))))
       (Appends-trans old mid new _ _ before written),
-    ap (λ s. status_after s replied) status_is ∙ ap (λ s. status_after (status_of_replies verdicts) s) said ∙ sym (status_more verdicts verdict))
+    joined ∙ ap (λ s. status_after s replied) status_is ∙ ap (λ s. status_after (status_of_replies verdicts) s) said ∙ sym (status_more verdicts verdict))
+
+pub run_stops : (commands left rest : List Command) (command : Command) (count number : ℕ) (book : List Entry) (status : Status) (fault : Fault)
+    (old mid new : Option (List ℕ))
+    → RanSoFar commands left count book status old mid → left ≡ command ∷ rest → number ≡ count + 1
+    → Replies book command number mid new (Err fault)
+    → Runs commands old new (Err fault)
+run_stops commands left rest command count number book status fault old mid new so_far is numbered (text, inl nothing, front, ends) =
+    let (done, verdicts, split, counted, all, before, status_is) = so_far in
+    ((done, left, verdicts, book, split, all,
+      front_step old mid new (replies 1 verdicts) text [] (replies 1 verdicts) before front
+        (ap (λ xs. replies 1 verdicts ++ (xs ++ [])) nothing ∙ append-nil (replies 1 verdicts))),
+    ends)
+run_stops commands left rest command count number book status fault old mid new so_far is numbered (text, inr (verdict, after, judged, replied), front, ends) =
+    let (done, verdicts, split, counted, all, before, status_is) = so_far in
+    ((done ++ command ∷ [], rest, verdicts ++ verdict ∷ [], after,
+      split ∙ ap (λ cs. done ++ cs) is ∙ sym (append_assoc done (command ∷ []) rest),
+      judges_more [] done verdicts book after command verdict all judged,
+      front_step old mid new (replies 1 verdicts) text [] (replies 1 (verdicts ++ verdict ∷ [])) before front
+        (ap (λ xs. replies 1 verdicts ++ xs) (append-nil text ∙ replied ∙ ap (λ n. reply n verdict) (next_number number count verdicts counted numbered))
+          ∙ sym (replies_more 1 verdicts verdict))),
+    ends)
+
+pub run_ends : (commands left : List Command) (count : ℕ) (book : List Entry) (status : Status) (old new : Option (List ℕ))
+    → RanSoFar commands left count book status old new → left ≡ [] → Runs commands old new (Ok (book, status))
+run_ends commands left count book status old new so_far is =
+    let (done, verdicts, split, counted, all, before, status_is) = so_far in
+    (verdicts, subst (λ cs. JudgesAll [] cs verdicts book) (sym (split ∙ ap (λ cs. done ++ cs) is ∙ append-nil done)) all, before, status_is)
