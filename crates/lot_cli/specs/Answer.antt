@@ -13,7 +13,7 @@ use Rattle.lot_cli.specs.Book.{Judges, JudgesAll}
 use Rattle.lot_cli.specs.Printed.{reply, replies, fault_line}
 use Rattle.lot_cli.specs.Report.{IsReport, IsReportToFault, AllFit, rows_text}
 use Rattle.lot_cli.specs.Written.{IsPrefixOf, AppendsFront}
-use Rattle.lot_cli.specs.Status.{code_of, status_of_verdict, status_after}
+use Rattle.lot_cli.specs.Status.{code_of, status_of, status_of_verdict, status_after}
 
 -- ---- The status of replies.
 
@@ -125,6 +125,32 @@ Runs commands old new (Ok ran) =
     (verdicts : List Verdict) × JudgesAll [] commands verdicts ran.0 × Appends old new (replies 1 verdicts)
     × (ran.1 ≡ status_of_replies verdicts)
 Runs commands old new (Err fault) = StopsInRun commands old new × EndsRun fault
+
+-- ---- The way from the input to its end, and the line of a fault.
+
+-- a front of the answer is written
+abbrev pub StopsAtFront : List ℕ → Option (List ℕ) → Option (List ℕ) → Type 0
+StopsAtFront input old new = (front : List ℕ) × IsFront input front × Appends old new front
+
+-- what is written of an input before its fault is told, if it comes to one
+abbrev pub Reaches : List ℕ → Option (List ℕ) → Option (List ℕ) → Result Status Fault → Type 0
+Reaches input old new (Ok status) = (text : List ℕ) × IsWhole input text (code_of status) × Appends old new text
+Reaches input old new (Err Fault.Read) = Appends old new []
+Reaches input old new (Err Fault.TooLong) = (limit < length input) × Appends old new []
+Reaches input old new (Err (Fault.Syntax number)) = (length input ≤ limit) × IsFaultAt input number × Appends old new []
+Reaches input old new (Err Fault.Range) =
+    (verdicts : List Verdict) × (rows : List (Position × ℤ)) × (report : List ℕ) × IsJudged input verdicts rows
+    × IsReportToFault rows report × Appends old new (replies 1 verdicts ++ report)
+Reaches input old new (Err Fault.Write) = StopsAtFront input old new
+Reaches input old new (Err Fault.Memory) = StopsAtFront input old new
+Reaches input old new (Err (Fault.MemoryAt number)) = StopsAtFront input old new
+
+-- the line of a fault is written, and the status is that of the fault; or a front of it, and the run is stopped
+abbrev pub Concludes : Option (List ℕ) → Option (List ℕ) → Result Status Fault → Status → Type 0
+Concludes old new (Ok status) end = Appends old new [] × ((end ≡ status) ⊎ (end ≡ Status.Stopped))
+Concludes old new (Err fault) end =
+    (Appends old new (fault_line fault) × (end ≡ status_of fault))
+    ⊎ (AppendsFront old new (fault_line fault) × (end ≡ Status.Stopped))
 
 -- ---- The theorem.
 

@@ -3,6 +3,9 @@ use Rattle.std.specs.Prelude.{◌≡◌, ◌⊎◌, ℕ}
 use Rattle.lot_cli.specs.declared.batch.fault.Fault.{Fault}
 use Rattle.lot_cli.specs.declared.batch.fault.Fault.TheVariants.{Read, TooLong, Syntax, Range, Write, Memory, MemoryAt}
 use Rattle.lot_cli.specs.declared.ledger.verdict.Verdict.{Verdict}
+use Rattle.lot_cli.specs.declared.input.SlurpFault.{SlurpFault}
+use Rattle.lot_cli.specs.declared.text.reader.TextFault.{TextFault}
+use Rattle.lot_cli.specs.declared.report.holdings.ReportFault.{ReportFault}
 use Rattle.lot_cli.specs.declared.report.line.PrintFault.{PrintFault}
 use Rattle.lot_cli.specs.declared.batch.status.Status.{Status}
 use Rattle.lot_cli.specs.declared.batch.status.Status.TheVariants.{Accepted, Refused, BadInput, Stopped}
@@ -44,3 +47,18 @@ status_of Range = Stopped
 status_of Write = Stopped
 status_of Memory = Stopped
 status_of (MemoryAt number) = Stopped
+
+-- what the fault of a part is for the run
+abbrev pub fault_of_input : SlurpFault → Fault
+fault_of_input SlurpFault.Read = Read
+fault_of_input SlurpFault.TooLong = TooLong
+fault_of_input SlurpFault.Memory = Memory
+
+abbrev pub fault_of_text : TextFault → Fault
+fault_of_text (TextFault.Syntax number) = Syntax number
+fault_of_text TextFault.Memory = Memory
+
+abbrev pub fault_of_report : ReportFault → Fault
+fault_of_report ReportFault.Range = Range
+fault_of_report ReportFault.Write = Write
+fault_of_report ReportFault.Memory = Memory

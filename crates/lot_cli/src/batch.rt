@@ -3,8 +3,11 @@
 //! - `fault`: why the way ends before its end.
 //! - `status`: how it ended.
 
+ghost use Rattle.std.specs.Prelude.{◌≡◌, ◌⊎◌, ◌≤◌, ℕ, List, length, IfSome};
+ghost use Rattle.std.specs.Io.KnownBytes.{Appends, Keeps};
 ghost use Rattle.lot_cli.specs.Status.{IsStatus};
-ghost use Rattle.lot_cli.specs.Answer.{Replies, Runs};
+ghost use Rattle.lot_cli.specs.declared.batch.status.Status as Status;
+ghost use Rattle.lot_cli.specs.Answer.{Concludes, Reaches, Replies, Runs, Tells, limit};
 
 mod fault;
 mod status;
@@ -27,20 +30,34 @@ use std::io::{Read, Write};
 /// commands were accepted, 1 where some were refused, 3 for a fault of the input, 4 for a fault of the report,
 /// of the output or of memory. After a fault of the output nothing more is written.
 pub fn check<R: Read, W: Write>(alloc: Global, reader: &mut R, writer: &mut W) -> u8
-    ensures { IsStatus result }
+    ensures status { IsStatus result }
+    // Where the reader tells its bytes: what is written, where the writer tells what it holds.
+    ensures answer { IfSome (R.remaining reader.old) (λ input. (written : List ℕ)
+        × Appends (W.contents writer.old) (W.contents writer.new) written × Tells input written result) }
 {
     let outcome = answer(alloc, reader, writer);
     conclude(writer, outcome).code()
 }
 
-/// Reads, judges and writes, up to the end or the first fault.
+/// Reads, judges and writes, up to the end or the first fault, which isn't told yet.
 fn answer<R: Read, W: Write>(
     alloc: Global,
     reader: &mut R,
     writer: &mut W,
-) -> Result<Status, Fault> {
+) -> Result<Status, Fault>
+    ensures { IfSome (R.remaining reader.old) (λ input.
+        Reaches input (W.contents writer.old) (W.contents writer.new) result) }
+{
     let text = slurp(alloc, reader)?;
-    let commands = read(alloc, &text)?;
+    answer_text(alloc, &text, writer)
+}
+
+/// The same for a text that was read.
+fn answer_text<W: Write>(alloc: Global, text: &[u8], writer: &mut W) -> Result<Status, Fault>
+    requires { length text.now ≤ limit }
+    ensures { Reaches text.now (W.contents writer.old) (W.contents writer.new) result }
+{
+    let commands = read(alloc, text)?;
     let (book, status) = run(alloc, commands, writer)?;
     print_holdings(alloc, book.holdings(), writer)?;
     Ok(status)
@@ -84,10 +101,11 @@ fn reply<W: Write>(
 }
 
 /// Tells a fault, if there was one, and flushes what was written.
-fn conclude<W: Write>(writer: &mut W, outcome: Result<Status, Fault>) -> Status {
+fn conclude<W: Write>(writer: &mut W, outcome: Result<Status, Fault>) -> Status
+    ensures { Concludes (W.contents writer.old) (W.contents writer.new) outcome result }
+{
     match outcome {
         Ok(status) => flushed(writer, status),
-        Err(Fault::Write) => Status::Stopped,
         Err(fault) => match print_fault(writer, fault) {
             Ok(()) => flushed(writer, fault.status()),
             Err(_) => Status::Stopped,
@@ -96,7 +114,10 @@ fn conclude<W: Write>(writer: &mut W, outcome: Result<Status, Fault>) -> Status 
 }
 
 /// The status, where the writer can be flushed.
-fn flushed<W: Write>(writer: &mut W, status: Status) -> Status {
+fn flushed<W: Write>(writer: &mut W, status: Status) -> Status
+    ensures kept { Keeps (W.contents writer.old) (W.contents writer.new) }
+    ensures end { (result ≡ status) ⊎ (result ≡ Status.Stopped) }
+{
     match writer.flush() {
         Ok(()) => status,
         Err(_) => Status::Stopped,

@@ -37,6 +37,11 @@ pub(super) enum Fault {
 }
 
 impl From<SlurpFault> for Fault {
+    ghost use Rattle.std.specs.Prelude.{◌≡◌};
+    ghost use Rattle.lot_cli.specs.Status.{fault_of_input};
+
+    ghost from_gives = { λ fault e. e ≡ fault_of_input fault };
+
     fn from(fault: SlurpFault) -> Fault {
         match fault {
             SlurpFault::Read => Fault::Read,
@@ -47,6 +52,11 @@ impl From<SlurpFault> for Fault {
 }
 
 impl From<TextFault> for Fault {
+    ghost use Rattle.std.specs.Prelude.{◌≡◌};
+    ghost use Rattle.lot_cli.specs.Status.{fault_of_text};
+
+    ghost from_gives = { λ fault e. e ≡ fault_of_text fault };
+
     fn from(fault: TextFault) -> Fault {
         match fault {
             TextFault::Syntax { line } => Fault::Syntax { line },
@@ -56,6 +66,11 @@ impl From<TextFault> for Fault {
 }
 
 impl From<ReportFault> for Fault {
+    ghost use Rattle.std.specs.Prelude.{◌≡◌};
+    ghost use Rattle.lot_cli.specs.Status.{fault_of_report};
+
+    ghost from_gives = { λ fault e. e ≡ fault_of_report fault };
+
     fn from(fault: ReportFault) -> Fault {
         match fault {
             ReportFault::Range => Fault::Range,
