@@ -146,9 +146,6 @@ inside-result first last text rest (Some x) e h = rw (e, h) (inside-is first las
 
 -- ---- What stands behind two spaces.
 
-pub indented-is : (rest : List ℕ) → indented (32 ∷ 32 ∷ rest) ≡ Some rest
-indented-is rest = refl
-
 pub indented-parts : (text rest : List ℕ) → indented text ≡ Some rest → text ≡ 32 ∷ 32 ∷ rest
 indented-parts [] rest h = absurd (none-some _ h)
 indented-parts (a ∷ []) rest h = absurd (none-some _ h)

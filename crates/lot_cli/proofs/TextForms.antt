@@ -29,7 +29,7 @@ LineSays line (SaysPosting p) = IsPosting line p
 
 -- ---- Steps that may fail.
 
-then_is : {A B : Type 0} (f : A → Option B) (o : Option A) (x : A) → o ≡ Some x → option_and_then f o ≡ f x
+pub then_is : {A B : Type 0} (f : A → Option B) (o : Option A) (x : A) → o ≡ Some x → option_and_then f o ≡ f x
 then_is f o x e = rw e refl
 
 name-is : (p : List ℕ → Bool) (text : List ℕ) → p text ≡ true → name_of p text ≡ Some text

@@ -1,12 +1,12 @@
 -- A text has its lines in one way, they say one list of commands at most, and none where one of them is faulty.
 use Rattle.std.proofs.Common.{◌≡◌, inl, inr, ℕ, ◌+◌, ◌<◌, false, List, [], ◌∷◌, ◌++◌, length, Option, Some, None, refl, ap, ◌∙◌, sym, subst, arith, eqb, append_assoc}
-use Rattle.std.specs.Prelude.{option_and_then}
 use Rattle.std.proofs.lemmas.Bool.{and_parts, not-true, cases_order}
 use Rattle.std.proofs.lemmas.Option.{same_Some, option_and_then_some}
 use Rattle.lot_cli.specs.declared.text.command.Transaction.{Transaction as TransactionOf}
 use Rattle.lot_cli.specs.declared.text.command.Command.{Command}
 use Rattle.lot_cli.specs.Text.{Says, IsFirstFault, IsLine, IsTextOf, Reads, IsFaultAt}
 use Rattle.lot_cli.specs.Reading.{closed, take_line, take_lines}
+use Rattle.lot_cli.proofs.TextForms.{then_is}
 use Rattle.lot_cli.proofs.TextLemmas.{lines_of, read_says, said_reads}
 
 -- ---- The lines of a text are these alone.
@@ -57,9 +57,6 @@ reads_one text a b (xs, h, says) (ys, k, others) =
     says_one ys a b (subst (λ (zs : List (List ℕ)). Says zs a) (one_way text xs ys h k) says) others
 
 -- ---- The first faulty line is the one at which they end.
-
-then_is : {A B : Type 0} (f : A → Option B) (o : Option A) (x : A) → o ≡ Some x → option_and_then f o ≡ f x
-then_is f o x e = rw e refl
 
 -- lines that are read begin with lines that are read
 take-prefix : (commands : List Command) (pending : Option TransactionOf) (xs ys : List (List ℕ)) (after : List Command × Option TransactionOf)

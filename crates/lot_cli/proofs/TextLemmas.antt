@@ -1,6 +1,6 @@
 -- What lines say together, as they are read one after another, and the lines of a text.
 use Rattle.std.proofs.Common.{◌≡◌, ◌≢◌, inl, inr, ℕ, ◌+◌, ◌<◌, ◌≤◌, Bool, true, false, cond, List, [], ◌∷◌, ◌++◌, length, Option, Some, None, refl, ap, ◌∙◌, sym, subst, arith, eqb, append_assoc, ◌-◌, take, drop, get_or}
-use Rattle.std.specs.Prelude.{option_and_then, nat_lt}
+use Rattle.std.specs.Prelude.{nat_lt}
 use Rattle.std.specs.List.{AllZip, onto_first, position, position_or_len}
 use Rattle.std.proofs.lemmas.Bool.{and_from, not_from_false, eqb-true}
 use Rattle.std.proofs.lemmas.List.{append-nil, take-append-drop, drop_more, take_all, get_or-take, length-take, length-drop}
@@ -19,10 +19,7 @@ use Rattle.lot_cli.specs.declared.text.line.LineFault.{LineFault}
 use Rattle.lot_cli.specs.declared.text.line.LineFault.TheVariants.{Syntax, Memory}
 use Rattle.lot_cli.specs.declared.text.reader.TextFault.{TextFault}
 use Rattle.lot_cli.specs.Reading.{line_of, closed, put, take_line, take_lines, TakesLine, of_line}
-use Rattle.lot_cli.proofs.TextForms.{LineSays, line_says, line_reads}
-
-then_is : {A B : Type 0} (f : A → Option B) (o : Option A) (x : A) → o ≡ Some x → option_and_then f o ≡ f x
-then_is f o x e = rw e refl
+use Rattle.lot_cli.proofs.TextForms.{LineSays, line_says, line_reads, then_is}
 
 -- ---- What is read is said.
 
