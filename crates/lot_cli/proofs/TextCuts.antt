@@ -1,9 +1,8 @@
 -- A text is cut at its first space, and no day, number, account or commodity has a space in it.
-use Rattle.std.proofs.Common.{◌≡◌, ◌≢◌, inl, inr, ℕ, suc, ◌+◌, ◌<◌, ◌≤◌, Bool, true, false, cond, ◌&&◌, ◌||◌, List, [], ◌∷◌, ◌++◌, length, take, drop, get_or, Option, Some, None, MatchOption, Result, Ok, Err, ℤ, refl, ap, ◌∙◌, sym, subst, arith, eqb}
-use Rattle.std.specs.Prelude.{not, option_map, option_and_then, codes, IsTrue}
+use Rattle.std.proofs.Common.{◌≡◌, ◌≢◌, inl, inr, ℕ, suc, ◌<◌, Bool, true, false, cond, ◌&&◌, ◌||◌, List, [], ◌∷◌, ◌++◌, length, take, drop, get_or, Option, Some, None, MatchOption, Result, Ok, Err, ℤ, refl, ap, ◌∙◌, sym, arith, eqb}
+use Rattle.std.specs.Prelude.{not, option_map, codes}
 use Rattle.std.specs.Cmp.Lexicographic.{pointwise, same_text}
-use Rattle.std.specs.List.{list_all, list_any, slice_split, onto_first, before_first, after_first, position_or_len}
-use Rattle.std.specs.Result.{result_ok}
+use Rattle.std.specs.List.{list_all, slice_split, onto_first, before_first, after_first, position_or_len}
 use Rattle.std.specs.Char.{is_ascii_digit, is_ascii_uppercase}
 use Rattle.std.proofs.lemmas.Bool.{and_parts, and_from, not-true, not_from_false, ne_eqb, eq-eqb, eqb-true, or_cases, cases_lt, false_from_ne_true}
 use Rattle.std.proofs.lemmas.Bool.Decides.{nat_tests}
@@ -12,8 +11,8 @@ use Rattle.std.proofs.lemmas.List.{drop_more, take_all, take-append-drop}
 use Rattle.std.proofs.lemmas.List.Folds.{list_all-append}
 use Rattle.std.proofs.lemmas.List.Sums.{passes_at_first}
 use Rattle.std.proofs.lemmas.List.Splits.{slice_split-cons_yes, slice_split-cons_no}
-use Rattle.lot_num.specs.NumberText.{unsigned, is_point, whole_part, decimals, is_group, is_grouped, is_digits, is_number, units_of, rate_of, with_sign, with_no_sign, read_below}
-use Rattle.lot_base.specs.Name.{is_account, is_account_path, is_root, roots, is_component, is_component_byte, is_commodity, is_commodity_byte, components}
+use Rattle.lot_num.specs.NumberText.{unsigned, is_point, whole_part, decimals, is_group, is_number, units_of, rate_of, with_sign, with_no_sign}
+use Rattle.lot_base.specs.Name.{is_account, is_account_path, is_root, is_component, is_component_byte, is_commodity, is_commodity_byte, components}
 use Rattle.lot_base.specs.Day.{named_day, named_date, date_in, date_of, number_in, is_separator, date_number}
 use Rattle.std.specs.Str.{IsUtf8, is_utf8}
 use Rattle.std.proofs.lemmas.Str.{is_utf8-from_IsUtf8, IsUtf8-from_is_utf8}
@@ -147,9 +146,6 @@ inside-result first last text rest (Some x) e h = rw (e, h) (inside-is first las
 
 -- ---- What stands behind two spaces.
 
-pub indented-is : (rest : List ℕ) → indented (32 ∷ 32 ∷ rest) ≡ Some rest
-indented-is rest = refl
-
 pub indented-parts : (text rest : List ℕ) → indented text ≡ Some rest → text ≡ 32 ∷ 32 ∷ rest
 indented-parts [] rest h = absurd (none-some _ h)
 indented-parts (a ∷ []) rest h = absurd (none-some _ h)
@@ -214,13 +210,14 @@ all-parts p q f (part ∷ parts) h =
 around-word : (p : ℕ → Bool) → ((b : ℕ) → p b ≡ true → is_solid b ≡ true) → (xs : List ℕ) → IsWord (before_first p xs) → IsWord (after_first p xs) → IsWord xs
 around-word p f xs before after =
     elim (cases_lt (position_or_len p xs) (length xs)) [
-      inl lt ↦
-        let n = position_or_len p xs in
-        let here : is_solid (get_or xs n 0) ≡ true = f _ (passes_at_first p xs 0 lt) in
-        let behind : list_all is_solid (drop n xs) ≡ true = rw (drop_more xs n 0 lt) (and_from _ _ here after) in
-        let whole : list_all is_solid (take n xs ++ drop n xs) ≡ true = list_all-append is_solid (take n xs) (drop n xs) ∙ and_from _ _ before behind in
-        rw (take-append-drop n xs) at whole
-    | inr le ↦ rw (take_all (position_or_len p xs) xs le) at before ]
+      | inl lt ↦
+          let n = position_or_len p xs in
+          let here : is_solid (get_or xs n 0) ≡ true = f _ (passes_at_first p xs 0 lt) in
+          let behind : list_all is_solid (drop n xs) ≡ true = rw (drop_more xs n 0 lt) (and_from _ _ here after) in
+          let whole : list_all is_solid (take n xs ++ drop n xs) ≡ true = list_all-append is_solid (take n xs) (drop n xs) ∙ and_from _ _ before behind in
+          rw (take-append-drop n xs) at whole
+      | inr le ↦ rw (take_all (position_or_len p xs) xs le) at before
+    ]
 
 -- ---- Numbers.
 
@@ -314,16 +311,21 @@ root-word : (part : List ℕ) → is_root part ≡ true → IsWord part
 unfolding is_root
 root-word part h =
     elim (or_cases _ _ h) [
-      inl a ↦ word_from_same part (codes "Assets") a refl
-    | inr others ↦ elim (or_cases _ _ others) [
-      inl a ↦ word_from_same part (codes "Liabilities") a refl
-    | inr others ↦ elim (or_cases _ _ others) [
-      inl a ↦ word_from_same part (codes "Equity") a refl
-    | inr others ↦ elim (or_cases _ _ others) [
-      inl a ↦ word_from_same part (codes "Income") a refl
-    | inr others ↦ elim (or_cases _ _ others) [
-      inl a ↦ word_from_same part (codes "Expenses") a refl
-    | inr none ↦ absurd (cc) ] ] ] ] ]
+      | inl a ↦ word_from_same part (codes "Assets") a refl
+      | inr others ↦ elim (or_cases _ _ others) [
+        | inl a ↦ word_from_same part (codes "Liabilities") a refl
+        | inr others ↦ elim (or_cases _ _ others) [
+          | inl a ↦ word_from_same part (codes "Equity") a refl
+          | inr others ↦ elim (or_cases _ _ others) [
+            | inl a ↦ word_from_same part (codes "Income") a refl
+            | inr others ↦ elim (or_cases _ _ others) [
+              | inl a ↦ word_from_same part (codes "Expenses") a refl
+              | inr none ↦ absurd (cc)
+            ]
+          ]
+        ]
+      ]
+    ]
 
 first-solid : (b : ℕ) → (is_ascii_uppercase b || is_ascii_digit b) ≡ true → is_solid b ≡ true
 first-solid b h = grind (arith, nat_tests)

@@ -1,6 +1,6 @@
 -- What the forms of a line say is what is read of it, and what is read of it a form says.
-use Rattle.std.proofs.Common.{◌≡◌, ℕ, Bool, true, false, cond, ◌&&◌, List, [], ◌∷◌, ◌++◌, Option, Some, None, Result, Ok, Err, ℤ, pos, refl, ap, ◌∙◌, sym, subst, eqb, append_assoc}
-use Rattle.std.specs.Prelude.{option_map, option_and_then, codes, IsTrue, int_lt, ⊤}
+use Rattle.std.proofs.Common.{◌≡◌, ℕ, Bool, true, false, cond, List, [], ◌∷◌, ◌++◌, Option, Some, None, Result, Ok, Err, ℤ, pos, refl, ap, ◌∙◌, sym, subst, eqb, append_assoc}
+use Rattle.std.specs.Prelude.{option_map, option_and_then, codes, IsTrue, int_lt}
 use Rattle.std.specs.Cmp.Lexicographic.{pointwise, same_text}
 use Rattle.std.specs.List.{list_all}
 use Rattle.std.specs.Result.{result_ok}
@@ -8,12 +8,10 @@ use Rattle.std.specs.Str.{IsUtf8, is_utf8}
 use Rattle.std.proofs.lemmas.Bool.{cond-true}
 use Rattle.std.proofs.lemmas.List.{append-nil}
 use Rattle.std.proofs.lemmas.Option.{none-some, same_Some, option_and_then_some, cond_some}
-use Rattle.std.proofs.lemmas.Str.{is_utf8-from_IsUtf8, IsUtf8-from_is_utf8}
+use Rattle.std.proofs.lemmas.Str.{IsUtf8-from_is_utf8}
 use Rattle.lot_num.specs.NumberText.{units_of, rate_of}
 use Rattle.lot_base.specs.Name.{is_account, is_commodity, is_note}
 use Rattle.lot_base.specs.Day.{named_day}
-use Rattle.lot_cli.specs.declared.text.command.Opening.{Opening as OpeningOf}
-use Rattle.lot_cli.specs.declared.text.command.Transaction.{Transaction as TransactionOf}
 use Rattle.lot_cli.specs.declared.text.command.Posting.{Posting}
 use Rattle.lot_cli.specs.declared.text.command.Amount.{Amount}
 use Rattle.lot_cli.specs.declared.text.command.Cost.{Cost}
@@ -31,7 +29,7 @@ LineSays line (SaysPosting p) = IsPosting line p
 
 -- ---- Steps that may fail.
 
-then_is : {A B : Type 0} (f : A → Option B) (o : Option A) (x : A) → o ≡ Some x → option_and_then f o ≡ f x
+pub then_is : {A B : Type 0} (f : A → Option B) (o : Option A) (x : A) → o ≡ Some x → option_and_then f o ≡ f x
 then_is f o x e = rw e refl
 
 name-is : (p : List ℕ → Bool) (text : List ℕ) → p text ≡ true → name_of p text ≡ Some text
@@ -61,10 +59,11 @@ cost-is number currency n e good =
 
 cost_form : (text : List ℕ) (units : ℤ) (cost : Cost) → IsCost text units (Some cost)
     → (rest : List ℕ) × (text ≡ 32 ∷ rest) × (cost_of rest ≡ Some cost)
-cost_form text units cost (some, number, e, good, form) =
-    (123 ∷ (number ++ 32 ∷ cost.currency ++ 125 ∷ []),
-     form ∙ ap (λ t. 32 ∷ 123 ∷ (t ++ 125 ∷ [])) (append_assoc number (32 ∷ []) cost.currency),
-     cost-is number cost.currency cost.number e good)
+cost_form text units cost (some, number, e, good, form) = (
+  123 ∷ (number ++ 32 ∷ cost.currency ++ 125 ∷ []),
+  form ∙ ap (λ t. 32 ∷ 123 ∷ (t ++ 125 ∷ [])) (append_assoc number (32 ∷ []) cost.currency),
+  cost-is number cost.currency cost.number e good,
+)
 
 form_of_cost : (text : List ℕ) (units : ℤ) (cost : Cost) → IsTrue (int_lt (pos 0) units) → cost_of text ≡ Some cost → IsCost (32 ∷ text) units (Some cost)
 unfolding cost_of
@@ -77,8 +76,8 @@ form_of_cost text units cost some h =
     let is : record { number = n; currency = c } ≡ cost = same_Some _ cost h4 in
     let good : is_commodity c ≡ true = subst (λ (x : List ℕ). is_commodity x ≡ true) named.1 named.0 in
     let whole : 32 ∷ text ≡ 32 ∷ 123 ∷ (parts.0 ++ 32 ∷ [] ++ c ++ 125 ∷ []) =
-      ap (λ t. 32 ∷ t) (inside-parts 123 125 text within e1)
-      ∙ ap (λ t. 32 ∷ 123 ∷ (t ++ 125 ∷ [])) (cut-parts within parts.0 parts.1 e2 ∙ sym (append_assoc parts.0 (32 ∷ []) parts.1) ∙ ap (λ t. parts.0 ++ 32 ∷ [] ++ t) named.1) in
+    ap (λ t. 32 ∷ t) (inside-parts 123 125 text within e1)
+    ∙ ap (λ t. 32 ∷ 123 ∷ (t ++ 125 ∷ [])) (cut-parts within parts.0 parts.1 e2 ∙ sym (append_assoc parts.0 (32 ∷ []) parts.1) ∙ ap (λ t. parts.0 ++ 32 ∷ [] ++ t) named.1) in
     subst (λ (x : Cost). IsCost (32 ∷ text) units (Some x)) is (some, parts.0, ok_from (rate_of parts.0) n e3, good, whole)))))
 
 -- ---- What is held: a commodity, and perhaps its cost.
@@ -94,7 +93,7 @@ held-is units commodity rest None good none =
 held-is units commodity rest (Some cost) good form =
     let read = cost_form rest units cost form in
     let parts : cut (commodity ++ rest) ≡ Some (commodity, read.0) =
-      ap (λ t. cut (commodity ++ t)) read.1 ∙ cut-at commodity read.0 (commodity-word commodity good) in
+    ap (λ t. cut (commodity ++ t)) read.1 ∙ cut-at commodity read.0 (commodity-word commodity good) in
     ap (held_in units (commodity ++ rest)) parts
     ∙ cond-true (int_lt (pos 0) units) _ None form.0
     ∙ then_is _ _ cost read.2
@@ -130,12 +129,13 @@ form_of_held units text amount h = form_of_held_by units text amount (cut text) 
 
 amount_form : (text : List ℕ) (amount : Amount) → IsAmount text (Some amount) → (rest : List ℕ) × (text ≡ 32 ∷ rest) × (amount_of rest ≡ Some amount)
 unfolding amount_of
-amount_form text amount (number, rest, e, good, cost, form) =
-    (number ++ 32 ∷ (amount.commodity ++ rest),
-     form ∙ ap (λ t. 32 ∷ t) (three_parts number amount.commodity rest),
-     then_is _ _ (number, amount.commodity ++ rest) (cut-at number (amount.commodity ++ rest) (units-word number amount.units e))
-     ∙ then_is _ _ amount.units (ap result_ok e)
-     ∙ held-is amount.units amount.commodity rest amount.cost good cost)
+amount_form text amount (number, rest, e, good, cost, form) = (
+  number ++ 32 ∷ (amount.commodity ++ rest),
+  form ∙ ap (λ t. 32 ∷ t) (three_parts number amount.commodity rest),
+  then_is _ _ (number, amount.commodity ++ rest) (cut-at number (amount.commodity ++ rest) (units-word number amount.units e))
+      ∙ then_is _ _ amount.units (ap result_ok e)
+      ∙ held-is amount.units amount.commodity rest amount.cost good cost,
+)
 
 form_of_amount : (text : List ℕ) (amount : Amount) → amount_of text ≡ Some amount → IsAmount (32 ∷ text) (Some amount)
 unfolding amount_of
@@ -145,7 +145,7 @@ form_of_amount text amount h =
     let held = form_of_held units parts.1 amount h2 in
     let number : units_of parts.0 ≡ Ok amount.units = ok_from (units_of parts.0) units e2 ∙ ap Ok (sym held.0) in
     let whole : 32 ∷ text ≡ 32 ∷ (parts.0 ++ 32 ∷ [] ++ amount.commodity ++ held.2) =
-      ap (λ t. 32 ∷ t) (cut-parts text parts.0 parts.1 e1 ∙ ap (λ t. parts.0 ++ 32 ∷ t) held.4 ∙ sym (three_parts parts.0 amount.commodity held.2)) in
+    ap (λ t. 32 ∷ t) (cut-parts text parts.0 parts.1 e1 ∙ ap (λ t. parts.0 ++ 32 ∷ t) held.4 ∙ sym (three_parts parts.0 amount.commodity held.2)) in
     (parts.0, held.2, number, held.1, held.3, whole)))
 
 -- ---- Postings.
@@ -161,7 +161,7 @@ posting-is account rest None good none =
 posting-is account rest (Some amount) good form =
     let read = amount_form rest amount form in
     let parts : cut (account ++ rest) ≡ Some (account, read.0) =
-      ap (λ t. cut (account ++ t)) read.1 ∙ cut-at account read.0 (account-word account good) in
+    ap (λ t. cut (account ++ t)) read.1 ∙ cut-at account read.0 (account-word account good) in
     ap (posting_in (account ++ rest)) parts
     ∙ then_is _ _ amount read.2
     ∙ then_is _ _ account (name-is is_account account good)
@@ -207,7 +207,7 @@ form_of_note text note h =
     let same : within ≡ note = quiet.1 ∙ named.1 in
     let good : is_note note ≡ true = subst (λ (x : List ℕ). is_note x ≡ true) named.1 named.0 in
     let whole : 32 ∷ text ≡ 32 ∷ 34 ∷ (note ++ 34 ∷ []) =
-      ap (λ t. 32 ∷ t) (inside-parts 34 34 text within e1) ∙ ap (λ t. 32 ∷ 34 ∷ (t ++ 34 ∷ [])) same in
+    ap (λ t. 32 ∷ t) (inside-parts 34 34 text within e1) ∙ ap (λ t. 32 ∷ 34 ∷ (t ++ 34 ∷ [])) same in
     (good, subst (λ (x : List ℕ). list_all is_plain x ≡ true) same quiet.0, whole)))
 
 -- ---- What is done on a day.
@@ -221,7 +221,7 @@ IsDone day text (SaysPosting p) = ⊥
 form_of_done_by : (day : ℤ) (word text : List ℕ) (what : Line) (star : Bool) → pointwise eqb word (codes "*") ≡ star
     → (begins : Bool) → pointwise eqb word (codes "open") ≡ begins
     → cond star (option_and_then (λ note. Some (SaysHead (record { day = day; narration = Some note; postings = [] }))) (note_of text))
-      (cond begins (option_and_then (λ account. Some (SaysOpening (record { day = day; account = account }))) (name_of is_account text)) None) ≡ Some what
+    (cond begins (option_and_then (λ account. Some (SaysOpening (record { day = day; account = account }))) (name_of is_account text)) None) ≡ Some what
     → IsDone day (word ++ 32 ∷ text) what
 form_of_done_by day word text what true e begins f h =
     option_and_then_some _ (note_of text) what h (λ note e1 h1.
@@ -232,13 +232,13 @@ form_of_done_by day word text what false e true f h =
     let named = cond_some (is_account text) text account e1 in
     let good : is_account account ≡ true = subst (λ (x : List ℕ). is_account x ≡ true) named.1 named.0 in
     let whole : word ++ 32 ∷ text ≡ codes "open " ++ account =
-      ap (λ t. t ++ 32 ∷ text) (same_text word (codes "open") (sym f)) ∙ ap (λ t. codes "open " ++ t) named.1 in
+    ap (λ t. t ++ 32 ∷ text) (same_text word (codes "open") (sym f)) ∙ ap (λ t. codes "open " ++ t) named.1 in
     subst (IsDone day (word ++ 32 ∷ text)) (same_Some _ what h1) (refl, good, whole))
 form_of_done_by day word text what false e false f h = absurd (none-some _ h)
 
 form_of_done_star : (day : ℤ) (text : List ℕ) (what : Line) (star : Bool) → pointwise eqb text (codes "*") ≡ star
     → cond star (Some (SaysHead (record { day = day; narration = None; postings = [] })))
-      (option_and_then (λ parts. done_by day parts.0 parts.1) (cut text)) ≡ Some what
+    (option_and_then (λ parts. done_by day parts.0 parts.1) (cut text)) ≡ Some what
     → IsDone day text what
 form_of_done_star day text what true e h =
     subst (IsDone day text) (same_Some _ what h) (refl, refl, [], refl, same_text text (codes "*") (sym e))

@@ -1,13 +1,13 @@
 -- A text has its lines in one way, they say one list of commands at most, and none where one of them is faulty.
-use Rattle.std.proofs.Common.{◌≡◌, ◌⊎◌, inl, inr, ℕ, ◌+◌, ◌<◌, false, List, [], ◌∷◌, ◌++◌, length, Option, Some, None, refl, ap, ◌∙◌, sym, subst, arith, eqb, append_assoc}
-use Rattle.std.specs.Prelude.{option_and_then}
+use Rattle.std.proofs.Common.{◌≡◌, inl, inr, ℕ, ◌+◌, ◌<◌, false, List, [], ◌∷◌, ◌++◌, length, Option, Some, None, refl, ap, ◌∙◌, sym, subst, arith, eqb, append_assoc}
 use Rattle.std.proofs.lemmas.Bool.{and_parts, not-true, cases_order}
 use Rattle.std.proofs.lemmas.Option.{same_Some, option_and_then_some}
 use Rattle.lot_cli.specs.declared.text.command.Transaction.{Transaction as TransactionOf}
 use Rattle.lot_cli.specs.declared.text.command.Command.{Command}
 use Rattle.lot_cli.specs.Text.{Says, IsFirstFault, IsLine, IsTextOf, Reads, IsFaultAt}
 use Rattle.lot_cli.specs.Reading.{closed, take_line, take_lines}
-use Rattle.lot_cli.proofs.TextLemmas.{lines_of, read_says, said_reads, take-front}
+use Rattle.lot_cli.proofs.TextForms.{then_is}
+use Rattle.lot_cli.proofs.TextLemmas.{lines_of, read_says, said_reads}
 
 -- ---- The lines of a text are these alone.
 
@@ -58,9 +58,6 @@ reads_one text a b (xs, h, says) (ys, k, others) =
 
 -- ---- The first faulty line is the one at which they end.
 
-then_is : {A B : Type 0} (f : A → Option B) (o : Option A) (x : A) → o ≡ Some x → option_and_then f o ≡ f x
-then_is f o x e = rw e refl
-
 -- lines that are read begin with lines that are read
 take-prefix : (commands : List Command) (pending : Option TransactionOf) (xs ys : List (List ℕ)) (after : List Command × Option TransactionOf)
     → take_lines commands pending (xs ++ ys) ≡ Some after → (some : List Command × Option TransactionOf) × (take_lines commands pending xs ≡ Some some)
@@ -101,10 +98,12 @@ not_before lines m n first second lt =
 one_fault : (lines : List (List ℕ)) (m n : ℕ) → IsFirstFault lines m → IsFirstFault lines n → m ≡ n
 one_fault lines m n first second =
     elim (cases_order (length first.before) (length second.before)) [
-      inl same ↦ first.place ∙ ap (λ k. k + 1) same ∙ sym second.place
-    | inr others ↦ elim others [
-      inl lt ↦ absurd (not_before lines m n first second lt)
-    | inr lt ↦ absurd (not_before lines n m second first lt) ] ]
+      | inl same ↦ first.place ∙ ap (λ k. k + 1) same ∙ sym second.place
+      | inr others ↦ elim others [
+        | inl lt ↦ absurd (not_before lines m n first second lt)
+        | inr lt ↦ absurd (not_before lines n m second first lt)
+      ]
+    ]
 
 pub fault_one : (text : List ℕ) (m n : ℕ) → IsFaultAt text m → IsFaultAt text n → m ≡ n
 fault_one text m n (xs, h, first) (ys, k, second) =

@@ -1,29 +1,25 @@
 -- What lines say together, as they are read one after another, and the lines of a text.
-use Rattle.std.proofs.Common.{◌≡◌, ◌≢◌, ◌⊎◌, inl, inr, ℕ, ◌+◌, ◌<◌, ◌≤◌, Bool, true, false, cond, ◌&&◌, List, [], ◌∷◌, ◌++◌, length, Option, Some, None, refl, ap, ◌∙◌, sym, subst, arith, eqb, append_assoc, length-append, ◌-◌, take, drop, get_or}
-use Rattle.std.specs.Prelude.{option_and_then, not, nat_lt}
-use Rattle.std.specs.List.{AllZip, list_all, onto_first, position, position_or_len}
-use Rattle.std.proofs.lemmas.Bool.{and_parts, and_from, not-true, not_from_false, eqb-true, cases_order}
-use Rattle.std.proofs.lemmas.List.{append-nil, append_cancel_left, take-append-drop, drop_more, take_all, get_or-take, length-take, length-drop}
+use Rattle.std.proofs.Common.{◌≡◌, ◌≢◌, inl, inr, ℕ, ◌+◌, ◌<◌, ◌≤◌, Bool, true, false, cond, List, [], ◌∷◌, ◌++◌, length, Option, Some, None, refl, ap, ◌∙◌, sym, subst, arith, eqb, append_assoc, ◌-◌, take, drop, get_or}
+use Rattle.std.specs.Prelude.{nat_lt}
+use Rattle.std.specs.List.{AllZip, onto_first, position, position_or_len}
+use Rattle.std.proofs.lemmas.Bool.{and_from, not_from_false, eqb-true}
+use Rattle.std.proofs.lemmas.List.{append-nil, take-append-drop, drop_more, take_all, get_or-take, length-take, length-drop}
 use Rattle.std.proofs.lemmas.List.Elements.{All-from_get_or}
 use Rattle.std.proofs.lemmas.List.Sums.{list_all-from_AllPass, fails_before_first, passes_at_first}
 use Rattle.std.proofs.lemmas.Bool.Decides.{nat_tests}
-use Rattle.std.proofs.lemmas.Option.{none-some, same_Some, some_pair_parts, option_and_then_some}
-use Rattle.lot_cli.specs.declared.text.command.Opening.{Opening as OpeningOf}
+use Rattle.std.proofs.lemmas.Option.{none-some, same_Some, option_and_then_some}
 use Rattle.lot_cli.specs.declared.text.command.Transaction.{Transaction as TransactionOf}
 use Rattle.lot_cli.specs.declared.text.command.Posting.{Posting}
 use Rattle.lot_cli.specs.declared.text.command.Command.{Command}
 use Rattle.lot_cli.specs.declared.text.command.Command.TheVariants.{Opening, Transaction}
 use Rattle.lot_cli.specs.declared.text.line.Line.{Line}
 use Rattle.lot_cli.specs.declared.text.line.Line.TheVariants.{Opening as SaysOpening, Transaction as SaysHead, Posting as SaysPosting}
-use Rattle.lot_cli.specs.Text.{IsOpening, IsHead, IsPosting, Says, IsFirstFault, IsLine, IsTextOf, Reads, IsFaultAt, IsFaultOf, is_within_line}
+use Rattle.lot_cli.specs.Text.{IsPosting, Says, IsLine, IsTextOf, Reads, IsFaultAt, IsFaultOf, is_within_line}
 use Rattle.lot_cli.specs.declared.text.line.LineFault.{LineFault}
 use Rattle.lot_cli.specs.declared.text.line.LineFault.TheVariants.{Syntax, Memory}
 use Rattle.lot_cli.specs.declared.text.reader.TextFault.{TextFault}
 use Rattle.lot_cli.specs.Reading.{line_of, closed, put, take_line, take_lines, TakesLine, of_line}
-use Rattle.lot_cli.proofs.TextForms.{LineSays, line_says, line_reads}
-
-then_is : {A B : Type 0} (f : A → Option B) (o : Option A) (x : A) → o ≡ Some x → option_and_then f o ≡ f x
-then_is f o x e = rw e refl
+use Rattle.lot_cli.proofs.TextForms.{LineSays, line_says, line_reads, then_is}
 
 -- ---- What is read is said.
 
@@ -31,9 +27,15 @@ says-append : (cs ds : List Command) (xs ys : List (List ℕ)) → Says xs cs �
 says-append [] ds xs ys none more = subst (λ (zs : List (List ℕ)). Says (zs ++ ys) ds) (sym none) more
 says-append (Opening o ∷ cs) ds xs ys (line, rest, form, says, whole) more =
     (line, rest ++ ys, form, says-append cs ds rest ys says more, ap (λ zs. zs ++ ys) whole)
-says-append (Transaction t ∷ cs) ds xs ys (head, postings, rest, form, forms, says, whole) more =
-    (head, postings, rest ++ ys, form, forms, says-append cs ds rest ys says more,
-     ap (λ zs. zs ++ ys) whole ∙ ap (λ zs. head ∷ zs) (append_assoc postings rest ys))
+says-append (Transaction t ∷ cs) ds xs ys (head, postings, rest, form, forms, says, whole) more = (
+  head,
+  postings,
+  rest ++ ys,
+  form,
+  forms,
+  says-append cs ds rest ys says more,
+  ap (λ zs. zs ++ ys) whole ∙ ap (λ zs. head ∷ zs) (append_assoc postings rest ys),
+)
 
 postings-push : (xs : List (List ℕ)) (ps : List Posting) (x : List ℕ) (p : Posting) → AllZip IsPosting xs ps → IsPosting x p
     → AllZip IsPosting (xs ++ x ∷ []) (ps ++ p ∷ [])
@@ -49,15 +51,27 @@ with_posting t p = record { day = t.day; narration = t.narration; postings = t.p
 says-posting : (commands : List Command) (t : TransactionOf) (xs : List (List ℕ)) (line : List ℕ) (p : Posting)
     → Says xs (commands ++ Transaction t ∷ []) → IsPosting line p
     → Says (xs ++ line ∷ []) (commands ++ Transaction (with_posting t p) ∷ [])
-says-posting [] t xs line p (head, postings, rest, form, forms, none, whole) k =
-    (head, postings ++ line ∷ [], [], form, postings-push postings t.postings line p forms k, refl,
-     ap (λ zs. zs ++ line ∷ []) (whole ∙ ap (λ zs. head ∷ (postings ++ zs)) none ∙ ap (λ zs. head ∷ zs) (append-nil postings))
-     ∙ ap (λ zs. head ∷ zs) (sym (append-nil (postings ++ line ∷ []))))
+says-posting [] t xs line p (head, postings, rest, form, forms, none, whole) k = (
+  head,
+  postings ++ line ∷ [],
+  [],
+  form,
+  postings-push postings t.postings line p forms k,
+  refl,
+  ap (λ zs. zs ++ line ∷ []) (whole ∙ ap (λ zs. head ∷ (postings ++ zs)) none ∙ ap (λ zs. head ∷ zs) (append-nil postings))
+      ∙ ap (λ zs. head ∷ zs) (sym (append-nil (postings ++ line ∷ []))),
+)
 says-posting (Opening o ∷ commands) t xs line p (first, rest, form, says, whole) k =
     (first, rest ++ line ∷ [], form, says-posting commands t rest line p says k, ap (λ zs. zs ++ line ∷ []) whole)
-says-posting (Transaction u ∷ commands) t xs line p (head, postings, rest, form, forms, says, whole) k =
-    (head, postings, rest ++ line ∷ [], form, forms, says-posting commands t rest line p says k,
-     ap (λ zs. zs ++ line ∷ []) whole ∙ ap (λ zs. head ∷ zs) (append_assoc postings rest (line ∷ [])))
+says-posting (Transaction u ∷ commands) t xs line p (head, postings, rest, form, forms, says, whole) k = (
+  head,
+  postings,
+  rest ++ line ∷ [],
+  form,
+  forms,
+  says-posting commands t rest line p says k,
+  ap (λ zs. zs ++ line ∷ []) whole ∙ ap (λ zs. head ∷ zs) (append_assoc postings rest (line ∷ [])),
+)
 
 says-put : (commands : List Command) (pending : Option TransactionOf) (xs : List (List ℕ)) (line : List ℕ) (what : Line)
     (after : List Command × Option TransactionOf) → Says xs (closed commands pending) → LineSays line what
@@ -134,22 +148,24 @@ says-read [] commands pending lines none =
     ((commands, pending), ap (take_lines commands pending) none, sym (append-nil (closed commands pending)))
 says-read (Opening o ∷ said) commands pending lines (line, rest, form, says, whole) =
     let front = closed commands pending ++ Opening o ∷ [] in
-    let more = says-read said front None rest says in
-    (more.0,
-     ap (take_lines commands pending) whole
-     ∙ take-more commands pending line rest (SaysOpening o) (front, None) form refl
-     ∙ more.1,
-     more.2 ∙ append_assoc (closed commands pending) (Opening o ∷ []) said)
+    let more = says-read said front None rest says in (
+      more.0,
+      ap (take_lines commands pending) whole
+          ∙ take-more commands pending line rest (SaysOpening o) (front, None) form refl
+          ∙ more.1,
+      more.2 ∙ append_assoc (closed commands pending) (Opening o ∷ []) said,
+    )
 says-read (Transaction t ∷ said) commands pending lines (head, postings, rest, form, forms, says, whole) =
     let front = closed commands pending in
     let begun : TransactionOf = record { day = t.day; narration = t.narration; postings = [] } in
-    let more = says-read said front (Some t) rest says in
-    (more.0,
-     ap (take_lines commands pending) whole
-     ∙ take-more commands pending head (postings ++ rest) (SaysHead begun) (front, Some begun) (form, refl) refl
-     ∙ take-postings front begun postings rest t.postings forms
-     ∙ more.1,
-     more.2 ∙ append_assoc front (Transaction t ∷ []) said)
+    let more = says-read said front (Some t) rest says in (
+      more.0,
+      ap (take_lines commands pending) whole
+          ∙ take-more commands pending head (postings ++ rest) (SaysHead begun) (front, Some begun) (form, refl) refl
+          ∙ take-postings front begun postings rest t.postings forms
+          ∙ more.1,
+      more.2 ∙ append_assoc front (Transaction t ∷ []) said,
+    )
 
 -- lines that say commands are read as these
 pub said_reads : (lines : List (List ℕ)) (said : List Command) → Says lines said → IsRead [] None lines said
@@ -240,19 +256,20 @@ pub fault-at : (lines : List (List ℕ)) (text rest line behind : List ℕ) (num
     → IsFront lines text rest → TakesLine rest line behind → number ≡ length lines + 1
     → take_lines [] None lines ≡ Some (commands, pending) → take_line commands pending line ≡ None
     → IsFaultAt text number
-fault-at lines text rest line behind number commands pending front takes place read none =
-    (lines ++ line ∷ lines_of behind,
-     front (line ∷ lines_of behind) (text-cons rest line behind (lines_of behind) takes (text-lines behind)),
-     record {
-       before = lines;
-       line = line;
-       after = lines_of behind;
-       whole = refl;
-       place = place;
-       commands = closed commands pending;
-       says = read_says lines commands pending read;
-       faulty = λ others says. none-some _ (sym (take-push lines line commands pending None read none) ∙ (said_reads (lines ++ line ∷ []) others says).1)
-     })
+fault-at lines text rest line behind number commands pending front takes place read none = (
+  lines ++ line ∷ lines_of behind,
+  front (line ∷ lines_of behind) (text-cons rest line behind (lines_of behind) takes (text-lines behind)),
+  record {
+    before = lines;
+    line = line;
+    after = lines_of behind;
+    whole = refl;
+    place = place;
+    commands = closed commands pending;
+    says = read_says lines commands pending read;
+    faulty = λ others says. none-some _ (sym (take-push lines line commands pending None read none) ∙ (said_reads (lines ++ line ∷ []) others says).1);
+  },
+)
 
 pub reads-at : (lines : List (List ℕ)) (text : List ℕ) (commands : List Command) (pending : Option TransactionOf)
     → IsFront lines text [] → take_lines [] None lines ≡ Some (commands, pending) → Reads text (closed commands pending)
@@ -282,7 +299,7 @@ line-found text at e =
     let rest : take (length text - (at + 1)) (drop (at + 1) text) ≡ drop (at + 1) text = take_all _ _ (omega (arith, length-drop (at + 1) text)) in
     let end : get_or text at 0 ≡ 10 = rw found.0 (eqb-true _ 10 (passes_at_first (λ b. eqb b 10) text 0 found.1)) in
     let split : text ≡ take at text ++ 10 ∷ drop (at + 1) text =
-      sym (take-append-drop at text) ∙ ap (λ t. take at text ++ t) (drop_more text at 0 lt ∙ ap (λ b. b ∷ drop (at + 1) text) end) in
+    sym (take-append-drop at text) ∙ ap (λ t. take at text ++ t) (drop_more text at 0 lt ∙ ap (λ b. b ∷ drop (at + 1) text) end) in
     (subst (λ (n : ℕ). IsLine (take n text)) (sym found.0) (within-prefix text), inl (rw rest split))
 
 pub line-last : (text : List ℕ) → None ≡ position (λ b. eqb b 10) text → text ≢ [] → TakesLine text text []

@@ -4,7 +4,6 @@ use Rattle.std.specs.Prelude.{option_map}
 use Rattle.std.proofs.lemmas.Result.{err_from_is_err_and}
 use Rattle.lot_cli.specs.declared.text.line.Line.TheVariants.{Posting as SaysPosting}
 use Rattle.lot_cli.proofs.TextCuts.{line-bad, line-posting, line-head, indented-none}
-use Rattle.lot_cli.proofs.TextLemmas.{fault-at}
 use Rattle.lot_cli.proofs.text.line.parse.Goals as goal
 
 pub returns-in_err-text : goal.returns-in_err-text

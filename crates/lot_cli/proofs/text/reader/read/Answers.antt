@@ -19,12 +19,13 @@ loop-line-preserved c =
     let (lines, count, front, read) = c.loop-line.invariant.lines in
     record {
       few = search rules;
-      lines =
-        (lines ++ c.in-Some.line.now ∷ [],
-         ap (λ n. n + 1) count ∙ sym (length_push lines c.in-Some.line.now),
-         front-push lines c.args.text.now c.loop-line.line-iterator.rest.now c.in-Some.line.now c.next.new.self.rest.now front c.in-Some.ensures.steps,
-         take-push lines c.in-Some.line.now c.loop-line.reading.commands.items c.loop-line.reading.pending
-         (Some (c.take.new.self.commands.items, c.take.new.self.pending)) read c.in_default.ensures.ok)
+      lines = (
+        lines ++ c.in-Some.line.now ∷ [],
+        ap (λ n. n + 1) count ∙ sym (length_push lines c.in-Some.line.now),
+        front-push lines c.args.text.now c.loop-line.line-iterator.rest.now c.in-Some.line.now c.next.new.self.rest.now front c.in-Some.ensures.steps,
+        take-push lines c.in-Some.line.now c.loop-line.reading.commands.items c.loop-line.reading.pending
+            (Some (c.take.new.self.commands.items, c.take.new.self.pending)) read c.in_default.ensures.ok,
+      );
     }
 
 pub returns-clause-commands : goal.returns-clause-commands

@@ -9,5 +9,5 @@ abbrev pub invariant-loop-line : goal.invariant-loop-line
 invariant-loop-line l = record {
   few : l.number + goal.iterator-loop-line.remaining l.line-iterator ≤ goal.iterator-loop-line.remaining l.initial.line-iterator;
   lines : (lines : List (List ℕ)) × (l.number ≡ length lines) × IsFront lines l.text l.line-iterator.rest.now
-    × (take_lines [] None lines ≡ Some (l.reading.commands.items, l.reading.pending));
+      × (take_lines [] None lines ≡ Some (l.reading.commands.items, l.reading.pending));
 }

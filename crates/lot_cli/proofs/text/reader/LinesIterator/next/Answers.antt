@@ -1,5 +1,5 @@
 -- A line ends at the first line end, or with the text.
-use Rattle.std.proofs.Common.{rules, ◌≡◌, Some, None, sym, ◌∙◌, eqb, ap, length, arith}
+use Rattle.std.proofs.Common.{rules, ◌≡◌, sym, ◌∙◌, eqb, ap, length, arith}
 use Rattle.std.specs.List.{position}
 use Rattle.std.proofs.lemmas.Iterator.{YieldsList-from_slice}
 use Rattle.std.proofs.lemmas.Iterator.Search.{position_from_yields_List}
