@@ -20,3 +20,4 @@ pub mod RunLemmas
 pub mod LawAnswersMaps
 pub mod LawAnswersReports
 pub mod LawAnswers
+pub mod AnswerLemmas
