@@ -26,11 +26,15 @@ use Rattle.lot_cli.proofs.PrintLemmas.{front_step}
 -- a run that stops has written a front of the answer
 stops_in_run : (input : List ℕ) (commands : List Command) (old new : Option (List ℕ)) → length input ≤ limit → Reads input commands
     → StopsInRun commands old new → StopsAtFront input old new
-stops_in_run input commands old new short reads (done, rest, verdicts, book, split, judged, (front, prefix, written)) =
-    (front,
-    (replies 1 verdicts, prefix,
-      inr (inl (done, rest, verdicts, book, short, subst (Reads input) split reads, judged, refl))),
-    written)
+stops_in_run input commands old new short reads (done, rest, verdicts, book, split, judged, (front, prefix, written)) = (
+  front,
+  (
+    replies 1 verdicts,
+    prefix,
+    inr (inl (done, rest, verdicts, book, short, subst (Reads input) split reads, judged, refl)),
+  ),
+  written,
+)
 
 pub run_stopped : (input : List ℕ) (commands : List Command) (old new : Option (List ℕ)) (fault : Fault) → length input ≤ limit → Reads input commands
     → Runs commands old new (Err fault) → Reaches input old new (Err fault)
@@ -50,10 +54,11 @@ pub reaches_the_end : (input : List ℕ) (commands : List Command) (book : List 
     (old mid new : Option (List ℕ)) (done : Unit {0}) → length input ≤ limit → Reads input commands
     → Runs commands old mid (Ok (book, status)) → IsInventory (legs_of book) rows → WritesReport rows mid new (Ok done)
     → Reaches input old new (Ok status)
-reaches_the_end input commands book rows status old mid new done short reads (verdicts, judged, replied, said) inventory (report, is_report, reported) =
-    (replies 1 verdicts ++ report,
-    (verdicts, rows, report, judged_input input commands verdicts book rows short reads judged inventory, is_report, refl, ap code_of said),
-    Appends-trans old mid new (replies 1 verdicts) report replied reported)
+reaches_the_end input commands book rows status old mid new done short reads (verdicts, judged, replied, said) inventory (report, is_report, reported) = (
+  replies 1 verdicts ++ report,
+  (verdicts, rows, report, judged_input input commands verdicts book rows short reads judged inventory, is_report, refl, ap code_of said),
+  Appends-trans old mid new (replies 1 verdicts) report replied reported,
+)
 
 -- a report that stops behind the replies
 stops_in_report : (input : List ℕ) (verdicts : List Verdict) (rows : List (Position × ℤ)) (old mid new : Option (List ℕ))
@@ -62,18 +67,26 @@ stops_in_report : (input : List ℕ) (verdicts : List Verdict) (rows : List (Pos
     → StopsAtFront input old new
 stops_in_report input verdicts rows old mid new judged replied (text, inl (before, after, fit, split, is), written) =
     let front = front_step old mid new (replies 1 verdicts) text [] (replies 1 verdicts ++ text) replied written
-      (ap (λ xs. replies 1 verdicts ++ xs) (append-nil text)) in
-    (front.0,
-    (replies 1 verdicts ++ text, front.1,
-      inr (inr (inl (verdicts, before, after, subst (IsJudged input verdicts) split judged, fit, ap (λ xs. replies 1 verdicts ++ xs) is)))),
-    front.2)
+    (ap (λ xs. replies 1 verdicts ++ xs) (append-nil text)) in (
+      front.0,
+      (
+        replies 1 verdicts ++ text,
+        front.1,
+        inr (inr (inl (verdicts, before, after, subst (IsJudged input verdicts) split judged, fit, ap (λ xs. replies 1 verdicts ++ xs) is))),
+      ),
+      front.2,
+    )
 stops_in_report input verdicts rows old mid new judged replied (text, inr whole, written) =
     let front = front_step old mid new (replies 1 verdicts) text [] (replies 1 verdicts ++ text) replied written
-      (ap (λ xs. replies 1 verdicts ++ xs) (append-nil text)) in
-    (front.0,
-    (replies 1 verdicts ++ text, front.1,
-      inr (inr (inr (code_of (status_of_replies verdicts), inr (inr (inl (verdicts, rows, text, judged, whole, refl, refl))))))),
-    front.2)
+    (ap (λ xs. replies 1 verdicts ++ xs) (append-nil text)) in (
+      front.0,
+      (
+        replies 1 verdicts ++ text,
+        front.1,
+        inr (inr (inr (code_of (status_of_replies verdicts), inr (inr (inl (verdicts, rows, text, judged, whole, refl, refl)))))),
+      ),
+      front.2,
+    )
 
 pub report_stopped : (input : List ℕ) (commands : List Command) (book : List Entry) (rows : List (Position × ℤ)) (status : Status)
     (old mid new : Option (List ℕ)) (fault : ReportFault) (result : Result Status Fault) → length input ≤ limit → Reads input commands
@@ -85,6 +98,7 @@ report_stopped input commands book rows status old mid new fault (Err e) short r
   where
     whole : IsJudged input verdicts rows
     whole = judged_input input commands verdicts book rows short reads judged inventory
+
     at : (f : ReportFault) → WritesReport rows mid new (Err f) → Reaches input old new (Err (fault_of_report f))
     at ReportFault.Range (report, is_report, written) =
         (verdicts, rows, report, whole, is_report, Appends-trans old mid new (replies 1 verdicts) report replied written)
@@ -101,9 +115,11 @@ all_of text = ([], sym (append-nil text))
 stopped_behind : (input front told line : List ℕ) (old mid new : Option (List ℕ)) (end : Status)
     → Appends old mid front → Appends mid new told → IsFront input front → IsStopLine line → IsPrefixOf told line → end ≡ Status.Stopped
     → (written : List ℕ) × Appends old new written × Tells input written (code_of end)
-stopped_behind input front told line old mid new end before behind is_front is_line prefix is =
-    (front ++ told, Appends-trans old mid new front told before behind,
-    inr (inr (front, told, line, is_front, is_line, prefix, refl, ap code_of is)))
+stopped_behind input front told line old mid new end before behind is_front is_line prefix is = (
+  front ++ told,
+  Appends-trans old mid new front told before behind,
+  inr (inr (front, told, line, is_front, is_line, prefix, refl, ap code_of is)),
+)
 
 -- nothing stands behind it
 stopped_there : (input front : List ℕ) (old new : Option (List ℕ)) (end : Status)
@@ -145,7 +161,7 @@ one_line : (input : List ℕ) (fault : Fault) (old mid new : Option (List ℕ)) 
     → (written : List ℕ) × Appends old new written × Tells input written (code_of end)
 one_line input fault old mid new end nothing (inl (line, is)) answer =
     whole_answer input [] (fault_line fault) old mid new end nothing line
-      (subst (λ s. IsAnswer input (fault_line fault) (code_of s)) (sym is) answer)
+    (subst (λ s. IsAnswer input (fault_line fault) (code_of s)) (sym is) answer)
 one_line input fault old mid new end nothing (inr (line, is)) answer =
     front_of_answer input [] (fault_line fault) (code_of (status_of fault)) old mid new end nothing line answer is
 
@@ -159,12 +175,14 @@ prefix_of_none (b ∷ told) rest text none = absurd (not_empty (ap length none))
 pub tells : (input : List ℕ) (old mid new : Option (List ℕ)) (outcome : Result Status Fault) (end : Status)
     → Reaches input old mid outcome → Concludes mid new outcome end
     → (written : List ℕ) × Appends old new written × Tells input written (code_of end)
-tells input old mid new (Ok status) end (text, whole, before) (nothing, inl is) =
-    (text, subst (Appends old new) (append-nil text) (Appends-trans old mid new text [] before nothing),
-    inl (inr (inr (inl (subst (λ s. IsWhole input text (code_of s)) (sym is) whole)))))
+tells input old mid new (Ok status) end (text, whole, before) (nothing, inl is) = (
+  text,
+  subst (Appends old new) (append-nil text) (Appends-trans old mid new text [] before nothing),
+  inl (inr (inr (inl (subst (λ s. IsWhole input text (code_of s)) (sym is) whole)))),
+)
 tells input old mid new (Ok status) end (text, whole, before) (nothing, inr is) =
     stopped_there input text old new end (subst (Appends old new) (append-nil text) (Appends-trans old mid new text [] before nothing))
-      (text, all_of text, inr (inr (inr (code_of status, inr (inr (inl whole)))))) is
+    (text, all_of text, inr (inr (inr (code_of status, inr (inr (inl whole)))))) is
 tells input old mid new (Err Fault.Read) end nothing (inl (line, is)) =
     (fault_line Fault.Read, Appends-trans old mid new [] (fault_line Fault.Read) nothing line, inr (inl (refl, ap code_of is)))
 tells input old mid new (Err Fault.Read) end nothing (inr ((told, prefix, line), is)) =
@@ -175,10 +193,10 @@ tells input old mid new (Err (Fault.Syntax number)) end (short, fault, nothing) 
     one_line input (Fault.Syntax number) old mid new end nothing concluded (inr (inl (short, number, fault, refl, refl)))
 tells input old mid new (Err Fault.Range) end (verdicts, rows, report, judged, broken, before) (inl (line, is)) =
     whole_answer input (replies 1 verdicts ++ report) (fault_line Fault.Range) old mid new end before line
-      (inr (inr (inr (verdicts, rows, report, judged, broken, append_assoc (replies 1 verdicts) report (fault_line Fault.Range), ap code_of is))))
+    (inr (inr (inr (verdicts, rows, report, judged, broken, append_assoc (replies 1 verdicts) report (fault_line Fault.Range), ap code_of is))))
 tells input old mid new (Err Fault.Range) end (verdicts, rows, report, judged, broken, before) (inr (line, is)) =
     front_of_answer input (replies 1 verdicts ++ report) (fault_line Fault.Range) 4 old mid new end before line
-      (inr (inr (inr (verdicts, rows, report, judged, broken, append_assoc (replies 1 verdicts) report (fault_line Fault.Range), refl)))) is
+    (inr (inr (inr (verdicts, rows, report, judged, broken, append_assoc (replies 1 verdicts) report (fault_line Fault.Range), refl)))) is
 tells input old mid new (Err Fault.Write) end (front, is_front, before) (inl (nothing, is)) =
     stopped_there input front old new end (subst (Appends old new) (append-nil front) (Appends-trans old mid new front [] before nothing)) is_front is
 tells input old mid new (Err Fault.Write) end (front, is_front, before) (inr ((told, (rest, none), line), is)) =
@@ -195,4 +213,4 @@ pub tells_of_input : (known : Option (List ℕ)) (old mid new : Option (List ℕ
 tells_of_input None old mid new outcome end code reached concluded is = tt
 tells_of_input (Some input) old mid new outcome end code reached concluded is =
     subst (λ n. (written : List ℕ) × Appends old new written × Tells input written n) (sym is)
-      (tells input old mid new outcome end reached concluded)
+    (tells input old mid new outcome end reached concluded)

@@ -101,7 +101,7 @@ kept_is_sum costs totals currency kept sums is =
 -- one more cost, whose currency has its new sum
 pub sums_step : (costs totals new : List (List ℕ × ℤ)) (currency : List ℕ) (cost total : ℤ) → AreSums costs totals
     → ((name : List ℕ) → lookup (λ other. is_eq (slice_cmp nat_cmp name other)) new
-        ≡ cond (is_eq (slice_cmp nat_cmp currency name)) (Some total) (lookup (λ other. is_eq (slice_cmp nat_cmp name other)) totals))
+    ≡ cond (is_eq (slice_cmp nat_cmp currency name)) (Some total) (lookup (λ other. is_eq (slice_cmp nat_cmp name other)) totals))
     → IsStrictlySortedBy (slice_cmp nat_cmp) (keys_of new)
     → total ≡ sum_in costs currency +ℤ cost
     → AreSums (costs ++ (currency, cost) ∷ []) new
@@ -109,7 +109,7 @@ sums_step costs totals new currency cost total sums updated order is = record {
   in_order = order;
   each = λ name. updated name ∙ ap (λ b. cond b (Some total) (lookup (λ other. is_eq (slice_cmp nat_cmp name other)) totals)) (at_is_same currency name)
       ∙ by_name name (same_name name currency) refl;
-  }
+}
   where
     by_name : (name : List ℕ) (b : Bool) → same_name name currency ≡ b
         → cond b (Some total) (lookup (λ other. is_eq (slice_cmp nat_cmp name other)) totals)
@@ -118,15 +118,15 @@ sums_step costs totals new currency cost total sums updated order is = record {
         let one : name ≡ currency = (bytes_decides name currency).0 e in
         ap Some (is ∙ ap (λ n. sum_in costs n +ℤ cost) (sym one) ∙ sym (sum_in_added costs (currency, cost) name e))
         ∙ sym (ap (λ b. if b then Some (sum_in (costs ++ (currency, cost) ∷ []) name) else None)
-          (named_snoc costs (currency, cost) name ∙ ap (λ b. is_named name costs || b) e ∙ or_true (is_named name costs)))
+        (named_snoc costs (currency, cost) name ∙ ap (λ b. is_named name costs || b) e ∙ or_true (is_named name costs)))
       where
         or_true : (b : Bool) → (b || true) ≡ true
         or_true true = refl
         or_true false = refl
     by_name name false e =
         sums.each name ∙ sym (ap (λ b. if b then Some (sum_in (costs ++ (currency, cost) ∷ []) name) else None)
-          (named_snoc costs (currency, cost) name ∙ ap (λ b. is_named name costs || b) e ∙ or_false (is_named name costs))
-          ∙ ap (λ n. if is_named name costs then Some n else None) (sum_in_kept costs (currency, cost) name e))
+        (named_snoc costs (currency, cost) name ∙ ap (λ b. is_named name costs || b) e ∙ or_false (is_named name costs))
+        ∙ ap (λ n. if is_named name costs then Some n else None) (sum_in_kept costs (currency, cost) name e))
       where
         or_false : (b : Bool) → (b || false) ≡ b
         or_false true = refl
@@ -135,14 +135,14 @@ sums_step costs totals new currency cost total sums updated order is = record {
 -- the same, under a copy of the currency
 pub sums_under_copy : (costs totals new : List (List ℕ × ℤ)) (currency copy : List ℕ) (cost total : ℤ) → AreSums costs totals
     → ((name : List ℕ) → lookup (λ other. is_eq (slice_cmp nat_cmp name other)) new
-        ≡ cond (is_eq (slice_cmp nat_cmp copy name)) (Some total) (lookup (λ other. is_eq (slice_cmp nat_cmp name other)) totals))
+    ≡ cond (is_eq (slice_cmp nat_cmp copy name)) (Some total) (lookup (λ other. is_eq (slice_cmp nat_cmp name other)) totals))
     → IsStrictlySortedBy (slice_cmp nat_cmp) (keys_of new)
     → copy ≡ currency → total ≡ sum_in costs currency +ℤ cost
     → AreSums (costs ++ (currency, cost) ∷ []) new
 sums_under_copy costs totals new currency copy cost total sums updated order same is =
     sums_step costs totals new currency cost total sums
-      (λ name. updated name ∙ ap (λ key. cond (is_eq (slice_cmp nat_cmp key name)) (Some total) (lookup (λ other. is_eq (slice_cmp nat_cmp name other)) totals)) same)
-      order is
+    (λ name. updated name ∙ ap (λ key. cond (is_eq (slice_cmp nat_cmp key name)) (Some total) (lookup (λ other. is_eq (slice_cmp nat_cmp name other)) totals)) same)
+    order is
 
 -- ---- Rows.
 
@@ -168,8 +168,8 @@ fits_is_wide : (rows : List (Position × ℤ)) (row : Position × ℤ) (lot : Lo
 fits_is_wide rows row lot in_lot =
     ap (λ l. list_all (λ (cost : List ℕ × ℤ). is_wide (sum_in (costs_of (rows ++ row ∷ [])) cost.0)) (cost_of l row.1)) in_lot
     ∙ ap (λ z. is_wide z && true)
-      (ap (λ costs. sum_in costs lot.currency) (costs_with_lot rows row lot in_lot)
-        ∙ sum_in_added (costs_of rows) (lot.currency, row.1 *ℤ pos lot.number) lot.currency (same_itself lot.currency))
+    (ap (λ costs. sum_in costs lot.currency) (costs_with_lot rows row lot in_lot)
+    ∙ sum_in_added (costs_of rows) (lot.currency, row.1 *ℤ pos lot.number) lot.currency (same_itself lot.currency))
 
 wide_is : (z : ℤ) → IsWide z → (is_wide z && true) ≡ true
 wide_is z wide = search (rules)
@@ -184,10 +184,13 @@ pub takes_lot : (rows : List (Position × ℤ)) (row : Position × ℤ) (lot : L
     → OnOk result (IsWide (sum_in (costs_of rows) lot.currency +ℤ row.1 *ℤ pos lot.number))
     → (IsErrOf result Range → IsWide (sum_in (costs_of rows) lot.currency +ℤ row.1 *ℤ pos lot.number) → ⊥)
     → report.is_empty ≡ false → TakesCost rows row report result
-takes_lot rows row lot report (Ok done) in_lot taken wide range some =
-    (fits_is_wide rows row lot in_lot ∙ wide_is (sum_in (costs_of rows) lot.currency +ℤ row.1 *ℤ pos lot.number) wide,
-    (some ∙ snoc_is_some rows row,
-    subst (λ costs. AreSums costs report.costs.entries) (sym (costs_with_lot rows row lot in_lot)) taken))
+takes_lot rows row lot report (Ok done) in_lot taken wide range some = (
+  fits_is_wide rows row lot in_lot ∙ wide_is (sum_in (costs_of rows) lot.currency +ℤ row.1 *ℤ pos lot.number) wide,
+  (
+    some ∙ snoc_is_some rows row,
+    subst (λ costs. AreSums costs report.costs.entries) (sym (costs_with_lot rows row lot in_lot)) taken,
+  ),
+)
 takes_lot rows row lot report (Err Range) in_lot taken wide range some =
     ap not (fits_is_wide rows row lot in_lot) ∙ not_wide_is (sum_in (costs_of rows) lot.currency +ℤ row.1 *ℤ pos lot.number) (range refl)
 takes_lot rows row lot report (Err Write) in_lot taken wide range some = tt

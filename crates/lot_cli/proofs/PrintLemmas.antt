@@ -13,10 +13,12 @@ use Rattle.lot_cli.specs.Written.{AppendsFront, Writes}
 pub put_step : (a b c : Option (List ℕ)) (bytes written rest : List ℕ) (n : ℕ)
     → bytes ≡ written ++ rest → Appends a b written → Appends b c (take n rest)
     → (more : List ℕ) × (bytes ≡ more ++ take (length rest - n) (drop n rest)) × Appends a c more
-put_step a b c bytes written rest n whole before now = (written ++ take n rest,
-    whole ∙ ap (λ xs. written ++ xs) (sym (take-append-drop n rest)) ∙ sym (append_assoc written (take n rest) (drop n rest))
-    ∙ ap (λ xs. (written ++ take n rest) ++ xs) (sym (take_rest rest n)),
-    Appends-trans a b c written (take n rest) before now)
+put_step a b c bytes written rest n whole before now = (
+  written ++ take n rest,
+  whole ∙ ap (λ xs. written ++ xs) (sym (take-append-drop n rest)) ∙ sym (append_assoc written (take n rest) (drop n rest))
+      ∙ ap (λ xs. (written ++ take n rest) ++ xs) (sym (take_rest rest n)),
+  Appends-trans a b c written (take n rest) before now,
+)
 
 -- what a line buffer has that was empty before the text was written
 pub line_is : {W : Type 0} (took : W → List ℕ → W → Type 0) (contents : W → List ℕ)
@@ -33,15 +35,18 @@ pub nothing_written : {A E : Type 0} (held : Option (List ℕ)) (result : Result
 nothing_written held (Ok x) text fails = absurd (true≢false (sym fails))
 nothing_written held (Err e) text fails = ([], (text, refl), Appends-nil held)
 
-
 -- a front of the next line, behind the lines before it
 pub front_step : (a b c : Option (List ℕ)) (written line rest whole : List ℕ) → Appends a b written → AppendsFront b c line
     → written ++ (line ++ rest) ≡ whole → AppendsFront a c whole
-front_step a b c written line rest whole before now is =
-    (written ++ now.0,
-    (now.1.0 ++ rest, sym is ∙ ap (λ xs. written ++ (xs ++ rest)) now.1.1
-      ∙ ap (λ xs. written ++ xs) (append_assoc now.0 now.1.0 rest) ∙ sym (append_assoc written now.0 (now.1.0 ++ rest))),
-    Appends-trans a b c written now.0 before now.2)
+front_step a b c written line rest whole before now is = (
+  written ++ now.0,
+  (
+    now.1.0 ++ rest,
+    sym is ∙ ap (λ xs. written ++ (xs ++ rest)) now.1.1
+        ∙ ap (λ xs. written ++ xs) (append_assoc now.0 now.1.0 rest) ∙ sym (append_assoc written now.0 (now.1.0 ++ rest)),
+  ),
+  Appends-trans a b c written now.0 before now.2,
+)
 
 -- what a fault leaves
 pub writes_front : {A E : Type 0} (a c : Option (List ℕ)) (result : Result A E) (whole : List ℕ) → IsErr result

@@ -83,14 +83,16 @@ pub run_next : (commands left rest : List Command) (command : Command) (count nu
     → Replies book command number mid new (Ok (next, replied)) → both ≡ status_after status replied
     → RanSoFar commands rest later next both old new
 run_next commands left rest command count number later book next status replied both old mid new so_far is numbered counted_on (verdict, judged, written, said) joined =
-    let (done, verdicts, split, counted, all, before, status_is) = so_far in
-    (done ++ command ∷ [], verdicts ++ verdict ∷ [],
-    split ∙ ap (λ cs. done ++ cs) is ∙ sym (append_assoc done (command ∷ []) rest),
-    counted_on ∙ ap (λ n. n + 1) counted ∙ sym (length_more verdicts verdict),
-    judges_more [] done verdicts book next command verdict all judged,
-    subst (Appends old new) (sym (replies_more 1 verdicts verdict ∙ ap (λ n. replies 1 verdicts ++ reply n verdict) (sym (next_number number count verdicts counted numbered))))
-      (Appends-trans old mid new _ _ before written),
-    joined ∙ ap (λ s. status_after s replied) status_is ∙ ap (λ s. status_after (status_of_replies verdicts) s) said ∙ sym (status_more verdicts verdict))
+    let (done, verdicts, split, counted, all, before, status_is) = so_far in (
+      done ++ command ∷ [],
+      verdicts ++ verdict ∷ [],
+      split ∙ ap (λ cs. done ++ cs) is ∙ sym (append_assoc done (command ∷ []) rest),
+      counted_on ∙ ap (λ n. n + 1) counted ∙ sym (length_more verdicts verdict),
+      judges_more [] done verdicts book next command verdict all judged,
+      subst (Appends old new) (sym (replies_more 1 verdicts verdict ∙ ap (λ n. replies 1 verdicts ++ reply n verdict) (sym (next_number number count verdicts counted numbered))))
+          (Appends-trans old mid new _ _ before written),
+      joined ∙ ap (λ s. status_after s replied) status_is ∙ ap (λ s. status_after (status_of_replies verdicts) s) said ∙ sym (status_more verdicts verdict),
+    )
 
 pub run_stops : (commands left rest : List Command) (command : Command) (count number : ℕ) (book : List Entry) (status : Status) (fault : Fault)
     (old mid new : Option (List ℕ))
@@ -98,20 +100,34 @@ pub run_stops : (commands left rest : List Command) (command : Command) (count n
     → Replies book command number mid new (Err fault)
     → Runs commands old new (Err fault)
 run_stops commands left rest command count number book status fault old mid new so_far is numbered (text, inl nothing, front, ends) =
-    let (done, verdicts, split, counted, all, before, status_is) = so_far in
-    ((done, left, verdicts, book, split, all,
-      front_step old mid new (replies 1 verdicts) text [] (replies 1 verdicts) before front
-        (ap (λ xs. replies 1 verdicts ++ (xs ++ [])) nothing ∙ append-nil (replies 1 verdicts))),
-    ends)
+    let (done, verdicts, split, counted, all, before, status_is) = so_far in (
+      (
+        done,
+        left,
+        verdicts,
+        book,
+        split,
+        all,
+        front_step old mid new (replies 1 verdicts) text [] (replies 1 verdicts) before front
+            (ap (λ xs. replies 1 verdicts ++ (xs ++ [])) nothing ∙ append-nil (replies 1 verdicts)),
+      ),
+      ends,
+    )
 run_stops commands left rest command count number book status fault old mid new so_far is numbered (text, inr (verdict, after, judged, replied), front, ends) =
-    let (done, verdicts, split, counted, all, before, status_is) = so_far in
-    ((done ++ command ∷ [], rest, verdicts ++ verdict ∷ [], after,
-      split ∙ ap (λ cs. done ++ cs) is ∙ sym (append_assoc done (command ∷ []) rest),
-      judges_more [] done verdicts book after command verdict all judged,
-      front_step old mid new (replies 1 verdicts) text [] (replies 1 (verdicts ++ verdict ∷ [])) before front
-        (ap (λ xs. replies 1 verdicts ++ xs) (append-nil text ∙ replied ∙ ap (λ n. reply n verdict) (next_number number count verdicts counted numbered))
-          ∙ sym (replies_more 1 verdicts verdict))),
-    ends)
+    let (done, verdicts, split, counted, all, before, status_is) = so_far in (
+      (
+        done ++ command ∷ [],
+        rest,
+        verdicts ++ verdict ∷ [],
+        after,
+        split ∙ ap (λ cs. done ++ cs) is ∙ sym (append_assoc done (command ∷ []) rest),
+        judges_more [] done verdicts book after command verdict all judged,
+        front_step old mid new (replies 1 verdicts) text [] (replies 1 (verdicts ++ verdict ∷ [])) before front
+            (ap (λ xs. replies 1 verdicts ++ xs) (append-nil text ∙ replied ∙ ap (λ n. reply n verdict) (next_number number count verdicts counted numbered))
+            ∙ sym (replies_more 1 verdicts verdict)),
+      ),
+      ends,
+    )
 
 pub run_ends : (commands left : List Command) (count : ℕ) (book : List Entry) (status : Status) (old new : Option (List ℕ))
     → RanSoFar commands left count book status old new → left ≡ [] → Runs commands old new (Ok (book, status))

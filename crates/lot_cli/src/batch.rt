@@ -40,11 +40,7 @@ pub fn check<R: Read, W: Write>(alloc: Global, reader: &mut R, writer: &mut W) -
 }
 
 /// Reads, judges and writes, up to the end or the first fault, which isn't told yet.
-fn answer<R: Read, W: Write>(
-    alloc: Global,
-    reader: &mut R,
-    writer: &mut W,
-) -> Result<Status, Fault>
+fn answer<R: Read, W: Write>(alloc: Global, reader: &mut R, writer: &mut W) -> Result<Status, Fault>
     ensures { IfSome (R.remaining reader.old) (λ input.
         Reaches input (W.contents writer.old) (W.contents writer.new) result) }
 {

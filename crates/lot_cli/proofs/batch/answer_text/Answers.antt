@@ -10,10 +10,10 @@ returns-in_err-book g c =
 pub returns-in_err-print_holdings : goal.returns-in_err-print_holdings
 returns-in_err-print_holdings g c =
     report_stopped _ _ _ _ _ _ _ _ c.in_err-print_holdings.field-0.0 c.from_residual-in_err-print_holdings.result c.requires
-      c.in_ok-commands.ensures.commands c.in_ok-book.ensures c.holdings.ensures c.in_err-print_holdings.ensures
-      c.from_residual-in_err-print_holdings.ensures.1
+    c.in_ok-commands.ensures.commands c.in_ok-book.ensures c.holdings.ensures c.in_err-print_holdings.ensures
+    c.from_residual-in_err-print_holdings.ensures.1
 
 pub returns : goal.returns
 returns g c =
     reaches_the_end _ _ _ _ _ _ _ _ tt c.requires c.in_ok-commands.ensures.commands c.in_ok-book.ensures c.holdings.ensures
-      c.in_ok-print_holdings.ensures
+    c.in_ok-print_holdings.ensures

@@ -8,21 +8,25 @@ use Rattle.lot_cli.proofs.batch.run.Goals as goal
 pub loop-index-preserved : goal.loop-index-preserved
 loop-index-preserved g c =
     run_next _ _ _ c.in-Some.command _ (c.in-Some.index + 1) _ _ _ _ _ _ _ _ _ c.loop-index.invariant
-      c.in-Some.ensures.steps.0.0 (ap (λ n. n + 1) c.in-Some.ensures.steps.1) c.in-Some.ensures.steps.2
-      c.in_ok-next.ensures c.and-status.ensures
+    c.in-Some.ensures.steps.0.0 (ap (λ n. n + 1) c.in-Some.ensures.steps.1) c.in-Some.ensures.steps.2
+    c.in_ok-next.ensures c.and-status.ensures
 
 pub loop-index-init : goal.loop-index-init
 loop-index-init g c =
     let given = c.into_iter-index-iterator.ensures.into_iter_gives in
-    let items = c.enumerate-index-items.ensures in
-    ([], [],
-    sym (ap (λ e. e.iter.rest.items) given ∙ ap (λ i. i.rest.items) items.source ∙ c.into_iter.ensures.rest),
-    ap (λ e. e.count) given ∙ items.count,
-    c.new-book.ensures, Appends-nil _, refl)
+    let items = c.enumerate-index-items.ensures in (
+      [],
+      [],
+      sym (ap (λ e. e.iter.rest.items) given ∙ ap (λ i. i.rest.items) items.source ∙ c.into_iter.ensures.rest),
+      ap (λ e. e.count) given ∙ items.count,
+      c.new-book.ensures,
+      Appends-nil _,
+      refl,
+    )
 
 pub returns-in_err-next : goal.returns-in_err-next
 returns-in_err-next g c =
     let fault = err_from_is_err_and c.from_residual.result c.from_residual.ensures.1 in
     rw (fault.1, fault.2)
-      (run_stops _ _ _ c.in-Some.command _ (c.in-Some.index + 1) _ _ _ _ _ _ c.loop-index.invariant
-        c.in-Some.ensures.steps.0.0 (ap (λ n. n + 1) c.in-Some.ensures.steps.1) c.in_err-next.ensures)
+    (run_stops _ _ _ c.in-Some.command _ (c.in-Some.index + 1) _ _ _ _ _ _ c.loop-index.invariant
+    c.in-Some.ensures.steps.0.0 (ap (λ n. n + 1) c.in-Some.ensures.steps.1) c.in_err-next.ensures)

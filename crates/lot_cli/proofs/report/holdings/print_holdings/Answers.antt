@@ -10,12 +10,12 @@ pub returns-in_err-row : goal.returns-in_err-row
 returns-in_err-row g c =
     let fault = err_from_is_err_and c.from_residual.result c.from_residual.ensures.1 in
     rw (fault.1, fault.2)
-      (row_stops _ _ _ _ c.loop-position.holdings c.row.new.self _ _ _ _ c.loop-position.invariant c.in-Some.ensures.steps c.in_err-row.ensures)
+    (row_stops _ _ _ _ c.loop-position.holdings c.row.new.self _ _ _ _ c.loop-position.invariant c.in-Some.ensures.steps c.in_err-row.ensures)
 
 pub returns-in_err-end : goal.returns-in_err-end
 returns-in_err-end g c =
     report_stops _ _ c.loop-position.holdings _ _ _ c.in_err-end.field-0.0 c.from_residual-in_err-end.result c.loop-position.invariant c.in-None.ensures.steps.0
-      c.in_err-end.ensures c.from_residual-in_err-end.ensures.1
+    c.in_err-end.ensures c.from_residual-in_err-end.ensures.1
 
 pub returns : goal.returns
 returns g c =

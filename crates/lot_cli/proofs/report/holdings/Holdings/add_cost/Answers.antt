@@ -7,5 +7,5 @@ use Rattle.lot_cli.proofs.report.holdings.Holdings.add_cost.Goals as goal
 pub returns-in_ok-insert-in-Some-clause-taken : goal.returns-in_ok-insert-in-Some-clause-taken
 returns-in_ok-insert-in-Some-clause-taken c costs sums =
     sums_under_copy costs _ _ _ _ _ _ sums c.in_ok-insert-in-Some.ensures.updates.0 c.in_ok-insert-in-Some.ensures.ordered
-      c.in_ok-copy-in-Some.ensures
-      ((c.in-Some.ensures costs sums).1 ∙ ap (λ w. sum_in costs c.args.lot.now.currency +ℤ w) c.weight.ensures.value)
+    c.in_ok-copy-in-Some.ensures
+    ((c.in-Some.ensures costs sums).1 ∙ ap (λ w. sum_in costs c.args.lot.now.currency +ℤ w) c.weight.ensures.value)

@@ -18,5 +18,5 @@ returns-in_err-print_total g c =
     let next = total_line c.in-Some.currency.now c.in-Some.total.now in
     let fault = err_from_is_err_and c.from_residual.result c.from_residual.ensures.1 in
     rw (fault.1, c.if-self.false)
-      (front_step _ _ _ written next (totals false c.next.new.self) _ appended c.in_err-print_total.ensures
-        (ap (λ costs. written ++ totals false costs) (sym c.in-Some.ensures.steps) ∙ all))
+    (front_step _ _ _ written next (totals false c.next.new.self) _ appended c.in_err-print_total.ensures
+    (ap (λ costs. written ++ totals false costs) (sym c.in-Some.ensures.steps) ∙ all))

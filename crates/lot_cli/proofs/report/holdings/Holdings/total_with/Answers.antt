@@ -7,6 +7,6 @@ use Rattle.lot_cli.proofs.report.holdings.Holdings.total_with.Goals as goal
 pub returns : goal.returns
 returns c costs sums =
     subst (λ total. SomeIff c.checked_add.result (IsWide (total +ℤ c.args.cost)) (total +ℤ c.args.cost))
-      (c.unwrap_or-total.ensures
-        ∙ kept_is_sum costs c.args.self.now.costs.entries c.args.currency.now c.copied.result sums (c.copied.ensures ∙ c.get.ensures.value))
-      c.checked_add.ensures
+    (c.unwrap_or-total.ensures
+    ∙ kept_is_sum costs c.args.self.now.costs.entries c.args.currency.now c.copied.result sums (c.copied.ensures ∙ c.get.ensures.value))
+    c.checked_add.ensures
