@@ -211,6 +211,7 @@ impl Book {
         let told = change.held.get(&leg.position).copied();
         match told.or(self.held(&leg.position)) {
             Some(held) => held.checked_add(leg.units),
+            // Where nothing is held the leg's units are the sum. They are in range, which their mantissa tells.
             None => Units::from_mantissa(leg.units.mantissa()),
         }
     }

@@ -1,4 +1,4 @@
--- Once the first position that is left is kept, the others are still to be.
+-- At first all changed positions are left. Once the first position that is left is kept, the others are still to be.
 use Rattle.std.proofs.Common.{◌≡◌, ◌∷◌, List, sym, ap, ◌∙◌, ℤ}
 use Rattle.std.specs.BTreeMap.{get}
 use Rattle.std.specs.List.Sorted.{IsStrictlySortedBy}
@@ -8,6 +8,15 @@ use Rattle.lot_cli.specs.declared.ledger.leg.Position.{Position}
 use Rattle.lot_cli.specs.Leg.{position_cmp, same_position, settled}
 use Rattle.lot_cli.proofs.BookRecord.{settled-turn}
 use Rattle.lot_cli.proofs.ledger.book.keep_held.Goals as goal
+
+pub loop-position-init : goal.loop-position-init
+loop-position-init c =
+    let gives = c.into_iter-position-iterator.ensures.into_iter_gives in
+    record {
+      each = λ p. ap (λ (rows : List (Position × ℤ)). settled (lookup (same_position p) rows) (get position_cmp c.args.held.now p)) gives.0;
+      left = rw gives.0 gives.5;
+      ordered = c.requires;
+    }
 
 pub loop-position-preserved : goal.loop-position-preserved
 loop-position-preserved c =
