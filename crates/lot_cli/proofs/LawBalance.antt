@@ -221,7 +221,7 @@ filled_balances entry (place ∷ more) legs exact balanced currency =
     ap (λ ws. sum_in ws currency) (map-append-weights legs (fill_of entry (place ∷ more) (residuals legs)))
     ∙ sum_in-append (map weight_of legs) (map weight_of (fill_of entry (place ∷ more) (residuals legs))) currency
     ∙ ap (λ z. sum_in (map weight_of legs) currency +ℤ z)
-    (legs_weigh entry place.0 place.1 1 (left_over (residuals legs)) currency (units_left_over (residuals legs) units)
+    (legs_weigh entry place.0 place.1 0 (left_over (residuals legs)) currency (units_left_over (residuals legs) units)
     ∙ ap neg_ℤ (left_over_sum (residuals legs) currency ∙ residuals_sum legs currency))
     ∙ +ℤ_invr (sum_in (map weight_of legs) currency)
 

@@ -211,7 +211,7 @@ fill_buys_nothing account commodity entry posting posted place (r ∷ rs) = fill
 
 filled_buys_nothing : (account commodity : List ℕ) (entry : ℕ) (empty : List (ℕ × List ℕ)) (rs : List (List ℕ × ℤ)) → in_those (is_lot_of account commodity) (fill_of entry empty rs) ≡ pos 0
 filled_buys_nothing account commodity entry [] rs = refl
-filled_buys_nothing account commodity entry (first ∷ more) rs = fill_buys_nothing account commodity entry first.0 first.1 1 (filter (λ (r : List ℕ × ℤ). not (is_zero r.1)) rs)
+filled_buys_nothing account commodity entry (first ∷ more) rs = fill_buys_nothing account commodity entry first.0 first.1 0 (filter (λ (r : List ℕ × ℤ). not (is_zero r.1)) rs)
 
 step_buys : (account commodity : List ℕ) (book : List Entry) (command : Command) (legs : List Leg) → Step book command (Accept legs) → in_those (is_lot_of account commodity) legs ≡ bought_in account commodity command
 step_buys account commodity book (Opening o) legs h = ap (in_those (is_lot_of account commodity)) h.1

@@ -24,7 +24,7 @@ abbrev pub amount_leg : ℕ → ℕ → ℤ → List ℕ → Amount → Leg
 amount_leg entry place day account amount = record {
   entry = entry;
   posting = place;
-  place = 1;
+  place = 0;
   position = record { account = account; commodity = amount.commodity; lot = lot_at day amount.cost };
   units = amount.units;
 }
@@ -100,7 +100,7 @@ legs_for entry posting account place (r ∷ rs) =
 
 abbrev pub fill_of : ℕ → List (ℕ × List ℕ) → List (List ℕ × ℤ) → List Leg
 fill_of entry [] rs = []
-fill_of entry (empty ∷ more) rs = legs_for entry empty.0 empty.1 1 (filter (λ (r : List ℕ × ℤ). not (is_zero r.1)) rs)
+fill_of entry (empty ∷ more) rs = legs_for entry empty.0 empty.1 0 (filter (λ (r : List ℕ × ℤ). not (is_zero r.1)) rs)
 
 -- ---- The legs of a transaction that is that entry of its book.
 

@@ -133,7 +133,7 @@ impl Book {
                 let leg = Leg {
                     entry: self.next_entry(),
                     posting: index + 1,
-                    place: 1,
+                    place: 0,
                     position: position_of(&posting.account, amount, transaction.day)?,
                     units: amount.units,
                 };
@@ -172,7 +172,7 @@ impl Book {
             let leg = Leg {
                 entry: self.next_entry(),
                 posting: elided.posting,
-                place: index + 1,
+                place: index,
                 position,
                 units,
             };

@@ -61,7 +61,7 @@ pub(crate) struct Leg {
     pub entry: usize,
     /// The place of the posting in its transaction, from 1.
     pub posting: usize,
-    /// The place of the leg among those of its posting, from 1.
+    /// The place of the leg among those of its posting, from 0.
     pub place: usize,
     pub position: Position,
     pub units: Units,

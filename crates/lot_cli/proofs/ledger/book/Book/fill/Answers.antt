@@ -15,7 +15,7 @@ loop-index-init c =
     let it = c.into_iter-index-iterator.result in
     let items : it.iter.rest.items ≡ map (λ (r : List ℕ × ℤ). (r.0, opposite r.1)) rs = ap (λ it. it.iter.rest.items) c.into_iter-index-iterator.ensures.into_iter_gives ∙ ap (λ it. it.rest.items) c.enumerate-index-items.ensures.source ∙ c.into_iter.ensures.rest ∙ c.in_ok-fills.ensures.fills in
     let count : it.count ≡ 0 = ap (λ it. it.count) c.into_iter-index-iterator.ensures.into_iter_gives ∙ c.enumerate-index-items.ensures.count in
-    let left : filled entry posting account (it.count + 1) it.iter.rest.items ≡ legs_for entry posting account 1 rs = ap (λ n. filled entry posting account (n + 1) it.iter.rest.items) count ∙ ap (filled entry posting account 1) items ∙ sym (legs_for-filled entry posting account 1 rs) in
+    let left : filled entry posting account it.count it.iter.rest.items ≡ legs_for entry posting account 0 rs = ap (λ n. filled entry posting account n it.iter.rest.items) count ∙ ap (filled entry posting account 0) items ∙ sym (legs_for-filled entry posting account 0 rs) in
     record {
       tells = c.requires.held;
       legs = ap (λ ls. c.args.change.now.legs ++ ls) left;

@@ -10,7 +10,7 @@ abbrev pub invariant-loop-index : goal.invariant-loop-index
 invariant-loop-index l =
     let entry = length l.self + 1 in
     let all = fill_of entry ((l.elided-inside.posting, l.elided-inside.account.now) ∷ []) l.residuals in
-    let left = filled entry l.elided-inside.posting l.elided-inside.account.now (l.index-iterator.count + 1) l.index-iterator.iter.rest.items in
+    let left = filled entry l.elided-inside.posting l.elided-inside.account.now l.index-iterator.count l.index-iterator.iter.rest.items in
     record {
       tells : TellsHeld (legs_of l.self) l.change.legs l.change.held.entries;
       legs : l.change.legs ++ left ≡ l.fn.change.legs ++ all;
