@@ -1,9 +1,9 @@
 -- From the parts of the way to the answer.
 use Rattle.std.proofs.Common.{inl, inr, ◌≡◌, ℕ, List, [], ◌∷◌, ◌++◌, length, refl, sym, ap, ◌∙◌, subst, append_assoc, append-nil}
 use native.Mathlib.Omega.{arith}
-use Rattle.std.specs.Prelude.{suc, IfSome, None, Some, ◌⊎◌, ◌≤◌, ℤ, Option, Result, Ok, Err, IsErrAnd}
+use Rattle.std.specs.Prelude.{suc, IfSome, None, Some, ◌≤◌, ℤ, Option, Result, Ok, Err, IsErrAnd}
 use Rattle.std.specs.Io.KnownBytes.{Appends}
-use Rattle.std.proofs.KnownBytes.{Appends-nil, Appends-trans}
+use Rattle.std.proofs.KnownBytes.{Appends-trans}
 use Rattle.lot_cli.specs.declared.batch.fault.Fault.{Fault}
 use Rattle.lot_cli.specs.declared.batch.status.Status.{Status}
 use Rattle.lot_cli.specs.declared.ledger.leg.Entry.{Entry}
@@ -17,8 +17,8 @@ use Rattle.lot_cli.specs.Status.{code_of, status_of, fault_of_report}
 use Rattle.lot_cli.specs.Printed.{replies, fault_line}
 use Rattle.lot_cli.specs.Book.{JudgesAll}
 use Rattle.lot_cli.specs.Written.{AppendsFront, IsPrefixOf}
-use Rattle.lot_cli.specs.Report.{IsReport, IsReportFront, WritesReport}
-use Rattle.lot_cli.specs.Answer.{limit, EndsRun, Runs, StopsInRun, StopsAtFront, Reaches, Concludes, Tells, IsAnswer, IsStopped, IsStopLine, IsFront, IsJudged, IsWhole, status_of_replies}
+use Rattle.lot_cli.specs.Report.{IsReportFront, WritesReport}
+use Rattle.lot_cli.specs.Answer.{limit, Runs, StopsInRun, StopsAtFront, Reaches, Concludes, Tells, IsAnswer, IsStopLine, IsFront, IsJudged, IsWhole, status_of_replies}
 use Rattle.lot_cli.proofs.PrintLemmas.{front_step}
 
 -- ---- A text that was read.

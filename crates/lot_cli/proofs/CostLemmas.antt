@@ -1,7 +1,7 @@
 -- Sums of costs in each currency.
-use Rattle.std.proofs.Common.{rules, inl, inr, IsTrue, ◌≡◌, ℕ, List, [], ◌∷◌, ◌++◌, refl, sym, ap, ◌∙◌, subst, append_assoc, append-nil}
-use Rattle.std.specs.Prelude.{Result, Ok, Err, OnOk, IsErrOf, IsErrAnd, ◌⊎◌, Bool, not, ◌*ℤ◌, true, false, cond, ◌||◌, ◌&&◌, ◌==◌, if◌then◌else◌, Option, None, Some, ℤ, pos, ◌+ℤ◌, map, filter}
-use Rattle.std.specs.List.{list_any, list_all}
+use Rattle.std.proofs.Common.{rules, inr, IsTrue, ◌≡◌, ℕ, List, [], ◌∷◌, ◌++◌, refl, sym, ap, ◌∙◌, subst, append_assoc, append-nil}
+use Rattle.std.specs.Prelude.{Result, Ok, Err, OnOk, IsErrOf, IsErrAnd, Bool, not, ◌*ℤ◌, true, false, cond, ◌||◌, ◌&&◌, if◌then◌else◌, Option, None, Some, ℤ, pos, ◌+ℤ◌}
+use Rattle.std.specs.List.{list_all}
 use Rattle.std.specs.List.Sorted.{IsStrictlySortedBy}
 use Rattle.std.specs.Map.{keys_of, lookup}
 use Rattle.std.specs.Ordering.{nat_cmp, is_eq}
@@ -20,7 +20,7 @@ use Rattle.lot_cli.specs.declared.report.holdings.Holdings.{Holdings}
 use Rattle.lot_cli.specs.declared.report.holdings.ReportFault.{ReportFault}
 use Rattle.lot_cli.specs.declared.report.holdings.ReportFault.TheVariants.{Range, Write, Memory}
 use Rattle.lot_num.specs.Amount.{IsWide}
-use Rattle.lot_cli.specs.Report.{AreSums, AreTotals, TakesCost, TakesRow, report_fault, is_named, costs_of, cost_of, fits, is_nil, is_wide}
+use Rattle.lot_cli.specs.Report.{AreSums, TakesCost, TakesRow, report_fault, is_named, costs_of, cost_of, fits, is_nil, is_wide}
 
 pub sum_of_snoc : (zs : List ℤ) (z : ℤ) → sum_of (zs ++ z ∷ []) ≡ sum_of zs +ℤ z
 sum_of_snoc [] z = omega (arith, ints)

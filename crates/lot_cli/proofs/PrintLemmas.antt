@@ -1,7 +1,7 @@
 -- Lines one behind another.
 use Rattle.std.proofs.Common.{◌≡◌, ℕ, List, ◌++◌, take, drop, length, refl, sym, ap, ◌∙◌, append_assoc, take-append-drop}
 use mathlib.Core.Bool.{true≢false}
-use Rattle.std.specs.Prelude.{Result, Ok, Err, IsErr, Option, None, Some, IfSome, [], ◌≤◌, ◌-◌}
+use Rattle.std.specs.Prelude.{Result, Ok, Err, IsErr, Option, None, Some, IfSome, [], ◌-◌}
 use Rattle.std.proofs.lemmas.List.{take_rest}
 use Rattle.std.specs.Fmt.{WritesText}
 use Rattle.std.proofs.lemmas.Fmt.{contents_after_writes}

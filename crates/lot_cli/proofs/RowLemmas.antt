@@ -1,16 +1,16 @@
 -- The rows of a report, one after another.
-use Rattle.std.proofs.Common.{rules, inl, inr, IsTrue, ◌≡◌, ℕ, List, [], ◌∷◌, ◌++◌, refl, sym, ap, ◌∙◌, subst, append_assoc, append-nil}
-use Rattle.std.specs.Prelude.{Option, Result, Ok, Err, IsErrAnd, ℤ, flat_map}
+use Rattle.std.proofs.Common.{inl, inr, IsTrue, ◌≡◌, ℕ, List, [], ◌∷◌, ◌++◌, refl, sym, ap, ◌∙◌, subst, append_assoc, append-nil}
+use Rattle.std.specs.Prelude.{Option, Result, Ok, Err, IsErrAnd, ℤ}
 use Rattle.std.specs.Io.KnownBytes.{Appends}
-use Rattle.std.proofs.KnownBytes.{Appends-nil, Appends-trans}
+use Rattle.std.proofs.KnownBytes.{Appends-trans}
 use Rattle.lot_cli.specs.declared.ledger.leg.Position.{Position}
 use Rattle.lot_cli.specs.declared.report.line.PrintFault.{PrintFault}
 use Rattle.lot_cli.specs.declared.report.holdings.Holdings.{Holdings}
 use Rattle.lot_cli.specs.declared.report.holdings.ReportFault.{ReportFault}
 use Rattle.lot_cli.specs.declared.report.holdings.ReportFault.TheVariants.{Range, Write, Memory}
 use Rattle.lot_cli.specs.Printed.{position_row, totals}
-use Rattle.lot_cli.specs.Written.{AppendsFront, Writes}
-use Rattle.lot_cli.specs.Report.{AllFit, HasTaken, StopsAtRow, TakesRow, WritesReport, IsReport, IsReportFront, fits, is_nil, rows_text, report_fault}
+use Rattle.lot_cli.specs.Written.{AppendsFront}
+use Rattle.lot_cli.specs.Report.{AllFit, HasTaken, StopsAtRow, TakesRow, WritesReport, IsReport, IsReportFront, fits, rows_text, report_fault}
 use Rattle.lot_cli.proofs.PrintLemmas.{front_step}
 
 -- some rows were taken and written, and these are left

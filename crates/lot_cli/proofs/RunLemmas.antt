@@ -1,6 +1,6 @@
 -- Runs of commands.
 use Rattle.std.proofs.Common.{inl, inr, ◌≡◌, ℕ, List, [], ◌∷◌, ◌++◌, length, refl, sym, ap, ◌∙◌, subst, append_assoc, append-nil}
-use Rattle.std.specs.Prelude.{suc, ◌+◌, Option, Result, Ok, Err}
+use Rattle.std.specs.Prelude.{suc, ◌+◌, Option, Ok, Err}
 use native.Mathlib.Omega.{arith}
 use Rattle.std.specs.Io.KnownBytes.{Appends}
 use Rattle.std.proofs.KnownBytes.{Appends-trans}
@@ -13,8 +13,7 @@ use Rattle.lot_cli.specs.declared.text.command.Command.{Command}
 use Rattle.lot_cli.specs.Status.{fault_at, status_after, status_of_verdict}
 use Rattle.lot_cli.specs.Printed.{reply, replies}
 use Rattle.lot_cli.specs.Book.{Judges, JudgesAll}
-use Rattle.lot_cli.specs.Written.{AppendsFront}
-use Rattle.lot_cli.specs.Answer.{EndsRun, Replies, Runs, StopsInRun, status_of_replies}
+use Rattle.lot_cli.specs.Answer.{EndsRun, Replies, Runs, status_of_replies}
 use Rattle.lot_cli.proofs.PrintLemmas.{front_step}
 
 -- a fault of a reply ends a run

@@ -1,5 +1,5 @@
 -- Legs, and what they hold: a holding is a sum over all legs ever booked (after Beancount's How Inventories Work).
-use Rattle.std.specs.Prelude.{◌≡◌, ℕ, Bool, List, ◌++◌, map, filter, flat_map, Option, None, Some, ℤ, pos, if◌then◌else◌}
+use Rattle.std.specs.Prelude.{◌≡◌, Bool, List, ◌++◌, map, filter, flat_map, Option, None, Some, ℤ, pos, if◌then◌else◌}
 use Rattle.std.specs.declared.cmp.Ordering.{Ordering}
 use Rattle.std.specs.Ordering.{nat_cmp, int_cmp, int_eq, is_eq, ordering_then}
 use Rattle.std.specs.Option.{option_cmp, unwrap_or}

@@ -1,6 +1,6 @@
 -- What becomes of a command: it is accepted with its legs, or refused by the first refusal whose condition holds.
 -- Each condition looks over all entries of the book (docs/RULES.md, Refusals).
-use Rattle.std.specs.Prelude.{◌≡◌, ◌≢◌, ℕ, suc, ◌+◌, ◌^◌, ◌≤◌, Bool, false, not, nat_lt, nat_le, if◌then◌else◌, List, [], ◌∷◌, ◌++◌, length, map, find, Option, None, Some, ℤ, int_lt, unsigned_abs, ⊤}
+use Rattle.std.specs.Prelude.{◌≡◌, ◌≢◌, ℕ, ◌+◌, ◌^◌, Bool, false, not, nat_lt, nat_le, if◌then◌else◌, List, [], ◌∷◌, ◌++◌, length, find, Option, None, Some, ℤ, int_lt, unsigned_abs, ⊤}
 use Rattle.std.specs.Option.{option_map, option_or, is_none}
 use Rattle.lot_cli.specs.declared.ledger.leg.Leg.{Leg}
 use Rattle.lot_cli.specs.declared.ledger.leg.Entry.{Entry}

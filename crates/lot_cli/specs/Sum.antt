@@ -1,5 +1,5 @@
 -- Sums and places in lists of whole numbers, names and tests.
-use Rattle.std.specs.Prelude.{ℕ, suc, map, ◌==◌, ◌&&◌, Bool, not, if◌then◌else◌, List, [], ◌∷◌, filter, Option, None, Some, ℤ, pos, ◌+ℤ◌, position}
+use Rattle.std.specs.Prelude.{ℕ, suc, map, ◌==◌, Bool, not, List, [], ◌∷◌, filter, Option, ℤ, pos, ◌+ℤ◌, position}
 use Rattle.std.specs.Option.{option_map}
 use Rattle.std.specs.Cmp.Lexicographic.{pointwise}
 

@@ -102,6 +102,7 @@ fn conclude<W: Write>(writer: &mut W, outcome: Result<Status, Fault>) -> Status
 {
     match outcome {
         Ok(status) => flushed(writer, status),
+        Err(Fault::Write) => Status::Stopped,
         Err(fault) => match print_fault(writer, fault) {
             Ok(()) => flushed(writer, fault.status()),
             Err(_) => Status::Stopped,

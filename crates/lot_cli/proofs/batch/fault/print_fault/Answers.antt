@@ -1,4 +1,3 @@
-use Rattle.std.proofs.Common.{rules}
 use Rattle.lot_cli.proofs.batch.fault.print_fault.Goals as goal
 
 pub returns-in-MemoryAt : goal.returns-in-MemoryAt

@@ -1,6 +1,5 @@
 -- No more legs than postings, and no more than 64 of those.
 use Rattle.std.proofs.Common.{◌≡◌, ◌+◌, None, length, sym, ap, ◌∙◌, arith}
-use Rattle.lot_cli.specs.Balance.{first_legs}
 use Rattle.lot_cli.specs.Step.{too_many_postings}
 use Rattle.lot_cli.proofs.BookLemmas.{amount_legs-few, few-postings}
 use Rattle.lot_cli.proofs.ledger.book.Book.decide_transaction.Goals as goal
