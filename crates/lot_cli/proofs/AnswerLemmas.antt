@@ -18,7 +18,8 @@ use Rattle.lot_cli.specs.Printed.{replies, fault_line}
 use Rattle.lot_cli.specs.Book.{JudgesAll}
 use Rattle.lot_cli.specs.Written.{AppendsFront, IsPrefixOf}
 use Rattle.lot_cli.specs.Report.{IsReportFront, WritesReport}
-use Rattle.lot_cli.specs.Answer.{limit, Runs, StopsInRun, StopsAtFront, Reaches, Concludes, Tells, IsAnswer, IsStopLine, IsFront, IsJudged, IsWhole, status_of_replies}
+use Rattle.lot_cli.specs.Answer.{limit, Tells, IsAnswer, IsStopLine, IsFront, IsJudged, IsWhole, status_of_replies}
+use Rattle.lot_cli.specs.Way.{Runs, StopsInRun, StopsAtFront, Reaches, Concludes}
 use Rattle.lot_cli.proofs.PrintLemmas.{front_step}
 
 -- ---- A text that was read.

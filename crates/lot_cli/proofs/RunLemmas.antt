@@ -13,7 +13,8 @@ use Rattle.lot_cli.specs.declared.text.command.Command.{Command}
 use Rattle.lot_cli.specs.Status.{fault_at, status_after, status_of_verdict}
 use Rattle.lot_cli.specs.Printed.{reply, replies}
 use Rattle.lot_cli.specs.Book.{Judges, JudgesAll}
-use Rattle.lot_cli.specs.Answer.{EndsRun, Replies, Runs, status_of_replies}
+use Rattle.lot_cli.specs.Answer.{status_of_replies}
+use Rattle.lot_cli.specs.Way.{EndsRun, Replies, Runs}
 use Rattle.lot_cli.proofs.PrintLemmas.{front_step}
 
 -- a fault of a reply ends a run

@@ -11,3 +11,4 @@ pub mod Report
 pub mod Status
 pub mod Written
 pub mod Answer
+pub mod Way

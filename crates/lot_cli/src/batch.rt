@@ -7,7 +7,8 @@ ghost use Rattle.std.specs.Prelude.{◌≡◌, ◌⊎◌, ◌≤◌, ℕ, List, 
 ghost use Rattle.std.specs.Io.KnownBytes.{Appends, Keeps};
 ghost use Rattle.lot_cli.specs.Status.{IsStatus};
 ghost use Rattle.lot_cli.specs.declared.batch.status.Status as Status;
-ghost use Rattle.lot_cli.specs.Answer.{Concludes, Reaches, Replies, Runs, Tells, limit};
+ghost use Rattle.lot_cli.specs.Answer.{Tells, limit};
+ghost use Rattle.lot_cli.specs.Way.{Concludes, Reaches, Replies, Runs};
 
 mod fault;
 mod status;

@@ -8,7 +8,7 @@ use thiserror::Error;
 /// Why a text is refused as a number. Of several that hold the first in this order is told.
 #[derive(Clone, Copy, Debug, PartialEq, Eq, Error)]
 pub enum NumberFault {
-    /// Outside the grammar: no sign, digits with a comma only between two of them, or point and decimals.
+    /// The text is outside the grammar of numbers.
     #[error("this is not a number")]
     Syntax,
     /// A decimal past the eighth is not zero.

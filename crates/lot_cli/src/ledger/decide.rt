@@ -212,6 +212,7 @@ impl Book {
         match told.or(self.held(&leg.position)) {
             Some(held) => held.checked_add(leg.units),
             // Where nothing is held the leg's units are the sum. They are in range, which their mantissa tells.
+            // They are units, as they stand. Made anew, the proof sees it.
             None => Units::from_mantissa(leg.units.mantissa()),
         }
     }
