@@ -3,7 +3,7 @@ use Rattle.std.specs.Prelude.{◌≡◌, List, [], ◌∷◌, map, Bool, true, f
 use Rattle.std.specs.declared.cmp.Ordering.{Ordering}
 use Rattle.std.specs.declared.cmp.Ordering.TheVariants.{Less, Equal, Greater}
 use Rattle.std.specs.FinMap.{FinMap, entries, entries_sorted, from_entries, retain_keys, get, get-entries, get-retain_keys, get-from_entries}
-use Rattle.std.specs.FinMap.Entries.{find, is_sorted, below_all, same_entries}
+use Rattle.std.specs.FinMap.Entries.{find, is_sorted, below_all}
 use Rattle.std.specs.List.{AllByRecursion}
 use Rattle.std.specs.List.Sorted.{IsStrictlySortedBy}
 use Rattle.std.specs.Map.{keys_of, lookup}
@@ -14,30 +14,14 @@ use Rattle.std.proofs.lemmas.Bool.{true≢false}
 use Rattle.lot_cli.specs.declared.ledger.leg.Position.{Position}
 use Rattle.lot_cli.specs.declared.ledger.leg.Leg.{Leg}
 use Rattle.lot_cli.specs.Leg.{position_cmp, same_position, held, non_zero, IsInventory}
-use Rattle.lot_cli.proofs.LawOrder.{positions_total, exact_positions, one_position}
-use Rattle.lot_cli.proofs.LawSums.{by_bool, sum_where_apart}
-
-found_by_order : (rows : List (Position × ℤ)) (p : Position) → find position_cmp p rows ≡ lookup (same_position p) rows
-found_by_order [] p = refl
-found_by_order (row ∷ rows) p = ap (cond (same_position p row.0) (Some row.1)) (found_by_order rows p)
-
-below_rows : (p : Position) (rows : List (Position × ℤ)) → AllByRecursion (λ (q : Position). position_cmp p q ≡ Less) (keys_of rows) → T (below_all position_cmp p rows)
-below_rows p [] h = tt
-below_rows p (row ∷ rows) h = subst (λ o. T (is_lt o && below_all position_cmp p rows)) (sym h.0) (below_rows p rows h.1)
-
-both_hold : (a b : Bool) → T a → T b → T (a && b)
-both_hold true b s t = t
-both_hold false b s t = absurd s
-
-rows_sorted : (rows : List (Position × ℤ)) → IsStrictlySortedBy position_cmp (keys_of rows) → T (is_sorted position_cmp rows)
-unfolding IsStrictlySortedBy
-rows_sorted [] h = tt
-rows_sorted (row ∷ rows) h = both_hold (below_all position_cmp row.0 rows) (is_sorted position_cmp rows) (below_rows row.0 rows h.0) (rows_sorted rows h.1)
+use Rattle.lot_cli.proofs.MapLemmas.{one_map, found_by_order}
+use Rattle.lot_cli.proofs.OrderLemmas.{positions_total, exact_positions, one_position}
+use Rattle.lot_cli.proofs.CaseLemmas.{by_bool}
+use Rattle.lot_cli.proofs.SumLemmas.{sum_where_apart}
 
 pub one_inventory : (legs : List Leg) (rows others : List (Position × ℤ)) → IsInventory legs rows → IsInventory legs others → rows ≡ others
 one_inventory legs rows others h k =
-    same_entries position_cmp positions_total exact_positions rows others (rows_sorted rows h.in_order) (rows_sorted others k.in_order)
-    (λ p. found_by_order rows p ∙ h.each p ∙ sym (k.each p) ∙ sym (found_by_order others p))
+    one_map position_cmp positions_total exact_positions rows others h.in_order k.in_order (λ p. h.each p ∙ sym (k.each p))
 
 -- ---- There is one.
 
@@ -104,6 +88,6 @@ some_inventory legs = (
   entries (holdings legs),
   record {
     in_order = keys_sorted (entries (holdings legs)) (entries_sorted (holdings legs));
-    each = λ p. sym (found_by_order (entries (holdings legs)) p) ∙ sym (get-entries (holdings legs) p) ∙ get-holdings legs p;
+    each = λ p. sym (found_by_order position_cmp p (entries (holdings legs))) ∙ sym (get-entries (holdings legs) p) ∙ get-holdings legs p;
   },
 )

@@ -1,5 +1,5 @@
 -- Entries in the order of their keys are told apart by what is looked up in them.
-use Rattle.std.specs.Prelude.{◌≡◌, List, [], ◌∷◌, Bool, true, false, cond, ◌&&◌, T, Option, Some}
+use Rattle.std.specs.Prelude.{◌≡◌, List, [], ◌∷◌, Bool, true, false, cond, ◌&&◌, T, Option, None, Some}
 use Rattle.std.specs.declared.cmp.Ordering.{Ordering}
 use Rattle.std.specs.declared.cmp.Ordering.TheVariants.{Less}
 use Rattle.std.specs.Cmp.{IsTotalOrder}
@@ -20,7 +20,7 @@ module _ {K X : Type 0} (order : K → K → Ordering) where
   abbrev value_at : K → List (K × X) → Option X
   value_at key entries = lookup (λ other. is_eq (order key other)) entries
 
-  found_by_order : (key : K) (entries : List (K × X)) → find order key entries ≡ value_at key entries
+  pub found_by_order : (key : K) (entries : List (K × X)) → find order key entries ≡ value_at key entries
   found_by_order key [] = refl
   found_by_order key (entry ∷ entries) = ap (cond (is_eq (order key entry.0)) (Some entry.1)) (found_by_order key entries)
 
@@ -39,3 +39,8 @@ module _ {K X : Type 0} (order : K → K → Ordering) where
   one_map total exact entries others h k alike =
       same_entries order total exact entries others (in_order entries h) (in_order others k)
       (λ key. found_by_order key entries ∙ alike key ∙ sym (found_by_order key others))
+
+  -- nothing is found at a key below all others
+  pub none_below : (key : K) (entries : List (K × X)) → AllByRecursion (λ (other : K). order key other ≡ Less) (keys_of entries) → value_at key entries ≡ None
+  none_below key [] h = refl
+  none_below key (entry ∷ entries) h = ap (λ o. cond (is_eq o) (Some entry.1) (value_at key entries)) h.0 ∙ none_below key entries h.1
