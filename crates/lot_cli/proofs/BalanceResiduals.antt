@@ -13,7 +13,7 @@ use Rattle.lot_cli.specs.Balance.{weight_of, currencies, residuals, add_weight, 
 use Rattle.std.proofs.Math.IntN.{+ℤ_idl}
 use Rattle.lot_cli.proofs.CaseLemmas.{by_bool}
 use Rattle.lot_cli.proofs.NameLemmas.{one_name, same_name-itself, name_turned, without, beside}
-use Rattle.lot_cli.proofs.SumLemmas.{list_any-map, sum_in-none, sum_in-push_here, sum_in-push_apart}
+use Rattle.lot_cli.proofs.SumLemmas.{sum_in-unnamed, sum_in-push_here, sum_in-push_apart}
 
 -- ---- Names.
 
@@ -93,9 +93,6 @@ any_first_appearances n (m ∷ names) = by_bool (same_name n m)
 abbrev name_of : List ℕ × ℤ → List ℕ
 name_of w = w.0
 
-sum_in-absent : (name : List ℕ) (ws : List (List ℕ × ℤ)) → list_any (same_name name) (map name_of ws) ≡ false → sum_in ws name ≡ pos 0
-sum_in-absent name ws none = sum_in-none name ws (sym (list_any-map (same_name name) name_of ws) ∙ none)
-
 -- ---- Names beside numbers.
 
 -- two numbers of each name, the second with a weight in the name n
@@ -132,7 +129,7 @@ sums_of-push ws w =
       there = λ k other. sum_in-push_apart ws w k other;
     } in
     let new : list_any (same_name w.0) (currencies ws) ≡ false → sum_in more w.0 ≡ w.1 = λ none.
-    adds.here w.0 (same_name-itself w.0) ∙ ap (λ z. z +ℤ w.1) (sum_in-absent w.0 ws (sym (any_first_appearances w.0 (map name_of ws)) ∙ none)) ∙ +ℤ_idl w.1 in
+    adds.here w.0 (same_name-itself w.0) ∙ ap (λ z. z +ℤ w.1) (sum_in-unnamed w.0 ws (sym (any_first_appearances w.0 (map name_of ws)) ∙ none)) ∙ +ℤ_idl w.1 in
     ap (λ names. beside (sum_in more) (first_appearances names)) (map-append name_of ws (w ∷ []))
     ∙ ap (beside (sum_in more)) (first_appearances-push (map name_of ws) w.0)
     ∙ beside-add_name (sum_in ws) (sum_in more) w.0 w.1 (currencies ws) adds (AreApart-first_appearances (map name_of ws)) new

@@ -5,7 +5,7 @@ use Rattle.std.specs.Option.{option_map}
 use Rattle.std.specs.Cmp.Lexicographic.{bytes_decides}
 use Rattle.std.proofs.Common.{refl, sym, ap, subst, ◌∙◌, arith, ◌+◌}
 use Rattle.std.specs.Cmp.{first_so, signed_Decides}
-use Rattle.std.proofs.lemmas.Bool.{eqb-true}
+use Rattle.std.proofs.lemmas.Bool.{not-false, eqb-true}
 use Rattle.std.proofs.lemmas.Int.{quot-rem}
 use Rattle.std.proofs.Math.IntN.{+ℤ_idl, +ℤ_idr, +ℤ_invr, neg_ℤ-+ℤ, neg_ℤ-neg_ℤ}
 use Rattle.lot_num.specs.Amount.{one}
@@ -23,7 +23,7 @@ use Rattle.lot_cli.specs.Laws.{Balances}
 use Rattle.lot_cli.proofs.BalanceLemmas.{opposite_exact}
 use Rattle.lot_cli.proofs.CaseLemmas.{by_bool}
 use Rattle.lot_cli.proofs.NameLemmas.{one_name, without, beside}
-use Rattle.lot_cli.proofs.SumLemmas.{list_any-map, sum_in-cons, sum_in_here, sum_in_apart, sum_in-append, sum_in-none}
+use Rattle.lot_cli.proofs.SumLemmas.{sum_in-cons, sum_in_here, sum_in_apart, sum_in-append, sum_in-unnamed}
 
 -- ---- Residuals.
 
@@ -66,7 +66,7 @@ nothing_in name ps =
     let any = list_any (same_name name) (map (λ (p : List ℕ × ℤ). p.0) ps) in
     by_bool any
     (λ e. ap (λ b. cond b (sum_in ps name) (pos 0)) e)
-    (λ e. ap (λ b. cond b (sum_in ps name) (pos 0)) e ∙ sym (sum_in-none name ps (sym (list_any-map (same_name name) (λ (p : List ℕ × ℤ). p.0) ps) ∙ e)))
+    (λ e. ap (λ b. cond b (sum_in ps name) (pos 0)) e ∙ sym (sum_in-unnamed name ps e))
 
 -- what the residuals have in a currency is what the weights have there
 residuals_sum : (legs : List Leg) (currency : List ℕ) → sum_in (residuals legs) currency ≡ sum_in (map weight_of legs) currency
@@ -134,19 +134,15 @@ none_of [] h = tt
 none_of (None ∷ more) h = (refl, none_of more h)
 none_of (Some refusal ∷ more) h = absurd h
 
-not_twice : (b : Bool) → not b ≡ false → b ≡ true
-not_twice true e = refl
-not_twice false e = cc
-
 are_units : (rs : List (List ℕ × ℤ)) → AllByRecursion (λ (r : List ℕ × ℤ). not (is_units r.1) ≡ false) rs → AreUnits rs
 unfolding AreUnits
 are_units [] h = tt
-are_units (r ∷ rs) h = (not_twice (is_units r.1) h.0, are_units rs h.1)
+are_units (r ∷ rs) h = (not-false (is_units r.1) h.0, are_units rs h.1)
 
 zero_sum : (rs : List (List ℕ × ℤ)) (name : List ℕ) → AllByRecursion (λ (r : List ℕ × ℤ). not (is_zero r.1) ≡ false) rs → sum_in rs name ≡ pos 0
 zero_sum [] name h = refl
 zero_sum (r ∷ rs) name h = by_bool (same_name name r.0)
-    (λ e. sum_in_here r rs name e ∙ ap (λ z. z +ℤ sum_in rs name) ((signed_Decides r.1 (pos 0)).0 (not_twice (is_zero r.1) h.0)) ∙ +ℤ_idl (sum_in rs name) ∙ zero_sum rs name h.1)
+    (λ e. sum_in_here r rs name e ∙ ap (λ z. z +ℤ sum_in rs name) ((signed_Decides r.1 (pos 0)).0 (not-false (is_zero r.1) h.0)) ∙ +ℤ_idl (sum_in rs name) ∙ zero_sum rs name h.1)
     (λ e. sum_in_apart r rs name e ∙ zero_sum rs name h.1)
 
 -- ---- A transaction balances.

@@ -8,6 +8,7 @@ use Rattle.std.specs.Option.{is_some}
 use Rattle.std.specs.Ordering.{int_eq, is_eq}
 use Rattle.std.specs.Cmp.{signed_Decides}
 use Rattle.std.proofs.Common.{refl, sym, ap, ◌∙◌, arith, ◌+◌}
+use Rattle.std.proofs.lemmas.Option.{none-some, same_Some}
 use Rattle.std.proofs.Math.IntN.{+ℤ_assoc, +ℤ_comm, +ℤ_idl, +ℤ_idr}
 use Rattle.lot_cli.specs.declared.ledger.leg.Position.{Position}
 use Rattle.lot_cli.specs.declared.ledger.leg.Leg.{Leg}
@@ -128,21 +129,12 @@ nothing_in_those passes (suc most) (leg ∷ legs) within h =
 from_non_zero : (z : ℤ) → None ≡ non_zero z → z ≡ pos 0
 from_non_zero z e = by_bool (int_eq z (pos 0))
     (λ t. (signed_Decides z (pos 0)).0 t)
-    (λ f. absurd (none_some z (e ∙ ap (λ b. cond b None (Some z)) f)))
-  where
-    none_some : (z : ℤ) → ◌≡◌ {A = Option ℤ} None (Some z) → ⊥
-    none_some z e = cc
+    (λ f. absurd (none-some z (e ∙ ap (λ b. cond b None (Some z)) f)))
 
 from_some : (v z : ℤ) → Some v ≡ non_zero z → v ≡ z
 from_some v z e = by_bool (int_eq z (pos 0))
-    (λ t. absurd (some_none v (e ∙ ap (λ b. cond b None (Some z)) t)))
-    (λ f. some_some v z (e ∙ ap (λ b. cond b None (Some z)) f))
-  where
-    some_none : (z : ℤ) → ◌≡◌ {A = Option ℤ} (Some z) None → ⊥
-    some_none z e = cc
-
-    some_some : (v z : ℤ) → ◌≡◌ {A = Option ℤ} (Some v) (Some z) → v ≡ z
-    some_some v z e = cc
+    (λ t. absurd (none-some v (sym (e ∙ ap (λ b. cond b None (Some z)) t))))
+    (λ f. same_Some v z (e ∙ ap (λ b. cond b None (Some z)) f))
 
 -- the sum of the rows in positions that pass
 in_rows : (Position → Bool) → List (Position × ℤ) → ℤ

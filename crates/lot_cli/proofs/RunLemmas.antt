@@ -123,9 +123,3 @@ run_stops commands left rest command count number book status fault old mid new 
       ),
       ends,
     )
-
-pub run_ends : (commands left : List Command) (count : ℕ) (book : List Entry) (status : Status) (old new : Option (List ℕ))
-    → RanSoFar commands left count book status old new → left ≡ [] → Runs commands old new (Ok (book, status))
-run_ends commands left count book status old new so_far is =
-    let (done, verdicts, split, counted, all, before, status_is) = so_far in
-    (verdicts, subst (λ cs. JudgesAll [] cs verdicts book) (sym (split ∙ ap (λ cs. done ++ cs) is ∙ append-nil done)) all, before, status_is)

@@ -41,7 +41,7 @@ sum_where-push p f xs x =
     (λ e. ap (λ z. sum +ℤ z) (sum_where_apart p f x [] e) ∙ +ℤ_idr sum ∙ ap (λ b. cond b (sum +ℤ f x) sum) (sym e))
 
 -- whether one passes once they are mapped
-pub list_any-map : {X Y : Type 0} (p : Y → Bool) (f : X → Y) (xs : List X) → list_any p (map f xs) ≡ list_any (λ x. p (f x)) xs
+list_any-map : {X Y : Type 0} (p : Y → Bool) (f : X → Y) (xs : List X) → list_any p (map f xs) ≡ list_any (λ x. p (f x)) xs
 list_any-map p f [] = refl
 list_any-map p f (x ∷ xs) = ap (λ b. p (f x) || b) (list_any-map p f xs)
 
@@ -78,6 +78,9 @@ sum_in-push_here ps p name e = sum_where-push (in_name name) number ps p ∙ ap 
 pub sum_in-push_apart : (ps : List (List ℕ × ℤ)) (p : List ℕ × ℤ) (name : List ℕ) → same_name name p.0 ≡ false → sum_in (ps ++ p ∷ []) name ≡ sum_in ps name
 sum_in-push_apart ps p name e = sum_where-push (in_name name) number ps p ∙ ap (λ b. cond b (sum_in ps name +ℤ p.1) (sum_in ps name)) e
 
--- a name that no pair has sums to zero
+-- the sum in a name that no pair has is zero
 pub sum_in-none : (name : List ℕ) (ps : List (List ℕ × ℤ)) → list_any (in_name name) ps ≡ false → sum_in ps name ≡ pos 0
 sum_in-none name ps none = sum_where-none (in_name name) number ps none
+
+pub sum_in-unnamed : (name : List ℕ) (ps : List (List ℕ × ℤ)) → list_any (same_name name) (map (λ (p : List ℕ × ℤ). p.0) ps) ≡ false → sum_in ps name ≡ pos 0
+sum_in-unnamed name ps none = sum_in-none name ps (sym (list_any-map (same_name name) (λ (p : List ℕ × ℤ). p.0) ps) ∙ none)
