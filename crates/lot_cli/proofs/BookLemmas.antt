@@ -1,27 +1,15 @@
 -- What is held, leg by leg, and the legs of a transaction.
-use Rattle.std.proofs.Common.{◌≡◌, ℕ, suc, ◌+◌, ◌≤◌, inl, inr, Bool, true, false, cond, List, [], ◌∷◌, ◌++◌, length, drop, map, Option, Some, None, Ordering, refl, sym, ap, ◌∙◌, arith, add-one, append_assoc, length-append, ℤ, pos, ◌+ℤ◌}
-use Rattle.std.specs.declared.cmp.Ordering.TheVariants.{Less, Equal, Greater}
-use Rattle.std.specs.Cmp.{IsTotalOrder}
-use Rattle.std.specs.Cmp.Lexicographic.{options_total}
-use Rattle.std.specs.FinMap.{IsAntisymmetric}
-use Rattle.std.specs.List.{filter}
+use Rattle.std.proofs.Common.{◌≡◌, ℕ, suc, ◌+◌, ◌≤◌, inl, inr, false, cond, List, [], ◌∷◌, ◌++◌, length, drop, map, Option, Some, None, refl, sym, ap, ◌∙◌, arith, add-one, append_assoc, length-append, ℤ, pos, ◌+ℤ◌}
 use Rattle.std.specs.Map.{lookup}
-use Rattle.std.specs.Option.{option_cmp, option_or, unwrap_or}
-use Rattle.std.specs.Ordering.{int_eq, is_eq, ordering_then}
+use Rattle.std.specs.Option.{option_or, unwrap_or}
+use Rattle.std.specs.Ordering.{int_eq}
 use Rattle.std.proofs.lemmas.Bool.{cases_Bool, cases_lt}
 use Rattle.std.proofs.lemmas.Bool.Decides.{nat_tests}
-use Rattle.std.proofs.lemmas.Cmp.{nat_cmp_total, int_cmp_total, nat_list_cmp_total, on_total, then_total, tied_itself, eq_by_cmp_equiv}
-use Rattle.std.proofs.lemmas.Int.{ints}
-use Rattle.std.proofs.lemmas.List.{map-append, append-nil}
-use Rattle.std.proofs.lemmas.List.Elements.{filter-append}
-use Rattle.std.proofs.lemmas.Map.Lookups.{exact_signed, exact_bytes, exact_unsigned}
-use Rattle.lot_cli.specs.declared.ledger.leg.LotKey.{LotKey}
 use Rattle.lot_cli.specs.declared.ledger.leg.Position.{Position}
 use Rattle.lot_cli.specs.declared.ledger.leg.Leg.{Leg}
 use Rattle.lot_cli.specs.declared.text.command.Amount.{Amount}
 use Rattle.lot_cli.specs.declared.text.command.Posting.{Posting}
-use Rattle.lot_cli.specs.Sum.{sum_of}
-use Rattle.lot_cli.specs.Leg.{lot_cmp, position_cmp, same_position, held, TellsHeld, non_zero}
+use Rattle.lot_cli.specs.Leg.{same_position, held, TellsHeld, non_zero}
 use Rattle.lot_cli.specs.Balance.{amount_legs, posting_legs, legs_for, opposite}
 use Rattle.lot_cli.specs.Step.{too_many_postings}
 use Rattle.std.specs.Cmp.{signed_Decides}

@@ -1,18 +1,15 @@
 -- Sums of costs in each currency.
-use Rattle.std.proofs.Common.{rules, inr, IsTrue, ◌≡◌, ℕ, List, [], ◌∷◌, ◌++◌, refl, sym, ap, ◌∙◌, subst, append_assoc, append-nil}
+use Rattle.std.proofs.Common.{rules, inr, IsTrue, ◌≡◌, ℕ, List, [], ◌∷◌, ◌++◌, refl, sym, ap, ◌∙◌, subst, append-nil}
 use Rattle.std.specs.Prelude.{Result, Ok, Err, OnOk, IsErrOf, IsErrAnd, Bool, not, ◌*ℤ◌, true, false, cond, ◌||◌, ◌&&◌, if◌then◌else◌, Option, None, Some, ℤ, pos, ◌+ℤ◌}
 use Rattle.std.specs.List.{list_all}
 use Rattle.std.specs.List.Sorted.{IsStrictlySortedBy}
 use Rattle.std.specs.Map.{keys_of, lookup}
 use Rattle.std.specs.Ordering.{nat_cmp, is_eq}
-use Rattle.std.specs.Cmp.Lexicographic.{slice_cmp, texts_ties, nat_list_eq_equiv, bytes_decides}
+use Rattle.std.specs.Cmp.Lexicographic.{slice_cmp}
 use Rattle.std.specs.Option.{unwrap_or}
-use mathlib.Core.Bool.{true≢false}
-use native.Mathlib.Omega.{arith}
-use Rattle.std.proofs.lemmas.Int.{ints}
 use Rattle.lot_cli.specs.Printed.{position_row}
 use Rattle.lot_cli.specs.Written.{AppendsFront}
-use Rattle.lot_cli.specs.Sum.{sum_of, sum_in, same_name}
+use Rattle.lot_cli.specs.Sum.{sum_in, same_name}
 use Rattle.lot_cli.specs.declared.ledger.leg.LotKey.{LotKey}
 use Rattle.lot_cli.specs.declared.ledger.leg.Position.{Position}
 use Rattle.lot_cli.specs.declared.report.line.PrintFault.{PrintFault}

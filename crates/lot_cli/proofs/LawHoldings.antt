@@ -1,11 +1,9 @@
 -- What a book holds at cost is what its commands bought.
 use Rattle.std.specs.Prelude.{◌≡◌, ℕ, zero, suc, ◌≤◌, ◌&&◌, Bool, true, false, cond, not, List, [], ◌∷◌, ◌++◌, map, filter, length, Option, None, Some, ℤ, pos, ◌+ℤ◌}
-use Rattle.std.specs.declared.cmp.Ordering.TheVariants.{Less}
-use Rattle.std.specs.List.{AllByRecursion}
 use Rattle.std.specs.List.Sorted.{IsStrictlySortedBy}
 use Rattle.std.specs.Map.{keys_of, lookup}
 use Rattle.std.specs.Option.{is_some}
-use Rattle.std.specs.Ordering.{int_eq, is_eq}
+use Rattle.std.specs.Ordering.{int_eq}
 use Rattle.std.specs.Cmp.{signed_Decides}
 use Rattle.std.proofs.Common.{refl, sym, ap, ◌∙◌, arith, ◌+◌}
 use Rattle.std.proofs.lemmas.Option.{none-some, same_Some}

@@ -6,10 +6,10 @@ use Rattle.std.specs.FinMap.{FinMap, entries, entries_sorted, from_entries, reta
 use Rattle.std.specs.FinMap.Entries.{find, is_sorted, below_all}
 use Rattle.std.specs.List.{AllByRecursion}
 use Rattle.std.specs.List.Sorted.{IsStrictlySortedBy}
-use Rattle.std.specs.Map.{keys_of, lookup}
+use Rattle.std.specs.Map.{keys_of}
 use Rattle.std.specs.Ordering.{is_lt, int_eq}
 use Rattle.std.specs.Cmp.{signed_Decides}
-use Rattle.std.proofs.Common.{refl, sym, ap, subst, ◌∙◌, ◌⊎◌, inl, inr, ⊎_elim}
+use Rattle.std.proofs.Common.{refl, sym, ap, ◌∙◌, ◌⊎◌, inl, inr, ⊎_elim}
 use Rattle.std.proofs.lemmas.Bool.{true≢false}
 use Rattle.lot_cli.specs.declared.ledger.leg.Position.{Position}
 use Rattle.lot_cli.specs.declared.ledger.leg.Leg.{Leg}

@@ -1,5 +1,5 @@
 -- The order of positions is total, and tells all of them apart.
-use Rattle.std.specs.Prelude.{◌≡◌, Bool, true, Option, None, Some}
+use Rattle.std.specs.Prelude.{◌≡◌, true, Option, None, Some}
 use Rattle.std.specs.declared.cmp.Ordering.{Ordering}
 use Rattle.std.specs.declared.cmp.Ordering.TheVariants.{Less, Equal, Greater}
 use Rattle.std.specs.Cmp.{IsTotalOrder, Equal-is, tied_itself}
