@@ -1,20 +1,15 @@
 -- Legs have one inventory: each position with what it holds, in the order of the positions.
-use Rattle.std.specs.Prelude.{◌≡◌, List, [], ◌∷◌, map, Bool, true, false, cond, not, ◌&&◌, T, None, Some, ℤ, pos}
-use Rattle.std.specs.declared.cmp.Ordering.{Ordering}
-use Rattle.std.specs.declared.cmp.Ordering.TheVariants.{Less, Equal, Greater}
+use Rattle.std.specs.Prelude.{◌≡◌, List, [], ◌∷◌, map, cond, not, None, Some, ℤ, pos}
 use Rattle.std.specs.FinMap.{FinMap, entries, entries_sorted, from_entries, retain_keys, get, get-entries, get-retain_keys, get-from_entries}
-use Rattle.std.specs.FinMap.Entries.{find, is_sorted, below_all}
-use Rattle.std.specs.List.{AllByRecursion}
-use Rattle.std.specs.List.Sorted.{IsStrictlySortedBy}
-use Rattle.std.specs.Map.{keys_of}
-use Rattle.std.specs.Ordering.{is_lt, int_eq}
+use Rattle.std.specs.FinMap.Entries.{find}
+use Rattle.std.specs.Ordering.{int_eq}
 use Rattle.std.specs.Cmp.{signed_Decides}
 use Rattle.std.proofs.Common.{refl, sym, ap, ◌∙◌, ◌⊎◌, inl, inr, ⊎_elim}
 use Rattle.std.proofs.lemmas.Bool.{true≢false}
 use Rattle.lot_cli.specs.declared.ledger.leg.Position.{Position}
 use Rattle.lot_cli.specs.declared.ledger.leg.Leg.{Leg}
 use Rattle.lot_cli.specs.Leg.{position_cmp, same_position, held, non_zero, IsInventory}
-use Rattle.lot_cli.proofs.MapLemmas.{one_map, found_by_order}
+use Rattle.lot_cli.proofs.MapLemmas.{one_map, found_by_order, keys_sorted}
 use Rattle.lot_cli.proofs.OrderLemmas.{positions_total, exact_positions, one_position}
 use Rattle.lot_cli.proofs.CaseLemmas.{by_bool}
 use Rattle.lot_cli.proofs.SumLemmas.{sum_where_apart}
@@ -24,34 +19,6 @@ one_inventory legs rows others h k =
     one_map position_cmp positions_total exact_positions rows others h.in_order k.in_order (λ p. h.each p ∙ sym (k.each p))
 
 -- ---- There is one.
-
-first_holds : (a b : Bool) → T (a && b) → T a
-first_holds true b h = tt
-first_holds false b h = h
-
-second_holds : (a b : Bool) → T (a && b) → T b
-second_holds true b h = h
-second_holds false b h = absurd h
-
-is_less : (o : Ordering) → T (is_lt o) → o ≡ Less
-is_less Less h = refl
-is_less Equal h = absurd h
-is_less Greater h = absurd h
-
-keys_above : (p : Position) (rows : List (Position × ℤ)) → T (below_all position_cmp p rows) → AllByRecursion (λ (q : Position). position_cmp p q ≡ Less) (keys_of rows)
-keys_above p [] h = tt
-keys_above p (row ∷ rows) h = (
-  is_less (position_cmp p row.0) (first_holds (is_lt (position_cmp p row.0)) (below_all position_cmp p rows) h),
-  keys_above p rows (second_holds (is_lt (position_cmp p row.0)) (below_all position_cmp p rows) h),
-)
-
-keys_sorted : (rows : List (Position × ℤ)) → T (is_sorted position_cmp rows) → IsStrictlySortedBy position_cmp (keys_of rows)
-unfolding IsStrictlySortedBy
-keys_sorted [] h = tt
-keys_sorted (row ∷ rows) h = (
-  keys_above row.0 rows (first_holds (below_all position_cmp row.0 rows) (is_sorted position_cmp rows) h),
-  keys_sorted rows (second_holds (below_all position_cmp row.0 rows) (is_sorted position_cmp rows) h),
-)
 
 -- each leg's position beside a number
 with_numbers : (Position → ℤ) → List Leg → List (Position × ℤ)
@@ -87,7 +54,7 @@ pub some_inventory : (legs : List Leg) → (rows : List (Position × ℤ)) × Is
 some_inventory legs = (
   entries (holdings legs),
   record {
-    in_order = keys_sorted (entries (holdings legs)) (entries_sorted (holdings legs));
+    in_order = keys_sorted position_cmp (entries (holdings legs)) (entries_sorted (holdings legs));
     each = λ p. sym (found_by_order position_cmp p (entries (holdings legs))) ∙ sym (get-entries (holdings legs) p) ∙ get-holdings legs p;
   },
 )
