@@ -1,6 +1,7 @@
 -- Weights and residuals.
 use Rattle.std.proofs.Common.{◌≡◌, ◌≢◌, ℕ, zero, suc, ◌*◌, ◌/◌, ◌%◌, ◌^◌, ◌<◌, ℤ, pos, negsuc, ◌*ℤ◌, neg_ℤ, Bool, true, false, not, ◌&&◌, List, ◌∷◌, map, filter, Some, refl, ap, ◌∙◌, sym, true≢false, arith, eqb, ltb}
 use Rattle.std.specs.Prelude.{int_div, unsigned_abs}
+use Rattle.std.proofs.lemmas.Bool.{false_from_ne_true}
 use Rattle.std.proofs.lemmas.Bool.Decides.{nat_tests, Decides-int_eq}
 use Rattle.std.proofs.lemmas.Int.{unsigned_abs-mul}
 use Rattle.lot_num.specs.Amount.{one, IsUnits}
@@ -57,11 +58,8 @@ weight_from_units (negsuc a) h = (
 )
 
 pub no_units_from_weight : (z : ℤ) → ((u : ℤ) → IsUnits u → z ≡ u *ℤ pos one → ⊥) → is_units z ≡ false
-no_units_from_weight z none = by (is_units z) refl
-  where
-    by : (b : Bool) → is_units z ≡ b → is_units z ≡ false
-    by true e = let found = weight_from_units z e in absurd (none found.0 found.1 found.2)
-    by false e = e
+no_units_from_weight z none =
+    false_from_ne_true (is_units z) (λ e. let found = weight_from_units z e in none found.0 found.1 found.2)
 
 zero_size : (u : ℤ) → unsigned_abs u ≡ 0 → u ≡ pos 0
 zero_size (pos n) e = ap pos e
@@ -73,11 +71,7 @@ times_one-zero u e =
     zero_size u (omega arith)
 
 not_zero : (z : ℤ) → z ≢ pos 0 → is_zero z ≡ false
-not_zero z other = by (is_zero z) refl
-  where
-    by : (b : Bool) → is_zero z ≡ b → is_zero z ≡ false
-    by true e = absurd (other ((Decides-int_eq z (pos 0)).0 e))
-    by false e = e
+not_zero z other = false_from_ne_true (is_zero z) (λ e. other ((Decides-int_eq z (pos 0)).0 e))
 
 units_is_zero : (u : ℤ) → is_zero (u *ℤ pos one) ≡ is_zero u
 units_is_zero u = by (is_zero u) refl

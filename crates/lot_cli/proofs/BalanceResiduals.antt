@@ -1,35 +1,25 @@
 -- One more leg: its weight is added to the residual of its currency.
-use Rattle.std.proofs.Common.{◌≡◌, ℕ, ◌+◌, ◌*◌, ◌^◌, ◌≤◌, ◌<◌, ℤ, pos, ◌+ℤ◌, Bool, true, false, cond, not, ◌||◌, List, [], ◌∷◌, ◌++◌, length, get_or, take, map, filter, None, Some, refl, ap, ◌∙◌, sym, true≢false, arith}
+use Rattle.std.proofs.Common.{◌≡◌, ℕ, ◌+◌, ◌*◌, ◌^◌, ◌≤◌, ◌<◌, ℤ, ◌+ℤ◌, true, false, cond, not, ◌||◌, List, [], ◌∷◌, ◌++◌, length, get_or, take, map, None, Some, refl, ap, ◌∙◌, sym, arith}
 use Rattle.std.specs.Prelude.{⊤, unsigned_abs}
 use Rattle.std.specs.List.{AllByRecursion, list_any}
 use Rattle.std.specs.Map.{lookup}
-use Rattle.std.specs.Cmp.Lexicographic.{bytes_decides, nat_list_eq_equiv}
 use Rattle.std.proofs.lemmas.Int.{ints}
 use Rattle.std.proofs.lemmas.List.{map-append, take_more}
 use Rattle.indexmap.specs.IndexMap.{insert_entry}
 use Rattle.lot_cli.specs.declared.ledger.leg.Leg.{Leg}
 use Rattle.lot_cli.specs.Sum.{same_name, sum_in, first_appearances}
 use Rattle.lot_cli.specs.Balance.{weight_of, currencies, residuals, add_weight, AreWithin}
-
-by_bool : {P : Type 0} (b : Bool) → (b ≡ true → P) → (b ≡ false → P) → P
-by_bool true holds fails = holds refl
-by_bool false holds fails = fails refl
+use Rattle.std.proofs.Math.IntN.{+ℤ_idl}
+use Rattle.lot_cli.proofs.CaseLemmas.{by_bool}
+use Rattle.lot_cli.proofs.NameLemmas.{one_name, same_name-itself, name_turned, without, beside}
+use Rattle.lot_cli.proofs.SumLemmas.{sum_in-unnamed, sum_in-push_here, sum_in-push_apart}
 
 -- ---- Names.
-
-one_name : (a b : List ℕ) → same_name a b ≡ true → a ≡ b
-one_name a b e = (bytes_decides a b).0 e
-
-name_turned : (a b : List ℕ) (answer : Bool) → same_name a b ≡ answer → same_name b a ≡ answer
-name_turned a b answer e = nat_list_eq_equiv.symm b a ∙ e
 
 -- a name at the end of a list of names, unless it stands there already
 abbrev add_name : List (List ℕ) → List ℕ → List (List ℕ)
 add_name [] n = n ∷ []
 add_name (k ∷ ks) n = cond (same_name n k) (k ∷ ks) (k ∷ add_name ks n)
-
-abbrev without : List ℕ → List (List ℕ) → List (List ℕ)
-without m ks = filter (λ other. not (same_name m other)) ks
 
 without-added_itself : (m n : List ℕ) (ks : List (List ℕ)) → same_name m n ≡ true → without m (add_name ks n) ≡ without m ks
 without-added_itself m n [] e = rw e refl
@@ -102,37 +92,7 @@ any_first_appearances n (m ∷ names) = by_bool (same_name n m)
 abbrev name_of : List ℕ × ℤ → List ℕ
 name_of w = w.0
 
-sum_in-cons : (name : List ℕ) (p : List ℕ × ℤ) (ps : List (List ℕ × ℤ)) → sum_in (p ∷ ps) name ≡ cond (same_name name p.0) (p.1 +ℤ sum_in ps name) (sum_in ps name)
-sum_in-cons name p ps = by_bool (same_name name p.0) (λ here. rw here refl) (λ there. rw there refl)
-
-added : (z : ℤ) → z +ℤ pos 0 ≡ pos 0 +ℤ z
-added z = omega (arith, ints)
-
-moved : (a b c : ℤ) → a +ℤ (b +ℤ c) ≡ (a +ℤ b) +ℤ c
-moved a b c = omega (arith, ints)
-
-sum_in-push : (name : List ℕ) (ws : List (List ℕ × ℤ)) (w : List ℕ × ℤ) → sum_in (ws ++ w ∷ []) name ≡ cond (same_name name w.0) (sum_in ws name +ℤ w.1) (sum_in ws name)
-sum_in-push name [] w = sum_in-cons name w [] ∙ ap (λ z. cond (same_name name w.0) z (pos 0)) (added w.1)
-sum_in-push name (p ∷ ws) w =
-    sum_in-cons name p (ws ++ w ∷ [])
-    ∙ ap (λ z. cond (same_name name p.0) (p.1 +ℤ z) z) (sum_in-push name ws w)
-    ∙ by_bool (same_name name w.0)
-    (λ adds. by_bool (same_name name p.0)
-    (λ here. rw (adds, here) (moved p.1 (sum_in ws name) w.1))
-    (λ there. rw (adds, there) refl))
-    (λ stays. rw stays (sym (sum_in-cons name p ws)))
-
-sum_in-absent : (name : List ℕ) (ws : List (List ℕ × ℤ)) → list_any (same_name name) (map name_of ws) ≡ false → sum_in ws name ≡ pos 0
-sum_in-absent name [] none = refl
-sum_in-absent name (p ∷ ws) none = by_bool (same_name name p.0)
-    (λ here. absurd (true≢false (sym (ap (λ b. b || list_any (same_name name) (map name_of ws)) here) ∙ none)))
-    (λ there. sum_in-cons name p ws ∙ ap (λ b. cond b (p.1 +ℤ sum_in ws name) (sum_in ws name)) there
-    ∙ sum_in-absent name ws (sym (ap (λ b. b || list_any (same_name name) (map name_of ws)) there) ∙ none))
-
 -- ---- Names beside numbers.
-
-abbrev beside : (List ℕ → ℤ) → List (List ℕ) → List (List ℕ × ℤ)
-beside f ks = map (λ (k : List ℕ). (k, f k)) ks
 
 -- two numbers of each name, the second with a weight in the name n
 record Adds (f g : List ℕ → ℤ) (n : List ℕ) (weight : ℤ) : Type 0 where
@@ -164,18 +124,14 @@ sums_of-push : (ws : List (List ℕ × ℤ)) (w : List ℕ × ℤ) → sums_of (
 sums_of-push ws w =
     let more = ws ++ w ∷ [] in
     let adds : Adds (sum_in ws) (sum_in more) w.0 w.1 = record {
-      here = λ k same. sum_in-push k ws w ∙ ap (λ b. cond b (sum_in ws k +ℤ w.1) (sum_in ws k)) same;
-      there = λ k other. sum_in-push k ws w ∙ ap (λ b. cond b (sum_in ws k +ℤ w.1) (sum_in ws k)) other;
+      here = λ k same. sum_in-push_here ws w k same;
+      there = λ k other. sum_in-push_apart ws w k other;
     } in
-    let itself : same_name w.0 w.0 ≡ true = (bytes_decides w.0 w.0).1 refl in
     let new : list_any (same_name w.0) (currencies ws) ≡ false → sum_in more w.0 ≡ w.1 = λ none.
-    adds.here w.0 itself ∙ ap (λ z. z +ℤ w.1) (sum_in-absent w.0 ws (sym (any_first_appearances w.0 (map name_of ws)) ∙ none)) ∙ first w.1 in
+    adds.here w.0 (same_name-itself w.0) ∙ ap (λ z. z +ℤ w.1) (sum_in-unnamed w.0 ws (sym (any_first_appearances w.0 (map name_of ws)) ∙ none)) ∙ +ℤ_idl w.1 in
     ap (λ names. beside (sum_in more) (first_appearances names)) (map-append name_of ws (w ∷ []))
     ∙ ap (beside (sum_in more)) (first_appearances-push (map name_of ws) w.0)
     ∙ beside-add_name (sum_in ws) (sum_in more) w.0 w.1 (currencies ws) adds (AreApart-first_appearances (map name_of ws)) new
-  where
-    first : (z : ℤ) → pos 0 +ℤ z ≡ z
-    first z = omega (arith, ints)
 
 residuals-push : (legs : List Leg) (leg : Leg) → residuals (legs ++ leg ∷ []) ≡ add_weight (residuals legs) (weight_of leg)
 residuals-push legs leg = ap sums_of (map-append weight_of legs (leg ∷ [])) ∙ sums_of-push (map weight_of legs) (weight_of leg)

@@ -1,131 +1,40 @@
--- What is held, leg by leg, the order of the positions, and the legs of a transaction.
-use Rattle.std.proofs.Common.{◌≡◌, ℕ, suc, ◌+◌, ◌≤◌, inl, inr, Bool, true, false, cond, List, [], ◌∷◌, ◌++◌, length, drop, map, Option, Some, None, Ordering, refl, sym, ap, ◌∙◌, arith, add-one, append_assoc, length-append, ℤ, pos, ◌+ℤ◌}
-use Rattle.std.specs.declared.cmp.Ordering.TheVariants.{Less, Equal, Greater}
-use Rattle.std.specs.Cmp.{IsTotalOrder}
-use Rattle.std.specs.Cmp.Lexicographic.{options_total}
-use Rattle.std.specs.FinMap.{IsAntisymmetric}
-use Rattle.std.specs.List.{filter}
+-- What is held, leg by leg, and the legs of a transaction.
+use Rattle.std.proofs.Common.{◌≡◌, ℕ, suc, ◌+◌, ◌≤◌, inl, inr, false, cond, List, [], ◌∷◌, ◌++◌, length, drop, map, Option, Some, None, refl, sym, ap, ◌∙◌, arith, add-one, append_assoc, length-append, ℤ, pos, ◌+ℤ◌}
 use Rattle.std.specs.Map.{lookup}
-use Rattle.std.specs.Option.{option_cmp, option_or, unwrap_or}
-use Rattle.std.specs.Ordering.{int_eq, is_eq, ordering_then}
+use Rattle.std.specs.Option.{option_or, unwrap_or}
+use Rattle.std.specs.Ordering.{int_eq}
 use Rattle.std.proofs.lemmas.Bool.{cases_Bool, cases_lt}
 use Rattle.std.proofs.lemmas.Bool.Decides.{nat_tests}
-use Rattle.std.proofs.lemmas.Cmp.{nat_cmp_total, int_cmp_total, nat_list_cmp_total, on_total, then_total, tied_itself, eq_by_cmp_equiv}
-use Rattle.std.proofs.lemmas.Int.{ints}
-use Rattle.std.proofs.lemmas.List.{map-append, append-nil}
-use Rattle.std.proofs.lemmas.List.Elements.{filter-append}
-use Rattle.std.proofs.lemmas.Map.Lookups.{exact_signed, exact_bytes, exact_unsigned}
-use Rattle.lot_cli.specs.declared.ledger.leg.LotKey.{LotKey}
 use Rattle.lot_cli.specs.declared.ledger.leg.Position.{Position}
 use Rattle.lot_cli.specs.declared.ledger.leg.Leg.{Leg}
 use Rattle.lot_cli.specs.declared.text.command.Amount.{Amount}
 use Rattle.lot_cli.specs.declared.text.command.Posting.{Posting}
-use Rattle.lot_cli.specs.Sum.{sum_of}
-use Rattle.lot_cli.specs.Leg.{lot_cmp, position_cmp, same_position, held, TellsHeld, non_zero}
+use Rattle.lot_cli.specs.Leg.{same_position, held, TellsHeld, non_zero}
 use Rattle.lot_cli.specs.Balance.{amount_legs, posting_legs, legs_for, opposite}
 use Rattle.lot_cli.specs.Step.{too_many_postings}
+use Rattle.std.specs.Cmp.{signed_Decides}
+use Rattle.lot_cli.proofs.OrderLemmas.{one_position, same_position-itself, same_position-turned}
+use Rattle.lot_cli.proofs.SumLemmas.{sum_where-push}
 
--- ---- the order of the positions
-
-then_first : (o p : Ordering) → ordering_then o p ≡ Equal → o ≡ Equal
-then_first Less p e = e
-then_first Equal p e = refl
-then_first Greater p e = e
-
-then_second : (o p : Ordering) → ordering_then o p ≡ Equal → p ≡ Equal
-then_second Less p e = absurd (cc)
-then_second Equal p e = e
-then_second Greater p e = absurd (cc)
-
-abbrev lot : ℤ → List ℕ → ℕ → LotKey
-lot day currency number = record { day = day; currency = currency; number = number }
-
-lot_from : (a b : LotKey) → a.day ≡ b.day → a.currency ≡ b.currency → a.number ≡ b.number → a ≡ b
-lot_from a b d c n =
-    ap (λ day. lot day a.currency a.number) d ∙ ap (λ currency. lot b.day currency a.number) c ∙ ap (lot b.day b.currency) n
-
-lot_exact : IsAntisymmetric lot_cmp
-lot_exact a b e =
-    let rest = then_second _ _ e in
-    lot_from a b (exact_signed _ _ (then_first _ _ e)) (exact_bytes _ _ (then_first _ _ rest)) (exact_unsigned _ _ (then_second _ _ rest))
-
-lots_exact : IsAntisymmetric (option_cmp lot_cmp)
-lots_exact None None e = refl
-lots_exact None (Some b) e = absurd (cc)
-lots_exact (Some a) None e = absurd (cc)
-lots_exact (Some a) (Some b) e = ap Some (lot_exact a b e)
-
-abbrev position : List ℕ → List ℕ → Option LotKey → Position
-position account commodity lot = record { account = account; commodity = commodity; lot = lot }
-
-position_from : (p q : Position) → p.account ≡ q.account → p.commodity ≡ q.commodity → p.lot ≡ q.lot → p ≡ q
-position_from p q a c l =
-    ap (λ account. position account p.commodity p.lot) a ∙ ap (λ commodity. position q.account commodity p.lot) c ∙ ap (position q.account q.commodity) l
-
--- positions that compare alike are one
-pub position_exact : IsAntisymmetric position_cmp
-position_exact p q e =
-    let rest = then_second _ _ e in
-    position_from p q (exact_bytes _ _ (then_first _ _ e)) (exact_bytes _ _ (then_first _ _ rest)) (lots_exact _ _ (then_second _ _ rest))
-
-lot_total : IsTotalOrder lot_cmp
-lot_total =
-    then_total (on_total (λ (a : LotKey). a.day) int_cmp_total)
-    (then_total (on_total (λ (a : LotKey). a.currency) nat_list_cmp_total) (on_total (λ (a : LotKey). a.number) nat_cmp_total))
-
-pub position_total : IsTotalOrder position_cmp
-position_total =
-    then_total (on_total (λ (p : Position). p.account) nat_list_cmp_total)
-    (then_total (on_total (λ (p : Position). p.commodity) nat_list_cmp_total) (on_total (λ (p : Position). p.lot) (options_total lot_total)))
-
-pub equal_from : (o : Ordering) → is_eq o ≡ true → o ≡ Equal
-equal_from Less e = absurd (cc)
-equal_from Equal e = refl
-equal_from Greater e = absurd (cc)
-
-pub same_position-itself : (p : Position) → same_position p p ≡ true
-same_position-itself p = ap is_eq (tied_itself position_total p)
-
-pub same_position-is : (p q : Position) → same_position p q ≡ true → p ≡ q
-same_position-is p q e = position_exact p q (equal_from _ e)
-
--- ---- sums
-
-sum_of-push : (zs : List ℤ) (z : ℤ) → sum_of (zs ++ z ∷ []) ≡ sum_of zs +ℤ z
-sum_of-push [] z = omega (arith, ints)
-sum_of-push (y ∷ zs) z = let more = sum_of-push zs z in omega (arith, ints)
+-- ---- what is held
 
 -- one more leg adds its units where it stands
 pub held-push : (legs : List Leg) (leg : Leg) (p : Position)
     → held (legs ++ leg ∷ []) p ≡ cond (same_position p leg.position) (held legs p +ℤ leg.units) (held legs p)
-held-push legs leg p =
-    let here = λ (l : Leg). same_position p l.position in
-    let units = λ (l : Leg). l.units in
-    ap (λ ls. sum_of (map units ls)) (filter-append here legs (leg ∷ [])) ∙ ap sum_of (map-append units (filter here legs) (filter here (leg ∷ []))) ∙ by (same_position p leg.position)
-  where
-    by : (b : Bool) → sum_of (map (λ (l : Leg). l.units) (filter (λ (l : Leg). same_position p l.position) legs) ++ map (λ (l : Leg). l.units) (cond b (leg ∷ []) []))
-        ≡ cond b (held legs p +ℤ leg.units) (held legs p)
-    by true = sum_of-push (map (λ (l : Leg). l.units) (filter (λ (l : Leg). same_position p l.position) legs)) leg.units
-    by false = ap sum_of (append-nil (map (λ (l : Leg). l.units) (filter (λ (l : Leg). same_position p l.position) legs)))
-
-pub same_back : (p q : Position) → same_position p q ≡ same_position q p
-same_back p q = (eq_by_cmp_equiv position_total).symm p q
+held-push legs leg p = sum_where-push (λ (l : Leg). same_position p l.position) (λ (l : Leg). l.units) legs leg
 
 -- a leg leaves what is held elsewhere
 held-elsewhere : (legs : List Leg) (leg : Leg) (q : Position) → same_position leg.position q ≡ false → held (legs ++ leg ∷ []) q ≡ held legs q
 held-elsewhere legs leg q apart =
-    held-push legs leg q ∙ ap (λ b. cond b (held legs q +ℤ leg.units) (held legs q)) (same_back q leg.position ∙ apart)
+    held-push legs leg q ∙ ap (λ b. cond b (held legs q +ℤ leg.units) (held legs q)) (same_position-turned q leg.position ∙ apart)
 
 held-here : (legs : List Leg) (leg : Leg) → held (legs ++ leg ∷ []) leg.position ≡ held legs leg.position +ℤ leg.units
 held-here legs leg =
     held-push legs leg leg.position ∙ ap (λ b. cond b (held legs leg.position +ℤ leg.units) (held legs leg.position)) (same_position-itself leg.position)
 
-zero_from : (z : ℤ) → int_eq z (pos 0) ≡ true → z ≡ pos 0
-zero_from z e = grind (arith, ints)
-
 non_zero-or : (z : ℤ) → unwrap_or (non_zero z) (pos 0) ≡ z
 non_zero-or z = elim (cases_Bool (int_eq z (pos 0))) [
-  | inl zero ↦ rw zero (sym (zero_from z zero))
+  | inl zero ↦ rw zero (sym ((signed_Decides z (pos 0)).0 zero))
   | inr other ↦ rw other refl
 ]
 
@@ -150,13 +59,9 @@ TellsHeld-push before legs leg told new after tells is updates q =
   where
     by : unwrap_or (cond (same_position leg.position q) (Some after) (lookup (same_position q) told)) (held before q) ≡ held (before ++ legs ++ leg ∷ []) q
     by = elim (cases_Bool (same_position leg.position q)) [
-      | inl here ↦ rw here (is ∙ ap (held (before ++ legs ++ leg ∷ [])) (same_position-is leg.position q here))
+      | inl here ↦ rw here (is ∙ ap (held (before ++ legs ++ leg ∷ [])) (one_position leg.position q here))
       | inr apart ↦ rw apart (tells q ∙ sym (held-elsewhere (before ++ legs) leg q apart))
     ]
-
--- at first nothing is told
-pub TellsHeld-none : (before : List Leg) → TellsHeld before [] []
-TellsHeld-none before q = ap (λ ls. held ls q) (sym (append-nil before))
 
 -- ---- the legs of the postings with amounts
 

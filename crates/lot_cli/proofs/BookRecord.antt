@@ -2,19 +2,14 @@
 use Rattle.std.proofs.Common.{◌≡◌, ℕ, Bool, true, false, inl, inr, cond, List, [], ◌∷◌, ◌++◌, Option, Some, None, refl, sym, ap, ◌∙◌, ℤ}
 use Rattle.std.specs.BTreeMap.{BTreeMap, IsOrdered, get}
 use Rattle.std.specs.Cmp.Lexicographic.{slice_cmp}
-use Rattle.std.specs.List.{AllByRecursion}
 use Rattle.std.specs.List.Sorted.{IsStrictlySortedBy}
 use Rattle.std.specs.Map.{keys_of, lookup}
 use Rattle.std.specs.Option.{option_or, unwrap_or}
 use Rattle.std.specs.Ordering.{nat_cmp, is_eq}
-use Rattle.std.specs.declared.cmp.Ordering.TheVariants.{Less}
 use Rattle.std.proofs.lemmas.Bool.{cases_Bool}
-use Rattle.std.proofs.lemmas.Cmp.{nat_list_eq_equiv}
 use Rattle.std.proofs.lemmas.Grind.{flat_map-append}
 use Rattle.std.proofs.lemmas.List.{append-nil}
 use Rattle.std.proofs.lemmas.Map.Keys.{sorted_head}
-use Rattle.std.proofs.lemmas.Map.Lookups.{exact_bytes}
-use Rattle.std.proofs.lemmas.Map.Text.{is_eq-slice_cmp}
 use Rattle.lot_cli.specs.declared.ledger.leg.Entry.{Entry}
 use Rattle.lot_cli.specs.declared.ledger.leg.Leg.{Leg}
 use Rattle.lot_cli.specs.declared.ledger.leg.Position.{Position}
@@ -24,41 +19,32 @@ use Rattle.lot_cli.specs.Book.{IsKept}
 use Rattle.lot_cli.specs.Leg.{TellsHeld, held, legs_of, non_zero, position_cmp, same_position, settled}
 use Rattle.lot_cli.specs.Step.{Step, Accept, opened_on, opening_day}
 use Rattle.lot_cli.specs.Sum.{same_name}
-use Rattle.lot_cli.proofs.BookLemmas.{equal_from, same_back, same_position-is}
+use Rattle.lot_cli.proofs.MapLemmas.{none_below}
+use Rattle.lot_cli.proofs.NameLemmas.{one_name, same_name-ordered}
+use Rattle.lot_cli.proofs.OrderLemmas.{one_position, same_position-turned}
 
 -- ---- openings
-
--- the order of accounts and the test of names agree
-pub same_account : (a b : List ℕ) → is_eq (slice_cmp nat_cmp a b) ≡ same_name b a
-same_account a b = is_eq-slice_cmp a b ∙ nat_list_eq_equiv.symm a b
-
-same_name-is : (a b : List ℕ) → same_name a b ≡ true → a ≡ b
-same_name-is a b e = sym (exact_bytes b a (equal_from _ (same_account b a ∙ e)))
 
 -- the account of an opening has its day, and every other what it had
 pub opening_day-or : (account other : List ℕ) (day : ℤ) (had : Option ℤ)
     → cond (is_eq (slice_cmp nat_cmp account other)) (Some day) had ≡ option_or (cond (same_name other account) (Some day) None) had
-opening_day-or account other day had = ap (λ b. cond b (Some day) had) (same_account account other) ∙ by (same_name other account)
+opening_day-or account other day had = ap (λ b. cond b (Some day) had) (same_name-ordered account other) ∙ by (same_name other account)
   where
     by : (b : Bool) → cond b (Some day) had ≡ option_or (cond b (Some day) None) had
     by true = refl
     by false = refl
 
+or_none : (o : Option ℤ) → option_or o None ≡ o
+or_none None = refl
+or_none (Some x) = refl
+
 opened_on-push : (entries : List Entry) (entry : Entry) (account : List ℕ) → opened_on (entries ++ entry ∷ []) account ≡ option_or (opened_on entries account) (opening_day account entry.command)
 opened_on-push [] entry account = or_none (opening_day account entry.command)
-  where
-    or_none : (o : Option ℤ) → option_or o None ≡ o
-    or_none None = refl
-    or_none (Some x) = refl
 opened_on-push (first ∷ entries) entry account = ap (option_or (opening_day account first.command)) (opened_on-push entries entry account) ∙ or_or (opening_day account first.command)
   where
     or_or : (o : Option ℤ) → option_or o (option_or (opened_on entries account) (opening_day account entry.command)) ≡ option_or (option_or o (opened_on entries account)) (opening_day account entry.command)
     or_or None = refl
     or_or (Some x) = refl
-
-or_none : (o : Option ℤ) → option_or o None ≡ o
-or_none None = refl
-or_none (Some x) = refl
 
 -- what is opened anew wasn't open
 opened_either : (entries : List Entry) (command : Command) (legs : List Leg) (account : List ℕ) → Step entries command (Accept legs)
@@ -66,16 +52,12 @@ opened_either : (entries : List Entry) (command : Command) (legs : List Leg) (ac
 opened_either entries (Transaction t) legs account step = sym (or_none (opened_on entries account))
 opened_either entries (Opening o) legs account step = elim (cases_Bool (same_name account o.account)) [
   | inl here ↦
-      let unknown : opened_on entries account ≡ None = ap (opened_on entries) (same_name-is account o.account here) ∙ step.0 in
+      let unknown : opened_on entries account ≡ None = ap (opened_on entries) (one_name account o.account here) ∙ step.0 in
       rw (here, unknown) refl
   | inr other ↦ rw other (sym (or_none (opened_on entries account)))
 ]
 
 -- ---- holdings
-
-absent : (k : Position) (rows : List (Position × ℤ)) → AllByRecursion (λ p. position_cmp k p ≡ Less) (keys_of rows) → lookup (same_position k) rows ≡ None
-absent k [] h = refl
-absent k (row ∷ rows) h = ap (λ o. cond (is_eq o) (Some row.1) (lookup (same_position k) rows)) h.0 ∙ absent k rows h.1
 
 -- once the first position is settled, the others are still to be
 pub settled-turn : (k : Position) (sum : ℤ) (rows : List (Position × ℤ)) (had now : Option ℤ) (p : Position) → IsStrictlySortedBy position_cmp (k ∷ keys_of rows)
@@ -83,9 +65,9 @@ pub settled-turn : (k : Position) (sum : ℤ) (rows : List (Position × ℤ)) (h
     → settled (lookup (same_position p) rows) now ≡ settled (lookup (same_position p) ((k, sum) ∷ rows)) had
 settled-turn k sum rows had now p sorted is = elim (cases_Bool (same_position k p)) [
   | inl here ↦
-      let gone : lookup (same_position p) rows ≡ None = ap (λ q. lookup (same_position q) rows) (sym (same_position-is k p here)) ∙ absent k rows (sorted_head position_cmp k (keys_of rows) sorted) in
-      rw (same_back p k, here, gone, is, here) refl
-  | inr other ↦ rw (same_back p k, other, is, other) refl
+      let gone : lookup (same_position p) rows ≡ None = ap (λ q. lookup (same_position q) rows) (sym (one_position k p here)) ∙ none_below position_cmp k rows (sorted_head position_cmp k (keys_of rows) sorted) in
+      rw (same_position-turned p k, here, gone, is, here) refl
+  | inr other ↦ rw (same_position-turned p k, other, is, other) refl
 ]
 
 settled-sum : (told : Option ℤ) (before : ℤ) → settled told (non_zero before) ≡ non_zero (unwrap_or told before)

@@ -1,18 +1,15 @@
 -- Sums of costs in each currency.
-use Rattle.std.proofs.Common.{rules, inr, IsTrue, ◌≡◌, ℕ, List, [], ◌∷◌, ◌++◌, refl, sym, ap, ◌∙◌, subst, append_assoc, append-nil}
+use Rattle.std.proofs.Common.{rules, inr, IsTrue, ◌≡◌, ℕ, List, [], ◌∷◌, ◌++◌, refl, sym, ap, ◌∙◌, subst, append-nil}
 use Rattle.std.specs.Prelude.{Result, Ok, Err, OnOk, IsErrOf, IsErrAnd, Bool, not, ◌*ℤ◌, true, false, cond, ◌||◌, ◌&&◌, if◌then◌else◌, Option, None, Some, ℤ, pos, ◌+ℤ◌}
 use Rattle.std.specs.List.{list_all}
 use Rattle.std.specs.List.Sorted.{IsStrictlySortedBy}
 use Rattle.std.specs.Map.{keys_of, lookup}
 use Rattle.std.specs.Ordering.{nat_cmp, is_eq}
-use Rattle.std.specs.Cmp.Lexicographic.{slice_cmp, texts_ties, nat_list_eq_equiv, bytes_decides}
+use Rattle.std.specs.Cmp.Lexicographic.{slice_cmp}
 use Rattle.std.specs.Option.{unwrap_or}
-use mathlib.Core.Bool.{true≢false}
-use native.Mathlib.Omega.{arith}
-use Rattle.std.proofs.lemmas.Int.{ints}
 use Rattle.lot_cli.specs.Printed.{position_row}
 use Rattle.lot_cli.specs.Written.{AppendsFront}
-use Rattle.lot_cli.specs.Sum.{sum_of, sum_in, same_name}
+use Rattle.lot_cli.specs.Sum.{sum_in, same_name}
 use Rattle.lot_cli.specs.declared.ledger.leg.LotKey.{LotKey}
 use Rattle.lot_cli.specs.declared.ledger.leg.Position.{Position}
 use Rattle.lot_cli.specs.declared.report.line.PrintFault.{PrintFault}
@@ -21,71 +18,18 @@ use Rattle.lot_cli.specs.declared.report.holdings.ReportFault.{ReportFault}
 use Rattle.lot_cli.specs.declared.report.holdings.ReportFault.TheVariants.{Range, Write, Memory}
 use Rattle.lot_num.specs.Amount.{IsWide}
 use Rattle.lot_cli.specs.Report.{AreSums, TakesCost, TakesRow, report_fault, is_named, costs_of, cost_of, fits, is_nil, is_wide}
-
-pub sum_of_snoc : (zs : List ℤ) (z : ℤ) → sum_of (zs ++ z ∷ []) ≡ sum_of zs +ℤ z
-sum_of_snoc [] z = omega (arith, ints)
-sum_of_snoc (x ∷ zs) z = ap (λ n. x +ℤ n) (sum_of_snoc zs z) ∙ omega (arith, ints)
-
--- a first cost of that name, and one of another
-first_named : (name : List ℕ) (cost : List ℕ × ℤ) (costs : List (List ℕ × ℤ)) → same_name name cost.0 ≡ true
-    → sum_in (cost ∷ costs) name ≡ cost.1 +ℤ sum_in costs name
-first_named name cost costs same = rw (same) refl
-
-first_other : (name : List ℕ) (cost : List ℕ × ℤ) (costs : List (List ℕ × ℤ)) → same_name name cost.0 ≡ false
-    → sum_in (cost ∷ costs) name ≡ sum_in costs name
-first_other name cost costs other = rw (other) refl
-
-pub sum_in_added : (costs : List (List ℕ × ℤ)) (cost : List ℕ × ℤ) (name : List ℕ) → same_name name cost.0 ≡ true
-    → sum_in (costs ++ cost ∷ []) name ≡ sum_in costs name +ℤ cost.1
-sum_in_added [] cost name same = first_named name cost [] same ∙ omega (arith, ints)
-sum_in_added (first ∷ costs) cost name same =
-    elim (same_name name first.0) as (λ b. same_name name first.0 ≡ b → sum_in (first ∷ (costs ++ cost ∷ [])) name ≡ sum_in (first ∷ costs) name +ℤ cost.1) [
-      | true ↦ λ e. first_named name first (costs ++ cost ∷ []) e ∙ ap (λ n. first.1 +ℤ n) (sum_in_added costs cost name same)
-          ∙ omega (arith, ints) ∙ ap (λ n. n +ℤ cost.1) (sym (first_named name first costs e))
-      | false ↦ λ e. first_other name first (costs ++ cost ∷ []) e ∙ sum_in_added costs cost name same
-          ∙ ap (λ n. n +ℤ cost.1) (sym (first_other name first costs e))
-    ] refl
-
-pub sum_in_kept : (costs : List (List ℕ × ℤ)) (cost : List ℕ × ℤ) (name : List ℕ) → same_name name cost.0 ≡ false
-    → sum_in (costs ++ cost ∷ []) name ≡ sum_in costs name
-sum_in_kept [] cost name other = first_other name cost [] other
-sum_in_kept (first ∷ costs) cost name other =
-    elim (same_name name first.0) as (λ b. same_name name first.0 ≡ b → sum_in (first ∷ (costs ++ cost ∷ [])) name ≡ sum_in (first ∷ costs) name) [
-      | true ↦ λ e. first_named name first (costs ++ cost ∷ []) e ∙ ap (λ n. first.1 +ℤ n) (sum_in_kept costs cost name other)
-          ∙ sym (first_named name first costs e)
-      | false ↦ λ e. first_other name first (costs ++ cost ∷ []) e ∙ sum_in_kept costs cost name other ∙ sym (first_other name first costs e)
-    ] refl
+use Rattle.std.proofs.Math.Bool.{or-false, or-true}
+use Rattle.std.proofs.lemmas.Grind.{flat_map-append}
+use Rattle.std.proofs.lemmas.List.Folds.{list_any-append}
+use Rattle.lot_cli.proofs.NameLemmas.{one_name, same_name-itself, same_name-ordered}
+use Rattle.lot_cli.proofs.SumLemmas.{sum_in-none, sum_in-push_here, sum_in-push_apart}
 
 -- ---- Sums kept by the currency.
 
-at_is_same : (a b : List ℕ) → is_eq (slice_cmp nat_cmp a b) ≡ same_name b a
-at_is_same a b = sym (texts_ties a b) ∙ nat_list_eq_equiv.symm a b
-
 named_snoc : (costs : List (List ℕ × ℤ)) (cost : List ℕ × ℤ) (name : List ℕ)
     → is_named name (costs ++ cost ∷ []) ≡ (is_named name costs || same_name name cost.0)
-named_snoc [] cost name = or_false (same_name name cost.0)
-  where
-    or_false : (b : Bool) → (b || false) ≡ b
-    or_false true = refl
-    or_false false = refl
-named_snoc (first ∷ costs) cost name =
-    ap (λ b. same_name name first.0 || b) (named_snoc costs cost name)
-    ∙ regroup (same_name name first.0) (is_named name costs) (same_name name cost.0)
-  where
-    regroup : (a b c : Bool) → (a || (b || c)) ≡ ((a || b) || c)
-    regroup true b c = refl
-    regroup false b c = refl
-
--- a name that no cost has
-unnamed : (costs : List (List ℕ × ℤ)) (name : List ℕ) → is_named name costs ≡ false → sum_in costs name ≡ pos 0
-unnamed [] name none = refl
-unnamed (first ∷ costs) name none =
-    let parts = both_false (same_name name first.0) (is_named name costs) none in
-    first_other name first costs parts.0 ∙ unnamed costs name parts.1
-  where
-    both_false : (a b : Bool) → (a || b) ≡ false → (a ≡ false) × (b ≡ false)
-    both_false true b h = absurd (true≢false h)
-    both_false false b h = (refl, h)
+named_snoc costs cost name =
+    list_any-append (λ (c : List ℕ × ℤ). same_name name c.0) costs (cost ∷ []) ∙ ap (λ b. is_named name costs || b) (or-false (same_name name cost.0))
 
 -- what is kept of a currency, or zero, is its sum
 pub kept_is_sum : (costs totals : List (List ℕ × ℤ)) (currency : List ℕ) (kept : Option ℤ) → AreSums costs totals
@@ -96,7 +40,7 @@ kept_is_sum costs totals currency kept sums is =
     by_name : (b : Bool) → is_named currency costs ≡ b
         → unwrap_or (if b then Some (sum_in costs currency) else None) (pos 0) ≡ sum_in costs currency
     by_name true e = refl
-    by_name false e = sym (unnamed costs currency e)
+    by_name false e = sym (sum_in-none currency costs e)
 
 -- one more cost, whose currency has its new sum
 pub sums_step : (costs totals new : List (List ℕ × ℤ)) (currency : List ℕ) (cost total : ℤ) → AreSums costs totals
@@ -107,7 +51,7 @@ pub sums_step : (costs totals new : List (List ℕ × ℤ)) (currency : List ℕ
     → AreSums (costs ++ (currency, cost) ∷ []) new
 sums_step costs totals new currency cost total sums updated order is = record {
   in_order = order;
-  each = λ name. updated name ∙ ap (λ b. cond b (Some total) (lookup (λ other. is_eq (slice_cmp nat_cmp name other)) totals)) (at_is_same currency name)
+  each = λ name. updated name ∙ ap (λ b. cond b (Some total) (lookup (λ other. is_eq (slice_cmp nat_cmp name other)) totals)) (same_name-ordered currency name)
       ∙ by_name name (same_name name currency) refl;
 }
   where
@@ -115,22 +59,14 @@ sums_step costs totals new currency cost total sums updated order is = record {
         → cond b (Some total) (lookup (λ other. is_eq (slice_cmp nat_cmp name other)) totals)
         ≡ (if is_named name (costs ++ (currency, cost) ∷ []) then Some (sum_in (costs ++ (currency, cost) ∷ []) name) else None)
     by_name name true e =
-        let one : name ≡ currency = (bytes_decides name currency).0 e in
-        ap Some (is ∙ ap (λ n. sum_in costs n +ℤ cost) (sym one) ∙ sym (sum_in_added costs (currency, cost) name e))
+        let one : name ≡ currency = one_name name currency e in
+        ap Some (is ∙ ap (λ n. sum_in costs n +ℤ cost) (sym one) ∙ sym (sum_in-push_here costs (currency, cost) name e))
         ∙ sym (ap (λ b. if b then Some (sum_in (costs ++ (currency, cost) ∷ []) name) else None)
-        (named_snoc costs (currency, cost) name ∙ ap (λ b. is_named name costs || b) e ∙ or_true (is_named name costs)))
-      where
-        or_true : (b : Bool) → (b || true) ≡ true
-        or_true true = refl
-        or_true false = refl
+        (named_snoc costs (currency, cost) name ∙ ap (λ b. is_named name costs || b) e ∙ or-true (is_named name costs)))
     by_name name false e =
         sums.each name ∙ sym (ap (λ b. if b then Some (sum_in (costs ++ (currency, cost) ∷ []) name) else None)
-        (named_snoc costs (currency, cost) name ∙ ap (λ b. is_named name costs || b) e ∙ or_false (is_named name costs))
-        ∙ ap (λ n. if is_named name costs then Some n else None) (sum_in_kept costs (currency, cost) name e))
-      where
-        or_false : (b : Bool) → (b || false) ≡ b
-        or_false true = refl
-        or_false false = refl
+        (named_snoc costs (currency, cost) name ∙ ap (λ b. is_named name costs || b) e ∙ or-false (is_named name costs))
+        ∙ ap (λ n. if is_named name costs then Some n else None) (sum_in-push_apart costs (currency, cost) name e))
 
 -- the same, under a copy of the currency
 pub sums_under_copy : (costs totals new : List (List ℕ × ℤ)) (currency copy : List ℕ) (cost total : ℤ) → AreSums costs totals
@@ -147,17 +83,12 @@ sums_under_copy costs totals new currency copy cost total sums updated order sam
 -- ---- Rows.
 
 costs_snoc : (rows : List (Position × ℤ)) (row : Position × ℤ) → costs_of (rows ++ row ∷ []) ≡ costs_of rows ++ cost_of row.0.lot row.1
-costs_snoc [] row = append-nil (cost_of row.0.lot row.1)
-costs_snoc (first ∷ rows) row =
-    ap (λ costs. cost_of first.0.lot first.1 ++ costs) (costs_snoc rows row)
-    ∙ sym (append_assoc (cost_of first.0.lot first.1) (costs_of rows) (cost_of row.0.lot row.1))
+costs_snoc rows row =
+    flat_map-append (λ (r : Position × ℤ). cost_of r.0.lot r.1) rows (row ∷ []) ∙ ap (λ costs. costs_of rows ++ costs) (append-nil (cost_of row.0.lot row.1))
 
 snoc_is_some : (rows : List (Position × ℤ)) (row : Position × ℤ) → false ≡ is_nil (rows ++ row ∷ [])
 snoc_is_some [] row = refl
 snoc_is_some (first ∷ rows) row = refl
-
-same_itself : (name : List ℕ) → same_name name name ≡ true
-same_itself name = (bytes_decides name name).1 refl
 
 costs_with_lot : (rows : List (Position × ℤ)) (row : Position × ℤ) (lot : LotKey) → row.0.lot ≡ Some lot
     → costs_of (rows ++ row ∷ []) ≡ costs_of rows ++ (lot.currency, row.1 *ℤ pos lot.number) ∷ []
@@ -169,7 +100,7 @@ fits_is_wide rows row lot in_lot =
     ap (λ l. list_all (λ (cost : List ℕ × ℤ). is_wide (sum_in (costs_of (rows ++ row ∷ [])) cost.0)) (cost_of l row.1)) in_lot
     ∙ ap (λ z. is_wide z && true)
     (ap (λ costs. sum_in costs lot.currency) (costs_with_lot rows row lot in_lot)
-    ∙ sum_in_added (costs_of rows) (lot.currency, row.1 *ℤ pos lot.number) lot.currency (same_itself lot.currency))
+    ∙ sum_in-push_here (costs_of rows) (lot.currency, row.1 *ℤ pos lot.number) lot.currency (same_name-itself lot.currency))
 
 wide_is : (z : ℤ) → IsWide z → (is_wide z && true) ≡ true
 wide_is z wide = search (rules)

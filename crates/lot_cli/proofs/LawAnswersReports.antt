@@ -12,7 +12,7 @@ use Rattle.lot_cli.specs.declared.ledger.leg.Position.{Position}
 use Rattle.lot_cli.specs.Printed.{position_row, totals}
 use Rattle.lot_cli.specs.Report.{AreSums, AllFit, IsReport, IsReportToFault, costs_of, fits, is_nil, rows_text}
 use Rattle.lot_cli.specs.Written.{IsPrefixOf}
-use Rattle.lot_cli.proofs.LawAnswersMaps.{one_map}
+use Rattle.lot_cli.proofs.MapLemmas.{one_map}
 
 -- ---- Costs have one list of sums.
 

@@ -1,13 +1,11 @@
 -- That the entries of a book balance.
-use Rattle.std.specs.Prelude.{◌≡◌, ℕ, zero, suc, ◌%◌, ◌==◌, ◌||◌, Bool, true, false, cond, not, ◌*◌, List, [], ◌∷◌, ◌++◌, map, filter, find, length, Option, None, Some, ℤ, pos, negsuc, ◌+ℤ◌, ◌*ℤ◌, neg_ℤ, int_div, int_rem, unsigned_abs}
+use Rattle.std.specs.Prelude.{◌≡◌, ℕ, suc, ◌||◌, Bool, true, false, cond, not, List, [], ◌∷◌, ◌++◌, map, filter, find, length, Option, None, Some, ℤ, pos, ◌+ℤ◌, ◌*ℤ◌, neg_ℤ}
 use Rattle.std.specs.List.{AllByRecursion, list_any}
 use Rattle.std.specs.Option.{option_map}
-use Rattle.std.specs.Cmp.Lexicographic.{bytes_decides}
-use Rattle.std.proofs.Common.{refl, sym, ap, subst, ◌∙◌, arith, ◌+◌}
-use Rattle.std.specs.Cmp.{first_so, signed_Decides}
-use Rattle.std.proofs.lemmas.Bool.{eqb-true}
-use Rattle.std.proofs.lemmas.Int.{quot-rem}
-use Rattle.std.proofs.Math.IntN.{+ℤ_idl, +ℤ_idr, +ℤ_invr, neg_ℤ-+ℤ, neg_ℤ-neg_ℤ}
+use Rattle.std.proofs.Common.{refl, sym, ap, subst, ◌∙◌, ◌+◌}
+use Rattle.std.specs.Cmp.{signed_Decides}
+use Rattle.std.proofs.lemmas.Bool.{not-false}
+use Rattle.std.proofs.Math.IntN.{+ℤ_idl, +ℤ_idr, +ℤ_invr, neg_ℤ-+ℤ}
 use Rattle.lot_num.specs.Amount.{one}
 use Rattle.lot_cli.specs.declared.ledger.leg.Leg.{Leg}
 use Rattle.lot_cli.specs.declared.ledger.leg.Entry.{Entry}
@@ -20,44 +18,14 @@ use Rattle.lot_cli.specs.Balance.{weight_of, is_units, is_zero, opposite, residu
 use Rattle.lot_cli.specs.Step.{Accept, Step, NoneHolds, refusals, inexact_fill, not_balanced}
 use Rattle.lot_cli.specs.Book.{Continues, IsBook}
 use Rattle.lot_cli.specs.Laws.{Balances}
-use Rattle.lot_cli.proofs.LawSums.{by_bool, sum_where-cons, sum_where_here, sum_where_apart, sum_where-append}
-
--- ---- Names.
-
-same_name_exact : (a b : List ℕ) → same_name a b ≡ true → a ≡ b
-same_name_exact a b e = (bytes_decides a b).0 e
-
--- ---- Sums in a name.
-
-abbrev in_name : List ℕ → List ℕ × ℤ → Bool
-in_name name pair = same_name name pair.0
-
-abbrev number : List ℕ × ℤ → ℤ
-number pair = pair.1
-
-sum_in-cons : (p : List ℕ × ℤ) (ps : List (List ℕ × ℤ)) (name : List ℕ) → sum_in (p ∷ ps) name ≡ cond (same_name name p.0) (p.1 +ℤ sum_in ps name) (sum_in ps name)
-sum_in-cons p ps name = sum_where-cons (in_name name) number p ps
-
-sum_in_here : (p : List ℕ × ℤ) (ps : List (List ℕ × ℤ)) (name : List ℕ) → same_name name p.0 ≡ true → sum_in (p ∷ ps) name ≡ p.1 +ℤ sum_in ps name
-sum_in_here p ps name = sum_where_here (in_name name) number p ps
-
-sum_in_apart : (p : List ℕ × ℤ) (ps : List (List ℕ × ℤ)) (name : List ℕ) → same_name name p.0 ≡ false → sum_in (p ∷ ps) name ≡ sum_in ps name
-sum_in_apart p ps name = sum_where_apart (in_name name) number p ps
-
-sum_in-append : (ps qs : List (List ℕ × ℤ)) (name : List ℕ) → sum_in (ps ++ qs) name ≡ sum_in ps name +ℤ sum_in qs name
-sum_in-append ps qs name = sum_where-append (in_name name) number ps qs
+use Rattle.lot_cli.proofs.BalanceLemmas.{opposite_exact}
+use Rattle.lot_cli.proofs.CaseLemmas.{by_bool}
+use Rattle.lot_cli.proofs.NameLemmas.{one_name, without, beside}
+use Rattle.lot_cli.proofs.SumLemmas.{sum_in-cons, sum_in_here, sum_in_apart, sum_in-append, sum_in-unnamed}
 
 -- ---- Residuals.
 
--- names, each beside its number
-beside : (List ℕ → ℤ) → List (List ℕ) → List (List ℕ × ℤ)
-beside f names = map (λ (name : List ℕ). (name, f name)) names
-
-without : List ℕ → List (List ℕ) → List (List ℕ)
-without name names = filter (λ other. not (same_name name other)) names
-
 beside_without_it : (f : List ℕ → ℤ) (name : List ℕ) (names : List (List ℕ)) → sum_in (beside f (without name names)) name ≡ pos 0
-unfolding beside without
 beside_without_it f name [] = refl
 beside_without_it f name (other ∷ names) = by_bool (same_name name other)
     (λ e. ap (λ b. sum_in (beside f (cond (not b) (other ∷ without name names) (without name names))) name) e ∙ beside_without_it f name names)
@@ -65,13 +33,12 @@ beside_without_it f name (other ∷ names) = by_bool (same_name name other)
     ∙ sum_in_apart (other, f other) (beside f (without name names)) name e ∙ beside_without_it f name names)
 
 beside_without : (f : List ℕ → ℤ) (gone name : List ℕ) → same_name name gone ≡ false → (names : List (List ℕ)) → sum_in (beside f (without gone names)) name ≡ sum_in (beside f names) name
-unfolding beside without
 beside_without f gone name apart [] = refl
 beside_without f gone name apart (other ∷ names) =
     let rest = beside_without f gone name apart names in
     by_bool (same_name gone other)
     (λ e. ap (λ b. sum_in (beside f (cond (not b) (other ∷ without gone names) (without gone names))) name) e ∙ rest
-    ∙ sym (sum_in_apart (other, f other) (beside f names) name (ap (same_name name) (sym (same_name_exact gone other e)) ∙ apart)))
+    ∙ sym (sum_in_apart (other, f other) (beside f names) name (ap (same_name name) (sym (one_name gone other e)) ∙ apart)))
     (λ e. ap (λ b. sum_in (beside f (cond (not b) (other ∷ without gone names) (without gone names))) name) e
     ∙ sum_in-cons (other, f other) (beside f (without gone names)) name
     ∙ ap (λ z. cond (same_name name other) (f other +ℤ z) z) rest
@@ -79,54 +46,32 @@ beside_without f gone name apart (other ∷ names) =
 
 -- the names of a list, each once, have the numbers that the names have
 beside_first : (f : List ℕ → ℤ) (name : List ℕ) (names : List (List ℕ)) → sum_in (beside f (first_appearances names)) name ≡ cond (list_any (same_name name) names) (f name) (pos 0)
-unfolding beside without
 beside_first f name [] = refl
 beside_first f name (first ∷ names) = by_bool (same_name name first)
     (λ e. sum_in_here (first, f first) (beside f (without first (first_appearances names))) name e
-    ∙ ap (λ z. f first +ℤ z) (ap (λ n. sum_in (beside f (without first (first_appearances names))) n) (same_name_exact name first e) ∙ beside_without_it f first (first_appearances names))
+    ∙ ap (λ z. f first +ℤ z) (ap (λ n. sum_in (beside f (without first (first_appearances names))) n) (one_name name first e) ∙ beside_without_it f first (first_appearances names))
     ∙ +ℤ_idr (f first)
-    ∙ ap f (sym (same_name_exact name first e))
+    ∙ ap f (sym (one_name name first e))
     ∙ ap (λ b. cond (b || list_any (same_name name) names) (f name) (pos 0)) (sym e))
     (λ e. sum_in_apart (first, f first) (beside f (without first (first_appearances names))) name e
     ∙ beside_without f first name e (first_appearances names)
     ∙ beside_first f name names
     ∙ ap (λ b. cond (b || list_any (same_name name) names) (f name) (pos 0)) (sym e))
 
--- a name that no pair has sums to zero
+-- the sum in a name that no pair has is zero
 nothing_in : (name : List ℕ) (ps : List (List ℕ × ℤ)) → cond (list_any (same_name name) (map (λ (p : List ℕ × ℤ). p.0) ps)) (sum_in ps name) (pos 0) ≡ sum_in ps name
-nothing_in name [] = refl
-nothing_in name (p ∷ ps) = by_bool (same_name name p.0)
-    (λ e. ap (λ b. cond (b || list_any (same_name name) (map (λ (p : List ℕ × ℤ). p.0) ps)) (sum_in (p ∷ ps) name) (pos 0)) e)
-    (λ e. ap (λ b. cond (b || list_any (same_name name) (map (λ (p : List ℕ × ℤ). p.0) ps)) (sum_in (p ∷ ps) name) (pos 0)) e
-    ∙ ap (λ z. cond (list_any (same_name name) (map (λ (p : List ℕ × ℤ). p.0) ps)) z (pos 0)) (sum_in_apart p ps name e)
-    ∙ nothing_in name ps ∙ sym (sum_in_apart p ps name e))
+nothing_in name ps =
+    let any = list_any (same_name name) (map (λ (p : List ℕ × ℤ). p.0) ps) in
+    by_bool any
+    (λ e. ap (λ b. cond b (sum_in ps name) (pos 0)) e)
+    (λ e. ap (λ b. cond b (sum_in ps name) (pos 0)) e ∙ sym (sum_in-unnamed name ps e))
 
 -- what the residuals have in a currency is what the weights have there
 residuals_sum : (legs : List Leg) (currency : List ℕ) → sum_in (residuals legs) currency ≡ sum_in (map weight_of legs) currency
-unfolding beside
 residuals_sum legs currency =
     beside_first (sum_in (map weight_of legs)) currency (map (λ (w : List ℕ × ℤ). w.0) (map weight_of legs)) ∙ nothing_in currency (map weight_of legs)
 
 -- ---- The fill.
-
-neg_times : (q : ℤ) (n : ℕ) → neg_ℤ q *ℤ pos n ≡ neg_ℤ (q *ℤ pos n)
-neg_times (pos zero) n = ap pos no_times ∙ ap (λ (m : ℕ). neg_ℤ (pos m)) (sym no_times)
-  where
-    no_times : zero * n ≡ zero
-    no_times = omega arith
-neg_times (pos (suc m)) n = refl
-neg_times (negsuc m) n = sym (neg_ℤ-neg_ℤ (pos (suc m * n)))
-
-no_rest : (z : ℤ) (n : ℕ) → unsigned_abs z % n ≡ 0 → int_rem z (pos n) ≡ pos 0
-no_rest (pos a) n e = ap pos e
-no_rest (negsuc a) n e = ap (λ (m : ℕ). neg_ℤ (pos m)) e
-
-exact_opposite : (z : ℤ) (n : ℕ) → unsigned_abs z % n ≡ 0 → neg_ℤ (int_div z (pos n)) *ℤ pos n ≡ neg_ℤ z
-exact_opposite z n e = neg_times (int_div z (pos n)) n
-    ∙ ap neg_ℤ (sym (+ℤ_idr (int_div z (pos n) *ℤ pos n)) ∙ ap (λ r. int_div z (pos n) *ℤ pos n +ℤ r) (sym (no_rest z n e)) ∙ quot-rem z (pos n))
-
-opposite_weighs : (z : ℤ) → is_units z ≡ true → opposite z *ℤ pos one ≡ neg_ℤ z
-opposite_weighs z e = exact_opposite z one (eqb-true (unsigned_abs z % one) 0 (first_so (unsigned_abs z % one == 0) _ e))
 
 AreUnits : List (List ℕ × ℤ) → Type 0
 AreUnits rs = AllByRecursion (λ (r : List ℕ × ℤ). is_units r.1 ≡ true) rs
@@ -141,7 +86,7 @@ legs_weigh entry posting account place (r ∷ rs) name h =
     let more = map weight_of (legs_for entry posting account (suc place) rs) in
     by_bool (same_name name r.0)
     (λ e. sum_in_here (r.0, opposite r.1 *ℤ pos one) more name e
-    ∙ ap (λ z. z +ℤ sum_in more name) (opposite_weighs r.1 h.0) ∙ ap (λ z. neg_ℤ r.1 +ℤ z) rest
+    ∙ ap (λ z. z +ℤ sum_in more name) (opposite_exact r.1 h.0) ∙ ap (λ z. neg_ℤ r.1 +ℤ z) rest
     ∙ sym (neg_ℤ-+ℤ r.1 (sum_in rs name)) ∙ ap neg_ℤ (sym (sum_in_here r rs name e)))
     (λ e. sum_in_apart (r.0, opposite r.1 *ℤ pos one) more name e ∙ rest ∙ ap neg_ℤ (sym (sum_in_apart r rs name e)))
 
@@ -187,19 +132,15 @@ none_of [] h = tt
 none_of (None ∷ more) h = (refl, none_of more h)
 none_of (Some refusal ∷ more) h = absurd h
 
-not_twice : (b : Bool) → not b ≡ false → b ≡ true
-not_twice true e = refl
-not_twice false e = cc
-
 are_units : (rs : List (List ℕ × ℤ)) → AllByRecursion (λ (r : List ℕ × ℤ). not (is_units r.1) ≡ false) rs → AreUnits rs
 unfolding AreUnits
 are_units [] h = tt
-are_units (r ∷ rs) h = (not_twice (is_units r.1) h.0, are_units rs h.1)
+are_units (r ∷ rs) h = (not-false (is_units r.1) h.0, are_units rs h.1)
 
 zero_sum : (rs : List (List ℕ × ℤ)) (name : List ℕ) → AllByRecursion (λ (r : List ℕ × ℤ). not (is_zero r.1) ≡ false) rs → sum_in rs name ≡ pos 0
 zero_sum [] name h = refl
 zero_sum (r ∷ rs) name h = by_bool (same_name name r.0)
-    (λ e. sum_in_here r rs name e ∙ ap (λ z. z +ℤ sum_in rs name) ((signed_Decides r.1 (pos 0)).0 (not_twice (is_zero r.1) h.0)) ∙ +ℤ_idl (sum_in rs name) ∙ zero_sum rs name h.1)
+    (λ e. sum_in_here r rs name e ∙ ap (λ z. z +ℤ sum_in rs name) ((signed_Decides r.1 (pos 0)).0 (not-false (is_zero r.1) h.0)) ∙ +ℤ_idl (sum_in rs name) ∙ zero_sum rs name h.1)
     (λ e. sum_in_apart r rs name e ∙ zero_sum rs name h.1)
 
 -- ---- A transaction balances.

@@ -1,13 +1,12 @@
 -- What a book holds at cost is what its commands bought.
 use Rattle.std.specs.Prelude.{◌≡◌, ℕ, zero, suc, ◌≤◌, ◌&&◌, Bool, true, false, cond, not, List, [], ◌∷◌, ◌++◌, map, filter, length, Option, None, Some, ℤ, pos, ◌+ℤ◌}
-use Rattle.std.specs.declared.cmp.Ordering.TheVariants.{Less}
-use Rattle.std.specs.List.{AllByRecursion}
 use Rattle.std.specs.List.Sorted.{IsStrictlySortedBy}
 use Rattle.std.specs.Map.{keys_of, lookup}
 use Rattle.std.specs.Option.{is_some}
-use Rattle.std.specs.Ordering.{int_eq, is_eq}
+use Rattle.std.specs.Ordering.{int_eq}
 use Rattle.std.specs.Cmp.{signed_Decides}
 use Rattle.std.proofs.Common.{refl, sym, ap, ◌∙◌, arith, ◌+◌}
+use Rattle.std.proofs.lemmas.Option.{none-some, same_Some}
 use Rattle.std.proofs.Math.IntN.{+ℤ_assoc, +ℤ_comm, +ℤ_idl, +ℤ_idr}
 use Rattle.lot_cli.specs.declared.ledger.leg.Position.{Position}
 use Rattle.lot_cli.specs.declared.ledger.leg.Leg.{Leg}
@@ -23,8 +22,10 @@ use Rattle.lot_cli.specs.Balance.{is_zero, lot_at, amount_leg, posting_legs, amo
 use Rattle.lot_cli.specs.Step.{Step, Accept}
 use Rattle.lot_cli.specs.Book.{Continues, IsBook}
 use Rattle.lot_cli.specs.Laws.{units_at_cost, bought_by, bought_in, bought, is_lot_of, at_cost}
-use Rattle.lot_cli.proofs.LawOrder.{one_position, same_itself}
-use Rattle.lot_cli.proofs.LawSums.{by_bool, sum_where, sum_where-cons, sum_where_here, sum_where_apart, sum_where-append}
+use Rattle.lot_cli.proofs.CaseLemmas.{by_bool}
+use Rattle.lot_cli.proofs.MapLemmas.{none_below}
+use Rattle.lot_cli.proofs.OrderLemmas.{one_position, same_position-itself}
+use Rattle.lot_cli.proofs.SumLemmas.{sum_where, sum_where-cons, sum_where_here, sum_where_apart, sum_where-append}
 
 -- ---- The legs of one position, and the others.
 
@@ -85,7 +86,7 @@ split_at passes p (leg ∷ legs) =
 
 front_gone : (leg : Leg) (legs : List Leg) → apart_from leg.position (leg ∷ legs) ≡ apart_from leg.position legs
 unfolding apart_from
-front_gone leg legs = ap (λ b. cond (not b) (leg ∷ apart_from leg.position legs) (apart_from leg.position legs)) (same_itself leg.position)
+front_gone leg legs = ap (λ b. cond (not b) (leg ∷ apart_from leg.position legs) (apart_from leg.position legs)) (same_position-itself leg.position)
 
 fewer : (p : Position) (legs : List Leg) (most : ℕ) → length legs ≤ most → length (apart_from p legs) ≤ most
 unfolding apart_from
@@ -126,26 +127,12 @@ nothing_in_those passes (suc most) (leg ∷ legs) within h =
 from_non_zero : (z : ℤ) → None ≡ non_zero z → z ≡ pos 0
 from_non_zero z e = by_bool (int_eq z (pos 0))
     (λ t. (signed_Decides z (pos 0)).0 t)
-    (λ f. absurd (none_some z (e ∙ ap (λ b. cond b None (Some z)) f)))
-  where
-    none_some : (z : ℤ) → ◌≡◌ {A = Option ℤ} None (Some z) → ⊥
-    none_some z e = cc
+    (λ f. absurd (none-some z (e ∙ ap (λ b. cond b None (Some z)) f)))
 
 from_some : (v z : ℤ) → Some v ≡ non_zero z → v ≡ z
 from_some v z e = by_bool (int_eq z (pos 0))
-    (λ t. absurd (some_none v (e ∙ ap (λ b. cond b None (Some z)) t)))
-    (λ f. some_some v z (e ∙ ap (λ b. cond b None (Some z)) f))
-  where
-    some_none : (z : ℤ) → ◌≡◌ {A = Option ℤ} (Some z) None → ⊥
-    some_none z e = cc
-
-    some_some : (v z : ℤ) → ◌≡◌ {A = Option ℤ} (Some v) (Some z) → v ≡ z
-    some_some v z e = cc
-
--- a position below all rows has none
-none_behind : (p : Position) (rows : List (Position × ℤ)) → AllByRecursion (λ (q : Position). position_cmp p q ≡ Less) (keys_of rows) → lookup (same_position p) rows ≡ None
-none_behind p [] h = refl
-none_behind p (row ∷ rows) h = ap (λ o. cond (is_eq o) (Some row.1) (lookup (same_position p) rows)) h.0 ∙ none_behind p rows h.1
+    (λ t. absurd (none-some v (sym (e ∙ ap (λ b. cond b None (Some z)) t))))
+    (λ f. same_Some v z (e ∙ ap (λ b. cond b None (Some z)) f))
 
 -- the sum of the rows in positions that pass
 in_rows : (Position → Bool) → List (Position × ℤ) → ℤ
@@ -162,9 +149,9 @@ unfolding IsStrictlySortedBy in_rows
 rows_as_legs passes [] legs sorted each = sym (nothing_in_those passes (length legs) legs (omega arith) (λ q. from_non_zero (held legs q) (each q)))
 rows_as_legs passes (row ∷ rows) legs sorted each =
     let p = row.0 in
-    let units : row.1 ≡ held legs p = from_some row.1 (held legs p) (ap (λ b. cond b (Some row.1) (lookup (same_position p) rows)) (sym (same_itself p)) ∙ each p) in
+    let units : row.1 ≡ held legs p = from_some row.1 (held legs p) (ap (λ b. cond b (Some row.1) (lookup (same_position p) rows)) (sym (same_position-itself p)) ∙ each p) in
     let rest = rows_as_legs passes rows (apart_from p legs) sorted.1 (λ q. by_bool (same_position q p)
-    (λ e. ap (λ r. lookup (same_position r) rows) (one_position q p e) ∙ none_behind p rows sorted.0
+    (λ e. ap (λ r. lookup (same_position r) rows) (one_position q p e) ∙ none_below position_cmp p rows sorted.0
     ∙ ap non_zero (sym (held_apart_itself p legs)) ∙ ap (λ r. non_zero (held (apart_from p legs) r)) (sym (one_position q p e)))
     (λ e. ap (λ b. cond b (Some row.1) (lookup (same_position q) rows)) (sym e) ∙ each q ∙ ap non_zero (sym (held_apart p q e legs)))) in
     sum_where-cons (λ (r : Position × ℤ). passes r.0) (λ (r : Position × ℤ). r.1) row rows

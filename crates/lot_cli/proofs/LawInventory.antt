@@ -1,73 +1,24 @@
 -- Legs have one inventory: each position with what it holds, in the order of the positions.
-use Rattle.std.specs.Prelude.{◌≡◌, List, [], ◌∷◌, map, Bool, true, false, cond, not, ◌&&◌, T, None, Some, ℤ, pos}
-use Rattle.std.specs.declared.cmp.Ordering.{Ordering}
-use Rattle.std.specs.declared.cmp.Ordering.TheVariants.{Less, Equal, Greater}
+use Rattle.std.specs.Prelude.{◌≡◌, List, [], ◌∷◌, map, cond, not, None, Some, ℤ, pos}
 use Rattle.std.specs.FinMap.{FinMap, entries, entries_sorted, from_entries, retain_keys, get, get-entries, get-retain_keys, get-from_entries}
-use Rattle.std.specs.FinMap.Entries.{find, is_sorted, below_all, same_entries}
-use Rattle.std.specs.List.{AllByRecursion}
-use Rattle.std.specs.List.Sorted.{IsStrictlySortedBy}
-use Rattle.std.specs.Map.{keys_of, lookup}
-use Rattle.std.specs.Ordering.{is_lt, int_eq}
+use Rattle.std.specs.FinMap.Entries.{find}
+use Rattle.std.specs.Ordering.{int_eq}
 use Rattle.std.specs.Cmp.{signed_Decides}
-use Rattle.std.proofs.Common.{refl, sym, ap, subst, ◌∙◌, ◌⊎◌, inl, inr, ⊎_elim}
+use Rattle.std.proofs.Common.{refl, sym, ap, ◌∙◌, ◌⊎◌, inl, inr, ⊎_elim}
 use Rattle.std.proofs.lemmas.Bool.{true≢false}
 use Rattle.lot_cli.specs.declared.ledger.leg.Position.{Position}
 use Rattle.lot_cli.specs.declared.ledger.leg.Leg.{Leg}
 use Rattle.lot_cli.specs.Leg.{position_cmp, same_position, held, non_zero, IsInventory}
-use Rattle.lot_cli.proofs.LawOrder.{positions_total, exact_positions, one_position}
-use Rattle.lot_cli.proofs.LawSums.{by_bool, sum_where_apart}
-
-found_by_order : (rows : List (Position × ℤ)) (p : Position) → find position_cmp p rows ≡ lookup (same_position p) rows
-found_by_order [] p = refl
-found_by_order (row ∷ rows) p = ap (cond (same_position p row.0) (Some row.1)) (found_by_order rows p)
-
-below_rows : (p : Position) (rows : List (Position × ℤ)) → AllByRecursion (λ (q : Position). position_cmp p q ≡ Less) (keys_of rows) → T (below_all position_cmp p rows)
-below_rows p [] h = tt
-below_rows p (row ∷ rows) h = subst (λ o. T (is_lt o && below_all position_cmp p rows)) (sym h.0) (below_rows p rows h.1)
-
-both_hold : (a b : Bool) → T a → T b → T (a && b)
-both_hold true b s t = t
-both_hold false b s t = absurd s
-
-rows_sorted : (rows : List (Position × ℤ)) → IsStrictlySortedBy position_cmp (keys_of rows) → T (is_sorted position_cmp rows)
-unfolding IsStrictlySortedBy
-rows_sorted [] h = tt
-rows_sorted (row ∷ rows) h = both_hold (below_all position_cmp row.0 rows) (is_sorted position_cmp rows) (below_rows row.0 rows h.0) (rows_sorted rows h.1)
+use Rattle.lot_cli.proofs.MapLemmas.{one_map, found_by_order, keys_sorted}
+use Rattle.lot_cli.proofs.OrderLemmas.{positions_total, exact_positions, one_position}
+use Rattle.lot_cli.proofs.CaseLemmas.{by_bool}
+use Rattle.lot_cli.proofs.SumLemmas.{sum_where_apart}
 
 pub one_inventory : (legs : List Leg) (rows others : List (Position × ℤ)) → IsInventory legs rows → IsInventory legs others → rows ≡ others
 one_inventory legs rows others h k =
-    same_entries position_cmp positions_total exact_positions rows others (rows_sorted rows h.in_order) (rows_sorted others k.in_order)
-    (λ p. found_by_order rows p ∙ h.each p ∙ sym (k.each p) ∙ sym (found_by_order others p))
+    one_map position_cmp positions_total exact_positions rows others h.in_order k.in_order (λ p. h.each p ∙ sym (k.each p))
 
 -- ---- There is one.
-
-first_holds : (a b : Bool) → T (a && b) → T a
-first_holds true b h = tt
-first_holds false b h = h
-
-second_holds : (a b : Bool) → T (a && b) → T b
-second_holds true b h = h
-second_holds false b h = absurd h
-
-is_less : (o : Ordering) → T (is_lt o) → o ≡ Less
-is_less Less h = refl
-is_less Equal h = absurd h
-is_less Greater h = absurd h
-
-keys_above : (p : Position) (rows : List (Position × ℤ)) → T (below_all position_cmp p rows) → AllByRecursion (λ (q : Position). position_cmp p q ≡ Less) (keys_of rows)
-keys_above p [] h = tt
-keys_above p (row ∷ rows) h = (
-  is_less (position_cmp p row.0) (first_holds (is_lt (position_cmp p row.0)) (below_all position_cmp p rows) h),
-  keys_above p rows (second_holds (is_lt (position_cmp p row.0)) (below_all position_cmp p rows) h),
-)
-
-keys_sorted : (rows : List (Position × ℤ)) → T (is_sorted position_cmp rows) → IsStrictlySortedBy position_cmp (keys_of rows)
-unfolding IsStrictlySortedBy
-keys_sorted [] h = tt
-keys_sorted (row ∷ rows) h = (
-  keys_above row.0 rows (first_holds (below_all position_cmp row.0 rows) (is_sorted position_cmp rows) h),
-  keys_sorted rows (second_holds (below_all position_cmp row.0 rows) (is_sorted position_cmp rows) h),
-)
 
 -- each leg's position beside a number
 with_numbers : (Position → ℤ) → List Leg → List (Position × ℤ)
@@ -103,7 +54,7 @@ pub some_inventory : (legs : List Leg) → (rows : List (Position × ℤ)) × Is
 some_inventory legs = (
   entries (holdings legs),
   record {
-    in_order = keys_sorted (entries (holdings legs)) (entries_sorted (holdings legs));
-    each = λ p. sym (found_by_order (entries (holdings legs)) p) ∙ sym (get-entries (holdings legs) p) ∙ get-holdings legs p;
+    in_order = keys_sorted position_cmp (entries (holdings legs)) (entries_sorted (holdings legs));
+    each = λ p. sym (found_by_order position_cmp p (entries (holdings legs))) ∙ sym (get-entries (holdings legs) p) ∙ get-holdings legs p;
   },
 )

@@ -2,14 +2,17 @@ pub mod TextCuts
 pub mod TextForms
 pub mod TextLemmas
 pub mod TextLaws
+pub mod CaseLemmas
+pub mod NameLemmas
+pub mod SumLemmas
+pub mod OrderLemmas
+pub mod MapLemmas
 pub mod BalanceLemmas
 pub mod BalanceResiduals
 pub mod BookLemmas
 pub mod BookRecord
 pub mod LawLemmas
-pub mod LawSums
 pub mod LawBalance
-pub mod LawOrder
 pub mod LawHoldings
 pub mod LawBooks
 pub mod LawInventory
@@ -17,7 +20,6 @@ pub mod PrintLemmas
 pub mod CostLemmas
 pub mod RowLemmas
 pub mod RunLemmas
-pub mod LawAnswersMaps
 pub mod LawAnswersReports
 pub mod LawAnswers
 pub mod AnswerLemmas

@@ -47,9 +47,3 @@ front_step a b c written line rest whole before now is = (
   ),
   Appends-trans a b c written now.0 before now.2,
 )
-
--- what a fault leaves
-pub writes_front : {A E : Type 0} (a c : Option (List ℕ)) (result : Result A E) (whole : List ℕ) → IsErr result
-    → AppendsFront a c whole → Writes a c result whole
-writes_front a c (Ok x) whole fails front = absurd (true≢false (sym fails))
-writes_front a c (Err e) whole fails front = front

@@ -11,6 +11,7 @@ use Rattle.lot_cli.specs.declared.report.holdings.ReportFault.TheVariants.{Range
 use Rattle.lot_cli.specs.Printed.{position_row, totals}
 use Rattle.lot_cli.specs.Written.{AppendsFront}
 use Rattle.lot_cli.specs.Report.{AllFit, HasTaken, StopsAtRow, TakesRow, WritesReport, IsReport, IsReportFront, fits, rows_text, report_fault}
+use Rattle.std.proofs.lemmas.Grind.{flat_map-append}
 use Rattle.lot_cli.proofs.PrintLemmas.{front_step}
 
 -- some rows were taken and written, and these are left
@@ -30,10 +31,8 @@ fit_more earlier (first ∷ before) row all fit =
     (all.0, fit_more (earlier ++ first ∷ []) before row all.1 (subst (λ rows. IsTrue (fits rows row)) (one_more earlier first before) fit))
 
 text_more : (before : List (Position × ℤ)) (row : Position × ℤ) → rows_text (before ++ row ∷ []) ≡ rows_text before ++ position_row row.0 row.1
-text_more [] row = append-nil (position_row row.0 row.1)
-text_more (first ∷ before) row =
-    ap (λ text. position_row first.0 first.1 ++ text) (text_more before row)
-    ∙ sym (append_assoc (position_row first.0 first.1) (rows_text before) (position_row row.0 row.1))
+text_more before row =
+    flat_map-append (λ (r : Position × ℤ). position_row r.0 r.1) before (row ∷ []) ∙ ap (λ text. rows_text before ++ text) (append-nil (position_row row.0 row.1))
 
 -- a row that was taken
 pub row_taken : (rows left rest : List (Position × ℤ)) (row : Position × ℤ) (report next : Holdings) (old mid new : Option (List ℕ)) (done : Unit {0})

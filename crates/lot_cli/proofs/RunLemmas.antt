@@ -1,5 +1,5 @@
 -- Runs of commands.
-use Rattle.std.proofs.Common.{inl, inr, ◌≡◌, ℕ, List, [], ◌∷◌, ◌++◌, length, refl, sym, ap, ◌∙◌, subst, append_assoc, append-nil}
+use Rattle.std.proofs.Common.{inl, inr, ◌≡◌, ℕ, List, [], ◌∷◌, ◌++◌, length, refl, sym, ap, ◌∙◌, subst, append_assoc, append-nil, length-append}
 use Rattle.std.specs.Prelude.{suc, ◌+◌, Option, Ok, Err}
 use native.Mathlib.Omega.{arith}
 use Rattle.std.specs.Io.KnownBytes.{Appends}
@@ -62,10 +62,6 @@ status_more (v ∷ verdicts) verdict =
     ap (λ s. status_after (status_of_verdict v) s) (status_more verdicts verdict)
     ∙ regroup (status_of_verdict v) (status_of_replies verdicts) (status_of_verdict verdict)
 
-length_more : (verdicts : List Verdict) (verdict : Verdict) → length (verdicts ++ verdict ∷ []) ≡ length verdicts + 1
-length_more [] verdict = refl
-length_more (v ∷ verdicts) verdict = let more : length (verdicts ++ verdict ∷ []) ≡ length verdicts + 1 = length_more verdicts verdict in omega (arith, more)
-
 -- ---- A run so far.
 
 -- some commands were judged and replied to, so many in number, and these are left
@@ -87,7 +83,7 @@ run_next commands left rest command count number later book next status replied 
       done ++ command ∷ [],
       verdicts ++ verdict ∷ [],
       split ∙ ap (λ cs. done ++ cs) is ∙ sym (append_assoc done (command ∷ []) rest),
-      counted_on ∙ ap (λ n. n + 1) counted ∙ sym (length_more verdicts verdict),
+      counted_on ∙ ap (λ n. n + 1) counted ∙ sym (length-append verdicts (verdict ∷ [])),
       judges_more [] done verdicts book next command verdict all judged,
       subst (Appends old new) (sym (replies_more 1 verdicts verdict ∙ ap (λ n. replies 1 verdicts ++ reply n verdict) (sym (next_number number count verdicts counted numbered))))
           (Appends-trans old mid new _ _ before written),
@@ -128,9 +124,3 @@ run_stops commands left rest command count number book status fault old mid new 
       ),
       ends,
     )
-
-pub run_ends : (commands left : List Command) (count : ℕ) (book : List Entry) (status : Status) (old new : Option (List ℕ))
-    → RanSoFar commands left count book status old new → left ≡ [] → Runs commands old new (Ok (book, status))
-run_ends commands left count book status old new so_far is =
-    let (done, verdicts, split, counted, all, before, status_is) = so_far in
-    (verdicts, subst (λ cs. JudgesAll [] cs verdicts book) (sym (split ∙ ap (λ cs. done ++ cs) is ∙ append-nil done)) all, before, status_is)

@@ -167,7 +167,7 @@ indented-word b word rest h =
 
 -- ---- What has no space in it.
 
-all-weaker : (p q : ℕ → Bool) → ((b : ℕ) → p b ≡ true → q b ≡ true) → (xs : List ℕ) → list_all p xs ≡ true → list_all q xs ≡ true
+all-weaker : {X : Type 0} (p q : X → Bool) → ((x : X) → p x ≡ true → q x ≡ true) → (xs : List X) → list_all p xs ≡ true → list_all q xs ≡ true
 all-weaker p q f [] h = refl
 all-weaker p q f (x ∷ xs) h =
     let parts = and_parts _ _ h in
@@ -200,12 +200,6 @@ split-word_by p x xs f false e ih h =
 split-word : (p : ℕ → Bool) → ((b : ℕ) → p b ≡ true → is_solid b ≡ true) → (xs : List ℕ) → list_all (list_all is_solid) (slice_split p xs) ≡ true → IsWord xs
 split-word p f [] h = refl
 split-word p f (x ∷ xs) h = split-word_by p x xs f (p x) refl (split-word p f xs) h
-
-all-parts : (p q : List ℕ → Bool) → ((part : List ℕ) → p part ≡ true → q part ≡ true) → (parts : List (List ℕ)) → list_all p parts ≡ true → list_all q parts ≡ true
-all-parts p q f [] h = refl
-all-parts p q f (part ∷ parts) h =
-    let both = and_parts _ _ h in
-    and_from _ _ (f part both.0) (all-parts p q f parts both.1)
 
 around-word : (p : ℕ → Bool) → ((b : ℕ) → p b ≡ true → is_solid b ≡ true) → (xs : List ℕ) → IsWord (before_first p xs) → IsWord (after_first p xs) → IsWord xs
 around-word p f xs before after =
@@ -246,7 +240,7 @@ number-word text h =
     let both = and_parts _ _ h in
     unsigned-word text
     (around-word is_point point-solid (unsigned text)
-    (split-word (λ b. eqb b 44) comma-solid (whole_part text) (all-parts is_group (list_all is_solid) group-word (slice_split (λ b. eqb b 44) (whole_part text)) both.0))
+    (split-word (λ b. eqb b 44) comma-solid (whole_part text) (all-weaker is_group (list_all is_solid) group-word (slice_split (λ b. eqb b 44) (whole_part text)) both.0))
     (digits-word (decimals text) both.1))
 
 units-number : (b : Bool) (r : Result (Sign × ℕ) NumberFault) (z : ℤ) → with_sign (cond (not b) (Err Syntax) r) ≡ Ok z → b ≡ true
@@ -345,7 +339,7 @@ account_path-words [] h = refl
 account_path-words (root ∷ []) h = absurd (cc)
 account_path-words (root ∷ first ∷ more) h =
     let both = and_parts _ _ h in
-    and_from _ _ (root-word root both.0) (all-parts is_component (list_all is_solid) component-word (first ∷ more) both.1)
+    and_from _ _ (root-word root both.0) (all-weaker is_component (list_all is_solid) component-word (first ∷ more) both.1)
 
 colon-solid : (b : ℕ) → eqb b 58 ≡ true → is_solid b ≡ true
 colon-solid b h = grind (arith, nat_tests)

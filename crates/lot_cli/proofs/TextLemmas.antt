@@ -309,12 +309,6 @@ line-last text e some =
 
 -- ---- What the reader answers.
 
--- a posting more
-pub post-is : (commands : List Command) (pending : Option TransactionOf) (t : TransactionOf) (p : Posting) (ps : List Posting)
-    → pending ≡ Some t → ps ≡ t.postings ++ p ∷ []
-    → put commands pending (SaysPosting p) ≡ Some (commands, Some (record { day = t.day; narration = t.narration; postings = ps }))
-post-is commands pending t p ps e f = rw (e, f) refl
-
 pub fault-of : (text : List ℕ) (answer : TextFault) (fault : LineFault) (number : ℕ) → (fault ≡ Syntax → IsFaultAt text number)
     → answer ≡ of_line fault number → IsFaultOf text answer
 fault-of text answer Syntax number h e = rw e (h refl)

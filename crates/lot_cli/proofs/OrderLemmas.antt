@@ -2,12 +2,12 @@
 use Rattle.std.specs.Prelude.{◌≡◌, true, Option, None, Some}
 use Rattle.std.specs.declared.cmp.Ordering.{Ordering}
 use Rattle.std.specs.declared.cmp.Ordering.TheVariants.{Less, Equal, Greater}
-use Rattle.std.specs.Cmp.{IsTotalOrder, tied_itself}
+use Rattle.std.specs.Cmp.{IsTotalOrder, Equal-is, tied_itself}
 use Rattle.std.specs.Cmp.Lexicographic.{slice_cmp, options_total}
 use Rattle.std.specs.Option.{option_cmp}
 use Rattle.std.specs.Ordering.{nat_cmp, int_cmp, is_eq, ordering_then}
 use Rattle.std.proofs.Common.{refl, ap}
-use Rattle.std.proofs.lemmas.Cmp.{then_total, on_total, nat_cmp_total, int_cmp_total, nat_list_cmp_total}
+use Rattle.std.proofs.lemmas.Cmp.{then_total, on_total, eq_by_cmp_equiv, nat_cmp_total, int_cmp_total, nat_list_cmp_total}
 use Rattle.std.proofs.lemmas.Map.Lookups.{CmpEqualImpliesEq, exact_unsigned, exact_signed, exact_bytes}
 use Rattle.lot_cli.specs.declared.ledger.leg.LotKey.{LotKey}
 use Rattle.lot_cli.specs.declared.ledger.leg.Position.{Position}
@@ -44,13 +44,11 @@ exact_positions p q e =
     let rest = both_equal (slice_cmp nat_cmp p.commodity q.commodity) (option_cmp lot_cmp p.lot q.lot) account.1 in
     λ i. record { account = exact_bytes p.account q.account account.0 i; commodity = exact_bytes p.commodity q.commodity rest.0 i; lot = exact_options p.lot q.lot rest.1 i }
 
-is_equal : (o : Ordering) → is_eq o ≡ true → o ≡ Equal
-is_equal Less e = cc
-is_equal Equal e = refl
-is_equal Greater e = cc
-
 pub one_position : (p q : Position) → same_position p q ≡ true → p ≡ q
-one_position p q e = exact_positions p q (is_equal (position_cmp p q) e)
+one_position p q e = exact_positions p q ((Equal-is (position_cmp p q)).0 e)
 
-pub same_itself : (p : Position) → same_position p p ≡ true
-same_itself p = ap is_eq (tied_itself positions_total p)
+pub same_position-itself : (p : Position) → same_position p p ≡ true
+same_position-itself p = ap is_eq (tied_itself positions_total p)
+
+pub same_position-turned : (p q : Position) → same_position p q ≡ same_position q p
+same_position-turned p q = (eq_by_cmp_equiv positions_total).symm p q
