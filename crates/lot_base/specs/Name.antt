@@ -53,6 +53,16 @@ is_commodity text =
     && is_ascii_uppercase (slice_index text 0)
     && (is_ascii_uppercase (slice_index text (length text - 1)) || is_ascii_digit (slice_index text (length text - 1)))
 
+-- ---- labels of lots
+
+-- whether this may stand in a label: any byte but a control byte, a quote and a backslash
+abbrev pub is_label_byte : ℕ → Bool
+is_label_byte b = not (is_ascii_control b || ((b == 34) || (b == 92)))
+
+-- whether the text is a label, of 1 to 64 bytes
+unfoldable pub is_label : List ℕ → Bool
+is_label text = nat_le 1 (length text) && nat_le (length text) 64 && list_all is_label_byte text
+
 -- ---- notes: a payee or a narration
 
 -- whether this may stand in a note: any byte but a control byte, and the tab

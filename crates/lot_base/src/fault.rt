@@ -10,6 +10,9 @@ pub enum NameFault {
     /// The text is no commodity.
     #[error("not a commodity")]
     BadCommodity,
+    /// The text is no label.
+    #[error("not a label")]
+    BadLabel,
     /// The text is no note.
     #[error("not a note")]
     BadNote,

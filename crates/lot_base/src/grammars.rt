@@ -1,8 +1,8 @@
 ghost use Rattle.std.specs.Prelude.{◌≡◌, ◌≢◌, ℕ, List, Bool};
 ghost use Rattle.std.specs.List.{list_all};
-ghost use Rattle.lot_base.specs.Name.{components, is_account, is_commodity, is_note, is_root, is_component, is_component_byte, is_commodity_byte, is_note_byte};
+ghost use Rattle.lot_base.specs.Name.{components, is_account, is_commodity, is_label, is_label_byte, is_note, is_root, is_component, is_component_byte, is_commodity_byte, is_note_byte};
 ghost use Rattle.lot_base.specs.declared.fault.NameFault.{NameFault};
-ghost use Rattle.lot_base.specs.declared.fault.NameFault.TheVariants.{BadAccount, BadCommodity, BadNote, Memory};
+ghost use Rattle.lot_base.specs.declared.fault.NameFault.TheVariants.{BadAccount, BadCommodity, BadLabel, BadNote, Memory};
 
 use crate::fault::NameFault;
 
@@ -12,12 +12,15 @@ const MAX_ACCOUNT: usize = 128;
 /// The longest commodity, in bytes, which are also its characters.
 const MAX_COMMODITY: usize = 24;
 
+/// The longest label, in bytes.
+const MAX_LABEL: usize = 64;
+
 /// The longest note, in bytes.
 const MAX_NOTE: usize = 1_000;
 
 /// Which texts are names of one kind.
 ///
-/// A further kind of name, as the label of a lot, is a further type with this trait.
+/// A further kind of name is a further type with this trait.
 pub trait Grammar {
     // Whether a list of bytes is a name of this kind.
     ghost is_name: { List ℕ → Bool };
@@ -152,6 +155,43 @@ fn is_commodity_byte(b: u8) -> bool
     ensures { result ≡ is_commodity_byte b }
 {
     b.is_ascii_uppercase() || b.is_ascii_digit() || matches!(b, b'\'' | b'.' | b'_' | b'-')
+}
+
+/// The grammar of labels: 1 to 64 bytes of UTF-8, none of them a control byte (below 32, or 127), a quote or a
+/// backslash.
+///
+/// This project's own.
+pub struct LabelGrammar;
+
+impl Grammar for LabelGrammar {
+    ghost is_name = { is_label };
+
+    ghost bad = { BadLabel };
+
+    ghost blames_the_text = { λ e. Prim.cc };
+
+    #[tactic(auto, unfolding(crate::specs::Name::is_label))]
+    fn accepts(text: &str) -> bool {
+        !text.is_empty() && text.len() <= MAX_LABEL && are_label_bytes(text.as_bytes())
+    }
+
+    fn fault() -> NameFault {
+        NameFault::BadLabel
+    }
+}
+
+/// Whether each byte may stand in a label.
+fn are_label_bytes(bytes: &[u8]) -> bool
+    ensures { result ≡ list_all is_label_byte bytes.now }
+{
+    bytes.iter().all(|b| is_label_byte(*b))
+}
+
+/// Whether the byte may stand in a label.
+fn is_label_byte(b: u8) -> bool
+    ensures { result ≡ is_label_byte b }
+{
+    !(b.is_ascii_control() || b == b'"' || b == b'\\')
 }
 
 /// The grammar of notes: at most 1,000 bytes of UTF-8, none of them a control byte (below 32, or 127) but the tab.

@@ -1,6 +1,6 @@
-//! Names and days: what a book calls its accounts and commodities, what it says about a transaction, and when.
+//! Names and days: what a book calls its accounts, commodities and lots, what it says about a transaction, and when.
 //!
-//! - `name`: `Account`, `Commodity` and `Note`, one type `Name` over three grammars, which stand in `grammars`.
+//! - `name`: `Account`, `Commodity`, `Label` and `Note`, one type `Name` over four grammars, which stand in `grammars`.
 //! - `fault`: `NameFault`, why a text is no name.
 //! - `day`: `Day`, a day of the calendar of the years 1 to 9999, and `DayFault`.
 //! - `laws`: what holds of the definitions that the contracts cite.
@@ -16,4 +16,4 @@ mod tests;
 
 pub use day::{Day, DayFault};
 pub use fault::NameFault;
-pub use name::{Account, Commodity, Note};
+pub use name::{Account, Commodity, Label, Note};

@@ -7,7 +7,7 @@ ghost use Rattle.std.specs.Cmp.Lexicographic.{pointwise, slice_cmp};
 ghost use Rattle.std.specs.Hash as fed;
 
 use crate::fault::NameFault;
-use crate::grammars::{AccountGrammar, CommodityGrammar, Grammar, NoteGrammar};
+use crate::grammars::{AccountGrammar, CommodityGrammar, Grammar, LabelGrammar, NoteGrammar};
 use std::alloc::{AllocError, Global};
 use std::cmp::Ordering;
 use std::fmt;
@@ -19,6 +19,9 @@ pub type Account = Name<AccountGrammar>;
 
 /// A commodity or currency, as `HOOL` or `USD`. Its grammar is that of `CommodityGrammar`.
 pub type Commodity = Name<CommodityGrammar>;
+
+/// A label of a lot, given where it is bought. Its grammar is that of `LabelGrammar`.
+pub type Label = Name<LabelGrammar>;
 
 /// A note on a transaction, its payee or its narration. Its grammar is that of `NoteGrammar`.
 pub type Note = Name<NoteGrammar>;
@@ -46,7 +49,7 @@ impl<G: Grammar> Model for Name<G> {
 impl<G: Grammar> Name<G> {
     /// The name with that text.
     ///
-    /// The fault of the grammar (`BadAccount`, `BadCommodity` or `BadNote`) exactly where the text isn't of it, and
+    /// The fault of the grammar (`BadAccount`, `BadCommodity`, `BadLabel` or `BadNote`) exactly where the text isn't of it, and
     /// `Memory` where there is no memory for a copy of the text.
     pub fn new(alloc: Global, text: &str) -> Result<Name<G>, NameFault>
         ensures ok { IfOk result (λ a. a ≡ text.now) }

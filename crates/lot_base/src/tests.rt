@@ -1,4 +1,4 @@
-use crate::{Account, Commodity, Day, DayFault, NameFault, Note};
+use crate::{Account, Commodity, Day, DayFault, Label, NameFault, Note};
 use std::alloc::{AllocError, Global};
 use std::collections::{BTreeMap, HashMap};
 use std::test::Fail;
@@ -103,6 +103,29 @@ fn commodities(rt: HostRuntime) -> Result<(), Fail> {
             Commodity::new(rt.alloc(), text),
             Err(NameFault::BadCommodity),
             "{text}"
+        );
+    }
+    Ok(())
+}
+
+#[test]
+fn labels(rt: HostRuntime) -> Result<(), Fail> {
+    let longest = "0123456789abcdef0123456789abcdef0123456789abcdef0123456789abcdef";
+    for text in ["x", "é", "lot 1", " ", "~", "\u{80}", "a/b:c", longest] {
+        let label = Label::new(rt.alloc(), text)?;
+        assert_eq!(rt; label.as_str(), text);
+        assert_eq!(rt; label.copy()?, label);
+        assert_eq!(rt; format!(in rt.alloc(); "{label}")?.as_str(), text);
+    }
+    let too_long = "0123456789abcdef0123456789abcdef0123456789abcdef0123456789abcdefx";
+    let bad = [
+        "", "\"", "a\"b", "\\", "a\\b", "\t", "a\tb", "\n", "\0", "\u{1f}", "\u{7f}", too_long,
+    ];
+    for text in bad {
+        assert_eq!(rt;
+            Label::new(rt.alloc(), text),
+            Err(NameFault::BadLabel),
+            "{text:?}"
         );
     }
     Ok(())

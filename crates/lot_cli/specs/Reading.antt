@@ -10,7 +10,7 @@ use Rattle.lot_num.specs.NumberText.{units_of, rate_of}
 use Rattle.lot_base.specs.Name.{is_account, is_commodity, is_note}
 use Rattle.lot_base.specs.Day.{named_day}
 use Rattle.lot_base.specs.declared.fault.NameFault.{NameFault}
-use Rattle.lot_base.specs.declared.fault.NameFault.TheVariants.{BadAccount, BadCommodity, BadNote, Memory as NoMemory}
+use Rattle.lot_base.specs.declared.fault.NameFault.TheVariants.{BadAccount, BadCommodity, BadLabel, BadNote, Memory as NoMemory}
 use Rattle.lot_cli.specs.declared.text.command.Transaction.{Transaction as TransactionOf}
 use Rattle.lot_cli.specs.declared.text.command.Posting.{Posting}
 use Rattle.lot_cli.specs.declared.text.command.Amount.{Amount}
@@ -42,6 +42,7 @@ abbrev pub of_name : NameFault → LineFault
 of_name NoMemory = Memory
 of_name BadAccount = Syntax
 of_name BadCommodity = Syntax
+of_name BadLabel = Syntax
 of_name BadNote = Syntax
 
 -- ---- The parts of a text.

@@ -35,6 +35,9 @@ impl Units {
     /// The absolute mantissas that are too large: 10^18 and all above.
     const LIMIT: u64 = 1_000_000_000_000_000_000;
 
+    /// No units.
+    pub const ZERO: Units = Units { mantissa: 0 };
+
     /// The units with a mantissa at scale 8, or `None` where it is 10^18 or more in absolute value.
     pub fn from_mantissa(mantissa: i64) -> Option<Units>
         ensures { SomeIff result (IsUnits mantissa) mantissa }

@@ -1,0 +1,20 @@
+-- Orders by several parts: where two values tie, their parts do.
+use Rattle.std.specs.Prelude.{◌≡◌, None, Some}
+use Rattle.std.specs.declared.cmp.Ordering.{Ordering}
+use Rattle.std.specs.declared.cmp.Ordering.TheVariants.{Less, Equal, Greater}
+use Rattle.std.specs.Option.{option_cmp}
+use Rattle.std.specs.Ordering.{ordering_then}
+use Rattle.std.proofs.Common.{refl, ap}
+use Rattle.std.proofs.lemmas.Map.Lookups.{CmpEqualImpliesEq}
+
+pub both_equal : (a b : Ordering) → ordering_then a b ≡ Equal → (a ≡ Equal) × (b ≡ Equal)
+both_equal Less b e = cc
+both_equal Equal b e = (refl, e)
+both_equal Greater b e = cc
+
+-- an order that tells values apart tells options of them apart
+pub exact_options : {K : Type 0} (order : K → K → Ordering) → CmpEqualImpliesEq order → CmpEqualImpliesEq (option_cmp order)
+exact_options order exact None None e = refl
+exact_options order exact None (Some b) e = cc
+exact_options order exact (Some a) None e = cc
+exact_options order exact (Some a) (Some b) e = ap Some (exact a b e)
