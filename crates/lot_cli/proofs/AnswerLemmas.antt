@@ -6,21 +6,22 @@ use Rattle.std.specs.Io.KnownBytes.{Appends}
 use Rattle.std.proofs.KnownBytes.{Appends-trans}
 use Rattle.lot_cli.specs.declared.batch.fault.Fault.{Fault}
 use Rattle.lot_cli.specs.declared.batch.status.Status.{Status}
-use Rattle.lot_cli.specs.declared.ledger.leg.Entry.{Entry}
-use Rattle.lot_cli.specs.declared.ledger.leg.Position.{Position}
-use Rattle.lot_cli.specs.declared.ledger.verdict.Verdict.{Verdict}
-use Rattle.lot_cli.specs.declared.report.holdings.ReportFault.{ReportFault}
-use Rattle.lot_cli.specs.declared.text.command.Command.{Command}
-use Rattle.lot_cli.specs.Text.{Reads}
-use Rattle.lot_cli.specs.Leg.{IsInventory, legs_of}
+use Rattle.lot_ledger.specs.declared.leg.Entry.{Entry}
+use Rattle.lot_ledger.specs.declared.leg.Position.{Position}
+use Rattle.lot_ledger.specs.declared.verdict.Verdict.{Verdict}
+use Rattle.lot_report.specs.declared.holdings.ReportFault.{ReportFault}
+use Rattle.lot_ledger.specs.declared.command.Command.{Command}
+use Rattle.lot_text.specs.Text.{Reads}
+use Rattle.lot_ledger.specs.Leg.{IsInventory, legs_of}
 use Rattle.lot_cli.specs.Status.{code_of, status_of, fault_of_report}
-use Rattle.lot_cli.specs.Printed.{replies, fault_line}
-use Rattle.lot_cli.specs.Book.{JudgesAll}
-use Rattle.lot_cli.specs.Written.{AppendsFront, IsPrefixOf}
-use Rattle.lot_cli.specs.Report.{IsReportFront, WritesReport}
+use Rattle.lot_report.specs.Printed.{replies}
+use Rattle.lot_cli.specs.FaultLine.{fault_line}
+use Rattle.lot_ledger.specs.Book.{JudgesAll}
+use Rattle.lot_report.specs.Written.{AppendsFront, IsPrefixOf}
+use Rattle.lot_report.specs.Report.{IsReportFront, WritesReport}
 use Rattle.lot_cli.specs.Answer.{limit, Tells, IsAnswer, IsStopLine, IsFront, IsJudged, IsWhole, status_of_replies}
 use Rattle.lot_cli.specs.Way.{Runs, StopsInRun, StopsAtFront, Reaches, Concludes}
-use Rattle.lot_cli.proofs.PrintLemmas.{front_step}
+use Rattle.lot_report.proofs.PrintLemmas.{front_step}
 
 -- ---- A text that was read.
 

@@ -3,22 +3,23 @@ use Rattle.std.specs.Prelude.{◌≡◌, ◌⊎◌, ℕ, suc, ◌<◌, ◌≤◌
 use Rattle.std.proofs.Common.{refl, sym, ap, subst, ◌∙◌, inl, inr, append_assoc, not-le_of_lt}
 use Rattle.std.proofs.lemmas.List.{append-nil}
 use Rattle.lot_cli.specs.declared.batch.fault.Fault.{Fault}
-use Rattle.lot_cli.specs.declared.ledger.leg.Entry.{Entry}
-use Rattle.lot_cli.specs.declared.ledger.leg.Position.{Position}
-use Rattle.lot_cli.specs.declared.ledger.verdict.Verdict.{Verdict}
-use Rattle.lot_cli.specs.declared.text.command.Command.{Command}
+use Rattle.lot_ledger.specs.declared.leg.Entry.{Entry}
+use Rattle.lot_ledger.specs.declared.leg.Position.{Position}
+use Rattle.lot_ledger.specs.declared.verdict.Verdict.{Verdict}
+use Rattle.lot_ledger.specs.declared.command.Command.{Command}
 use Rattle.lot_cli.specs.Answer.{IsJudged, IsTooLong, IsNoText, IsWhole, IsBroken, IsAnswer, AreReplies, AreRows, IsFront, limit, status_of_replies}
-use Rattle.lot_cli.specs.Book.{JudgesAll}
-use Rattle.lot_cli.specs.Leg.{IsInventory, legs_of}
-use Rattle.lot_cli.specs.Printed.{fault_line, replies, reply}
-use Rattle.lot_cli.specs.Report.{IsReport, IsReportToFault, rows_text}
+use Rattle.lot_ledger.specs.Book.{JudgesAll}
+use Rattle.lot_ledger.specs.Leg.{IsInventory, legs_of}
+use Rattle.lot_report.specs.Printed.{replies, reply}
+use Rattle.lot_cli.specs.FaultLine.{fault_line}
+use Rattle.lot_report.specs.Report.{IsReport, IsReportToFault, rows_text}
 use Rattle.lot_cli.specs.Status.{code_of}
-use Rattle.lot_cli.specs.Text.{IsFaultAt}
-use Rattle.lot_cli.specs.Written.{IsPrefixOf}
+use Rattle.lot_text.specs.Text.{IsFaultAt}
+use Rattle.lot_report.specs.Written.{IsPrefixOf}
 use Rattle.lot_cli.proofs.LawAnswersReports.{one_report, one_report_to_fault, whole_or_to_fault, front_of_report, front_of_report_to_fault}
-use Rattle.lot_cli.proofs.LawBooks.{judged_alike}
-use Rattle.lot_cli.proofs.LawInventory.{one_inventory}
-use Rattle.lot_cli.proofs.TextLaws.{reads_one, fault_one, not_both}
+use Rattle.lot_ledger.proofs.LawBooks.{judged_alike}
+use Rattle.lot_ledger.proofs.LawInventory.{one_inventory}
+use Rattle.lot_text.proofs.TextLaws.{reads_one, fault_one, not_both}
 
 -- ---- Fronts of texts.
 

@@ -8,11 +8,11 @@ use Rattle.std.proofs.lemmas.Cmp.{nat_list_cmp_total}
 use Rattle.std.proofs.lemmas.Grind.{flat_map-append}
 use Rattle.std.proofs.lemmas.List.{append-nil}
 use Rattle.std.proofs.lemmas.Map.Lookups.{exact_bytes}
-use Rattle.lot_cli.specs.declared.ledger.leg.Position.{Position}
-use Rattle.lot_cli.specs.Printed.{position_row, totals}
-use Rattle.lot_cli.specs.Report.{AreSums, AllFit, IsReport, IsReportToFault, costs_of, fits, is_nil, rows_text}
-use Rattle.lot_cli.specs.Written.{IsPrefixOf}
-use Rattle.lot_cli.proofs.MapLemmas.{one_map}
+use Rattle.lot_ledger.specs.declared.leg.Position.{Position}
+use Rattle.lot_report.specs.Printed.{position_row, totals}
+use Rattle.lot_report.specs.Report.{AreSums, AllFit, IsReport, IsReportToFault, costs_of, fits, is_nil, rows_text}
+use Rattle.lot_report.specs.Written.{IsPrefixOf}
+use Rattle.lot_base.proofs.MapLemmas.{one_map}
 
 -- ---- Costs have one list of sums.
 

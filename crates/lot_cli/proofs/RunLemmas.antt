@@ -4,18 +4,18 @@ use Rattle.std.specs.Prelude.{suc, ◌+◌, Option, Ok, Err}
 use native.Mathlib.Omega.{arith}
 use Rattle.std.specs.Io.KnownBytes.{Appends}
 use Rattle.std.proofs.KnownBytes.{Appends-trans}
-use Rattle.lot_cli.specs.declared.report.line.PrintFault.{PrintFault}
+use Rattle.lot_report.specs.declared.line.PrintFault.{PrintFault}
 use Rattle.lot_cli.specs.declared.batch.fault.Fault.{Fault}
 use Rattle.lot_cli.specs.declared.batch.status.Status.{Status}
-use Rattle.lot_cli.specs.declared.ledger.leg.Entry.{Entry}
-use Rattle.lot_cli.specs.declared.ledger.verdict.Verdict.{Verdict}
-use Rattle.lot_cli.specs.declared.text.command.Command.{Command}
+use Rattle.lot_ledger.specs.declared.leg.Entry.{Entry}
+use Rattle.lot_ledger.specs.declared.verdict.Verdict.{Verdict}
+use Rattle.lot_ledger.specs.declared.command.Command.{Command}
 use Rattle.lot_cli.specs.Status.{fault_at, status_after, status_of_verdict}
-use Rattle.lot_cli.specs.Printed.{reply, replies}
-use Rattle.lot_cli.specs.Book.{Judges, JudgesAll}
+use Rattle.lot_report.specs.Printed.{reply, replies}
+use Rattle.lot_ledger.specs.Book.{Judges, JudgesAll}
 use Rattle.lot_cli.specs.Answer.{status_of_replies}
 use Rattle.lot_cli.specs.Way.{EndsRun, Replies, Runs}
-use Rattle.lot_cli.proofs.PrintLemmas.{front_step}
+use Rattle.lot_report.proofs.PrintLemmas.{front_step}
 
 -- a fault of a reply ends a run
 pub ends_at : (number : ℕ) (fault : PrintFault) (e : Fault) → e ≡ fault_at number fault → EndsRun e

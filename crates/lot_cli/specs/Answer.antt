@@ -2,16 +2,17 @@
 use Rattle.std.specs.Prelude.{◌≡◌, ◌⊎◌, ℕ, ◌<◌, ◌≤◌, List, [], ◌∷◌, ◌++◌, length, ℤ}
 use Rattle.lot_cli.specs.declared.batch.fault.Fault.{Fault}
 use Rattle.lot_cli.specs.declared.batch.status.Status.{Status}
-use Rattle.lot_cli.specs.declared.ledger.leg.Position.{Position}
-use Rattle.lot_cli.specs.declared.ledger.leg.Entry.{Entry}
-use Rattle.lot_cli.specs.declared.ledger.verdict.Verdict.{Verdict}
-use Rattle.lot_cli.specs.declared.text.command.Command.{Command}
-use Rattle.lot_cli.specs.Text.{Reads, IsFaultAt}
-use Rattle.lot_cli.specs.Leg.{IsInventory, legs_of}
-use Rattle.lot_cli.specs.Book.{JudgesAll}
-use Rattle.lot_cli.specs.Printed.{replies, fault_line}
-use Rattle.lot_cli.specs.Report.{IsReport, IsReportToFault, AllFit, rows_text}
-use Rattle.lot_cli.specs.Written.{IsPrefixOf}
+use Rattle.lot_ledger.specs.declared.leg.Position.{Position}
+use Rattle.lot_ledger.specs.declared.leg.Entry.{Entry}
+use Rattle.lot_ledger.specs.declared.verdict.Verdict.{Verdict}
+use Rattle.lot_ledger.specs.declared.command.Command.{Command}
+use Rattle.lot_text.specs.Text.{Reads, IsFaultAt}
+use Rattle.lot_ledger.specs.Leg.{IsInventory, legs_of}
+use Rattle.lot_ledger.specs.Book.{JudgesAll}
+use Rattle.lot_report.specs.Printed.{replies}
+use Rattle.lot_cli.specs.FaultLine.{fault_line}
+use Rattle.lot_report.specs.Report.{IsReport, IsReportToFault, AllFit, rows_text}
+use Rattle.lot_report.specs.Written.{IsPrefixOf}
 use Rattle.lot_cli.specs.Status.{code_of, status_of_verdict, status_after}
 
 -- ---- The status of replies.

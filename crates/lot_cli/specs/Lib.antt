@@ -1,14 +1,4 @@
-pub mod Sum
-pub mod Leg
-pub mod Balance
-pub mod Step
-pub mod Book
-pub mod Laws
-pub mod Text
-pub mod Reading
-pub mod Printed
-pub mod Report
 pub mod Status
-pub mod Written
+pub mod FaultLine
 pub mod Answer
 pub mod Way

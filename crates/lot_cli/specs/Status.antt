@@ -2,11 +2,11 @@
 use Rattle.std.specs.Prelude.{◌≡◌, ◌⊎◌, ℕ}
 use Rattle.lot_cli.specs.declared.batch.fault.Fault.{Fault}
 use Rattle.lot_cli.specs.declared.batch.fault.Fault.TheVariants.{Read, TooLong, Syntax, Range, Write, Memory, MemoryAt}
-use Rattle.lot_cli.specs.declared.ledger.verdict.Verdict.{Verdict}
+use Rattle.lot_ledger.specs.declared.verdict.Verdict.{Verdict}
 use Rattle.lot_cli.specs.declared.input.SlurpFault.{SlurpFault}
-use Rattle.lot_cli.specs.declared.text.reader.TextFault.{TextFault}
-use Rattle.lot_cli.specs.declared.report.holdings.ReportFault.{ReportFault}
-use Rattle.lot_cli.specs.declared.report.line.PrintFault.{PrintFault}
+use Rattle.lot_text.specs.declared.reader.TextFault.{TextFault}
+use Rattle.lot_report.specs.declared.holdings.ReportFault.{ReportFault}
+use Rattle.lot_report.specs.declared.line.PrintFault.{PrintFault}
 use Rattle.lot_cli.specs.declared.batch.status.Status.{Status}
 use Rattle.lot_cli.specs.declared.batch.status.Status.TheVariants.{Accepted, Refused, BadInput, Stopped}
 

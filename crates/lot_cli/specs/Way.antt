@@ -3,15 +3,16 @@ use Rattle.std.specs.Io.KnownBytes.{Appends}
 use Rattle.std.specs.Prelude.{◌≡◌, ◌⊎◌, Option, Result, Ok, Err, ℕ, ◌<◌, ◌≤◌, List, [], ◌++◌, length, ℤ}
 use Rattle.lot_cli.specs.declared.batch.fault.Fault.{Fault}
 use Rattle.lot_cli.specs.declared.batch.status.Status.{Status}
-use Rattle.lot_cli.specs.declared.ledger.leg.Position.{Position}
-use Rattle.lot_cli.specs.declared.ledger.leg.Entry.{Entry}
-use Rattle.lot_cli.specs.declared.ledger.verdict.Verdict.{Verdict}
-use Rattle.lot_cli.specs.declared.text.command.Command.{Command}
-use Rattle.lot_cli.specs.Text.{IsFaultAt}
-use Rattle.lot_cli.specs.Book.{Judges, JudgesAll}
-use Rattle.lot_cli.specs.Printed.{reply, replies, fault_line}
-use Rattle.lot_cli.specs.Report.{IsReportToFault}
-use Rattle.lot_cli.specs.Written.{AppendsFront}
+use Rattle.lot_ledger.specs.declared.leg.Position.{Position}
+use Rattle.lot_ledger.specs.declared.leg.Entry.{Entry}
+use Rattle.lot_ledger.specs.declared.verdict.Verdict.{Verdict}
+use Rattle.lot_ledger.specs.declared.command.Command.{Command}
+use Rattle.lot_text.specs.Text.{IsFaultAt}
+use Rattle.lot_ledger.specs.Book.{Judges, JudgesAll}
+use Rattle.lot_report.specs.Printed.{reply, replies}
+use Rattle.lot_cli.specs.FaultLine.{fault_line}
+use Rattle.lot_report.specs.Report.{IsReportToFault}
+use Rattle.lot_report.specs.Written.{AppendsFront}
 use Rattle.lot_cli.specs.Status.{code_of, status_of, status_of_verdict}
 use Rattle.lot_cli.specs.Answer.{limit, status_of_replies, IsFront, IsWhole, IsJudged}
 

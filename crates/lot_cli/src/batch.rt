@@ -16,10 +16,10 @@ mod status;
 mod tests;
 
 use crate::input::slurp;
-use crate::ledger::Book;
-use crate::report::{print_holdings, print_reply};
-use crate::text::{Command, read};
 use fault::{Fault, print_fault};
+use lot_ledger::{Book, Command};
+use lot_report::{print_holdings, print_reply};
+use lot_text::read;
 use status::Status;
 use std::alloc::Global;
 use std::io::{Read, Write};

@@ -1,12 +1,12 @@
 ghost use Rattle.std.specs.Prelude.{◌≡◌};
-ghost use Rattle.lot_cli.specs.Printed.{fault_line};
+ghost use Rattle.lot_cli.specs.FaultLine.{fault_line};
 ghost use Rattle.lot_cli.specs.Status.{fault_at, status_of};
-ghost use Rattle.lot_cli.specs.Written.{Writes};
+ghost use Rattle.lot_report.specs.Written.{Writes};
 
 use super::status::Status;
 use crate::input::SlurpFault;
-use crate::report::{PrintFault, ReportFault, print_line};
-use crate::text::TextFault;
+use lot_report::{PrintFault, ReportFault, print_line};
+use lot_text::TextFault;
 use std::io::Write;
 use thiserror::Error;
 

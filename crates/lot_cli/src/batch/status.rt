@@ -1,7 +1,7 @@
 ghost use Rattle.std.specs.Prelude.{◌≡◌};
 ghost use Rattle.lot_cli.specs.Status.{code_of, status_of_verdict, status_after, IsStatus};
 
-use crate::ledger::Verdict;
+use lot_ledger::Verdict;
 
 /// How a run ended.
 #[derive(Clone, Copy, Debug, PartialEq, Eq)]

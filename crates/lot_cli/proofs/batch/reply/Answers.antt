@@ -1,5 +1,5 @@
 use Rattle.std.proofs.Common.{inr, refl}
-use Rattle.lot_cli.specs.Printed.{reply}
+use Rattle.lot_report.specs.Printed.{reply}
 use Rattle.lot_cli.proofs.RunLemmas.{ends_at}
 use Rattle.lot_cli.proofs.batch.reply.Goals as goal
 

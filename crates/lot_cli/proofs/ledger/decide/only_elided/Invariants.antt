@@ -1,9 +1,0 @@
-use Rattle.std.proofs.Common.{◌≡◌, ◌+◌, ◌∷◌, MatchOption, drop}
-use Rattle.lot_cli.specs.Balance.{empty_postings}
-use Rattle.lot_cli.proofs.ledger.decide.only_elided.Given as goal
-
--- the posting without amount so far, if there is one, and those that are left are all
-abbrev pub invariant-loop-index : goal.invariant-loop-index
-invariant-loop-index l =
-    let left = empty_postings (l.index + 1) (drop l.index l.postings) in
-    MatchOption l.elided (empty_postings 1 l.postings ≡ left) (λ elided. empty_postings 1 l.postings ≡ elided ∷ left)

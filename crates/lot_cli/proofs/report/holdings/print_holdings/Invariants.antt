@@ -1,7 +1,0 @@
-use Rattle.lot_cli.proofs.RowLemmas.{SoFar}
-use Rattle.lot_cli.proofs.report.holdings.print_holdings.Given as goal
-
--- the rows so far were taken and written
-abbrev pub invariant-loop-position : goal.invariant-loop-position
-invariant-loop-position g l =
-    SoFar l.held.entries l.position-iterator l.holdings (g.W.Write.contents l.initial.writer) (g.W.Write.contents l.writer)

@@ -1,0 +1,118 @@
+-- What is held, leg by leg, and the legs of a transaction.
+use Rattle.std.proofs.Common.{◌≡◌, ℕ, suc, ◌+◌, ◌≤◌, inl, inr, false, cond, List, [], ◌∷◌, ◌++◌, length, drop, map, Option, Some, None, refl, sym, ap, ◌∙◌, arith, add-one, append_assoc, length-append, ℤ, pos, ◌+ℤ◌}
+use Rattle.std.specs.Map.{lookup}
+use Rattle.std.specs.Option.{option_or, unwrap_or}
+use Rattle.std.specs.Ordering.{int_eq}
+use Rattle.std.proofs.lemmas.Bool.{cases_Bool, cases_lt}
+use Rattle.std.proofs.lemmas.Bool.Decides.{nat_tests}
+use Rattle.lot_ledger.specs.declared.leg.Position.{Position}
+use Rattle.lot_ledger.specs.declared.leg.Leg.{Leg}
+use Rattle.lot_ledger.specs.declared.command.Amount.{Amount}
+use Rattle.lot_ledger.specs.declared.command.Posting.{Posting}
+use Rattle.lot_ledger.specs.Leg.{same_position, held, TellsHeld, non_zero}
+use Rattle.lot_ledger.specs.Balance.{amount_legs, posting_legs, legs_for, opposite}
+use Rattle.lot_ledger.specs.Step.{too_many_postings}
+use Rattle.std.specs.Cmp.{signed_Decides}
+use Rattle.lot_ledger.proofs.OrderLemmas.{one_position, same_position-itself, same_position-turned}
+use Rattle.lot_ledger.proofs.SumLemmas.{sum_where-push}
+
+-- ---- what is held
+
+-- one more leg adds its units where it stands
+pub held-push : (legs : List Leg) (leg : Leg) (p : Position)
+    → held (legs ++ leg ∷ []) p ≡ cond (same_position p leg.position) (held legs p +ℤ leg.units) (held legs p)
+held-push legs leg p = sum_where-push (λ (l : Leg). same_position p l.position) (λ (l : Leg). l.units) legs leg
+
+-- a leg leaves what is held elsewhere
+held-elsewhere : (legs : List Leg) (leg : Leg) (q : Position) → same_position leg.position q ≡ false → held (legs ++ leg ∷ []) q ≡ held legs q
+held-elsewhere legs leg q apart =
+    held-push legs leg q ∙ ap (λ b. cond b (held legs q +ℤ leg.units) (held legs q)) (same_position-turned q leg.position ∙ apart)
+
+held-here : (legs : List Leg) (leg : Leg) → held (legs ++ leg ∷ []) leg.position ≡ held legs leg.position +ℤ leg.units
+held-here legs leg =
+    held-push legs leg leg.position ∙ ap (λ b. cond b (held legs leg.position +ℤ leg.units) (held legs leg.position)) (same_position-itself leg.position)
+
+non_zero-or : (z : ℤ) → unwrap_or (non_zero z) (pos 0) ≡ z
+non_zero-or z = elim (cases_Bool (int_eq z (pos 0))) [
+  | inl zero ↦ rw zero (sym ((signed_Decides z (pos 0)).0 zero))
+  | inr other ↦ rw other refl
+]
+
+told-or : (told : Option ℤ) (z : ℤ) → unwrap_or (option_or told (non_zero z)) (pos 0) ≡ unwrap_or told z
+told-or None z = non_zero-or z
+told-or (Some t) z = refl
+
+-- what a position holds after one more leg there
+pub held-after : (before legs : List Leg) (leg : Leg) (told : List (Position × ℤ)) (found : Option ℤ) → TellsHeld before legs told
+    → found ≡ option_or (lookup (same_position leg.position) told) (non_zero (held before leg.position))
+    → held (before ++ legs ++ leg ∷ []) leg.position ≡ unwrap_or found (pos 0) +ℤ leg.units
+held-after before legs leg told found tells is =
+    held-here (before ++ legs) leg ∙ ap (λ z. z +ℤ leg.units) (sym (tells leg.position) ∙ sym (told-or (lookup (same_position leg.position) told) (held before leg.position)) ∙ ap (λ (o : Option ℤ). unwrap_or o (pos 0)) (sym is))
+
+-- what is told stays right where the leg's position is told anew
+pub TellsHeld-push : (before legs : List Leg) (leg : Leg) (told new : List (Position × ℤ)) (after : ℤ) → TellsHeld before legs told
+    → after ≡ held (before ++ legs ++ leg ∷ []) leg.position
+    → ((q : Position) → lookup (same_position q) new ≡ cond (same_position leg.position q) (Some after) (lookup (same_position q) told))
+    → TellsHeld before (legs ++ leg ∷ []) new
+TellsHeld-push before legs leg told new after tells is updates q =
+    ap (λ o. unwrap_or o (held before q)) (updates q) ∙ by ∙ ap (λ ls. held ls q) (append_assoc before legs (leg ∷ []))
+  where
+    by : unwrap_or (cond (same_position leg.position q) (Some after) (lookup (same_position q) told)) (held before q) ≡ held (before ++ legs ++ leg ∷ []) q
+    by = elim (cases_Bool (same_position leg.position q)) [
+      | inl here ↦ rw here (is ∙ ap (held (before ++ legs ++ leg ∷ [])) (one_position leg.position q here))
+      | inr apart ↦ rw apart (tells q ∙ sym (held-elsewhere (before ++ legs) leg q apart))
+    ]
+
+-- ---- the legs of the postings with amounts
+
+-- what the postings from a place on give
+abbrev pub amounts_from : ℕ → ℤ → List Posting → ℕ → List Leg
+amounts_from entry day postings index = amount_legs entry (index + 1) day (drop index postings)
+
+-- ---- the legs of a fill
+
+-- plain legs of so many units in each currency, numbered on from a place
+abbrev pub filled : ℕ → ℕ → List ℕ → ℕ → List (List ℕ × ℤ) → List Leg
+filled entry posting account place [] = []
+filled entry posting account place (fill ∷ fills) =
+    record {
+      entry = entry;
+      posting = posting;
+      place = place;
+      position = record { account = account; commodity = fill.0; lot = None };
+      units = fill.1;
+    } ∷ filled entry posting account (place + 1) fills
+
+pub legs_for-filled : (entry posting : ℕ) (account : List ℕ) (place : ℕ) (rs : List (List ℕ × ℤ))
+    → legs_for entry posting account place rs ≡ filled entry posting account place (map (λ (r : List ℕ × ℤ). (r.0, opposite r.1)) rs)
+legs_for-filled entry posting account place [] = refl
+legs_for-filled entry posting account place (r ∷ rs) =
+    let first : Leg =
+    record {
+      entry = entry;
+      posting = posting;
+      place = place;
+      position = record { account = account; commodity = r.0; lot = None };
+      units = opposite r.1;
+    } in
+    ap (λ n. first ∷ legs_for entry posting account n rs) (sym (add-one place)) ∙ ap (λ legs. first ∷ legs) (legs_for-filled entry posting account (place + 1) rs)
+
+-- ---- how many legs a transaction has
+
+-- no posting gives more than one leg
+pub amount_legs-few : (entry place : ℕ) (day : ℤ) (postings : List Posting) → length (amount_legs entry place day postings) ≤ length postings
+amount_legs-few entry place day [] = omega arith
+amount_legs-few entry place day (posting ∷ postings) =
+    let more = amount_legs-few entry (suc place) day postings in
+    rw (length-append (posting_legs entry place day posting.account posting.amount) (amount_legs entry (suc place) day postings)) (by posting.amount more)
+  where
+    by : (amount : Option Amount) → length (amount_legs entry (suc place) day postings) ≤ length postings
+        → length (posting_legs entry place day posting.account amount) + length (amount_legs entry (suc place) day postings) ≤ suc (length postings)
+    by None more = omega arith
+    by (Some amount) more = omega arith
+
+pub few-postings : (postings : List Posting) → too_many_postings postings ≡ None → length postings ≤ 64
+few-postings postings e = elim (cases_lt 64 (length postings)) [
+  | inl many ↦ absurd (grind (arith, nat_tests))
+  | inr few ↦ few
+]

@@ -1,0 +1,181 @@
+-- That the entries of a book balance.
+use Rattle.std.specs.Prelude.{◌≡◌, ℕ, suc, ◌||◌, Bool, true, false, cond, not, List, [], ◌∷◌, ◌++◌, map, filter, find, length, Option, None, Some, ℤ, pos, ◌+ℤ◌, ◌*ℤ◌, neg_ℤ}
+use Rattle.std.specs.List.{AllByRecursion, list_any}
+use Rattle.std.specs.Option.{option_map}
+use Rattle.std.proofs.Common.{refl, sym, ap, subst, ◌∙◌, ◌+◌}
+use Rattle.std.specs.Cmp.{signed_Decides}
+use Rattle.std.proofs.lemmas.Bool.{not-false}
+use Rattle.std.proofs.Math.IntN.{+ℤ_idl, +ℤ_idr, +ℤ_invr, neg_ℤ-+ℤ}
+use Rattle.lot_num.specs.Amount.{one}
+use Rattle.lot_ledger.specs.declared.leg.Leg.{Leg}
+use Rattle.lot_ledger.specs.declared.leg.Entry.{Entry}
+use Rattle.lot_ledger.specs.declared.refusal.Refusal.{Refusal}
+use Rattle.lot_ledger.specs.declared.refusal.Refusal.TheVariants.{InexactFill, NotBalanced}
+use Rattle.lot_ledger.specs.declared.command.Command.{Command}
+use Rattle.lot_ledger.specs.declared.command.Command.TheVariants.{Opening, Transaction}
+use Rattle.lot_ledger.specs.Sum.{sum_in, same_name, first_appearances}
+use Rattle.lot_ledger.specs.Balance.{weight_of, is_units, is_zero, opposite, residuals, legs_for, fill_of, first_legs, empty_postings}
+use Rattle.lot_ledger.specs.Step.{Accept, Step, NoneHolds, refusals, inexact_fill, not_balanced}
+use Rattle.lot_ledger.specs.Book.{Continues, IsBook}
+use Rattle.lot_ledger.specs.Laws.{Balances}
+use Rattle.lot_ledger.proofs.BalanceLemmas.{opposite_exact}
+use Rattle.lot_ledger.proofs.CaseLemmas.{by_bool}
+use Rattle.lot_ledger.proofs.NameLemmas.{one_name, without, beside}
+use Rattle.lot_ledger.proofs.SumLemmas.{sum_in-cons, sum_in_here, sum_in_apart, sum_in-append, sum_in-unnamed}
+
+-- ---- Residuals.
+
+beside_without_it : (f : List ℕ → ℤ) (name : List ℕ) (names : List (List ℕ)) → sum_in (beside f (without name names)) name ≡ pos 0
+beside_without_it f name [] = refl
+beside_without_it f name (other ∷ names) = by_bool (same_name name other)
+    (λ e. ap (λ b. sum_in (beside f (cond (not b) (other ∷ without name names) (without name names))) name) e ∙ beside_without_it f name names)
+    (λ e. ap (λ b. sum_in (beside f (cond (not b) (other ∷ without name names) (without name names))) name) e
+    ∙ sum_in_apart (other, f other) (beside f (without name names)) name e ∙ beside_without_it f name names)
+
+beside_without : (f : List ℕ → ℤ) (gone name : List ℕ) → same_name name gone ≡ false → (names : List (List ℕ)) → sum_in (beside f (without gone names)) name ≡ sum_in (beside f names) name
+beside_without f gone name apart [] = refl
+beside_without f gone name apart (other ∷ names) =
+    let rest = beside_without f gone name apart names in
+    by_bool (same_name gone other)
+    (λ e. ap (λ b. sum_in (beside f (cond (not b) (other ∷ without gone names) (without gone names))) name) e ∙ rest
+    ∙ sym (sum_in_apart (other, f other) (beside f names) name (ap (same_name name) (sym (one_name gone other e)) ∙ apart)))
+    (λ e. ap (λ b. sum_in (beside f (cond (not b) (other ∷ without gone names) (without gone names))) name) e
+    ∙ sum_in-cons (other, f other) (beside f (without gone names)) name
+    ∙ ap (λ z. cond (same_name name other) (f other +ℤ z) z) rest
+    ∙ sym (sum_in-cons (other, f other) (beside f names) name))
+
+-- the names of a list, each once, have the numbers that the names have
+beside_first : (f : List ℕ → ℤ) (name : List ℕ) (names : List (List ℕ)) → sum_in (beside f (first_appearances names)) name ≡ cond (list_any (same_name name) names) (f name) (pos 0)
+beside_first f name [] = refl
+beside_first f name (first ∷ names) = by_bool (same_name name first)
+    (λ e. sum_in_here (first, f first) (beside f (without first (first_appearances names))) name e
+    ∙ ap (λ z. f first +ℤ z) (ap (λ n. sum_in (beside f (without first (first_appearances names))) n) (one_name name first e) ∙ beside_without_it f first (first_appearances names))
+    ∙ +ℤ_idr (f first)
+    ∙ ap f (sym (one_name name first e))
+    ∙ ap (λ b. cond (b || list_any (same_name name) names) (f name) (pos 0)) (sym e))
+    (λ e. sum_in_apart (first, f first) (beside f (without first (first_appearances names))) name e
+    ∙ beside_without f first name e (first_appearances names)
+    ∙ beside_first f name names
+    ∙ ap (λ b. cond (b || list_any (same_name name) names) (f name) (pos 0)) (sym e))
+
+-- the sum in a name that no pair has is zero
+nothing_in : (name : List ℕ) (ps : List (List ℕ × ℤ)) → cond (list_any (same_name name) (map (λ (p : List ℕ × ℤ). p.0) ps)) (sum_in ps name) (pos 0) ≡ sum_in ps name
+nothing_in name ps =
+    let any = list_any (same_name name) (map (λ (p : List ℕ × ℤ). p.0) ps) in
+    by_bool any
+    (λ e. ap (λ b. cond b (sum_in ps name) (pos 0)) e)
+    (λ e. ap (λ b. cond b (sum_in ps name) (pos 0)) e ∙ sym (sum_in-unnamed name ps e))
+
+-- what the residuals have in a currency is what the weights have there
+residuals_sum : (legs : List Leg) (currency : List ℕ) → sum_in (residuals legs) currency ≡ sum_in (map weight_of legs) currency
+residuals_sum legs currency =
+    beside_first (sum_in (map weight_of legs)) currency (map (λ (w : List ℕ × ℤ). w.0) (map weight_of legs)) ∙ nothing_in currency (map weight_of legs)
+
+-- ---- The fill.
+
+AreUnits : List (List ℕ × ℤ) → Type 0
+AreUnits rs = AllByRecursion (λ (r : List ℕ × ℤ). is_units r.1 ≡ true) rs
+
+-- what takes up residuals weighs their opposite
+legs_weigh : (entry posting : ℕ) (account : List ℕ) (place : ℕ) (rs : List (List ℕ × ℤ)) (name : List ℕ) → AreUnits rs
+    → sum_in (map weight_of (legs_for entry posting account place rs)) name ≡ neg_ℤ (sum_in rs name)
+unfolding AreUnits
+legs_weigh entry posting account place [] name h = refl
+legs_weigh entry posting account place (r ∷ rs) name h =
+    let rest = legs_weigh entry posting account (suc place) rs name h.1 in
+    let more = map weight_of (legs_for entry posting account (suc place) rs) in
+    by_bool (same_name name r.0)
+    (λ e. sum_in_here (r.0, opposite r.1 *ℤ pos one) more name e
+    ∙ ap (λ z. z +ℤ sum_in more name) (opposite_exact r.1 h.0) ∙ ap (λ z. neg_ℤ r.1 +ℤ z) rest
+    ∙ sym (neg_ℤ-+ℤ r.1 (sum_in rs name)) ∙ ap neg_ℤ (sym (sum_in_here r rs name e)))
+    (λ e. sum_in_apart (r.0, opposite r.1 *ℤ pos one) more name e ∙ rest ∙ ap neg_ℤ (sym (sum_in_apart r rs name e)))
+
+left_over : List (List ℕ × ℤ) → List (List ℕ × ℤ)
+left_over rs = filter (λ (r : List ℕ × ℤ). not (is_zero r.1)) rs
+
+units_left_over : (rs : List (List ℕ × ℤ)) → AreUnits rs → AreUnits (left_over rs)
+unfolding AreUnits left_over
+units_left_over [] h = tt
+units_left_over (r ∷ rs) h = elim (not (is_zero r.1)) as (λ b. AllByRecursion (λ (r : List ℕ × ℤ). is_units r.1 ≡ true) (cond b (r ∷ left_over rs) (left_over rs))) [
+  | true ↦ (h.0, units_left_over rs h.1)
+  | false ↦ units_left_over rs h.1
+]
+
+-- a residual of zero adds nothing
+left_over_sum : (rs : List (List ℕ × ℤ)) (name : List ℕ) → sum_in (left_over rs) name ≡ sum_in rs name
+unfolding left_over
+left_over_sum [] name = refl
+left_over_sum (r ∷ rs) name =
+    let rest = left_over_sum rs name in
+    by_bool (is_zero r.1)
+    (λ e. ap (λ b. sum_in (cond (not b) (r ∷ left_over rs) (left_over rs)) name) e ∙ rest
+    ∙ by_bool (same_name name r.0)
+    (λ s. sym (+ℤ_idl (sum_in rs name)) ∙ ap (λ z. z +ℤ sum_in rs name) (sym ((signed_Decides r.1 (pos 0)).0 e)) ∙ sym (sum_in_here r rs name s))
+    (λ s. sym (sum_in_apart r rs name s)))
+    (λ e. ap (λ b. sum_in (cond (not b) (r ∷ left_over rs) (left_over rs)) name) e
+    ∙ sum_in-cons r (left_over rs) name ∙ ap (λ z. cond (same_name name r.0) (r.1 +ℤ z) z) rest ∙ sym (sum_in-cons r rs name))
+
+-- ---- What the conditions say that don't hold.
+
+option_map_none : {A B : Type 0} (f : A → B) (o : Option A) → option_map f o ≡ None → o ≡ None
+option_map_none f None e = refl
+option_map_none f (Some x) e = cc
+
+not_found : {X : Type 0} (fails : X → Bool) (xs : List X) → find fails xs ≡ None → AllByRecursion (λ x. fails x ≡ false) xs
+not_found fails [] e = tt
+not_found fails (x ∷ xs) e = by_bool (fails x)
+    (λ t. absurd (cc (sym e ∙ ap (λ b. cond b (Some x) (find fails xs)) t)))
+    (λ f. (f, not_found fails xs (sym (ap (λ b. cond b (Some x) (find fails xs)) f) ∙ e)))
+
+none_of : (found : List (Option Refusal)) → NoneHolds found → AllByRecursion (λ (f : Option Refusal). f ≡ None) found
+none_of [] h = tt
+none_of (None ∷ more) h = (refl, none_of more h)
+none_of (Some refusal ∷ more) h = absurd h
+
+are_units : (rs : List (List ℕ × ℤ)) → AllByRecursion (λ (r : List ℕ × ℤ). not (is_units r.1) ≡ false) rs → AreUnits rs
+unfolding AreUnits
+are_units [] h = tt
+are_units (r ∷ rs) h = (not-false (is_units r.1) h.0, are_units rs h.1)
+
+zero_sum : (rs : List (List ℕ × ℤ)) (name : List ℕ) → AllByRecursion (λ (r : List ℕ × ℤ). not (is_zero r.1) ≡ false) rs → sum_in rs name ≡ pos 0
+zero_sum [] name h = refl
+zero_sum (r ∷ rs) name h = by_bool (same_name name r.0)
+    (λ e. sum_in_here r rs name e ∙ ap (λ z. z +ℤ sum_in rs name) ((signed_Decides r.1 (pos 0)).0 (not-false (is_zero r.1) h.0)) ∙ +ℤ_idl (sum_in rs name) ∙ zero_sum rs name h.1)
+    (λ e. sum_in_apart r rs name e ∙ zero_sum rs name h.1)
+
+-- ---- A transaction balances.
+
+map-append-weights : (legs more : List Leg) → map weight_of (legs ++ more) ≡ map weight_of legs ++ map weight_of more
+map-append-weights [] more = refl
+map-append-weights (leg ∷ legs) more = ap (λ ws. weight_of leg ∷ ws) (map-append-weights legs more)
+
+-- whichever postings are empty, the legs and those of the fill balance
+filled_balances : (entry : ℕ) (empty : List (ℕ × List ℕ)) (legs : List Leg) → inexact_fill empty (residuals legs) ≡ None → not_balanced empty (residuals legs) ≡ None
+    → Balances (legs ++ fill_of entry empty (residuals legs))
+unfolding left_over
+filled_balances entry [] legs exact balanced currency =
+    ap (λ ws. sum_in ws currency) (map-append-weights legs []) ∙ sum_in-append (map weight_of legs) [] currency ∙ +ℤ_idr (sum_in (map weight_of legs) currency)
+    ∙ sym (residuals_sum legs currency)
+    ∙ zero_sum (residuals legs) currency (not_found _ (residuals legs) (option_map_none _ _ (option_map_none NotBalanced _ balanced)))
+filled_balances entry (place ∷ more) legs exact balanced currency =
+    let units = are_units (residuals legs) (not_found _ (residuals legs) (option_map_none _ _ (option_map_none InexactFill _ exact))) in
+    ap (λ ws. sum_in ws currency) (map-append-weights legs (fill_of entry (place ∷ more) (residuals legs)))
+    ∙ sum_in-append (map weight_of legs) (map weight_of (fill_of entry (place ∷ more) (residuals legs))) currency
+    ∙ ap (λ z. sum_in (map weight_of legs) currency +ℤ z)
+    (legs_weigh entry place.0 place.1 0 (left_over (residuals legs)) currency (units_left_over (residuals legs) units)
+    ∙ ap neg_ℤ (left_over_sum (residuals legs) currency ∙ residuals_sum legs currency))
+    ∙ +ℤ_invr (sum_in (map weight_of legs) currency)
+
+step_balances : (book : List Entry) (command : Command) (legs : List Leg) → Step book command (Accept legs) → Balances legs
+step_balances book (Opening o) legs h = λ currency. ap (λ (ls : List Leg). sum_in (map weight_of ls) currency) h.1
+step_balances book (Transaction t) legs h =
+    let none = none_of (refusals book t) h.0 in
+    let from_inexact = none.1.1.1.1.1 in
+    subst Balances (sym h.1) (filled_balances (length book + 1) (empty_postings 1 t.postings) (first_legs (length book + 1) t) from_inexact.0 from_inexact.1.1.0)
+
+continued_balances : (before entries : List Entry) → Continues before entries → AllByRecursion (λ (entry : Entry). Balances entry.legs) entries
+continued_balances before [] h = tt
+continued_balances before (entry ∷ entries) h = (step_balances before entry.command entry.legs h.0, continued_balances (before ++ entry ∷ []) entries h.1)
+
+pub book_balances : (entries : List Entry) → IsBook entries → AllByRecursion (λ (entry : Entry). Balances entry.legs) entries
+book_balances entries h = continued_balances [] entries h

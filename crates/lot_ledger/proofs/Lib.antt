@@ -1,0 +1,13 @@
+pub mod CaseLemmas
+pub mod NameLemmas
+pub mod SumLemmas
+pub mod OrderLemmas
+pub mod BalanceLemmas
+pub mod BalanceResiduals
+pub mod BookLemmas
+pub mod BookRecord
+pub mod LawLemmas
+pub mod LawBalance
+pub mod LawHoldings
+pub mod LawBooks
+pub mod LawInventory

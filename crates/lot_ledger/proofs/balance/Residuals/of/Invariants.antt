@@ -1,0 +1,10 @@
+use Rattle.std.proofs.Common.{◌≡◌, take}
+use Rattle.lot_ledger.specs.Balance.{residuals, AreWithin}
+use Rattle.lot_ledger.proofs.balance.Residuals.of.Given as goal
+
+-- the sums so far are the residuals of the legs so far, and no greater than so many weights
+abbrev pub invariant-loop-leg : goal.invariant-loop-leg
+invariant-loop-leg l = record {
+  sums : l.residuals ≡ residuals (take l.leg-index l.legs);
+  within : AreWithin l.leg-index l.residuals;
+}

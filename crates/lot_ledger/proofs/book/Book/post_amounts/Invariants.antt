@@ -1,0 +1,17 @@
+use Rattle.std.proofs.Common.{◌≡◌, ◌+◌, ◌++◌, length}
+use Rattle.lot_ledger.specs.Leg.{TellsHeld, legs_of}
+use Rattle.lot_ledger.specs.Balance.{first_legs}
+use Rattle.lot_ledger.specs.Step.{out_of_range}
+use Rattle.lot_ledger.proofs.BookLemmas.{amounts_from}
+use Rattle.lot_ledger.proofs.book.Book.post_amounts.Given as goal
+
+-- the legs so far and those of the postings that are left are all
+abbrev pub invariant-loop-index : goal.invariant-loop-index
+invariant-loop-index l =
+    let entry = length l.self + 1 in
+    let left = amounts_from entry l.transaction.day l.transaction.postings l.index in
+    record {
+      tells : TellsHeld (legs_of l.self) l.change.legs l.change.held.entries;
+      legs : l.change.legs ++ left ≡ first_legs entry l.transaction;
+      range : out_of_range (legs_of l.self ++ l.change.legs) left ≡ out_of_range (legs_of l.self) (first_legs entry l.transaction);
+    }

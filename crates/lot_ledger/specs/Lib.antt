@@ -1,0 +1,6 @@
+pub mod Sum
+pub mod Leg
+pub mod Balance
+pub mod Step
+pub mod Book
+pub mod Laws

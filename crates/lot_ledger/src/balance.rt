@@ -1,0 +1,99 @@
+ghost use Rattle.std.specs.Prelude.{◌≡◌, ◌<◌, ◌≤◌, ◌^◌, unsigned_abs, [], None, not, length, map, filter, IfOk, IfErr, OnOk};
+ghost use Rattle.std.specs.Option.{option_map};
+ghost use Rattle.lot_ledger.specs.declared.refusal.Refusal.TheVariants.{InexactFill};
+ghost use Rattle.lot_ledger.specs.Balance.{residuals, add_weight, AreWithin, opposite, is_units, is_zero};
+ghost use Rattle.lot_ledger.specs.Step.{Stops, first_currency, not_balanced};
+
+use crate::leg::Leg;
+use crate::refusal::{Refusal, Stop};
+use indexmap::IndexMap;
+use lot_base::Commodity;
+use lot_num::{Units, Wide};
+use std::alloc::{AllocError, Global};
+use std::marker::Model;
+
+/// What legs leave over in each currency, in the order in which the currencies first appear. A contract sees the
+/// currencies, each beside its residual.
+#[derive(Drop)]
+pub(crate) struct Residuals {
+    sums: IndexMap<Commodity, Wide>,
+}
+
+impl Model for Residuals {
+    ghost use Rattle.std.specs.Prelude.{ℕ, ℤ, List};
+
+    ghost Value = { List (List ℕ × ℤ) };
+
+    ghost view = { λ r. r.sums.entries };
+}
+
+impl Residuals {
+    /// What the legs leave over.
+    pub fn of(alloc: Global, legs: &[Leg]) -> Result<Residuals, AllocError>
+        requires { length legs.now ≤ 64 }
+        ensures { IfOk result (λ r. r ≡ residuals legs.now) }
+    {
+        let mut residuals = Residuals {
+            sums: IndexMap::new(alloc),
+        };
+        for leg in legs {
+            let (currency, weight) = leg.weight();
+            residuals.add(currency, weight)?;
+        }
+        Ok(residuals)
+    }
+
+    /// Adds one more weight to what is left over in its currency. The sum of so few weights always is a `Wide`.
+    fn add(&mut self, currency: &Commodity, weight: Wide) -> Result<(), AllocError>
+        requires room { AreWithin 63 self.now }
+        requires small { unsigned_abs weight < 10 ^ 34 }
+        ensures { OnOk result (self.new ≡ add_weight self.old (currency.now, weight)) }
+    {
+        let sum = match self.sums.get(currency) {
+            Some(sum) => match sum.checked_add(weight) {
+                Some(sum) => sum,
+                None => unreachable!(),
+            },
+            None => weight,
+        };
+        self.sums.insert(currency.copy()?, sum)?;
+        Ok(())
+    }
+
+    /// Refused where some currency doesn't sum to zero.
+    pub fn balanced(&self) -> Result<(), Stop>
+        ensures ok { OnOk result (not_balanced [] self.now ≡ None) }
+        ensures refused { IfErr result (λ stop. Stops (not_balanced [] self.now) stop) }
+    {
+        for (currency, sum) in &self.sums {
+            if sum.mantissa() != 0 {
+                let currency = currency.copy()?;
+                return Err(Refusal::NotBalanced { currency }.into());
+            }
+        }
+        Ok(())
+    }
+
+    /// What the posting without amount takes: the opposite of each sum that isn't zero. Refused where some sum
+    /// is no units.
+    pub fn fills(&self, alloc: Global) -> Result<Vec<(Commodity, Units)>, Stop>
+        ensures exact { OnOk result (first_currency (λ z. not (is_units z)) self.now ≡ None) }
+        ensures fills { IfOk result (λ fills. fills.items
+            ≡ map (λ r. (r.0, opposite r.1)) (filter (λ r. not (is_zero r.1)) self.now)) }
+        ensures refused { IfErr result (λ stop.
+            Stops (option_map InexactFill (first_currency (λ z. not (is_units z)) self.now)) stop) }
+    {
+        let mut fills = Vec::new(alloc);
+        for (currency, sum) in &self.sums {
+            match sum.to_units() {
+                Some(units) if units.mantissa() == 0 => {}
+                Some(units) => fills.push((currency.copy()?, units.negated()))?,
+                None => {
+                    let currency = currency.copy()?;
+                    return Err(Refusal::InexactFill { currency }.into());
+                }
+            }
+        }
+        Ok(fills)
+    }
+}

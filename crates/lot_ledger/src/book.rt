@@ -1,0 +1,166 @@
+ghost use Rattle.std.specs.Prelude.{◌≡◌, ℕ, ◌+◌, List, ◌++◌, ◌∷◌, [], length, IfOk, OnOk, if◌then◌else◌};
+ghost use Rattle.std.specs.BTreeMap.{IsOrdered, get};
+ghost use Rattle.std.specs.Cmp.Lexicographic.{slice_cmp};
+ghost use Rattle.std.specs.Option.{option_or};
+ghost use Rattle.std.specs.Ordering.{nat_cmp};
+ghost use Rattle.lot_ledger.specs.declared.leg.Position.{Position};
+ghost use Rattle.lot_ledger.specs.Leg.{IsInventory, TellsHeld, held, legs_of, non_zero, position_cmp, same_position, settled};
+ghost use Rattle.lot_ledger.specs.Step.{Step, Accept, opened_on, opening_day};
+ghost use Rattle.lot_ledger.specs.Book.{Judges};
+
+use crate::command::Command;
+use crate::decide::Change;
+use crate::leg::{Entry, Position};
+use crate::refusal::Stop;
+use crate::verdict::Verdict;
+use lot_base::{Account, Day};
+use lot_num::Units;
+use std::alloc::{AllocError, Global};
+use std::collections::BTreeMap;
+use std::marker::Model;
+
+/// The accepted commands with their legs, in the order in which they were accepted.
+///
+/// What the entries open and hold is kept beside them, so that a command is judged without going over them all.
+#[derive(Drop)]
+pub struct Book {
+    entries: Vec<Entry>,
+    /// The day of each account's opening.
+    opened: BTreeMap<Account, Day>,
+    /// The units of each position, where they aren't zero.
+    held: BTreeMap<Position, Units>,
+}
+
+impl Model for Book {
+    ghost use Rattle.std.specs.Prelude.{List};
+    ghost use Rattle.lot_ledger.specs.declared.leg.Entry.{Entry};
+    ghost use Rattle.lot_ledger.specs.Book.{IsKept};
+
+    ghost Value = { List Entry };
+
+    ghost view = { λ b. b.entries.items };
+
+    ghost invariant = { λ b. IsKept b.entries.items b.opened b.held };
+}
+
+impl Book {
+    /// A book without entries.
+    pub fn new(alloc: Global) -> Book
+        ensures { result ≡ [] }
+    {
+        Book {
+            entries: Vec::new(alloc),
+            opened: BTreeMap::new(alloc),
+            held: BTreeMap::new(alloc),
+        }
+    }
+
+    /// Judges a command, and answers the book with its verdict: the command has become its last entry, or the book
+    /// is as it was. For want of memory the book is lost.
+    pub fn judge(self, alloc: Global, command: Command) -> Result<(Book, Verdict), AllocError>
+        ensures { IfOk result (λ judged. Judges self command judged.1 judged.0) }
+    {
+        match self.decide(alloc, &command) {
+            Ok(change) => Ok((self.record(command, change)?, Verdict::Accepted)),
+            Err(Stop::Refused(refusal)) => Ok((self, Verdict::Refused(refusal))),
+            Err(Stop::Memory) => Err(AllocError),
+        }
+    }
+
+    /// The day on which the account was opened, if it was.
+    pub(crate) fn opened(&self, account: &Account) -> Option<Day>
+        ensures { result ≡ opened_on self.now account.now }
+    {
+        self.opened.get(account).copied()
+    }
+
+    /// The units of a position, if they aren't zero.
+    pub(crate) fn held(&self, position: &Position) -> Option<Units>
+        ensures { result ≡ non_zero (held (legs_of self.now) position.now) }
+    {
+        self.held.get(position).copied()
+    }
+
+    /// The place of the entry that comes next, from 1.
+    pub(crate) fn next_entry(&self) -> usize
+        ensures { result ≡ length self.now + 1 }
+    {
+        self.entries.len() + 1
+    }
+
+    /// The positions with units that aren't zero, in their order, and what each holds.
+    pub fn holdings(&self) -> &BTreeMap<Position, Units>
+        ensures { IsInventory (legs_of self.now) result.now.entries }
+    {
+        &self.held
+    }
+
+    /// Writes an accepted command and what it changes.
+    fn record(self, command: Command, change: Change) -> Result<Book, AllocError>
+        requires step { Step self command (Accept change.legs) }
+        requires held { TellsHeld (legs_of self) change.legs change.held.entries }
+        ensures { IfOk result (λ book. book ≡ self ++ record { command = command; legs = change.legs } ∷ []) }
+    {
+        let Book {
+            mut entries,
+            mut opened,
+            mut held,
+        } = self;
+        keep_opening(&mut opened, &command)?;
+        keep_held(&mut held, change.held)?;
+        entries.push(Entry {
+            command,
+            legs: change.legs,
+        })?;
+        Ok(Book {
+            entries,
+            opened,
+            held,
+        })
+    }
+}
+
+/// Keeps the day of an opening. Of a transaction nothing is kept here.
+fn keep_opening(opened: &mut BTreeMap<Account, Day>, command: &Command) -> Result<(), AllocError>
+    ensures { OnOk result ((account : List ℕ) → get (slice_cmp nat_cmp) opened.new account
+        ≡ option_or (opening_day account command.now) (get (slice_cmp nat_cmp) opened.old account)) }
+{
+    if let Command::Opening(opening) = command {
+        opened.insert(opening.account.copy()?, opening.day)?;
+    }
+    Ok(())
+}
+
+/// Keeps what the positions of a change hold. A position that holds nothing any more is forgotten.
+fn keep_held(
+    held: &mut BTreeMap<Position, Units>,
+    changed: BTreeMap<Position, Units>,
+) -> Result<(), AllocError>
+    requires { IsOrdered position_cmp held.old }
+    ensures each { OnOk result ((position : Position) → get position_cmp held.new position
+        ≡ settled (get position_cmp changed position) (get position_cmp held.old position)) }
+    ensures ordered { OnOk result (IsOrdered position_cmp held.new) }
+{
+    for (position, units) in changed {
+        keep_units(held, position, units)?;
+    }
+    Ok(())
+}
+
+/// Keeps the units of a position, or forgets it where they are zero.
+fn keep_units(
+    held: &mut BTreeMap<Position, Units>,
+    position: Position,
+    units: Units,
+) -> Result<(), AllocError>
+    ensures each { OnOk result ((other : Position) → get position_cmp held.new other
+        ≡ if same_position position other then non_zero units else get position_cmp held.old other) }
+    ensures ordered { OnOk result (IsOrdered position_cmp held.new) }
+{
+    if units.mantissa() == 0 {
+        held.remove(&position);
+    } else {
+        held.insert(position, units)?;
+    }
+    Ok(())
+}

@@ -1,0 +1,91 @@
+ghost use Rattle.std.specs.Prelude.{◌≡◌, ◌<◌, ◌^◌, unsigned_abs, IfOk};
+ghost use Rattle.lot_ledger.specs.Balance.{weight_of};
+
+use crate::command::Command;
+use crate::items::Items;
+use lot_base::{Account, Commodity, Day};
+use lot_num::{Rate, Units, Wide, weight};
+use std::alloc::AllocError;
+
+/// What ties units to the purchase that they came from. Keys are ordered by day, then currency, then number.
+#[derive(Debug, PartialEq, Eq, PartialOrd, Ord, Drop)]
+pub struct LotKey {
+    pub day: Day,
+    pub currency: Commodity,
+    /// The cost of one unit.
+    pub number: Rate,
+}
+
+impl LotKey {
+    /// The same key once more.
+    pub fn copy(&self) -> Result<LotKey, AllocError>
+        ensures { IfOk result (λ key. key ≡ self.now) }
+    {
+        Ok(LotKey {
+            day: self.day,
+            currency: self.currency.copy()?,
+            number: self.number,
+        })
+    }
+}
+
+/// Where units are held: in the lot of that key, or plain. Positions are in the order of the holdings: by
+/// account, then commodity, the plain one before the lots.
+#[derive(Debug, PartialEq, Eq, PartialOrd, Ord, Drop)]
+pub struct Position {
+    pub account: Account,
+    pub commodity: Commodity,
+    /// The lot, or none for plain units.
+    pub lot: Option<LotKey>,
+}
+
+impl Position {
+    /// The same position once more.
+    pub fn copy(&self) -> Result<Position, AllocError>
+        ensures { IfOk result (λ position. position ≡ self.now) }
+    {
+        let lot = match &self.lot {
+            Some(lot) => Some(lot.copy()?),
+            None => None,
+        };
+        Ok(Position {
+            account: self.account.copy()?,
+            commodity: self.commodity.copy()?,
+            lot,
+        })
+    }
+}
+
+/// So many units that a posting of an entry puts into a position, or takes out of it.
+#[derive(Drop)]
+pub struct Leg {
+    /// The place of the entry in its book, from 1.
+    pub entry: usize,
+    /// The place of the posting in its transaction, from 1.
+    pub posting: usize,
+    /// The place of the leg among those of its posting, from 0.
+    pub place: usize,
+    pub position: Position,
+    pub units: Units,
+}
+
+impl Leg {
+    /// Where it weighs, and how much: in a lot its units times the lot's number, in the lot's currency; else the
+    /// units themselves.
+    pub fn weight(&self) -> (&Commodity, Wide)
+        ensures value { (result.0.now, result.1) ≡ weight_of self.now }
+        ensures bound { unsigned_abs result.1 < 10 ^ 34 }
+    {
+        match &self.position.lot {
+            Some(lot) => (&lot.currency, weight(self.units, lot.number)),
+            None => (&self.position.commodity, self.units.wide()),
+        }
+    }
+}
+
+/// An accepted command with its legs, in the order of its postings.
+#[derive(Drop)]
+pub struct Entry {
+    pub command: Command,
+    pub legs: Items<Leg>,
+}

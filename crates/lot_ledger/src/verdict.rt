@@ -1,0 +1,10 @@
+use crate::refusal::Refusal;
+
+/// What is said of a command.
+#[derive(Debug, PartialEq, Eq, Drop)]
+pub enum Verdict {
+    /// It became an entry of the book.
+    Accepted,
+    /// The book is as it was.
+    Refused(Refusal),
+}

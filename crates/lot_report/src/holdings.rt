@@ -1,0 +1,246 @@
+ghost use Rattle.std.specs.Prelude.{◌≡◌, ℕ, List, [], ◌∷◌, ◌++◌, ℤ, pos, ◌+ℤ◌, ◌*ℤ◌, SomeIff, OnOk, IsErrOf};
+ghost use Rattle.lot_num.specs.Amount.{IsWide};
+ghost use Rattle.lot_ledger.specs.Sum.{sum_in};
+ghost use Rattle.lot_ledger.specs.declared.leg.Position.{Position as PositionValue};
+ghost use Rattle.lot_report.specs.Report.{AreSums, HasTaken, TakesCost, TakesRow, WritesReport};
+ghost use Rattle.lot_report.specs.Printed.{plain_row, lot_row, position_row, total_line, totals};
+ghost use Rattle.lot_report.specs.Written.{Writes};
+
+#[cfg(test)]
+mod tests;
+
+use crate::line::{PrintFault, print_line};
+use lot_base::Commodity;
+use lot_ledger::{LotKey, Position};
+use lot_num::{Units, Wide, weight};
+use std::alloc::{AllocError, AllocFailed, Global};
+use std::collections::BTreeMap;
+use std::io::Write;
+use thiserror::Error;
+
+/// Why a report ended before its end.
+#[derive(Clone, Copy, Debug, PartialEq, Eq, Error)]
+pub enum ReportFault {
+    /// A total leaves the range of weights.
+    #[error("a total is too large")]
+    Range,
+    /// The writer failed.
+    #[error("the output can't be written")]
+    Write,
+    /// There was no memory for a line or a total.
+    #[error("out of memory")]
+    Memory,
+}
+
+impl From<PrintFault> for ReportFault {
+    ghost use Rattle.std.specs.Prelude.{◌≡◌};
+    ghost use Rattle.lot_report.specs.Report.{report_fault};
+
+    ghost from_gives = { λ fault e. e ≡ report_fault fault };
+
+    fn from(fault: PrintFault) -> ReportFault {
+        match fault {
+            PrintFault::Write => ReportFault::Write,
+            PrintFault::Memory => ReportFault::Memory,
+        }
+    }
+}
+
+impl From<AllocError> for ReportFault {
+    ghost use Rattle.std.specs.Prelude.{◌≡◌};
+    ghost use Rattle.lot_report.specs.declared.holdings.ReportFault.TheVariants.{Memory};
+
+    ghost from_gives = { λ _ e. e ≡ Memory };
+
+    fn from(_error: AllocError) -> ReportFault {
+        ReportFault::Memory
+    }
+}
+
+impl<T: Drop> From<AllocFailed<T>> for ReportFault {
+    ghost use Rattle.std.specs.Prelude.{◌≡◌};
+    ghost use Rattle.lot_report.specs.declared.holdings.ReportFault.TheVariants.{Memory};
+
+    ghost from_gives = { λ _ e. e ≡ Memory };
+
+    fn from(_failed: AllocFailed<T>) -> ReportFault {
+        ReportFault::Memory
+    }
+}
+
+/// Writes the report of what is held: a row for each position, in their order, and then what the lots cost in each
+/// currency.
+///
+/// Refused with `Range` at the first row with which a total leaves the range of weights: that row isn't written, and
+/// no total is. After another fault a front of the report is written.
+pub fn print_holdings<W: Write>(
+    alloc: Global,
+    held: &BTreeMap<Position, Units>,
+    writer: &mut W,
+) -> Result<(), ReportFault>
+    ensures { WritesReport held.now.entries (W.contents writer.old) (W.contents writer.new) result }
+{
+    let mut holdings = Holdings::new(alloc);
+    for (position, units) in held {
+        holdings.row(position, *units, writer)?;
+    }
+    holdings.end(writer)?;
+    Ok(())
+}
+
+/// The report of what is held: a row for each position that isn't at zero, in their order, and then what the
+/// lots cost in each currency.
+#[derive(Drop)]
+struct Holdings {
+    alloc: Global,
+    is_empty: bool,
+    /// What the lots so far cost.
+    costs: BTreeMap<Commodity, Wide>,
+}
+
+impl Holdings {
+    /// The report before its first row.
+    fn new(alloc: Global) -> Holdings
+        ensures { HasTaken [] result }
+    {
+        Holdings {
+            alloc,
+            is_empty: true,
+            costs: BTreeMap::new(alloc),
+        }
+    }
+
+    /// Writes the row of one position.
+    ///
+    /// Refused with `Range` where it takes a total out of the range of weights: nothing of the row is written.
+    fn row<W: Write>(
+        &mut self,
+        position: &Position,
+        units: Units,
+        writer: &mut W,
+    ) -> Result<(), ReportFault>
+        ensures { (rows : List (PositionValue × ℤ)) → HasTaken rows self.old
+            → TakesRow rows (position.now, units) self.new (W.contents writer.old) (W.contents writer.new) result }
+    {
+        self.take_cost(position, units)?;
+        print_row(self.alloc, writer, position, units)?;
+        Ok(())
+    }
+
+    /// Writes the totals, by the bytes of their currencies, or that nothing is held.
+    fn end<W: Write>(self, writer: &mut W) -> Result<(), PrintFault>
+        ensures { Writes (W.contents writer.old) (W.contents writer.new) result (totals self.is_empty self.costs.entries) }
+    {
+        if self.is_empty {
+            return print_line(writer, "nothing held");
+        }
+        for (currency, total) in &self.costs {
+            print_total(self.alloc, writer, currency, *total)?;
+        }
+        Ok(())
+    }
+
+    /// Takes what the units of one more row cost; plain units cost nothing.
+    fn take_cost(&mut self, position: &Position, units: Units) -> Result<(), ReportFault>
+        ensures { (rows : List (PositionValue × ℤ)) → HasTaken rows self.old
+            → TakesCost rows (position.now, units) self.new result }
+    {
+        self.is_empty = false;
+        match &position.lot {
+            Some(lot) => self.add_cost(lot, units),
+            None => Ok(()),
+        }
+    }
+
+    /// Adds what the units of one lot cost.
+    fn add_cost(&mut self, lot: &LotKey, units: Units) -> Result<(), ReportFault>
+        ensures taken { (costs : List (List ℕ × ℤ)) → AreSums costs self.old.costs.entries
+            → OnOk result (AreSums (costs ++ (lot.now.currency, units *ℤ pos lot.now.number) ∷ []) self.new.costs.entries) }
+        ensures fits { (costs : List (List ℕ × ℤ)) → AreSums costs self.old.costs.entries
+            → OnOk result (IsWide (sum_in costs lot.now.currency +ℤ units *ℤ pos lot.now.number)) }
+        ensures range { (costs : List (List ℕ × ℤ)) → AreSums costs self.old.costs.entries
+            → IsErrOf result ReportFault.Range → IsWide (sum_in costs lot.now.currency +ℤ units *ℤ pos lot.now.number) → ⊥ }
+        ensures rest { self.new.is_empty ≡ self.old.is_empty }
+    {
+        match self.total_with(&lot.currency, weight(units, lot.number)) {
+            Some(total) => {
+                self.costs.insert(lot.currency.copy()?, total)?;
+                Ok(())
+            }
+            None => Err(ReportFault::Range),
+        }
+    }
+
+    /// The total in a currency with one more cost, where it is in range.
+    fn total_with(&self, currency: &Commodity, cost: Wide) -> Option<Wide>
+        ensures { (costs : List (List ℕ × ℤ)) → AreSums costs self.now.costs.entries
+            → SomeIff result (IsWide (sum_in costs currency.now +ℤ cost)) (sum_in costs currency.now +ℤ cost) }
+    {
+        let total = self.costs.get(currency).copied().unwrap_or(Wide::ZERO);
+        total.checked_add(cost)
+    }
+}
+
+fn print_row<W: Write>(
+    alloc: Global,
+    writer: &mut W,
+    position: &Position,
+    units: Units,
+) -> Result<(), PrintFault>
+    ensures { Writes (W.contents writer.old) (W.contents writer.new) result (position_row position.now units) }
+{
+    match &position.lot {
+        Some(lot) => print_lot(alloc, writer, position, lot, units),
+        None => print_plain(alloc, writer, position, units),
+    }
+}
+
+fn print_plain<W: Write>(
+    alloc: Global,
+    writer: &mut W,
+    position: &Position,
+    units: Units,
+) -> Result<(), PrintFault>
+    ensures { Writes (W.contents writer.old) (W.contents writer.new) result
+        (plain_row position.now.account position.now.commodity units) }
+{
+    let account = &position.account;
+    let units = units.text_money(alloc)?;
+    let commodity = &position.commodity;
+    print_line(writer, format_args!("{account} {units} {commodity}"))
+}
+
+#[tactic(auto, using(crate::proofs::PrintLemmas::nothing_written))]
+fn print_lot<W: Write>(
+    alloc: Global,
+    writer: &mut W,
+    position: &Position,
+    lot: &LotKey,
+    units: Units,
+) -> Result<(), PrintFault>
+    ensures { Writes (W.contents writer.old) (W.contents writer.new) result
+        (lot_row position.now.account position.now.commodity lot.now units) }
+{
+    let account = &position.account;
+    let units = units.text(alloc)?;
+    let commodity = &position.commodity;
+    let number = lot.number.text(alloc)?;
+    let currency = &lot.currency;
+    let day = lot.day;
+    print_line(
+        writer,
+        format_args!("{account} {units} {commodity} {{{number} {currency}, {day}}}"),
+    )
+}
+
+fn print_total<W: Write>(
+    alloc: Global,
+    writer: &mut W,
+    currency: &Commodity,
+    total: Wide,
+) -> Result<(), PrintFault>
+    ensures { Writes (W.contents writer.old) (W.contents writer.new) result (total_line currency.now total) }
+{
+    let total = total.text_money(alloc)?;
+    print_line(writer, format_args!("total cost {total} {currency}"))
+}

@@ -1,0 +1,4 @@
+pub mod TextCuts
+pub mod TextForms
+pub mod TextLemmas
+pub mod TextLaws

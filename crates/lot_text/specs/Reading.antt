@@ -1,0 +1,193 @@
+-- Ledger text as it is read, from its front on: what each part of a line comes to, and what a line does to the
+-- commands so far. That this is what the forms of a line say is proved, both ways, in proofs/TextForms.antt and
+-- proofs/TextLemmas.antt.
+use Rattle.std.specs.Prelude.{◌≡◌, ◌≢◌, ◌⊎◌, ℕ, ◌==◌, ◌&&◌, Bool, if◌then◌else◌, List, [], ◌∷◌, ◌++◌, codes, Option, Some, None, option_and_then, option_map, Result, Ok, Err, ℤ, pos, int_lt, ⊤}
+use Rattle.std.specs.List.{list_all}
+use Rattle.std.specs.Cmp.Lexicographic.{pointwise}
+use Rattle.std.specs.Result.{result_ok}
+use Rattle.std.specs.Str.{is_utf8}
+use Rattle.lot_num.specs.NumberText.{units_of, rate_of}
+use Rattle.lot_base.specs.Name.{is_account, is_commodity, is_note}
+use Rattle.lot_base.specs.Day.{named_day}
+use Rattle.lot_base.specs.declared.fault.NameFault.{NameFault}
+use Rattle.lot_base.specs.declared.fault.NameFault.TheVariants.{BadAccount, BadCommodity, BadLabel, BadNote, Memory as NoMemory}
+use Rattle.lot_ledger.specs.declared.command.Transaction.{Transaction as TransactionOf}
+use Rattle.lot_ledger.specs.declared.command.Posting.{Posting}
+use Rattle.lot_ledger.specs.declared.command.Amount.{Amount}
+use Rattle.lot_ledger.specs.declared.command.Cost.{Cost}
+use Rattle.lot_ledger.specs.declared.command.Command.{Command}
+use Rattle.lot_ledger.specs.declared.command.Command.TheVariants.{Opening, Transaction}
+use Rattle.lot_text.specs.declared.line.Line.{Line}
+use Rattle.lot_text.specs.declared.line.Line.TheVariants.{Opening as SaysOpening, Transaction as SaysHead, Posting as SaysPosting}
+use Rattle.lot_text.specs.declared.line.LineFault.{LineFault}
+use Rattle.lot_text.specs.declared.line.LineFault.TheVariants.{Syntax, Memory}
+use Rattle.lot_text.specs.declared.reader.TextFault.{TextFault}
+use Rattle.lot_text.specs.declared.reader.TextFault.TheVariants.{Syntax as SyntaxAt, Memory as NoRoom}
+use Rattle.lot_text.specs.Text.{is_plain, IsLine}
+use denote.Ref.{Bor}
+
+infixl 10 ◌>>=◌
+abbrev pub ◌>>=◌ : {A B : Type 0} → Option A → (A → Option B) → Option B
+o >>= f = option_and_then f o
+
+-- ---- What a parser may answer: what the text says, `Syntax` where it says nothing, and want of memory.
+
+abbrev pub Gives : {X : Type 0} → Option X → Result X LineFault → Type 0
+Gives said (Ok x) = said ≡ Some x
+Gives said (Err Syntax) = said ≡ None
+Gives said (Err Memory) = ⊤
+
+-- what the fault of a name is for its line
+abbrev pub of_name : NameFault → LineFault
+of_name NoMemory = Memory
+of_name BadAccount = Syntax
+of_name BadCommodity = Syntax
+of_name BadLabel = Syntax
+of_name BadNote = Syntax
+
+-- ---- The parts of a text.
+
+-- what stands before the first space, and what stands behind it
+unfoldable pub cut : List ℕ → Option (List ℕ × List ℕ)
+cut [] = None
+cut (b ∷ text) = if b == 32 then Some ([], text) else option_map (λ parts. (b ∷ parts.0, parts.1)) (cut text)
+
+-- a text without that first byte, and one without that last byte
+abbrev pub without_first : ℕ → List ℕ → Option (List ℕ)
+without_first first [] = None
+without_first first (b ∷ text) = if b == first then Some text else None
+
+unfoldable pub without_last : ℕ → List ℕ → Option (List ℕ)
+without_last last [] = None
+without_last last (b ∷ []) = if b == last then Some [] else None
+without_last last (b ∷ c ∷ text) = option_map (λ front. b ∷ front) (without_last last (c ∷ text))
+
+-- what stands between those two
+unfoldable pub inside : ℕ → ℕ → List ℕ → Option (List ℕ)
+inside first last text = without_first first text >>= without_last last
+
+-- what stands behind two spaces
+abbrev pub indented : List ℕ → Option (List ℕ)
+indented (a ∷ b ∷ text) = if (a == 32) && (b == 32) then Some text else None
+indented _ = None
+
+-- the text, where it passes the test
+abbrev pub name_of : (List ℕ → Bool) → List ℕ → Option (List ℕ)
+name_of is_name text = if is_name text then Some text else None
+
+-- ---- What each part says.
+
+unfoldable pub cost_of : List ℕ → Option Cost
+cost_of text = do
+  within ← inside 123 125 text
+  parts ← cut within
+  number ← result_ok (rate_of parts.0)
+  currency ← name_of is_commodity parts.1
+  Some (record { number = number; currency = currency })
+
+-- a commodity, and where there is more than one word a cost
+abbrev pub held_in : ℤ → List ℕ → Option (List ℕ × List ℕ) → Option Amount
+held_in units text None = do
+  commodity ← name_of is_commodity text
+  Some (record { units = units; commodity = commodity; cost = None })
+held_in units text (Some parts) =
+    if int_lt (pos 0) units
+    then (cost_of parts.1 >>= λ cost. (name_of is_commodity parts.0 >>= λ commodity. Some (record { units = units; commodity = commodity; cost = Some cost })))
+    else None
+
+unfoldable pub held_of : ℤ → List ℕ → Option Amount
+held_of units text = held_in units text (cut text)
+
+unfoldable pub amount_of : List ℕ → Option Amount
+amount_of text = do
+  parts ← cut text
+  units ← result_ok (units_of parts.0)
+  held_of units parts.1
+
+-- an account, and where there is more than one word an amount
+abbrev pub posting_in : List ℕ → Option (List ℕ × List ℕ) → Option Posting
+posting_in text None = do
+  account ← name_of is_account text
+  Some (record { account = account; amount = None })
+posting_in text (Some parts) = do
+  amount ← amount_of parts.1
+  account ← name_of is_account parts.0
+  Some (record { account = account; amount = Some amount })
+
+unfoldable pub posting_of : List ℕ → Option Posting
+posting_of text = posting_in text (cut text)
+
+unfoldable pub note_of : List ℕ → Option (List ℕ)
+note_of text = do
+  note ← inside 34 34 text
+  plain ← name_of (λ bytes. list_all is_plain bytes) note
+  name_of is_note plain
+
+-- what is done on a day, by its first word and what stands behind it
+abbrev pub done_by : ℤ → List ℕ → List ℕ → Option Line
+done_by day word text =
+    if pointwise ◌==◌ word (codes "*")
+    then (note_of text >>= λ note. Some (SaysHead (record { day = day; narration = Some note; postings = [] })))
+    else (if pointwise ◌==◌ word (codes "open")
+    then (name_of is_account text >>= λ account. Some (SaysOpening (record { day = day; account = account })))
+    else None)
+
+unfoldable pub done_of : ℤ → List ℕ → Option Line
+done_of day text =
+    if pointwise ◌==◌ text (codes "*")
+    then Some (SaysHead (record { day = day; narration = None; postings = [] }))
+    else (cut text >>= λ parts. done_by day parts.0 parts.1)
+
+unfoldable pub head_of : List ℕ → Option Line
+head_of text = do
+  parts ← cut text
+  day ← named_day parts.0
+  done_of day parts.1
+
+abbrev pub text_line_in : List ℕ → Option (List ℕ) → Option Line
+text_line_in text None = head_of text
+text_line_in text (Some posting) = option_map SaysPosting (posting_of posting)
+
+-- what a line says, without its line end
+unfoldable pub line_of : List ℕ → Option Line
+line_of line = if is_utf8 line then text_line_in line (indented line) else None
+
+-- ---- What lines say together.
+
+-- all commands, from those to which no posting can come any more, and the transaction to which the next belongs
+abbrev pub closed : List Command → Option TransactionOf → List Command
+closed commands None = commands
+closed commands (Some t) = commands ++ Transaction t ∷ []
+
+-- the two after a line that says that
+abbrev pub put : List Command → Option TransactionOf → Line → Option (List Command × Option TransactionOf)
+put commands pending (SaysOpening o) = Some (closed commands pending ++ Opening o ∷ [], None)
+put commands pending (SaysHead t) = Some (closed commands pending, Some t)
+put commands None (SaysPosting p) = None
+put commands (Some t) (SaysPosting p) =
+    Some (commands, Some (record { day = t.day; narration = t.narration; postings = t.postings ++ p ∷ [] }))
+
+-- the two after one more line, where it fits there
+unfoldable pub take_line : List Command → Option TransactionOf → List ℕ → Option (List Command × Option TransactionOf)
+take_line commands pending line = line_of line >>= put commands pending
+
+-- the two after more lines, where they fit there
+abbrev pub take_lines : List Command → Option TransactionOf → List (List ℕ) → Option (List Command × Option TransactionOf)
+take_lines commands pending [] = Some (commands, pending)
+take_lines commands pending (line ∷ lines) = take_line commands pending line >>= λ after. take_lines after.0 after.1 lines
+
+-- ---- The lines of a text, one after another.
+
+-- a line is taken off the front of a text: up to its line end, or all of a text that has none
+abbrev pub TakesLine : List ℕ → List ℕ → List ℕ → Type 0
+TakesLine text line rest = IsLine line × ((text ≡ line ++ 10 ∷ rest) ⊎ ((text ≡ line) × (line ≢ []) × (rest ≡ [])))
+
+-- a line, unless the text is empty
+abbrev pub GivesLine : List ℕ → Option (Bor (List ℕ)) → List ℕ → Type 0
+GivesLine text None rest = (text ≡ []) × (rest ≡ [])
+GivesLine text (Some line) rest = TakesLine text line.now rest
+
+-- what the fault of a line is for the text
+abbrev pub of_line : LineFault → ℕ → TextFault
+of_line Syntax number = SyntaxAt number
+of_line Memory number = NoRoom

@@ -1,0 +1,111 @@
+-- Ledger text: which commands it says, by its lines and their forms (after Beancount's Language Syntax; the exact
+-- form is this project's own: docs/FORMATS.md, What is read today).
+use Rattle.std.specs.Prelude.{◌≡◌, ◌≢◌, ◌⊎◌, ℕ, ◌+◌, ◌==◌, ◌||◌, Bool, not, IsTrue, List, [], ◌∷◌, ◌++◌, length, codes, Option, None, Some, Ok, ℤ, pos, int_lt, ⊤}
+use Rattle.std.specs.List.{AllZip, list_all}
+use Rattle.std.specs.Str.{IsUtf8}
+use Rattle.lot_num.specs.NumberText.{units_of, rate_of}
+use Rattle.lot_base.specs.Name.{is_account, is_commodity, is_note}
+use Rattle.lot_base.specs.Day.{named_day}
+use Rattle.lot_ledger.specs.declared.command.Opening.{Opening as OpeningOf}
+use Rattle.lot_ledger.specs.declared.command.Posting.{Posting}
+use Rattle.lot_ledger.specs.declared.command.Amount.{Amount}
+use Rattle.lot_ledger.specs.declared.command.Cost.{Cost}
+use Rattle.lot_ledger.specs.declared.command.Command.{Command}
+use Rattle.lot_text.specs.declared.reader.TextFault.{TextFault}
+use Rattle.lot_text.specs.declared.reader.TextFault.TheVariants.{Syntax, Memory}
+use Rattle.lot_ledger.specs.declared.command.Command.TheVariants.{Opening, Transaction}
+
+-- ---- Forms of a line, which is UTF-8. Its line end isn't part of it.
+
+-- DAY open ACCOUNT
+abbrev pub IsOpening : List ℕ → OpeningOf → Type 0
+IsOpening line o =
+    IsUtf8 line × (day : List ℕ) × (named_day day ≡ Some o.day) × IsTrue (is_account o.account)
+    × (line ≡ day ++ codes " open " ++ o.account)
+
+-- a note is written between quotes, and has neither a quote nor a backslash in it
+abbrev pub is_plain : ℕ → Bool
+is_plain b = not ((b == 34) || (b == 92))
+
+-- nothing, or a space and a note in quotes
+abbrev pub IsNarration : List ℕ → Option (List ℕ) → Type 0
+IsNarration text None = text ≡ []
+IsNarration text (Some note) =
+    IsTrue (is_note note) × IsTrue (list_all is_plain note) × (text ≡ codes " \"" ++ note ++ codes "\"")
+
+-- DAY * or DAY * "NOTE"
+abbrev pub IsHead : List ℕ → ℤ → Option (List ℕ) → Type 0
+IsHead line day narration =
+    IsUtf8 line × (text : List ℕ) × (rest : List ℕ) × (named_day text ≡ Some day) × IsNarration rest narration
+    × (line ≡ text ++ codes " *" ++ rest)
+
+-- nothing, or {RATE CURRENCY} behind a space; only units above zero have a cost
+abbrev pub IsCost : List ℕ → ℤ → Option Cost → Type 0
+IsCost text units None = text ≡ []
+IsCost text units (Some cost) =
+    IsTrue (int_lt (pos 0) units) × (number : List ℕ) × (rate_of number ≡ Ok cost.number) × IsTrue (is_commodity cost.currency)
+    × (text ≡ codes " {" ++ number ++ codes " " ++ cost.currency ++ codes "}")
+
+-- nothing, or UNITS COMMODITY behind a space, and perhaps a cost
+abbrev pub IsAmount : List ℕ → Option Amount → Type 0
+IsAmount text None = text ≡ []
+IsAmount text (Some amount) =
+    (number : List ℕ) × (rest : List ℕ) × (units_of number ≡ Ok amount.units) × IsTrue (is_commodity amount.commodity)
+    × IsCost rest amount.units amount.cost
+    × (text ≡ codes " " ++ number ++ codes " " ++ amount.commodity ++ rest)
+
+-- two spaces, ACCOUNT, and perhaps an amount
+abbrev pub IsPosting : List ℕ → Posting → Type 0
+IsPosting line posting =
+    IsUtf8 line × (rest : List ℕ) × IsTrue (is_account posting.account) × IsAmount rest posting.amount
+    × (line ≡ codes "  " ++ posting.account ++ rest)
+
+-- ---- The commands of lines: a posting belongs to the transaction before it.
+
+abbrev pub Says : List (List ℕ) → List Command → Type 0
+Says lines [] = lines ≡ []
+Says lines (Opening o ∷ commands) =
+    (line : List ℕ) × (rest : List (List ℕ)) × IsOpening line o × Says rest commands × (lines ≡ line ∷ rest)
+Says lines (Transaction t ∷ commands) =
+    (head : List ℕ) × (postings : List (List ℕ)) × (rest : List (List ℕ)) × IsHead head t.day t.narration
+    × AllZip IsPosting postings t.postings × Says rest commands × (lines ≡ head ∷ (postings ++ rest))
+
+-- the line of that number, from 1, is the first faulty one: those before it say commands, and with it they say none
+pub record IsFirstFault (lines : List (List ℕ)) (number : ℕ) : Type 0 where
+  pub before : List (List ℕ)
+  pub line : List ℕ
+  pub after : List (List ℕ)
+  pub whole : lines ≡ before ++ line ∷ after
+  pub place : number ≡ length before + 1
+  pub commands : List Command
+  pub says : Says before commands
+  pub faulty : (others : List Command) → Says (before ++ line ∷ []) others → ⊥
+
+-- ---- The lines of a text. Each ends with a line end, which the last one may go without if it isn't empty.
+
+abbrev pub is_within_line : ℕ → Bool
+is_within_line b = not (b == 10)
+
+abbrev pub IsLine : List ℕ → Type 0
+IsLine line = IsTrue (list_all is_within_line line)
+
+abbrev pub IsTextOf : List (List ℕ) → List ℕ → Type 0
+IsTextOf [] text = text ≡ []
+IsTextOf (line ∷ []) text = IsLine line × ((text ≡ line ++ 10 ∷ []) ⊎ ((text ≡ line) × (line ≢ [])))
+IsTextOf (line ∷ next ∷ lines) text =
+    IsLine line × (rest : List ℕ) × IsTextOf (next ∷ lines) rest × (text ≡ line ++ 10 ∷ rest)
+
+-- ---- What a text says.
+
+-- the commands of a text
+abbrev pub Reads : List ℕ → List Command → Type 0
+Reads text commands = (lines : List (List ℕ)) × IsTextOf lines text × Says lines commands
+
+-- the number of the first line of a text that no commands fit
+abbrev pub IsFaultAt : List ℕ → ℕ → Type 0
+IsFaultAt text number = (lines : List (List ℕ)) × IsTextOf lines text × IsFirstFault lines number
+
+-- the fault of a text is at its first faulty line; want of memory may always be answered
+abbrev pub IsFaultOf : List ℕ → TextFault → Type 0
+IsFaultOf text (Syntax number) = IsFaultAt text number
+IsFaultOf text Memory = ⊤

@@ -1,0 +1,12 @@
+//! Ledger text: which commands it says.
+//!
+//! - `line`: what one line says.
+//! - `reader`: which commands all lines say together.
+//! - `laws`: what holds of the definitions that the contracts cite.
+#![tactic(auto)]
+
+pub mod laws;
+mod line;
+mod reader;
+
+pub use reader::{TextFault, read};

@@ -1,0 +1,177 @@
+ghost use Rattle.std.specs.Prelude.{◌≡◌, Some, None, [], ◌∷◌, ◌++◌, length, IfOk, IfErr, OnOk, OnErr};
+ghost use Rattle.std.specs.Iterator.{at_most};
+ghost use Rattle.lot_text.specs.Text.{Reads, IsFaultOf};
+ghost use Rattle.lot_text.specs.Reading.{closed, put, take_line, GivesLine, of_line};
+ghost use Rattle.lot_text.specs.declared.line.LineFault.TheVariants.{Syntax};
+
+use crate::line::{Line, LineFault, parse};
+use lot_ledger::{Command, Opening, Posting, Transaction};
+use std::alloc::{AllocError, Global};
+use thiserror::Error;
+
+/// Why a text says no commands.
+#[derive(Clone, Copy, Debug, PartialEq, Eq, Error)]
+pub enum TextFault {
+    /// The first line, counted from 1, that fits no form or is a posting without a transaction.
+    #[error("line {line} is not understood")]
+    Syntax { line: u64 },
+    /// There was no memory for the commands.
+    #[error("out of memory")]
+    Memory,
+}
+
+impl TextFault {
+    /// What a fault of that line is for the text.
+    fn of_line(fault: LineFault, line: u64) -> TextFault
+        ensures { result ≡ of_line fault line }
+    {
+        match fault {
+            LineFault::Syntax => TextFault::Syntax { line },
+            LineFault::Memory => TextFault::Memory,
+        }
+    }
+}
+
+impl From<AllocError> for TextFault {
+    ghost use Rattle.std.specs.Prelude.{◌≡◌};
+    ghost use Rattle.lot_text.specs.declared.reader.TextFault.TheVariants.{Memory};
+
+    ghost from_gives = { λ _ e. e ≡ Memory };
+
+    fn from(_error: AllocError) -> TextFault {
+        TextFault::Memory
+    }
+}
+
+/// The commands that a ledger text says (docs/FORMATS.md, Ledger text). The first faulty line decides.
+pub fn read(alloc: Global, text: &[u8]) -> Result<Vec<Command>, TextFault>
+    ensures commands { IfOk result (λ commands. Reads text.now commands.items) }
+    ensures fault { IfErr result (λ fault. IsFaultOf text.now fault) }
+{
+    let mut reading = Reading::new(alloc);
+    let mut number = 0u64;
+    for line in (Lines { rest: text }) {
+        number += 1;
+        if let Err(fault) = reading.take(alloc, line) {
+            return Err(TextFault::of_line(fault, number));
+        }
+    }
+    Ok(reading.finish()?)
+}
+
+/// The lines of a text, without their line ends. The last one may have none.
+#[derive(Drop)]
+struct Lines<'a> {
+    rest: &'a [u8],
+}
+
+impl<'a> Iterator for Lines<'a> {
+    type Item = &'a [u8];
+
+    ghost next_gives = { λ s line t. GivesLine s.rest.now line t.rest.now };
+
+    ghost remaining = { λ s. at_most (length s.rest.now) };
+
+    fn next(&mut self) -> Option<&'a [u8]> {
+        let text = self.rest;
+        if text.is_empty() {
+            return None;
+        }
+        match text.iter().position(|b| *b == b'\n') {
+            Some(end) => {
+                self.rest = &text[end + 1..];
+                Some(&text[..end])
+            }
+            None => {
+                self.rest = &[];
+                Some(text)
+            }
+        }
+    }
+}
+
+/// The commands of the lines so far: those to which no posting can come any more, and the transaction to which
+/// the next posting belongs.
+#[derive(Drop)]
+struct Reading {
+    commands: Vec<Command>,
+    pending: Option<Transaction>,
+}
+
+impl Reading {
+    fn new(alloc: Global) -> Reading
+        ensures commands { result.commands.items ≡ [] }
+        ensures pending { result.pending ≡ None }
+    {
+        Reading {
+            commands: Vec::new(alloc),
+            pending: None,
+        }
+    }
+
+    /// Takes what the next line says.
+    #[tactic(auto, unfolding(crate::specs::Reading::take_line))]
+    fn take(&mut self, alloc: Global, line: &[u8]) -> Result<(), LineFault>
+        ensures ok { OnOk result (take_line self.old.commands.items self.old.pending line.now
+            ≡ Some (self.new.commands.items, self.new.pending)) }
+        ensures fault { IfErr result (λ fault. fault ≡ Syntax
+            → take_line self.old.commands.items self.old.pending line.now ≡ None) }
+    {
+        match parse(alloc, line)? {
+            Line::Posting(posting) => self.post(posting),
+            Line::Transaction(transaction) => Ok(self.begin(transaction)?),
+            Line::Opening(opening) => Ok(self.open(opening)?),
+        }
+    }
+
+    /// Puts a posting behind those of the transaction so far.
+    fn post(&mut self, posting: Posting) -> Result<(), LineFault>
+        ensures ok { OnOk result (put self.old.commands.items self.old.pending (Line.Posting posting)
+            ≡ Some (self.new.commands.items, self.new.pending)) }
+        ensures fault { IfErr result (λ fault. fault ≡ Syntax
+            → put self.old.commands.items self.old.pending (Line.Posting posting) ≡ None) }
+    {
+        let transaction = self.pending.as_mut().ok_or(LineFault::Syntax)?;
+        transaction.postings.push(posting)?;
+        Ok(())
+    }
+
+    /// A transaction begins, to which the next postings belong.
+    fn begin(&mut self, transaction: Transaction) -> Result<(), AllocError>
+        ensures { OnOk result (put self.old.commands.items self.old.pending (Line.Transaction transaction)
+            ≡ Some (self.new.commands.items, self.new.pending)) }
+    {
+        self.close()?;
+        self.pending = Some(transaction);
+        Ok(())
+    }
+
+    /// An account is opened.
+    fn open(&mut self, opening: Opening) -> Result<(), AllocError>
+        ensures { OnOk result (put self.old.commands.items self.old.pending (Line.Opening opening)
+            ≡ Some (self.new.commands.items, self.new.pending)) }
+    {
+        self.close()?;
+        self.commands.push(Command::Opening(opening))?;
+        Ok(())
+    }
+
+    /// From here on no posting belongs to the transaction so far.
+    fn close(&mut self) -> Result<(), AllocError>
+        ensures commands { OnOk result (self.new.commands.items ≡ closed self.old.commands.items self.old.pending) }
+        ensures pending { OnOk result (self.new.pending ≡ None) }
+    {
+        if let Some(transaction) = self.pending.take() {
+            self.commands.push(Command::Transaction(transaction))?;
+        }
+        Ok(())
+    }
+
+    /// All commands, once there is no line left.
+    fn finish(mut self) -> Result<Vec<Command>, AllocError>
+        ensures { IfOk result (λ commands. commands.items ≡ closed self.commands.items self.pending) }
+    {
+        self.close()?;
+        Ok(self.commands)
+    }
+}
