@@ -1,0 +1,4 @@
+pub mod InventoryLemmas
+pub mod LawLemmas
+pub mod OrderLemmas
+pub mod SetLemmas

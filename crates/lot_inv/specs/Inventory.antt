@@ -1,0 +1,94 @@
+-- What an inventory holds: a finite map from places to units that aren't zero (docs/RULES.md, Inventory).
+use Rattle.std.specs.Prelude.{◌≡◌, ℕ, Bool, ◌&&◌, ◌||◌, if◌then◌else◌, List, [], ◌∷◌, filter, Option, None, Some, ℤ, pos, ◌+ℤ◌, int_lt}
+use Rattle.std.specs.declared.cmp.Ordering.{Ordering}
+use Rattle.std.specs.BTreeMap.{is_at}
+use Rattle.std.specs.Cmp.Lexicographic.{slice_cmp}
+use Rattle.std.specs.Coded.{Coded, coded×, coded_option}
+use Rattle.std.specs.FinMap as finite
+use Rattle.std.specs.List.{list_any}
+use Rattle.std.specs.List.Sorted.{IsStrictlySortedBy}
+use Rattle.std.specs.Map.{keys_of, lookup, values_of}
+use Rattle.std.specs.Option.{option_cmp, unwrap_or}
+use Rattle.std.specs.Ordering.{nat_cmp, int_eq, is_eq, ordering_then}
+use Rattle.lot_inv.specs.declared.cost_spec.CostSpec.{CostSpec}
+use Rattle.lot_inv.specs.declared.lot_key.LotKey.{LotKey}
+use Rattle.lot_inv.specs.CostSpec.{fits}
+use Rattle.lot_inv.specs.LotKey.{lot_cmp, coded_text, coded_key}
+
+-- ---- places and what they hold
+
+-- where units are held: a commodity, and the key of a lot, or none for the plain units
+abbrev pub Place : Type 0
+Place = List ℕ × Option LotKey
+
+-- the order of places: by commodity, the plain one first, then the lots in the order of their keys
+abbrev pub place_cmp : Place → Place → Ordering
+place_cmp p q = ordering_then (slice_cmp nat_cmp p.0 q.0) (option_cmp lot_cmp p.1 q.1)
+
+abbrev pub coded_place : Coded Place
+coded_place = coded× coded_text (coded_option coded_key)
+
+-- an inventory: the units of each place that holds some
+abbrev pub Held : Type 0
+Held = finite.FinMap place_cmp ℤ
+
+-- the units of a place, zero where it holds none
+abbrev pub units_at : Held → Place → ℤ
+units_at held place = unwrap_or (finite.get held place) (pos 0)
+
+-- what a place has of so many units: nothing where they are zero
+abbrev pub non_zero : ℤ → Option ℤ
+non_zero units = if int_eq units (pos 0) then None else Some units
+
+-- the inventory with so many units at a place, which leaves it where they are zero
+abbrev pub with_units : Held → Place → ℤ → Held
+with_units held place units = if int_eq units (pos 0) then finite.remove held place else finite.insert held place units
+
+-- the inventory with so many more units at a place
+abbrev pub added : Held → Place → ℤ → Held
+added held place units = with_units held place (units_at held place +ℤ units)
+
+-- ---- the lots of one commodity
+
+-- a row's lot, where the row is of a lot of the commodity
+abbrev pub lots_in : List ℕ → List (Place × ℤ) → List (LotKey × ℤ)
+lots_in commodity [] = []
+lots_in commodity (((other, None), units) ∷ rows) = lots_in commodity rows
+lots_in commodity (((other, Some key), units) ∷ rows) =
+    if is_eq (slice_cmp nat_cmp commodity other) then (key, units) ∷ lots_in commodity rows else lots_in commodity rows
+
+-- the lots of a commodity with their units, in the order of their keys
+unfoldable pub lots_of : Held → List ℕ → List (LotKey × ℤ)
+lots_of held commodity = lots_in commodity (finite.entries held)
+
+-- the lots of a commodity that fit a specification, in the order of their keys
+abbrev pub matching : Held → List ℕ → CostSpec → List (LotKey × ℤ)
+matching held commodity spec = filter (λ (lot : LotKey × ℤ). fits spec lot.0) (lots_of held commodity)
+
+-- whether one number is below zero and the other above it
+abbrev pub other_sign : ℤ → ℤ → Bool
+other_sign a b = (int_lt a (pos 0) && int_lt (pos 0) b) || (int_lt (pos 0) a && int_lt b (pos 0))
+
+-- whether some lot of the commodity has the other sign
+abbrev pub reduces : Held → List ℕ → ℤ → Bool
+reduces held commodity units = list_any (λ lot. other_sign lot units) (values_of (lots_of held commodity))
+
+-- the sum of whole numbers
+abbrev pub sum_of : List ℤ → ℤ
+sum_of [] = pos 0
+sum_of (z ∷ zs) = z +ℤ sum_of zs
+
+-- the units of all lots of the commodity
+abbrev pub sum : Held → List ℕ → ℤ
+sum held commodity = sum_of (values_of (lots_of held commodity))
+
+-- ---- laws
+
+-- the lots that a specification fits come in the order of their keys, each once
+abbrev pub MatchingLotsAreDistinct : Type 0
+MatchingLotsAreDistinct = (held : Held) → (commodity : List ℕ) → (spec : CostSpec) → IsStrictlySortedBy lot_cmp (keys_of (matching held commodity spec))
+
+-- the lots of a commodity are what the map holds under their keys
+abbrev pub LotsAreThoseOfTheMap : Type 0
+LotsAreThoseOfTheMap = (held : Held) → (commodity : List ℕ) → (key : LotKey)
+    → lookup (is_at (lot_cmp key)) (lots_of held commodity) ≡ finite.get held (commodity, Some key)

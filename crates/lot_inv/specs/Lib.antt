@@ -1,0 +1,4 @@
+pub mod CostSpec
+pub mod Holding
+pub mod Inventory
+pub mod LotKey

@@ -1,0 +1,323 @@
+ghost use Rattle.std.specs.Prelude.{◌≡◌, ℕ, List, ℤ, pos, ◌+ℤ◌, ◌*ℤ◌, ◌+◌, ◌*◌, ◌^◌, ◌≤◌, length, option_copied, unsigned_abs, SomeIff, Option, None, cond, filter, ◌↔◌, IsTrue, IsFalse, IsOk, IsErrOf, IfOk, OnOk, OnErr};
+ghost use Rattle.std.specs.FinMap as finite;
+ghost use Rattle.std.specs.List.{list_any};
+ghost use Rattle.std.specs.List.Sorted.{IsStrictlySortedBy};
+ghost use Rattle.std.specs.Map.{keys_of, values_of};
+ghost use Rattle.std.specs.BTreeMap.{IsOrdered, get};
+ghost use Rattle.std.specs.Option.{option_cmp, unwrap_or};
+ghost use Rattle.std.specs.Ordering.{is_eq};
+ghost use Rattle.lot_num.specs.Amount.{IsUnits, IsWide, one};
+ghost use Rattle.lot_inv.specs.Inventory.{added, lots_of, matching, non_zero, other_sign, reduces, sum, sum_of, units_at};
+ghost use Rattle.lot_inv.specs.CostSpec.{fits};
+ghost use Rattle.lot_inv.specs.LotKey.{lot_cmp};
+ghost use Rattle.lot_inv.specs.Holding.{AreAlike, AreHoldings, IsSet, NoneIsEmpty, NoOtherIsEmpty};
+ghost use Rattle.lot_inv.specs.declared.lot_key.LotKey.{LotKey};
+ghost use Rattle.lot_inv.specs.declared.fault.InventoryFault.TheVariants.{Range};
+
+use crate::cost_spec::CostSpec;
+use crate::fault::InventoryFault;
+use crate::lot_key::LotKey;
+use lot_base::Commodity;
+use lot_num::{Units, Wide};
+use std::alloc::{AllocError, Global};
+use std::collections::BTreeMap;
+use std::marker::Model;
+
+/// What is held of each commodity, plain and lot by lot.
+///
+/// A contract sees an inventory as a finite map from places (a commodity, and the key of a lot or none) to units that
+/// aren't zero.
+#[derive(Drop)]
+pub struct Inventory {
+    alloc: Global,
+    held: BTreeMap<Commodity, Holding>,
+}
+
+/// What is held of one commodity.
+#[derive(Drop)]
+struct Holding {
+    plain: Units,
+    lots: BTreeMap<LotKey, Units>,
+}
+
+impl Model for Inventory {
+    ghost use Rattle.std.specs.Coded.{coded_ℤ};
+    ghost use Rattle.std.specs.FinMap as finite;
+    ghost use Rattle.lot_inv.specs.Holding.{AreHoldings, NoneIsEmpty, rows};
+    ghost use Rattle.lot_inv.specs.Inventory.{Held, coded_place};
+
+    ghost Value = { Held };
+
+    ghost coded = { finite.code coded_place coded_ℤ };
+
+    ghost view = { λ i. finite.from_entries (rows i.held.entries) };
+
+    ghost invariant = { λ i. AreHoldings i.held.entries × NoneIsEmpty i.held.entries };
+}
+
+impl Inventory {
+    /// An inventory that holds nothing.
+    pub fn new(alloc: Global) -> Inventory
+        ensures { result ≡ finite.empty }
+    {
+        Inventory {
+            alloc,
+            held: BTreeMap::new(alloc),
+        }
+    }
+
+    /// The units of a commodity in the lot of that key, or its plain units. Zero where none are held.
+    pub fn units(&self, commodity: &Commodity, key: Option<&LotKey>) -> Units
+        ensures value { result ≡ units_at self.now (commodity.now, option_copied key.entry) }
+        ensures held { finite.get self.now (commodity.now, option_copied key.entry) ≡ non_zero result }
+    {
+        match self.held.get(commodity) {
+            Some(holding) => holding.units(key),
+            None => Units::ZERO,
+        }
+    }
+
+    /// How many lots of a commodity are held.
+    pub fn lots(&self, commodity: &Commodity) -> u64
+        ensures { result ≡ length (lots_of self.now commodity.now) }
+    {
+        match self.held.get(commodity) {
+            Some(holding) => holding.lots.len() as u64,
+            None => 0,
+        }
+    }
+
+    /// Whether some lot of the commodity has the other sign than the units. Plain units aren't looked at.
+    pub fn reduces(&self, commodity: &Commodity, units: Units) -> bool
+        ensures { result ≡ reduces self.now commodity.now units }
+    {
+        match self.held.get(commodity) {
+            Some(holding) => holding.has_other_sign(units),
+            None => false,
+        }
+    }
+
+    /// The units of all lots of a commodity. None where they are outside a wide number.
+    pub fn sum(&self, commodity: &Commodity) -> Option<Wide>
+        ensures { SomeIff result (IsWide (sum self.now commodity.now *ℤ pos one)) (sum self.now commodity.now *ℤ pos one) }
+    {
+        wide(self.total(commodity))
+    }
+
+    /// The sum of the mantissas of all lots of a commodity.
+    fn total(&self, commodity: &Commodity) -> i128
+        ensures { result ≡ sum self.now commodity.now }
+    {
+        match self.held.get(commodity) {
+            Some(holding) => holding.total(),
+            None => 0,
+        }
+    }
+
+    /// The lots of a commodity that fit a specification, in the order of their keys. The error is want of memory.
+    pub fn matching(
+        &self,
+        commodity: &Commodity,
+        spec: &CostSpec,
+    ) -> Result<Vec<(LotKey, Units)>, AllocError>
+        ensures all { IfOk result (λ lots. lots.items ≡ matching self.now commodity.now spec.now) }
+        ensures distinct { IfOk result (λ lots. IsStrictlySortedBy lot_cmp (keys_of lots.items)) }
+    {
+        match self.held.get(commodity) {
+            Some(holding) => holding.matching(self.alloc, spec),
+            None => Ok(Vec::new(self.alloc)),
+        }
+    }
+
+    /// Adds units to the lot of that key, or to the plain units. What becomes zero is held no more.
+    ///
+    /// `Range` exactly where the sum isn't units, and `Memory` where there is no memory for a further place.
+    pub fn add(
+        &mut self,
+        commodity: &Commodity,
+        key: Option<&LotKey>,
+        units: Units,
+    ) -> Result<(), InventoryFault>
+        ensures ok { OnOk result (self.new ≡ added self.old (commodity.now, option_copied key.entry) units) }
+        ensures good { IsOk result → IsUnits (units_at self.old (commodity.now, option_copied key.entry) +ℤ units) }
+        ensures range { IsErrOf result Range ↔ (IsUnits (units_at self.old (commodity.now, option_copied key.entry) +ℤ units) → ⊥) }
+        ensures err { OnErr result (self.new ≡ self.old) }
+    {
+        let sum = match self.units(commodity, key).checked_add(units) {
+            Some(sum) => sum,
+            None => return Err(InventoryFault::Range),
+        };
+        set(&mut self.held, self.alloc, commodity, key, sum)?;
+        Ok(())
+    }
+}
+
+impl Holding {
+    ghost use Rattle.lot_inv.specs.Holding.{HoldsSomething, IsHolding, held_at};
+
+    /// The units in the lot of that key, or the plain ones. Zero where none are held.
+    fn units(&self, key: Option<&LotKey>) -> Units
+        ensures { result ≡ unwrap_or (held_at self.now (option_copied key.entry)) (pos 0) }
+    {
+        match key {
+            Some(key) => self.lots.get(key).copied().unwrap_or(Units::ZERO),
+            None => self.plain,
+        }
+    }
+
+    /// Whether some lot has the other sign than the units.
+    fn has_other_sign(&self, units: Units) -> bool
+        ensures { result ≡ list_any (λ held. other_sign held units) (values_of self.now.lots.entries) }
+    {
+        for held in self.lots.values() {
+            if is_other_sign(*held, units) {
+                return true;
+            }
+        }
+        false
+    }
+
+    /// A holding that holds nothing.
+    fn new(alloc: Global) -> Holding
+        ensures holding { IsHolding result }
+        ensures nothing { (key : Option LotKey) → held_at result key ≡ None }
+    {
+        Holding {
+            plain: Units::ZERO,
+            lots: BTreeMap::new(alloc),
+        }
+    }
+
+    /// Whether it holds nothing.
+    fn is_empty(&self) -> bool
+        ensures nothing { IsTrue result → (key : Option LotKey) → held_at self.now key ≡ None }
+        ensures something { IsFalse result → HoldsSomething self.now }
+    {
+        self.plain == Units::ZERO && self.lots.is_empty()
+    }
+
+    /// Sets the units in the lot of that key, or the plain ones. A lot without units is held no more.
+    fn set(&mut self, key: Option<&LotKey>, units: Units) -> Result<(), AllocError>
+        requires { IsHolding self.old }
+        ensures holding { IsHolding self.new }
+        ensures ok { OnOk result ((other : Option LotKey) → held_at self.new other
+            ≡ cond (is_eq (option_cmp lot_cmp (option_copied key.entry) other)) (non_zero units) (held_at self.old other)) }
+        ensures err { OnErr result ((other : Option LotKey) → held_at self.new other ≡ held_at self.old other) }
+    {
+        match key {
+            Some(key) => set_lot(&mut self.lots, key, units)?,
+            None => self.plain = units,
+        }
+        Ok(())
+    }
+
+    /// The lots that fit a specification, in the order of their keys.
+    fn matching(&self, alloc: Global, spec: &CostSpec) -> Result<Vec<(LotKey, Units)>, AllocError>
+        ensures { IfOk result (λ lots. lots.items ≡ filter (λ (lot : LotKey × ℤ). fits spec.now lot.0) self.now.lots.entries) }
+    {
+        let mut fitting = Vec::new(alloc);
+        for (key, units) in &self.lots {
+            if spec.fits(key) {
+                fitting.push((key.copy()?, *units))?;
+            }
+        }
+        Ok(fitting)
+    }
+
+    /// The sum of the mantissas of all lots.
+    fn total(&self) -> i128
+        ensures { result ≡ sum_of (values_of self.now.lots.entries) }
+    {
+        let mut total = 0;
+        for held in self.lots.values() {
+            total = plus(total, *held);
+        }
+        total
+    }
+}
+
+/// Sets the units at a place of an inventory.
+fn set(
+    held: &mut BTreeMap<Commodity, Holding>,
+    alloc: Global,
+    commodity: &Commodity,
+    key: Option<&LotKey>,
+    units: Units,
+) -> Result<(), AllocError>
+    requires holdings { AreHoldings held.old.entries }
+    requires none_empty { NoneIsEmpty held.old.entries }
+    ensures holdings { AreHoldings held.new.entries }
+    ensures none_empty { NoneIsEmpty held.new.entries }
+    ensures ok { OnOk result (IsSet held.old.entries held.new.entries (commodity.now, option_copied key.entry) units) }
+    ensures err { OnErr result (AreAlike held.old.entries held.new.entries) }
+{
+    match held.get_mut(commodity) {
+        Some(holding) => {
+            holding.set(key, units)?;
+            forget_if_empty(held, commodity);
+        }
+        // Nothing is held there, and nothing is to be.
+        None if units.mantissa() == 0 => {}
+        None => {
+            let mut holding = Holding::new(alloc);
+            holding.set(key, units)?;
+            held.insert(commodity.copy()?, holding)?;
+        }
+    }
+    Ok(())
+}
+
+/// Forgets a commodity of which nothing is held any more.
+fn forget_if_empty(held: &mut BTreeMap<Commodity, Holding>, commodity: &Commodity)
+    requires holdings { AreHoldings held.old.entries }
+    requires no_other_empty { NoOtherIsEmpty commodity.now held.old.entries }
+    ensures holdings { AreHoldings held.new.entries }
+    ensures none_empty { NoneIsEmpty held.new.entries }
+    ensures alike { AreAlike held.old.entries held.new.entries }
+{
+    let Some(holding) = held.get(commodity) else {
+        return;
+    };
+    if holding.is_empty() {
+        held.remove(commodity);
+    }
+}
+
+/// Sets the units of a lot, which is held no more where they are zero.
+fn set_lot(lots: &mut BTreeMap<LotKey, Units>, key: &LotKey, units: Units) -> Result<(), AllocError>
+    requires { IsOrdered lot_cmp lots.old }
+    ensures ordered { IsOrdered lot_cmp lots.new }
+    ensures each { OnOk result ((other : LotKey) → get lot_cmp lots.new other ≡ cond (is_eq (lot_cmp key.now other)) (non_zero units) (get lot_cmp lots.old other)) }
+    ensures err { OnErr result (lots.new.entries ≡ lots.old.entries) }
+{
+    if units.mantissa() == 0 {
+        lots.remove(key);
+    } else {
+        lots.insert(key.copy()?, units)?;
+    }
+    Ok(())
+}
+
+/// The wide number of a sum of mantissas of units. None where it is none.
+fn wide(mantissa: i128) -> Option<Wide>
+    ensures { SomeIff result (IsWide (mantissa *ℤ pos one)) (mantissa *ℤ pos one) }
+{
+    Wide::from_mantissa(mantissa.checked_mul(100_000_000)?)
+}
+
+/// A sum of mantissas, and the mantissa of further units.
+fn plus(total: i128, units: Units) -> i128
+    requires { unsigned_abs total ≤ 2 ^ 63 * 10 ^ 18 }
+    ensures value { result ≡ total +ℤ units }
+    ensures bound { unsigned_abs result ≤ unsigned_abs total + 10 ^ 18 }
+{
+    total + i128::from(units.mantissa())
+}
+
+/// Whether one of the two is below zero and the other above it.
+pub fn is_other_sign(a: Units, b: Units) -> bool
+    ensures { result ≡ other_sign a b }
+{
+    let (a, b) = (a.mantissa(), b.mantissa());
+    (a < 0 && 0 < b) || (0 < a && b < 0)
+}

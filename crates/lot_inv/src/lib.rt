@@ -1,0 +1,21 @@
+//! Inventories: what an account holds, lot by lot.
+//!
+//! - `lot_key`: `LotKey`, what tells the lots of one commodity apart.
+//! - `cost_spec`: `CostSpec`, which lots a posting means.
+//! - `inventory`: `Inventory`, the units of each place of an account.
+//! - `fault`: `InventoryFault`, why units weren't added.
+//! - `laws`: what holds of the definitions that the contracts cite.
+#![tactic(auto)]
+
+mod cost_spec;
+mod fault;
+mod inventory;
+pub mod laws;
+mod lot_key;
+#[cfg(test)]
+mod tests;
+
+pub use cost_spec::CostSpec;
+pub use fault::InventoryFault;
+pub use inventory::{Inventory, is_other_sign};
+pub use lot_key::LotKey;

@@ -1,0 +1,34 @@
+ghost use Rattle.std.specs.Prelude.{◌≡◌, IfOk};
+
+use lot_base::{Commodity, Day, Label};
+use lot_num::Rate;
+use std::alloc::AllocError;
+
+/// What ties units to the purchase that they came from. Keys are ordered by day, currency, number and label, no
+/// label before every label.
+#[derive(Debug, PartialEq, Eq, PartialOrd, Ord, Drop)]
+pub struct LotKey {
+    pub day: Day,
+    pub currency: Commodity,
+    /// The cost of one unit.
+    pub number: Rate,
+    pub label: Option<Label>,
+}
+
+impl LotKey {
+    /// The same key once more. The error is want of memory.
+    pub fn copy(&self) -> Result<LotKey, AllocError>
+        ensures { IfOk result (λ key. key ≡ self.now) }
+    {
+        let label = match &self.label {
+            Some(label) => Some(label.copy()?),
+            None => None,
+        };
+        Ok(LotKey {
+            day: self.day,
+            currency: self.currency.copy()?,
+            number: self.number,
+            label,
+        })
+    }
+}
