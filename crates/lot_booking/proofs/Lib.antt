@@ -1,0 +1,6 @@
+pub mod BookLemmas
+pub mod BookingLaws
+pub mod ChoiceLaws
+pub mod ChoiceLemmas
+pub mod ListLemmas
+pub mod TakeLemmas

@@ -1,0 +1,225 @@
+-- A walk along lots takes each whole before the next one.
+use Rattle.std.specs.Prelude.{◌≡◌, ◌≢◌, ℕ, ◌+◌, ◌-◌, ◌≤◌, min, nat_eq, Bool, true, false, ◌||◌, cond, if◌then◌else◌, List, [], ◌∷◌, ◌++◌, ℤ, unsigned_abs, IfOk, IsOk, IsPermutation, Ok, Err, Result, ⊤}
+use Rattle.std.specs.Cmp.{IsStrictWeakOrder}
+use Rattle.std.specs.List.{AllByRecursion}
+use Rattle.std.specs.List.Sorted.{IsSortedBy}
+use Rattle.std.specs.Map.{keys_of}
+use Rattle.std.specs.Ordering.{is_eq}
+use Rattle.std.proofs.Common.{arith, refl, sym, ap, ◌∙◌, add-one, append_assoc, get_or, subst}
+use Rattle.std.proofs.lemmas.Bool.Decides.{nat_tests}
+use Rattle.std.proofs.lemmas.Cmp.{tied_itself}
+use Rattle.std.proofs.lemmas.List.Elements.{recursion_from_All}
+use Rattle.std.proofs.lemmas.List.Sorted.{IsPermutation-sym, sorted_far}
+use Rattle.std.proofs.lemmas.Map.Keys.{IsDistinct-head, IsDistinct-tail}
+use Rattle.lot_inv.specs.declared.lot_key.LotKey.{LotKey}
+use Rattle.lot_inv.specs.LotKey.{lot_cmp}
+use Rattle.lot_inv.proofs.OrderLemmas.{lots_total}
+use Rattle.lot_booking.specs.Choice.{AreInOrder, Choice, HaveDistinctKeys, InTurn, IsWhole, Takes, chosen_legs, given, held_in, with_sign_of}
+use Rattle.lot_booking.specs.Order.{IsOrder}
+use Rattle.lot_booking.specs.Way.{walked}
+use Rattle.lot_booking.proofs.ChoiceLemmas.{all_keys, distinct-permuted, given-cons, given-permuted, held_in-cons, in_turn-permuted}
+use Rattle.lot_booking.proofs.ListLemmas.{all_weaker, all_both, all_permuted}
+
+-- ---- a step of a walk
+
+walked_none : (units : ℤ) (left : ℕ) (lot : LotKey × ℤ) (lots : List (LotKey × ℤ)) → min left (unsigned_abs lot.1) ≡ 0
+    → walked units left (lot ∷ lots) ≡ walked units left lots
+walked_none units left lot lots none =
+    let part = min left (unsigned_abs lot.1) in
+    let zero : nat_eq part 0 ≡ true = grind (arith, nat_tests) in
+    ap (λ (b : Bool). cond b (walked units left lots) ((lot.0, with_sign_of units part) ∷ walked units (left - part) lots)) zero
+
+walked_some : (units : ℤ) (left : ℕ) (lot : LotKey × ℤ) (lots : List (LotKey × ℤ)) → min left (unsigned_abs lot.1) ≢ 0
+    → walked units left (lot ∷ lots) ≡ (lot.0, with_sign_of units (min left (unsigned_abs lot.1))) ∷ walked units (left - min left (unsigned_abs lot.1)) lots
+walked_some units left lot lots some =
+    let part = min left (unsigned_abs lot.1) in
+    let more : nat_eq part 0 ≡ false = grind (arith, nat_tests) in
+    ap (λ (b : Bool). cond b (walked units left lots) ((lot.0, with_sign_of units part) ∷ walked units (left - part) lots)) more
+
+-- the legs so far and those of what is left are those of all, also after a lot that gives nothing, and after one that gives something
+pub all_after_none : (units : ℤ) (left : ℕ) (lot : LotKey × ℤ) (lots legs all : List (LotKey × ℤ)) → min left (unsigned_abs lot.1) ≡ 0
+    → legs ++ walked units left (lot ∷ lots) ≡ all → legs ++ walked units left lots ≡ all
+all_after_none units left lot lots legs all none walk = ap (λ w. legs ++ w) (sym (walked_none units left lot lots none)) ∙ walk
+
+pub all_after_some : (units : ℤ) (left part : ℕ) (lot : LotKey × ℤ) (lots legs longer all : List (LotKey × ℤ)) → part ≡ min left (unsigned_abs lot.1)
+    → part ≢ 0 → longer ≡ legs ++ (lot.0, with_sign_of units part) ∷ []
+    → legs ++ walked units left (lot ∷ lots) ≡ all → longer ++ walked units (left - part) lots ≡ all
+all_after_some units left part lot lots legs longer all is some pushed walk =
+    rw (pushed, is) (append_assoc legs _ _ ∙ ap (λ w. legs ++ w) (sym (walked_some units left lot lots (λ e. some (is ∙ e)))) ∙ walk)
+
+-- what the lots leave of what is still to be taken
+pub left_after : (left : ℕ) (lot : LotKey × ℤ) (lots : List (LotKey × ℤ)) (end : ℕ)
+    → left - held_in (lot ∷ lots) ≡ end → left - min left (unsigned_abs lot.1) - held_in lots ≡ end
+left_after left lot lots end before = omega (arith, held_in-cons lot lots)
+
+-- ---- the choice of a walk
+
+-- a choice gives each lot of the list what a walk does: what is still to be taken, or all that the lot holds
+abbrev pub IsWalk : Choice → ℕ → List (LotKey × ℤ) → Type 0
+IsWalk choice left [] = ⊤
+IsWalk choice left (lot ∷ lots) = (choice lot.0 ≡ min left (unsigned_abs lot.1)) × IsWalk choice (left - min left (unsigned_abs lot.1)) lots
+
+-- what the walk gives to the first lot of that key
+abbrev pub walk_choice : ℕ → List (LotKey × ℤ) → Choice
+walk_choice left [] key = 0
+walk_choice left (lot ∷ lots) key =
+    if is_eq (lot_cmp lot.0 key) then min left (unsigned_abs lot.1) else walk_choice (left - min left (unsigned_abs lot.1)) lots key
+
+walk-agrees : (one other : Choice) (left : ℕ) (lots : List (LotKey × ℤ)) → AllByRecursion (λ (key : LotKey). other key ≡ one key) (keys_of lots)
+    → IsWalk one left lots → IsWalk other left lots
+walk-agrees one other left [] same walk = tt
+walk-agrees one other left (lot ∷ lots) same walk =
+    (same.0 ∙ walk.0, walk-agrees one other (left - min left (unsigned_abs lot.1)) lots same.1 walk.1)
+
+pub walk_choice-walks : (left : ℕ) (lots : List (LotKey × ℤ)) → HaveDistinctKeys lots → IsWalk (walk_choice left lots) left lots
+walk_choice-walks left [] distinct = tt
+walk_choice-walks left (lot ∷ lots) distinct =
+    let part = min left (unsigned_abs lot.1) in
+    let rest = walk_choice (left - part) lots in
+    let same = λ (a b : LotKey). is_eq (lot_cmp a b) in
+    let others = IsDistinct-head same lot.0 (keys_of lots) distinct in (
+      ap (λ (b : Bool). cond b part (rest lot.0)) (ap is_eq (tied_itself lots_total lot.0)),
+      walk-agrees rest (walk_choice left (lot ∷ lots)) (left - part) lots
+          (all_weaker (λ (key : LotKey). same lot.0 key ≡ false) (λ (key : LotKey). walk_choice left (lot ∷ lots) key ≡ rest key)
+          (λ key apart. ap (λ (b : Bool). cond b part (rest key)) apart) (keys_of lots) others)
+          (walk_choice-walks (left - part) lots (IsDistinct-tail same lot.0 (keys_of lots) distinct)),
+    )
+
+-- it gives no lot more than it holds
+walk-within : (choice : Choice) (left : ℕ) (lots : List (LotKey × ℤ)) → IsWalk choice left lots
+    → AllByRecursion (λ (lot : LotKey × ℤ). choice lot.0 ≤ unsigned_abs lot.1) lots
+walk-within choice left [] walk = tt
+walk-within choice left (lot ∷ lots) walk =
+    let first = walk.0 in
+    (omega arith, walk-within choice (left - min left (unsigned_abs lot.1)) lots walk.1)
+
+-- nor more than is to be taken
+walk-left : (choice : Choice) (left : ℕ) (lots : List (LotKey × ℤ)) → IsWalk choice left lots → AllByRecursion (λ (lot : LotKey × ℤ). choice lot.0 ≤ left) lots
+walk-left choice left [] walk = tt
+walk-left choice left (lot ∷ lots) walk =
+    let first = walk.0 in
+    let after = left - min left (unsigned_abs lot.1) in (
+      omega arith,
+      all_weaker (λ (later : LotKey × ℤ). choice later.0 ≤ after) (λ (later : LotKey × ℤ). choice later.0 ≤ left) (λ later le. omega arith)
+          lots (walk-left choice after lots walk.1),
+    )
+
+-- where the lots hold enough, it gives what is wanted
+walk-sum : (choice : Choice) (left : ℕ) (lots : List (LotKey × ℤ)) → IsWalk choice left lots → left ≤ held_in lots → given choice lots ≡ left
+walk-sum choice left [] walk enough = omega arith
+walk-sum choice left (lot ∷ lots) walk enough =
+    let first = walk.0 in
+    let after = left - min left (unsigned_abs lot.1) in
+    let rest = walk-sum choice after lots walk.1 (omega (arith, held_in-cons lot lots)) in
+    omega (arith, given-cons choice lot lots)
+
+-- and among lots in an order it gives a lot something only where each lot before it is taken whole
+walk-in_turn : (before : LotKey → LotKey → Bool) → IsOrder before → (choice : Choice) (left : ℕ) (lots : List (LotKey × ℤ)) → AreInOrder before lots
+    → IsWalk choice left lots → InTurn before lots choice
+walk-in_turn before order choice left [] ordered walk = tt
+walk-in_turn before order choice left (lot ∷ lots) ordered walk =
+    let after = left - min left (unsigned_abs lot.1) in
+    let fits = λ (one earlier : LotKey × ℤ). before earlier.0 one.0 ≡ true → 1 ≤ choice one.0 → IsWhole choice earlier in
+    let first = walk.0 in
+    let never = order.never_itself lot.0 in (
+      (
+        (λ itself some. cc),
+        all_weaker (λ (later : LotKey × ℤ). before lot.0 later.0 ≡ true) (fits lot)
+            (λ later follows earlier some. let itself = order.transitive lot.0 later.0 lot.0 follows earlier in cc) lots ordered.0,
+      ),
+      all_both (λ (one : LotKey × ℤ). choice one.0 ≤ after) (λ (one : LotKey × ℤ). AllByRecursion (fits one) lots)
+          (λ (one : LotKey × ℤ). AllByRecursion (fits one) (lot ∷ lots))
+          (λ one most rest. ((λ earlier some. omega arith), rest)) lots
+          (walk-left choice after lots walk.1) (walk-in_turn before order choice after lots ordered.1 walk.1),
+    )
+
+-- its legs are those of the walk
+same_legs : (none : Bool) (leg : LotKey × ℤ) (chosen left after : List (LotKey × ℤ)) → chosen ≡ after → (none ≡ true → left ≡ after)
+    → cond none chosen (leg ∷ chosen) ≡ cond none left (leg ∷ after)
+same_legs true leg chosen left after same none_taken = same ∙ sym (none_taken refl)
+same_legs false leg chosen left after same none_taken = ap (λ legs. leg ∷ legs) same
+
+pub walk-legs : (units : ℤ) (choice : Choice) (left : ℕ) (lots : List (LotKey × ℤ)) → IsWalk choice left lots
+    → chosen_legs units choice lots ≡ walked units left lots
+walk-legs units choice left [] walk = refl
+walk-legs units choice left (lot ∷ lots) walk =
+    let part = min left (unsigned_abs lot.1) in
+    let after = left - part in
+    let none_taken : nat_eq part 0 ≡ true → left ≡ after = λ none. grind (arith, nat_tests) in
+    rw walk.0 (same_legs (nat_eq part 0) (lot.0, with_sign_of units part) (chosen_legs units choice lots) (walked units left lots) (walked units after lots)
+    (walk-legs units choice after lots walk.1) (λ none. ap (λ l. walked units l lots) (none_taken none)))
+
+-- ---- lots in an order
+
+not_true : (answer : Bool) → (answer ≡ true → ⊥) → answer ≡ false
+not_true true never = absurd (never refl)
+not_true false never = refl
+
+-- of two keys the one that isn't first is second
+other_first : (one other : Bool) → one ≡ false → (one || other) ≡ true → other ≡ true
+other_first one other not_one either = rw not_one at either
+
+pub orders_lots : (before : LotKey → LotKey → Bool) → IsOrder before → IsStrictWeakOrder (λ (a b : LotKey × ℤ). before a.0 b.0)
+orders_lots before order = record {
+  one_way = λ a b first. not_true (before b.0 a.0)
+      (λ back. let itself = order.transitive a.0 b.0 a.0 first back in let never = order.never_itself a.0 in cc);
+  chain = λ a b c not_first not_second. not_true (before a.0 c.0) (λ first.
+      let apart : a.0 ≢ b.0 = λ same. let second = subst (λ (key : LotKey). before key c.0 ≡ true) same first in cc in
+      let back = other_first (before a.0 b.0) (before b.0 a.0) not_first (order.total a.0 b.0 apart) in
+      let second = order.transitive b.0 a.0 c.0 back first in
+      cc);
+}
+
+next_place : {X : Type 0} (x : X) (xs : List X) (k : ℕ) (d : X) → get_or (x ∷ xs) (k + 1) d ≡ get_or xs k d
+next_place x xs k d = rw add-one refl
+
+-- lots with distinct keys that are sorted by an order are in that order
+pub in_order-from_sorted : (before : LotKey → LotKey → Bool) → IsOrder before → (lots : List (LotKey × ℤ)) → HaveDistinctKeys lots
+    → IsSortedBy (λ (a b : LotKey × ℤ). before a.0 b.0) lots → AreInOrder before lots
+in_order-from_sorted before order [] distinct sorted = tt
+in_order-from_sorted before order (lot ∷ lots) distinct sorted =
+    let less = λ (a b : LotKey × ℤ). before a.0 b.0 in
+    let same = λ (a b : LotKey). is_eq (lot_cmp a b) in
+    let others = all_keys (λ (key : LotKey). same lot.0 key ≡ false) lots (IsDistinct-head same lot.0 (keys_of lots) distinct) in
+    let none_below = recursion_from_All (λ (later : LotKey × ℤ). before later.0 lot.0 ≡ false) lots (λ k d short.
+    rw (next_place lot lots k d) at (sorted_far less (orders_lots before order) (lot ∷ lots) sorted 0 (k + 1) d (omega arith) (omega arith))) in
+    let tail : IsSortedBy less lots = λ k d low high.
+    rw (next_place lot lots (k + 1) d, next_place lot lots k d) at (sorted (k + 1) d (omega arith) (omega arith)) in (
+      all_both (λ (later : LotKey × ℤ). before later.0 lot.0 ≡ false) (λ (later : LotKey × ℤ). same lot.0 later.0 ≡ false)
+          (λ (later : LotKey × ℤ). before lot.0 later.0 ≡ true) (λ later not_below other.
+          let apart : later.0 ≢ lot.0 = λ e. let itself = tied_itself lots_total lot.0 in let tied = subst (λ (key : LotKey). same lot.0 key ≡ false) e other in cc in
+          other_first (before later.0 lot.0) (before lot.0 later.0) not_below (order.total later.0 lot.0 apart)) lots none_below others,
+      in_order-from_sorted before order lots (IsDistinct-tail same lot.0 (keys_of lots) distinct) tail,
+    )
+
+-- ---- what is taken
+
+-- the walk along lots that hold enough, in their order, is what the units take in turn
+pub takes-walked : (before : LotKey → LotKey → Bool) → IsOrder before → (lots listed : List (LotKey × ℤ)) (units : ℤ) (legs : List (LotKey × ℤ))
+    → HaveDistinctKeys lots → IsPermutation lots listed → IsSortedBy (λ (a b : LotKey × ℤ). before a.0 b.0) listed
+    → unsigned_abs units ≤ held_in listed → legs ≡ walked units (unsigned_abs units) listed → Takes (InTurn before) before lots units legs
+takes-walked before order lots listed units legs distinct same sorted enough walked_legs =
+    let amount = unsigned_abs units in
+    let choice = walk_choice amount listed in
+    let back = IsPermutation-sym lots listed same in
+    let distinct_listed = distinct-permuted lots listed same distinct in
+    let ordered = in_order-from_sorted before order listed distinct_listed sorted in
+    let walk = walk_choice-walks amount listed distinct_listed in
+    record {
+      choice = choice;
+      is = record {
+        within = all_permuted (λ (lot : LotKey × ℤ). choice lot.0 ≤ unsigned_abs lot.1) listed lots back (walk-within choice amount listed walk);
+        sum = given-permuted choice listed lots back ∙ walk-sum choice amount listed walk enough;
+        allowed = in_turn-permuted before choice listed lots back (walk-in_turn before order choice amount listed ordered walk);
+      };
+      listed = listed;
+      same = same;
+      order = ordered;
+      chosen = walked_legs ∙ sym (walk-legs units choice amount listed walk);
+    }
+
+-- where a result is a value a fact holds, and with it what is known of the value says more
+pub if_ok-with : {T E : Type 0} (result : Result T E) (P Q : T → Type 0) (fact : Type 0) → (IsOk result → fact) → (fact → (value : T) → P value → Q value)
+    → IfOk result P → IfOk result Q
+if_ok-with (Ok value) P Q fact known more is = more (known refl) value is
+if_ok-with (Err fault) P Q fact known more is = tt

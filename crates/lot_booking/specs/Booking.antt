@@ -1,0 +1,127 @@
+-- What becomes of a posting with braces: its legs and whether it reduces, or why it has none (docs/RULES.md, Legs).
+use Rattle.std.specs.Prelude.{◌≡◌, ◌≢◌, ℕ, ◌≤◌, nat_le, Bool, true, false, ◌&&◌, ◌||◌, List, [], ◌∷◌, length, filter, Some, ℤ, pos, unsigned_abs, is_none, ⊤}
+use Rattle.std.specs.BTreeMap.{is_at}
+use Rattle.std.specs.Map.{lookup, values_of}
+use Rattle.std.specs.Option.{unwrap_or}
+use Rattle.lot_inv.specs.declared.cost_spec.CostSpec.{CostSpec}
+use Rattle.lot_inv.specs.declared.lot_key.LotKey.{LotKey}
+use Rattle.lot_inv.specs.Inventory.{Held, matching, other_sign, reduces, sum_of}
+use Rattle.lot_inv.specs.LotKey.{lot_cmp}
+use Rattle.lot_booking.specs.declared.cost.Cost.{Cost}
+use Rattle.lot_booking.specs.declared.cost.Cost.TheVariants.{Each}
+use Rattle.lot_booking.specs.declared.fault.BookingFault.{BookingFault}
+use Rattle.lot_booking.specs.declared.fault.BookingFault.TheVariants.{ZeroUnits, IncompleteCost, NoMatch, Ambiguous, NotEnough, Memory}
+use Rattle.lot_booking.specs.declared.method.Method.{Method}
+use Rattle.lot_booking.specs.Choice.{HasNoChoice, Takes}
+use Rattle.lot_booking.specs.Method.{is_strict, may_reduce, order_of, rule_of}
+
+-- a posting with braces, beside the method and the inventory of its account, and the day of its transaction
+pub record Braced : Type 0 where
+  pub method : Method
+  pub held : Held
+  pub commodity : List ℕ
+  pub units : ℤ
+  pub cost : Cost
+  pub day : ℤ
+
+abbrev pub posting_of : Method → Held → List ℕ → ℤ → Cost → ℤ → Braced
+posting_of method held commodity units cost day =
+    record { method = method; held = held; commodity = commodity; units = units; cost = cost; day = day }
+
+-- the specification of a cost
+abbrev pub spec_of : Cost → CostSpec
+spec_of (Each spec) = spec
+
+-- ---- augmenting
+
+-- whether a posting takes lots away: its method may match it, and some lot of its commodity has the other sign
+abbrev pub is_reducing : Braced → Bool
+is_reducing posting = may_reduce posting.method && reduces posting.held posting.commodity posting.units
+
+-- there are units, and they don't take lots away
+abbrev pub Augments : Braced → Type 0
+Augments posting = (posting.units ≢ pos 0) × (is_reducing posting ≡ false)
+
+-- the key of the lot that a posting opens, or adds to: the number and the currency, the given day or else that of the
+-- transaction, and the given label or none
+abbrev pub opened_key : CostSpec → ℤ → ℕ → List ℕ → LotKey
+opened_key spec day number currency = record { day = unwrap_or spec.day day; currency = currency; number = number; label = spec.label }
+
+-- the legs are one, of all units, at the key of the given number and currency
+pub record IsOneLeg (spec : CostSpec) (units day : ℤ) (legs : List (LotKey × ℤ)) : Type 0 where
+  pub number : ℕ
+  pub currency : List ℕ
+  pub given_number : spec.number ≡ Some number
+  pub given_currency : spec.currency ≡ Some currency
+  pub leg : legs ≡ (opened_key spec day number currency, units) ∷ []
+
+-- no number is given, or no currency
+abbrev pub is_incomplete : CostSpec → Bool
+is_incomplete spec = is_none spec.number || is_none spec.currency
+
+-- ---- reducing
+
+-- there are units, and they take lots away
+abbrev pub Reduces : Braced → Type 0
+Reduces posting = (posting.units ≢ pos 0) × (is_reducing posting ≡ true)
+
+-- the lots of a commodity that units may take: those of the other sign that the specification fits, in the order of
+-- their keys
+abbrev pub fitting : Held → List ℕ → ℤ → CostSpec → List (LotKey × ℤ)
+fitting held commodity units spec = filter (λ (lot : LotKey × ℤ). other_sign lot.1 units) (matching held commodity spec)
+
+-- the lots that a posting may take
+abbrev pub candidates : Braced → List (LotKey × ℤ)
+candidates posting = fitting posting.held posting.commodity posting.units (spec_of posting.cost)
+
+-- the legs are those of a choice among these lots
+abbrev pub AreTaken : Braced → List (LotKey × ℤ) → Type 0
+AreTaken posting legs = Takes (rule_of posting.method) (order_of posting.method) (candidates posting) posting.units legs
+
+-- there is no choice among them
+abbrev pub FindsNone : Braced → Type 0
+FindsNone posting = HasNoChoice (rule_of posting.method) (candidates posting) (unsigned_abs posting.units)
+
+-- the method wants one lot to be named, and there are several
+abbrev pub is_ambiguous : Braced → Bool
+is_ambiguous posting = is_strict posting.method && nat_le 2 (length (candidates posting))
+
+-- ---- what becomes of a posting
+
+-- whether it reduces, and its legs; or why it has none
+pub data Outcome : Type 0 where
+  Legs : Bool → List (LotKey × ℤ) → Outcome
+  Refused : BookingFault → Outcome
+
+abbrev pub Books : Braced → Outcome → Type 0
+Books posting (Legs false legs) = Augments posting × IsOneLeg (spec_of posting.cost) posting.units posting.day legs
+Books posting (Legs true legs) = Reduces posting × AreTaken posting legs
+Books posting (Refused ZeroUnits) = posting.units ≡ pos 0
+Books posting (Refused IncompleteCost) = Augments posting × (is_incomplete (spec_of posting.cost) ≡ true)
+Books posting (Refused NoMatch) = Reduces posting × (candidates posting ≡ [])
+Books posting (Refused Ambiguous) = Reduces posting × (is_ambiguous posting ≡ true) × FindsNone posting
+Books posting (Refused NotEnough) = Reduces posting × (candidates posting ≢ []) × (is_ambiguous posting ≡ false) × FindsNone posting
+Books posting (Refused Memory) = ⊥
+
+-- a booking stops at the refusal of the posting, or for want of memory
+abbrev pub Stops : Braced → BookingFault → Type 0
+Stops posting ZeroUnits = Books posting (Refused ZeroUnits)
+Stops posting IncompleteCost = Books posting (Refused IncompleteCost)
+Stops posting NoMatch = Books posting (Refused NoMatch)
+Stops posting Ambiguous = Books posting (Refused Ambiguous)
+Stops posting NotEnough = Books posting (Refused NotEnough)
+Stops posting Memory = ⊤
+
+-- ---- laws
+
+-- the sum of the units of legs
+abbrev pub units_in : List (LotKey × ℤ) → ℤ
+units_in legs = sum_of (values_of legs)
+
+-- a leg takes from a lot of the list, and no more than the lot holds: it has the other sign, and adding it leaves zero
+-- or the lot's sign
+pub record TakesFrom (lots : List (LotKey × ℤ)) (leg : LotKey × ℤ) : Type 0 where
+  pub held : ℤ
+  pub is_held : lookup (is_at (lot_cmp leg.0)) lots ≡ Some held
+  pub sign : other_sign held leg.1 ≡ true
+  pub bound : unsigned_abs leg.1 ≤ unsigned_abs held

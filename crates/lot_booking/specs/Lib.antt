@@ -1,0 +1,7 @@
+pub mod Booking
+pub mod Choice
+pub mod Fault
+pub mod Method
+pub mod Order
+pub mod OrderLaws
+pub mod Way

@@ -1,0 +1,146 @@
+ghost use Rattle.std.specs.Prelude.{◌≡◌, ◌≢◌, IfOk, IfErr, ℤ, ℕ, ◌<◌, ◌*◌, ◌^◌, ◌≤◌, List, [], length, pos, true, false, unsigned_abs};
+ghost use Rattle.std.specs.List.{AllByRecursion};
+ghost use Rattle.lot_inv.specs.declared.lot_key.LotKey.{LotKey};
+ghost use Rattle.lot_inv.specs.Inventory.{Held, other_sign};
+ghost use Rattle.lot_booking.specs.declared.method.Method.{Method};
+ghost use Rattle.lot_booking.specs.declared.cost.Cost.{Cost};
+ghost use Rattle.lot_booking.specs.Booking.{Books, IsOneLeg, Legs, Stops, fitting, posting_of};
+ghost use Rattle.lot_booking.specs.Choice.{HaveDistinctKeys, OneOrWhole, Takes, held_in};
+ghost use Rattle.lot_booking.specs.Order.{oldest_first};
+ghost use Rattle.lot_booking.specs.Way.{StopsNamed, StopsOpening};
+
+use crate::choice::take;
+use crate::cost::Cost;
+use crate::fault::BookingFault;
+use crate::method::Method;
+use crate::order::{Highest, LotOrder, Newest, Oldest};
+use lot_base::{Commodity, Day};
+use lot_inv::{CostSpec, Inventory, LotKey, is_other_sign};
+use lot_num::Units;
+use std::alloc::{AllocError, Global};
+
+/// The legs of a posting with braces, and whether they take lots away or open one.
+#[derive(Debug, Drop)]
+pub struct Booked {
+    /// Whether the legs take lots away.
+    pub reduces: bool,
+    /// The units of each leg, under the key of its lot. They have the sign of the posting's units, and add up to them.
+    pub legs: Vec<(LotKey, Units)>,
+}
+
+/// Books a posting with braces on the inventory of its account, by the account's method.
+///
+/// Where some lot of the commodity has the other sign it takes lots away, else it opens a lot or adds to one, on the
+/// given day or else on that of the transaction. Under NONE it never takes lots away.
+///
+/// The first of these that holds: `ZeroUnits`; `IncompleteCost` where it takes no lots away and gives no number or no
+/// currency; else `NoMatch` where no lot of the other sign fits, `Ambiguous` under STRICT where several fit and they
+/// don't hold exactly its units, and `NotEnough` where they hold less. `Memory` where there is no memory for the legs.
+pub fn book(
+    alloc: Global,
+    method: Method,
+    inventory: &Inventory,
+    commodity: &Commodity,
+    units: Units,
+    cost: &Cost,
+    day: Day,
+) -> Result<Booked, BookingFault>
+    ensures booked { IfOk result (λ b. Books (posting_of method inventory.now commodity.now units cost.now day) (Legs b.reduces b.legs.items)) }
+    ensures stops { IfErr result (λ fault. Stops (posting_of method inventory.now commodity.now units cost.now day) fault) }
+{
+    if units == Units::ZERO {
+        return Err(BookingFault::ZeroUnits);
+    }
+    let Cost::Each(spec) = cost;
+    let reduces = method != Method::Unmatched && inventory.reduces(commodity, units);
+    if !reduces {
+        let legs = open(alloc, spec, units, day)?;
+        return Ok(Booked { reduces, legs });
+    }
+    let lots = fitting(inventory, commodity, units, spec)?;
+    if lots.is_empty() {
+        return Err(BookingFault::NoMatch);
+    }
+    let legs = match method {
+        Method::Strict => take_named(alloc, lots, units)?,
+        Method::Fifo => take::<Oldest>(alloc, lots, units)?,
+        Method::Lifo => take::<Newest>(alloc, lots, units)?,
+        Method::Hifo => take::<Highest>(alloc, lots, units)?,
+        // It never reduces.
+        Method::Unmatched => unreachable!(),
+    };
+    Ok(Booked { reduces, legs })
+}
+
+/// The one leg of a posting that opens a lot, or adds to one.
+fn open(
+    alloc: Global,
+    spec: &CostSpec,
+    units: Units,
+    day: Day,
+) -> Result<Vec<(LotKey, Units)>, BookingFault>
+    ensures leg { IfOk result (λ legs. IsOneLeg spec.now units day legs.items) }
+    ensures stops { IfErr result (λ fault. StopsOpening spec.now fault) }
+{
+    let (Some(number), Some(currency)) = (spec.number, &spec.currency) else {
+        return Err(BookingFault::IncompleteCost);
+    };
+    let label = match &spec.label {
+        Some(label) => Some(label.copy()?),
+        None => None,
+    };
+    let key = LotKey {
+        day: spec.day.unwrap_or(day),
+        currency: currency.copy()?,
+        number,
+        label,
+    };
+    Ok(vec![in alloc; (key, units)]?)
+}
+
+/// The lots that a reduction may take, in the order of their keys: those of the other sign that fit. They are what `take`
+/// asks for. The error is want of memory.
+pub fn fitting(
+    inventory: &Inventory,
+    commodity: &Commodity,
+    units: Units,
+    spec: &CostSpec,
+) -> Result<Vec<(LotKey, Units)>, AllocError>
+    ensures all { IfOk result (λ lots. lots.items ≡ fitting inventory.now commodity.now units spec.now) }
+    ensures distinct { IfOk result (λ lots. HaveDistinctKeys lots.items) }
+    ensures signs { IfOk result (λ lots. AllByRecursion (λ (lot : LotKey × ℤ). other_sign lot.1 units ≡ true) lots.items) }
+{
+    let mut lots = inventory.matching(commodity, spec)?;
+    lots.retain(|lot| is_other_sign(lot.1, units));
+    Ok(lots)
+}
+
+/// Takes the one lot, or each of several whole.
+fn take_named(
+    alloc: Global,
+    lots: Vec<(LotKey, Units)>,
+    units: Units,
+) -> Result<Vec<(LotKey, Units)>, BookingFault>
+    requires distinct { HaveDistinctKeys lots.items }
+    requires signs { AllByRecursion (λ (lot : LotKey × ℤ). other_sign lot.1 units ≡ true) lots.items }
+    ensures taken { IfOk result (λ legs. Takes OneOrWhole oldest_first lots.items units legs.items) }
+    ensures stops { IfErr result (λ fault. StopsNamed lots.items units fault) }
+{
+    let wanted = u128::from(units.mantissa().unsigned_abs());
+    if 1 < lots.len() && held_in(&lots) != wanted {
+        return Err(BookingFault::Ambiguous);
+    }
+    // The oldest lots first is the order of the keys.
+    Ok(take::<Oldest>(alloc, lots, units)?)
+}
+
+/// What the lots hold, sign aside.
+fn held_in(lots: &[(LotKey, Units)]) -> u128
+    ensures { result ≡ held_in lots.now }
+{
+    let mut held = 0;
+    for lot in lots {
+        held += u128::from(lot.1.mantissa().unsigned_abs());
+    }
+    held
+}

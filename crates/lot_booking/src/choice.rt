@@ -1,0 +1,90 @@
+ghost use Rattle.std.specs.Prelude.{◌≡◌, ◌≢◌, true, false, IfOk, IsOk, IsErrOf, ℤ, ◌<◌, ◌≤◌, unsigned_abs};
+ghost use Rattle.std.specs.List.{AllByRecursion};
+ghost use Rattle.std.specs.Ordering.{is_lt};
+ghost use Rattle.lot_inv.specs.Inventory.{other_sign};
+ghost use Rattle.lot_booking.specs.Choice.{HasNoChoice, HaveDistinctKeys, InTurn, Takes, held_in, with_sign_of};
+ghost use Rattle.lot_booking.specs.Way.{walked};
+ghost use Rattle.lot_booking.specs.declared.fault.TakeFault.TheVariants.{NotEnough};
+
+use crate::fault::TakeFault;
+use crate::order::LotOrder;
+use lot_inv::LotKey;
+use lot_num::Units;
+use std::alloc::Global;
+use std::cmp::Ordering;
+
+/// The legs that units take of lots in an order: each lot whole before the next one, until the units are used up. They
+/// have the sign of the units, and stand in the order.
+///
+/// The lots have distinct keys, and each has the other sign than the units. `NotEnough` exactly where they hold less.
+pub fn take<O: LotOrder>(
+    alloc: Global,
+    lots: Vec<(LotKey, Units)>,
+    units: Units,
+) -> Result<Vec<(LotKey, Units)>, TakeFault>
+    requires distinct { HaveDistinctKeys lots.items }
+    requires signs { AllByRecursion (λ (lot : LotKey × ℤ). other_sign lot.1 units ≡ true) lots.items }
+    ensures taken { IfOk result (λ legs. Takes (InTurn O.before) O.before lots.items units legs.items) }
+    ensures not_enough { IsErrOf result NotEnough → HasNoChoice (InTurn O.before) lots.items (unsigned_abs units) }
+{
+    let mut lots = lots;
+    lots.sort_unstable_by(|a, b| compare::<O>(&a.0, &b.0));
+    in_turn(alloc, lots, units)
+}
+
+/// How an order compares two keys.
+fn compare<O: LotOrder>(a: &LotKey, b: &LotKey) -> Ordering
+    ensures { is_lt result ≡ O.before a.now b.now }
+{
+    if O::before(a, b) {
+        Ordering::Less
+    } else if O::before(b, a) {
+        Ordering::Greater
+    } else {
+        Ordering::Equal
+    }
+}
+
+/// Takes lots as they stand in the list, each whole before the next one, until the units are used up.
+fn in_turn(
+    alloc: Global,
+    lots: Vec<(LotKey, Units)>,
+    units: Units,
+) -> Result<Vec<(LotKey, Units)>, TakeFault>
+    ensures legs { IfOk result (λ legs. legs.items ≡ walked units (unsigned_abs units) lots.items) }
+    ensures enough { IsOk result → unsigned_abs units ≤ held_in lots.items }
+    ensures not_enough { IsErrOf result NotEnough → held_in lots.items < unsigned_abs units }
+{
+    let mut legs = Vec::new(alloc);
+    let mut left = units.mantissa().unsigned_abs();
+    for (key, held) in lots {
+        let part = left.min(held.mantissa().unsigned_abs());
+        if part == 0 {
+            continue;
+        }
+        legs.push((key, with_sign_of(units, part)))?;
+        left -= part;
+    }
+    if left == 0 {
+        Ok(legs)
+    } else {
+        Err(TakeFault::NotEnough)
+    }
+}
+
+/// So many units, with the sign of other units, which are at least as many.
+fn with_sign_of(units: Units, part: u64) -> Units
+    requires { part ≤ unsigned_abs units }
+    ensures { result ≡ with_sign_of units part }
+{
+    let amount = part as i64;
+    let mantissa = if units.mantissa() < 0 {
+        -amount
+    } else {
+        amount
+    };
+    match Units::from_mantissa(mantissa) {
+        Some(units) => units,
+        None => unreachable!(),
+    }
+}

@@ -1,0 +1,83 @@
+use std::alloc::{AllocError, AllocFailed};
+use thiserror::Error;
+
+/// Why a posting with braces has no legs. The first that holds, in this order, is told.
+#[derive(Clone, Copy, Debug, PartialEq, Eq, Error)]
+pub enum BookingFault {
+    /// It has zero units.
+    #[error("the units are zero")]
+    ZeroUnits,
+    /// It opens a lot, and gives no number or no currency.
+    #[error("the cost has no number or no currency")]
+    IncompleteCost,
+    /// It reduces, and no lot fits.
+    #[error("no lot fits")]
+    NoMatch,
+    /// It reduces under STRICT, several lots fit, and it doesn't take exactly all that they hold.
+    #[error("several lots fit")]
+    Ambiguous,
+    /// It reduces, and the lots that fit hold less.
+    #[error("the lots that fit hold less")]
+    NotEnough,
+    /// There was no memory for the legs.
+    #[error("out of memory")]
+    Memory,
+}
+
+/// Why units take no lots.
+#[derive(Clone, Copy, Debug, PartialEq, Eq, Error)]
+pub enum TakeFault {
+    /// The lots hold less.
+    #[error("the lots hold less")]
+    NotEnough,
+    /// There was no memory for the legs.
+    #[error("out of memory")]
+    Memory,
+}
+
+impl<T: Drop> From<AllocFailed<T>> for TakeFault {
+    ghost use Rattle.std.specs.Prelude.{◌≡◌};
+    ghost use Rattle.lot_booking.specs.declared.fault.TakeFault.TheVariants.{Memory};
+
+    ghost from_gives = { λ _ e. e ≡ Memory };
+
+    fn from(_failed: AllocFailed<T>) -> TakeFault {
+        TakeFault::Memory
+    }
+}
+
+impl From<AllocError> for BookingFault {
+    ghost use Rattle.std.specs.Prelude.{◌≡◌};
+    ghost use Rattle.lot_booking.specs.declared.fault.BookingFault.TheVariants.{Memory};
+
+    ghost from_gives = { λ _ e. e ≡ Memory };
+
+    fn from(_error: AllocError) -> BookingFault {
+        BookingFault::Memory
+    }
+}
+
+impl<T: Drop> From<AllocFailed<T>> for BookingFault {
+    ghost use Rattle.std.specs.Prelude.{◌≡◌};
+    ghost use Rattle.lot_booking.specs.declared.fault.BookingFault.TheVariants.{Memory};
+
+    ghost from_gives = { λ _ e. e ≡ Memory };
+
+    fn from(_failed: AllocFailed<T>) -> BookingFault {
+        BookingFault::Memory
+    }
+}
+
+impl From<TakeFault> for BookingFault {
+    ghost use Rattle.std.specs.Prelude.{◌≡◌};
+    ghost use Rattle.lot_booking.specs.Fault.{booking_fault};
+
+    ghost from_gives = { λ fault e. e ≡ booking_fault fault };
+
+    fn from(fault: TakeFault) -> BookingFault {
+        match fault {
+            TakeFault::NotEnough => BookingFault::NotEnough,
+            TakeFault::Memory => BookingFault::Memory,
+        }
+    }
+}

@@ -1,0 +1,27 @@
+//! Booking: which lots a posting with braces takes, or which one it opens.
+//!
+//! - `method`: `Method`, how the lots of a reduction are chosen.
+//! - `order`: `LotOrder`, in which order lots are taken, and its three orders.
+//! - `choice`: `take`, the lots that units take in an order.
+//! - `cost`: `Cost`, what a posting says in its braces.
+//! - `booking`: `book`, the legs of a posting with braces, and `fitting`, the lots that it may take.
+//! - `fault`: `BookingFault` and `TakeFault`, why there are none.
+//! - `laws`: what holds of the definitions that the contracts cite.
+#![tactic(auto)]
+
+mod booking;
+mod choice;
+mod cost;
+mod fault;
+pub mod laws;
+mod method;
+mod order;
+#[cfg(test)]
+mod tests;
+
+pub use booking::{Booked, book, fitting};
+pub use choice::take;
+pub use cost::Cost;
+pub use fault::{BookingFault, TakeFault};
+pub use method::Method;
+pub use order::{Highest, LotOrder, Newest, Oldest};
