@@ -6,3 +6,4 @@ pub mod MapLemmas
 pub mod NameLemmas
 pub mod OrderLemmas
 pub mod SplitLemmas
+pub mod TextLemmas

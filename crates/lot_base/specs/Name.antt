@@ -4,6 +4,20 @@ use Rattle.std.specs.Char.{is_ascii_digit, is_ascii_uppercase, is_ascii_alphanum
 use Rattle.std.specs.Cmp.Lexicographic.{pointwise}
 use Rattle.std.specs.List.{list_all, list_any, slice_split}
 
+-- ---- the longest names, in bytes (docs/RULES.md, Limits)
+
+abbrev pub longest_account : ℕ
+longest_account = 128
+
+abbrev pub longest_commodity : ℕ
+longest_commodity = 24
+
+abbrev pub longest_label : ℕ
+longest_label = 64
+
+abbrev pub longest_note : ℕ
+longest_note = 1000
+
 -- ---- accounts, as `Assets:Broker`
 
 -- the components of an account: what stands between its colons
@@ -34,9 +48,9 @@ is_account_path [] = false
 is_account_path (root ∷ []) = false
 is_account_path (root ∷ first ∷ more) = is_root root && list_all is_component (first ∷ more)
 
--- whether the text is an account, of at most 128 bytes
+-- whether the text is an account
 unfoldable pub is_account : List ℕ → Bool
-is_account text = nat_le (length text) 128 && is_account_path (components text)
+is_account text = nat_le (length text) longest_account && is_account_path (components text)
 
 -- ---- commodities, as `HOOL` or `USD`
 
@@ -45,11 +59,10 @@ abbrev pub is_commodity_byte : ℕ → Bool
 is_commodity_byte b =
     (is_ascii_uppercase b || is_ascii_digit b) || ((b == 39) || (b == 46) || (b == 95) || (b == 45))
 
--- whether the text is a commodity: 1 to 24 such bytes, the first a capital letter, the last a capital
--- letter or digit
+-- whether the text is a commodity: one or more such bytes, the first a capital letter, the last a capital letter or a digit
 unfoldable pub is_commodity : List ℕ → Bool
 is_commodity text =
-    nat_le 1 (length text) && nat_le (length text) 24 && list_all is_commodity_byte text
+    nat_le 1 (length text) && nat_le (length text) longest_commodity && list_all is_commodity_byte text
     && is_ascii_uppercase (slice_index text 0)
     && (is_ascii_uppercase (slice_index text (length text - 1)) || is_ascii_digit (slice_index text (length text - 1)))
 
@@ -59,9 +72,9 @@ is_commodity text =
 abbrev pub is_label_byte : ℕ → Bool
 is_label_byte b = not (is_ascii_control b || ((b == 34) || (b == 92)))
 
--- whether the text is a label, of 1 to 64 bytes
+-- whether the text is a label, which isn't empty
 unfoldable pub is_label : List ℕ → Bool
-is_label text = nat_le 1 (length text) && nat_le (length text) 64 && list_all is_label_byte text
+is_label text = nat_le 1 (length text) && nat_le (length text) longest_label && list_all is_label_byte text
 
 -- ---- notes: a payee or a narration
 
@@ -69,6 +82,6 @@ is_label text = nat_le 1 (length text) && nat_le (length text) 64 && list_all is
 abbrev pub is_note_byte : ℕ → Bool
 is_note_byte b = (b == 9) || not (is_ascii_control b)
 
--- whether the text is a note, of at most 1,000 bytes
+-- whether the text is a note, which may be empty
 unfoldable pub is_note : List ℕ → Bool
-is_note text = nat_le (length text) 1000 && list_all is_note_byte text
+is_note text = nat_le (length text) longest_note && list_all is_note_byte text

@@ -12,7 +12,7 @@ use Rattle.lot_num.specs.declared.number_text.NumberFault.{NumberFault}
 use Rattle.lot_num.specs.declared.number_text.NumberFault.TheVariants.{Syntax, TooManyDecimals, TooLarge}
 use Rattle.lot_num.specs.declared.number_text.Sign.{Sign}
 use Rattle.lot_num.specs.declared.number_text.Sign.TheVariants.{Plus, Minus}
-use Rattle.lot_num.specs.Amount.{one, IsUnits, IsRate}
+use Rattle.lot_num.specs.Amount.{one, IsUnits, IsRate, units_limit, rate_limit}
 use Rattle.lot_num.specs.AmountText.{shown_decimals, point_and, magnitude_text, amount_text}
 use Rattle.lot_num.specs.NumberGrammar.{AreDigits, IsWhole, IsSign, IsFraction, IsNumberText}
 use Rattle.lot_num.specs.NumberText.{sign_of, decimals, is_number, whole_number, first_decimals, has_excess, magnitude, read_below, with_sign, with_no_sign, units_of, rate_of}
@@ -53,7 +53,7 @@ read_below-spelled limit n text sign whole fraction spelling short says below =
     ∙ ap (λ m. Ok (sign, m)) amount
 
 -- a magnitude with a sign in front
-pub spelled_behind : (front : List ℕ) (sign : Sign) (least n : ℕ) → IsSign sign front → n < 10 ^ 18 → IsNumberText (front ++ magnitude_text least 8 n) sign (decimal (n / 10 ^ 8)) (shown_decimals least 8 (n % 10 ^ 8))
+pub spelled_behind : (front : List ℕ) (sign : Sign) (least n : ℕ) → IsSign sign front → n < units_limit → IsNumberText (front ++ magnitude_text least 8 n) sign (decimal (n / 10 ^ 8)) (shown_decimals least 8 (n % 10 ^ 8))
 spelled_behind front sign least n is_sign below =
     let small : n / 10 ^ 8 < 2 ^ 64 = omega arith in
     let shown = shown_decimals_shown least 8 (n % 10 ^ 8) (omega arith) (omega arith) in
@@ -67,23 +67,23 @@ spelled_behind front sign least n is_sign below =
       spelled = refl;
     }
 
-pub magnitude_says : (least n : ℕ) → n < 10 ^ 18 → whole_number (decimal (n / 10 ^ 8)) * one + first_decimals (shown_decimals least 8 (n % 10 ^ 8)) ≡ n
+pub magnitude_says : (least n : ℕ) → n < units_limit → whole_number (decimal (n / 10 ^ 8)) * one + first_decimals (shown_decimals least 8 (n % 10 ^ 8)) ≡ n
 magnitude_says least n below =
     let shown = shown_decimals_shown least 8 (n % 10 ^ 8) (omega arith) (omega arith) in
     let fraction : first_decimals (shown_decimals least 8 (n % 10 ^ 8)) ≡ n % 10 ^ 8 = first_decimals-short (shown_decimals least 8 (n % 10 ^ 8)) shown.short ∙ shown.value in
     omega (arith, whole_number-decimal (n / 10 ^ 8) (omega arith))
 
-read_printed : (limit : ℕ) (front : List ℕ) (sign : Sign) (least n : ℕ) → IsSign sign front → limit ≤ 10 ^ 18 → n < limit → read_below limit (front ++ magnitude_text least 8 n) ≡ Ok (sign, n)
+read_printed : (limit : ℕ) (front : List ℕ) (sign : Sign) (least n : ℕ) → IsSign sign front → limit ≤ units_limit → n < limit → read_below limit (front ++ magnitude_text least 8 n) ≡ Ok (sign, n)
 read_printed limit front sign least n is_sign most below =
-    let low : n < 10 ^ 18 = omega arith in
+    let low : n < units_limit = omega arith in
     let shown = shown_decimals_shown least 8 (n % 10 ^ 8) (omega arith) (omega arith) in
     read_below-spelled limit n (front ++ magnitude_text least 8 n) sign (decimal (n / 10 ^ 8)) (shown_decimals least 8 (n % 10 ^ 8)) (spelled_behind front sign least n is_sign low) shown.short (magnitude_says least n low) below
 
 pub units_of-amount_text : (least : ℕ) (z : ℤ) → IsUnits z → units_of (amount_text least 8 z) ≡ Ok z
 unfolding amount_text
-units_of-amount_text least (pos n) below = ap with_sign (read_printed 1000000000000000000 [] Plus least n (inl refl) (omega arith) below)
-units_of-amount_text least (negsuc n) below = ap with_sign (read_printed 1000000000000000000 (45 ∷ []) Minus least (suc n) refl (omega arith) below)
+units_of-amount_text least (pos n) below = ap with_sign (read_printed units_limit [] Plus least n (inl refl) (omega arith) below)
+units_of-amount_text least (negsuc n) below = ap with_sign (read_printed units_limit (45 ∷ []) Minus least (suc n) refl (omega arith) below)
 
 pub rate_of-amount_text : (n : ℕ) → IsRate n → rate_of (amount_text 0 8 (pos n)) ≡ Ok n
 unfolding amount_text
-rate_of-amount_text n below = ap with_no_sign (read_printed 10000000000000000 [] Plus 0 n (inl refl) (omega arith) below)
+rate_of-amount_text n below = ap with_no_sign (read_printed rate_limit [] Plus 0 n (inl refl) (omega arith) below)

@@ -15,7 +15,7 @@ use Rattle.lot_num.specs.declared.number_text.NumberFault.{NumberFault}
 use Rattle.lot_num.specs.declared.number_text.NumberFault.TheVariants.{Syntax, TooManyDecimals, TooLarge}
 use Rattle.lot_num.specs.declared.number_text.Sign.{Sign}
 use Rattle.lot_num.specs.declared.number_text.Sign.TheVariants.{Plus, Minus}
-use Rattle.lot_num.specs.Amount.{one, IsUnits}
+use Rattle.lot_num.specs.Amount.{one, IsUnits, units_limit, rate_limit}
 use Rattle.lot_num.specs.AmountText.{shown_decimals, point_and, magnitude_text, amount_text}
 use Rattle.lot_num.specs.NumberGrammar.{AreDigits, IsWhole, IsSign, IsFraction, IsNumberText}
 use Rattle.lot_num.specs.NumberText.{sign_of, whole_part, decimals, is_number, whole_number, first_decimals, has_excess, magnitude, read_below, with_sign, with_no_sign, non_negative, units_of, rate_of, signed}
@@ -126,7 +126,7 @@ shown-le least n ds below enough says =
 -- ---- Texts
 
 -- the printed magnitude is no longer than what stands behind the sign of a text that says it
-magnitude_shortest : (least n : ℕ) (text : List ℕ) (sign : Sign) (spelling : IsNumberText text sign (whole_part text) (decimals text)) → n < 10 ^ 18 → magnitude text ≡ n → least ≤ length (decimals text) → length spelling.front + length (magnitude_text least 8 n) ≤ length text
+magnitude_shortest : (least n : ℕ) (text : List ℕ) (sign : Sign) (spelling : IsNumberText text sign (whole_part text) (decimals text)) → n < units_limit → magnitude text ≡ n → least ≤ length (decimals text) → length spelling.front + length (magnitude_text least 8 n) ≤ length text
 magnitude_shortest least n text sign spelling below says enough =
     let fraction : first_decimals (decimals text) < one = first_decimals-lt (decimals text) spelling.are_digits in
     let whole_says : whole_number (whole_part text) ≡ n / 10 ^ 8 = omega arith in
@@ -149,23 +149,23 @@ magnitude_is Minus zero n says = cc
 magnitude_is Minus (suc m) n says = cc
 
 abbrev SaysUnits : List ℕ → ℤ → Type 0
-SaysUnits text z = (sign : Sign) × (n : ℕ) × (read_below 1000000000000000000 text ≡ Ok (sign, n)) × (signed sign n ≡ z)
+SaysUnits text z = (sign : Sign) × (n : ℕ) × (read_below units_limit text ≡ Ok (sign, n)) × (signed sign n ≡ z)
 
-from_units : (text : List ℕ) (z : ℤ) (read : Result (Sign × ℕ) NumberFault) → read_below 1000000000000000000 text ≡ read → with_sign read ≡ Ok z → SaysUnits text z
+from_units : (text : List ℕ) (z : ℤ) (read : Result (Sign × ℕ) NumberFault) → read_below units_limit text ≡ read → with_sign read ≡ Ok z → SaysUnits text z
 from_units text z (Ok x) e h = (x.0, x.1, e, cc)
 from_units text z (Err fault) e h = cc
 
 least_shortest : (least : ℕ) (z : ℤ) (text : List ℕ) → units_of text ≡ Ok z → least ≤ length (decimals text) → length (amount_text least 8 z) ≤ length text
 unfolding amount_text
 least_shortest least (pos n) text says enough =
-    let (sign, m, read, is) = from_units text (pos n) (read_below 1000000000000000000 text) refl says in
-    let reads = read_is 1000000000000000000 text sign m read in
+    let (sign, m, read, is) = from_units text (pos n) (read_below units_limit text) refl says in
+    let reads = read_is units_limit text sign m read in
     let same = magnitude_is sign m n is in
     let spelling = text_is_spelled text reads.0 in
     omega (arith, magnitude_shortest least n text (sign_of text) spelling (omega (arith, reads.3)) (reads.2 ∙ same) enough)
 least_shortest least (negsuc n) text says enough =
-    let (sign, m, read, is) = from_units text (negsuc n) (read_below 1000000000000000000 text) refl says in
-    let reads = read_is 1000000000000000000 text sign m read in
+    let (sign, m, read, is) = from_units text (negsuc n) (read_below units_limit text) refl says in
+    let reads = read_is units_limit text sign m read in
     let spelling = text_is_spelled text reads.0 in
     let minus = minus_is_written (sign_of text) spelling.front m n spelling.is_sign (ap (λ s. signed s m) reads.1 ∙ is) in
     omega (arith, minus.0, magnitude_shortest least (suc n) text (sign_of text) spelling (omega (arith, reads.3, minus.1)) (reads.2 ∙ minus.1) enough)
@@ -176,7 +176,7 @@ units_shortest z text says = least_shortest 0 z text says (omega arith)
 pub money_shortest : (z : ℤ) (text : List ℕ) → units_of text ≡ Ok z → 2 ≤ length (decimals text) → length (amount_text 2 8 z) ≤ length text
 money_shortest = least_shortest 2
 
-money_spelled : (front : List ℕ) (sign : Sign) (n : ℕ) → IsSign sign front → n < 10 ^ 18 → 2 ≤ length (decimals (front ++ magnitude_text 2 8 n))
+money_spelled : (front : List ℕ) (sign : Sign) (n : ℕ) → IsSign sign front → n < units_limit → 2 ≤ length (decimals (front ++ magnitude_text 2 8 n))
 money_spelled front sign n is_sign below =
     let cut = spelling_is_cut _ _ _ _ (spelled_behind front sign 2 n is_sign below) in
     let shown = shown_decimals_shown 2 8 (n % 10 ^ 8) (omega arith) (omega arith) in
@@ -188,20 +188,20 @@ money_decimals (pos n) below = money_spelled [] Plus n (inl refl) below
 money_decimals (negsuc n) below = money_spelled (45 ∷ []) Minus (suc n) refl below
 
 abbrev SaysRate : List ℕ → ℕ → Type 0
-SaysRate text n = (sign : Sign) × (read_below 10000000000000000 text ≡ Ok (sign, n))
+SaysRate text n = (sign : Sign) × (read_below rate_limit text ≡ Ok (sign, n))
 
 rate_sign : (sign : Sign) (m n : ℕ) (zero_rate : Bool) → nat_eq m 0 ≡ zero_rate → non_negative sign m ≡ Ok n → m ≡ n
 rate_sign Plus m n zero_rate e says = cc
 rate_sign Minus m n true e says = cc (rw e at says)
 rate_sign Minus m n false e says = cc (rw e at says)
 
-from_rate : (text : List ℕ) (n : ℕ) (read : Result (Sign × ℕ) NumberFault) → read_below 10000000000000000 text ≡ read → with_no_sign read ≡ Ok n → SaysRate text n
+from_rate : (text : List ℕ) (n : ℕ) (read : Result (Sign × ℕ) NumberFault) → read_below rate_limit text ≡ read → with_no_sign read ≡ Ok n → SaysRate text n
 from_rate text n (Ok x) e h = (x.0, e ∙ ap (λ m. Ok (x.0, m)) (rate_sign x.0 x.1 n (nat_eq x.1 0) refl h))
 from_rate text n (Err fault) e h = cc
 
 pub rate_shortest : (n : ℕ) (text : List ℕ) → rate_of text ≡ Ok n → length (amount_text 0 8 (pos n)) ≤ length text
 unfolding amount_text
 rate_shortest n text says =
-    let (sign, read) = from_rate text n (read_below 10000000000000000 text) refl says in
-    let reads = read_is 10000000000000000 text sign n read in
+    let (sign, read) = from_rate text n (read_below rate_limit text) refl says in
+    let reads = read_is rate_limit text sign n read in
     omega (arith, magnitude_shortest 0 n text (sign_of text) (text_is_spelled text reads.0) (omega (arith, reads.3)) reads.2 (omega arith))

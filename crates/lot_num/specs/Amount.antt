@@ -1,18 +1,38 @@
 -- Which whole numbers are mantissas (docs/RULES.md, Numbers).
-use Rattle.std.specs.Prelude.{ℕ, ◌^◌, ◌<◌, ◌≤◌, ℤ, unsigned_abs}
+use Rattle.std.specs.Prelude.{ℕ, ◌^◌, ◌*◌, ◌<◌, ◌≤◌, ℤ, unsigned_abs}
 
 -- One, as a mantissa at scale 8.
 abbrev pub one : ℕ
 one = 100000000
 
--- A mantissa of units, or of a total of units: scale 8, below 10^18 in absolute value.
+-- ---- The limits of the kinds of numbers (docs/RULES.md, Limits).
+
+-- the absolute mantissas of units are below this
+abbrev pub units_limit : ℕ
+units_limit = 10 ^ 18
+
+-- the mantissas of rates are below this
+abbrev pub rate_limit : ℕ
+rate_limit = 10 ^ 16
+
+-- the absolute mantissas of wide numbers are at most this
+abbrev pub greatest_wide : ℕ
+greatest_wide = 10 ^ 38
+
+-- the absolute weights of units at a rate are below this
+abbrev pub weight_limit : ℕ
+weight_limit = units_limit * rate_limit
+
+-- ---- The kinds.
+
+-- A mantissa of units, or of a total of units: scale 8.
 abbrev pub IsUnits : ℤ → Type 0
-IsUnits z = unsigned_abs z < 10 ^ 18
+IsUnits z = unsigned_abs z < units_limit
 
--- A mantissa of a rate: scale 8, from 0 to below 10^16.
+-- A mantissa of a rate: scale 8, not below zero.
 abbrev pub IsRate : ℕ → Type 0
-IsRate n = n < 10 ^ 16
+IsRate n = n < rate_limit
 
--- A mantissa of a weight: scale 16, at most 10^38 in absolute value.
+-- A mantissa of a weight: scale 16.
 abbrev pub IsWide : ℤ → Type 0
-IsWide z = unsigned_abs z ≤ 10 ^ 38
+IsWide z = unsigned_abs z ≤ greatest_wide

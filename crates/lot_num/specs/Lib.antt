@@ -2,3 +2,4 @@ pub mod Amount
 pub mod NumberText
 pub mod NumberGrammar
 pub mod AmountText
+pub mod Sum

@@ -7,7 +7,7 @@ use Rattle.lot_num.specs.declared.number_text.NumberFault.{NumberFault}
 use Rattle.lot_num.specs.declared.number_text.NumberFault.TheVariants.{Syntax, TooManyDecimals, TooLarge, Negative}
 use Rattle.lot_num.specs.declared.number_text.Sign.{Sign}
 use Rattle.lot_num.specs.declared.number_text.Sign.TheVariants.{Plus, Minus}
-use Rattle.lot_num.specs.Amount.{one}
+use Rattle.lot_num.specs.Amount.{one, units_limit, rate_limit}
 
 -- ---- The parts of a text: a sign, the whole part, and behind the first point the decimals.
 
@@ -89,10 +89,10 @@ abbrev pub with_no_sign : Result (Sign × ℕ) NumberFault → Result ℕ Number
 with_no_sign (Ok x) = non_negative x.0 x.1
 with_no_sign (Err fault) = Err fault
 
--- units: the absolute mantissa is below 10^18
+-- units: the absolute mantissa is below the limit of units
 abbrev pub units_of : List ℕ → Result ℤ NumberFault
-units_of text = with_sign (read_below 1000000000000000000 text)
+units_of text = with_sign (read_below units_limit text)
 
--- a rate: the mantissa is below 10^16, and not below zero
+-- a rate: the mantissa is below the limit of rates, and not below zero
 abbrev pub rate_of : List ℕ → Result ℕ NumberFault
-rate_of text = with_no_sign (read_below 10000000000000000 text)
+rate_of text = with_no_sign (read_below rate_limit text)
