@@ -5,7 +5,7 @@ use Rattle.std.proofs.lemmas.Bool.{false_from_ne_true}
 use Rattle.std.proofs.lemmas.Bool.Decides.{nat_tests, Decides-int_eq}
 use Rattle.std.proofs.lemmas.Int.{unsigned_abs-mul}
 use Rattle.lot_num.specs.Amount.{one, IsUnits}
-use Rattle.lot_ledger.specs.Balance.{is_units, is_zero, opposite}
+use Rattle.lot_ledger.specs.Balance.{fits_units, is_zero, opposite}
 use Rattle.lot_ledger.specs.Step.{first_currency}
 
 -- ---- Units at scale 16.
@@ -33,7 +33,7 @@ size_of_negative zero = refl
 size_of_negative (suc n) = refl
 
 -- a weight that is so many units
-pub units_from_weight : (z u : ℤ) → IsUnits u → z ≡ u *ℤ pos one → is_units z ≡ true
+pub units_from_weight : (z u : ℤ) → IsUnits u → z ≡ u *ℤ pos one → fits_units z ≡ true
 units_from_weight z u within same = units_test (unsigned_abs z) (unsigned_abs u) (ap unsigned_abs same ∙ unsigned_abs-mul u (pos one)) within
 
 pub opposite-units : (u : ℤ) → opposite (u *ℤ pos one) ≡ neg_ℤ u
@@ -43,13 +43,13 @@ opposite-units (negsuc a) =
     ap neg_ℤ (quotient_of_negative (suc a * one) ∙ ap (λ n. neg_ℤ (pos n)) whole)
 
 -- what takes up a weight that is units is exactly its opposite
-pub opposite_exact : (z : ℤ) → is_units z ≡ true → opposite z *ℤ pos one ≡ neg_ℤ z
+pub opposite_exact : (z : ℤ) → fits_units z ≡ true → opposite z *ℤ pos one ≡ neg_ℤ z
 opposite_exact (pos a) h = times_negative (a / one) ∙ ap (λ n. neg_ℤ (pos n)) (divided a h).0
 opposite_exact (negsuc a) h =
     ap (λ u. u *ℤ pos one) (negative_twice (suc a / one)) ∙ ap pos (divided (suc a) h).0
 
 -- the units that a weight is
-weight_from_units : (z : ℤ) → is_units z ≡ true → (u : ℤ) × IsUnits u × (z ≡ u *ℤ pos one)
+weight_from_units : (z : ℤ) → fits_units z ≡ true → (u : ℤ) × IsUnits u × (z ≡ u *ℤ pos one)
 weight_from_units (pos a) h = (pos (a / one), (divided a h).1, ap pos (sym (divided a h).0))
 weight_from_units (negsuc a) h = (
   neg_ℤ (pos (suc a / one)),
@@ -57,9 +57,9 @@ weight_from_units (negsuc a) h = (
   sym (times_negative (suc a / one) ∙ ap (λ n. neg_ℤ (pos n)) (divided (suc a) h).0),
 )
 
-pub no_units_from_weight : (z : ℤ) → ((u : ℤ) → IsUnits u → z ≡ u *ℤ pos one → ⊥) → is_units z ≡ false
-no_units_from_weight z none =
-    false_from_ne_true (is_units z) (λ e. let found = weight_from_units z e in none found.0 found.1 found.2)
+pub misfit_from_weight : (z : ℤ) → ((u : ℤ) → IsUnits u → z ≡ u *ℤ pos one → ⊥) → fits_units z ≡ false
+misfit_from_weight z none =
+    false_from_ne_true (fits_units z) (λ e. let found = weight_from_units z e in none found.0 found.1 found.2)
 
 zero_size : (u : ℤ) → unsigned_abs u ≡ 0 → u ≡ pos 0
 zero_size (pos n) e = ap pos e
@@ -89,16 +89,16 @@ units_is_zero u = by (is_zero u) refl
 abbrev pub fills_of : List (List ℕ × ℤ) → List (List ℕ × ℤ)
 fills_of rs = map (λ (r : List ℕ × ℤ). (r.0, opposite r.1)) (filter (λ (r : List ℕ × ℤ). not (is_zero r.1)) rs)
 
-abbrev pub no_units : ℤ → Bool
-no_units z = not (is_units z)
+abbrev pub misfits_units : ℤ → Bool
+misfits_units z = not (fits_units z)
 
 -- one more sum that is units
-pub no_units-passes : (currency : List ℕ) (z u : ℤ) (rs : List (List ℕ × ℤ)) → IsUnits u → z ≡ u *ℤ pos one → first_currency no_units ((currency, z) ∷ rs) ≡ first_currency no_units rs
-no_units-passes currency z u rs within same = rw (units_from_weight z u within same) refl
+pub misfit-passes : (currency : List ℕ) (z u : ℤ) (rs : List (List ℕ × ℤ)) → IsUnits u → z ≡ u *ℤ pos one → first_currency misfits_units ((currency, z) ∷ rs) ≡ first_currency misfits_units rs
+misfit-passes currency z u rs within same = rw (units_from_weight z u within same) refl
 
 -- and one that isn't
-pub no_units-stops : (currency : List ℕ) (z : ℤ) (rs : List (List ℕ × ℤ)) → ((u : ℤ) → IsUnits u → z ≡ u *ℤ pos one → ⊥) → first_currency no_units ((currency, z) ∷ rs) ≡ Some currency
-no_units-stops currency z rs none = rw (no_units_from_weight z none) refl
+pub misfit-stops : (currency : List ℕ) (z : ℤ) (rs : List (List ℕ × ℤ)) → ((u : ℤ) → IsUnits u → z ≡ u *ℤ pos one → ⊥) → first_currency misfits_units ((currency, z) ∷ rs) ≡ Some currency
+misfit-stops currency z rs none = rw (misfit_from_weight z none) refl
 
 -- what takes up one more that isn't zero
 pub fills_of-more : (currency : List ℕ) (z u : ℤ) (rs : List (List ℕ × ℤ)) → z ≡ u *ℤ pos one → u ≢ pos 0 → fills_of ((currency, z) ∷ rs) ≡ (currency, neg_ℤ u) ∷ fills_of rs

@@ -7,11 +7,13 @@ use Rattle.std.proofs.lemmas.Int.{ints}
 use Rattle.std.proofs.lemmas.List.{map-append, take_more}
 use Rattle.indexmap.specs.IndexMap.{insert_entry}
 use Rattle.lot_ledger.specs.declared.leg.Leg.{Leg}
-use Rattle.lot_ledger.specs.Sum.{same_name, sum_in, first_appearances}
+use Rattle.lot_base.specs.Text.{same_text}
+use Rattle.lot_ledger.specs.Currencies.{sum_in, first_appearances}
 use Rattle.lot_ledger.specs.Balance.{weight_of, currencies, residuals, add_weight, AreWithin}
 use Rattle.std.proofs.Math.IntN.{+ℤ_idl}
 use Rattle.lot_ledger.proofs.CaseLemmas.{by_bool}
-use Rattle.lot_ledger.proofs.NameLemmas.{one_name, same_name-itself, name_turned, without, beside}
+use Rattle.lot_base.proofs.TextLemmas.{one_text, same_text-itself, same_text-turned}
+use Rattle.lot_ledger.proofs.CurrencyLemmas.{without, beside}
 use Rattle.lot_ledger.proofs.SumLemmas.{sum_in-unnamed, sum_in-push_here, sum_in-push_apart}
 
 -- ---- Names.
@@ -19,21 +21,21 @@ use Rattle.lot_ledger.proofs.SumLemmas.{sum_in-unnamed, sum_in-push_here, sum_in
 -- a name at the end of a list of names, unless it stands there already
 abbrev add_name : List (List ℕ) → List ℕ → List (List ℕ)
 add_name [] n = n ∷ []
-add_name (k ∷ ks) n = cond (same_name n k) (k ∷ ks) (k ∷ add_name ks n)
+add_name (k ∷ ks) n = cond (same_text n k) (k ∷ ks) (k ∷ add_name ks n)
 
-without-added_itself : (m n : List ℕ) (ks : List (List ℕ)) → same_name m n ≡ true → without m (add_name ks n) ≡ without m ks
+without-added_itself : (m n : List ℕ) (ks : List (List ℕ)) → same_text m n ≡ true → without m (add_name ks n) ≡ without m ks
 without-added_itself m n [] e = rw e refl
-without-added_itself m n (k ∷ ks) e = by_bool (same_name n k)
+without-added_itself m n (k ∷ ks) e = by_bool (same_text n k)
     (λ here. rw here refl)
-    (λ there. rw there (ap (λ rest. cond (not (same_name m k)) (k ∷ rest) rest) (without-added_itself m n ks e)))
+    (λ there. rw there (ap (λ rest. cond (not (same_text m k)) (k ∷ rest) rest) (without-added_itself m n ks e)))
 
-without-added : (m n : List ℕ) (ks : List (List ℕ)) → same_name m n ≡ false → without m (add_name ks n) ≡ add_name (without m ks) n
+without-added : (m n : List ℕ) (ks : List (List ℕ)) → same_text m n ≡ false → without m (add_name ks n) ≡ add_name (without m ks) n
 without-added m n [] e = rw e refl
-without-added m n (k ∷ ks) e = by_bool (same_name n k)
+without-added m n (k ∷ ks) e = by_bool (same_text n k)
     (λ here.
-    let apart : same_name m k ≡ false = ap (same_name m) (sym (one_name n k here)) ∙ e in
+    let apart : same_text m k ≡ false = ap (same_text m) (sym (one_text n k here)) ∙ e in
     rw (here, apart) (rw here refl))
-    (λ there. by_bool (same_name m k)
+    (λ there. by_bool (same_text m k)
     (λ gone. rw (there, gone) (without-added m n ks e))
     (λ kept. rw (there, kept) (rw there (ap (λ rest. k ∷ rest) (without-added m n ks e)))))
 
@@ -41,30 +43,30 @@ first_appearances-push : (names : List (List ℕ)) (n : List ℕ) → first_appe
 first_appearances-push [] n = refl
 first_appearances-push (m ∷ names) n =
     ap (λ ks. m ∷ without m ks) (first_appearances-push names n)
-    ∙ by_bool (same_name n m)
-    (λ here. rw here (ap (λ ks. m ∷ ks) (without-added_itself m n (first_appearances names) (name_turned n m true here))))
-    (λ there. rw there (ap (λ ks. m ∷ ks) (without-added m n (first_appearances names) (name_turned n m false there))))
+    ∙ by_bool (same_text n m)
+    (λ here. rw here (ap (λ ks. m ∷ ks) (without-added_itself m n (first_appearances names) (same_text-turned n m true here))))
+    (λ there. rw there (ap (λ ks. m ∷ ks) (without-added m n (first_appearances names) (same_text-turned n m false there))))
 
 -- no name stands twice
 abbrev AreApart : List (List ℕ) → Type 0
 AreApart [] = ⊤
-AreApart (k ∷ ks) = AllByRecursion (λ other. same_name k other ≡ false) ks × AreApart ks
+AreApart (k ∷ ks) = AllByRecursion (λ other. same_text k other ≡ false) ks × AreApart ks
 
-others_without : (m k : List ℕ) (ks : List (List ℕ)) → AllByRecursion (λ other. same_name k other ≡ false) ks → AllByRecursion (λ other. same_name k other ≡ false) (without m ks)
+others_without : (m k : List ℕ) (ks : List (List ℕ)) → AllByRecursion (λ other. same_text k other ≡ false) ks → AllByRecursion (λ other. same_text k other ≡ false) (without m ks)
 others_without m k [] all = tt
-others_without m k (other ∷ ks) all = by_bool (same_name m other)
+others_without m k (other ∷ ks) all = by_bool (same_text m other)
     (λ gone. rw gone (others_without m k ks all.1))
     (λ kept. rw kept (all.0, others_without m k ks all.1))
 
-without_it : (m : List ℕ) (ks : List (List ℕ)) → AllByRecursion (λ other. same_name m other ≡ false) (without m ks)
+without_it : (m : List ℕ) (ks : List (List ℕ)) → AllByRecursion (λ other. same_text m other ≡ false) (without m ks)
 without_it m [] = tt
-without_it m (k ∷ ks) = by_bool (same_name m k)
+without_it m (k ∷ ks) = by_bool (same_text m k)
     (λ gone. rw gone (without_it m ks))
     (λ kept. rw kept (kept, without_it m ks))
 
 AreApart-without : (m : List ℕ) (ks : List (List ℕ)) → AreApart ks → AreApart (without m ks)
 AreApart-without m [] apart = tt
-AreApart-without m (k ∷ ks) apart = by_bool (same_name m k)
+AreApart-without m (k ∷ ks) apart = by_bool (same_text m k)
     (λ gone. rw gone (AreApart-without m ks apart.1))
     (λ kept. rw kept (others_without m k ks apart.0, AreApart-without m ks apart.1))
 
@@ -73,17 +75,17 @@ AreApart-first_appearances [] = tt
 AreApart-first_appearances (m ∷ names) = (without_it m (first_appearances names), AreApart-without m (first_appearances names) (AreApart-first_appearances names))
 
 -- a name that doesn't appear first doesn't appear
-any_without : (m n : List ℕ) (ks : List (List ℕ)) → same_name n m ≡ false → list_any (same_name n) (without m ks) ≡ list_any (same_name n) ks
+any_without : (m n : List ℕ) (ks : List (List ℕ)) → same_text n m ≡ false → list_any (same_text n) (without m ks) ≡ list_any (same_text n) ks
 any_without m n [] e = refl
-any_without m n (k ∷ ks) e = by_bool (same_name m k)
+any_without m n (k ∷ ks) e = by_bool (same_text m k)
     (λ gone.
-    let apart : same_name n k ≡ false = ap (same_name n) (sym (one_name m k gone)) ∙ e in
+    let apart : same_text n k ≡ false = ap (same_text n) (sym (one_text m k gone)) ∙ e in
     rw (gone, apart) (any_without m n ks e))
-    (λ kept. rw kept (ap (λ b. same_name n k || b) (any_without m n ks e)))
+    (λ kept. rw kept (ap (λ b. same_text n k || b) (any_without m n ks e)))
 
-any_first_appearances : (n : List ℕ) (names : List (List ℕ)) → list_any (same_name n) (first_appearances names) ≡ list_any (same_name n) names
+any_first_appearances : (n : List ℕ) (names : List (List ℕ)) → list_any (same_text n) (first_appearances names) ≡ list_any (same_text n) names
 any_first_appearances n [] = refl
-any_first_appearances n (m ∷ names) = by_bool (same_name n m)
+any_first_appearances n (m ∷ names) = by_bool (same_text n m)
     (λ here. rw here refl)
     (λ there. rw there (any_without m n (first_appearances names) there ∙ any_first_appearances n names))
 
@@ -96,24 +98,24 @@ name_of w = w.0
 
 -- two numbers of each name, the second with a weight in the name n
 record Adds (f g : List ℕ → ℤ) (n : List ℕ) (weight : ℤ) : Type 0 where
-  here : (k : List ℕ) → same_name k n ≡ true → g k ≡ f k +ℤ weight
-  there : (k : List ℕ) → same_name k n ≡ false → g k ≡ f k
+  here : (k : List ℕ) → same_text k n ≡ true → g k ≡ f k +ℤ weight
+  there : (k : List ℕ) → same_text k n ≡ false → g k ≡ f k
 
-beside_others : (f g : List ℕ → ℤ) (n : List ℕ) (weight : ℤ) (ks : List (List ℕ)) → Adds f g n weight → AllByRecursion (λ other. same_name n other ≡ false) ks → beside g ks ≡ beside f ks
+beside_others : (f g : List ℕ → ℤ) (n : List ℕ) (weight : ℤ) (ks : List (List ℕ)) → Adds f g n weight → AllByRecursion (λ other. same_text n other ≡ false) ks → beside g ks ≡ beside f ks
 beside_others f g n weight [] adds all = refl
 beside_others f g n weight (k ∷ ks) adds all =
-    λ i. (k, adds.there k (name_turned n k false all.0) i) ∷ beside_others f g n weight ks adds all.1 i
+    λ i. (k, adds.there k (same_text-turned n k false all.0) i) ∷ beside_others f g n weight ks adds all.1 i
 
-beside-add_name : (f g : List ℕ → ℤ) (n : List ℕ) (weight : ℤ) (ks : List (List ℕ)) → Adds f g n weight → AreApart ks → (list_any (same_name n) ks ≡ false → g n ≡ weight) → beside g (add_name ks n) ≡ add_weight (beside f ks) (n, weight)
+beside-add_name : (f g : List ℕ → ℤ) (n : List ℕ) (weight : ℤ) (ks : List (List ℕ)) → Adds f g n weight → AreApart ks → (list_any (same_text n) ks ≡ false → g n ≡ weight) → beside g (add_name ks n) ≡ add_weight (beside f ks) (n, weight)
 beside-add_name f g n weight [] adds apart new = ap (λ z. (n, z) ∷ []) (new refl)
-beside-add_name f g n weight (k ∷ ks) adds apart new = by_bool (same_name n k)
+beside-add_name f g n weight (k ∷ ks) adds apart new = by_bool (same_text n k)
     (λ here.
-    let same : n ≡ k = one_name n k here in
+    let same : n ≡ k = one_text n k here in
     let all = rw (← same) at apart.0 in
-    rw here (λ i. (k, adds.here k (name_turned n k true here) i) ∷ beside_others f g n weight ks adds all i))
+    rw here (λ i. (k, adds.here k (same_text-turned n k true here) i) ∷ beside_others f g n weight ks adds all i))
     (λ there.
-    let rest = beside-add_name f g n weight ks adds apart.1 (λ none. new (ap (λ b. b || list_any (same_name n) ks) there ∙ none)) in
-    rw there (λ i. (k, adds.there k (name_turned n k false there) i) ∷ rest i))
+    let rest = beside-add_name f g n weight ks adds apart.1 (λ none. new (ap (λ b. b || list_any (same_text n) ks) there ∙ none)) in
+    rw there (λ i. (k, adds.there k (same_text-turned n k false there) i) ∷ rest i))
 
 -- ---- One more weight, and one more leg.
 
@@ -127,8 +129,8 @@ sums_of-push ws w =
       here = λ k same. sum_in-push_here ws w k same;
       there = λ k other. sum_in-push_apart ws w k other;
     } in
-    let new : list_any (same_name w.0) (currencies ws) ≡ false → sum_in more w.0 ≡ w.1 = λ none.
-    adds.here w.0 (same_name-itself w.0) ∙ ap (λ z. z +ℤ w.1) (sum_in-unnamed w.0 ws (sym (any_first_appearances w.0 (map name_of ws)) ∙ none)) ∙ +ℤ_idl w.1 in
+    let new : list_any (same_text w.0) (currencies ws) ≡ false → sum_in more w.0 ≡ w.1 = λ none.
+    adds.here w.0 (same_text-itself w.0) ∙ ap (λ z. z +ℤ w.1) (sum_in-unnamed w.0 ws (sym (any_first_appearances w.0 (map name_of ws)) ∙ none)) ∙ +ℤ_idl w.1 in
     ap (λ names. beside (sum_in more) (first_appearances names)) (map-append name_of ws (w ∷ []))
     ∙ ap (beside (sum_in more)) (first_appearances-push (map name_of ws) w.0)
     ∙ beside-add_name (sum_in ws) (sum_in more) w.0 w.1 (currencies ws) adds (AreApart-first_appearances (map name_of ws)) new
@@ -147,35 +149,35 @@ residuals-more legs i leg before after w inside is so_far weighs now =
 
 -- ---- The map's entries.
 
-pub insert_entry-adds : (rs : List (List ℕ × ℤ)) (currency : List ℕ) (sum weight : ℤ) → lookup (same_name currency) rs ≡ Some sum → insert_entry same_name rs currency (sum +ℤ weight) ≡ add_weight rs (currency, weight)
+pub insert_entry-adds : (rs : List (List ℕ × ℤ)) (currency : List ℕ) (sum weight : ℤ) → lookup (same_text currency) rs ≡ Some sum → insert_entry same_text rs currency (sum +ℤ weight) ≡ add_weight rs (currency, weight)
 insert_entry-adds [] currency sum weight e = absurd cc
-insert_entry-adds (r ∷ rs) currency sum weight e = by_bool (same_name currency r.0)
+insert_entry-adds (r ∷ rs) currency sum weight e = by_bool (same_text currency r.0)
     (λ here.
-    let same : Some r.1 ≡ Some sum = sym (ap (λ b. cond b (Some r.1) (lookup (same_name currency) rs)) here) ∙ e in
+    let same : Some r.1 ≡ Some sum = sym (ap (λ b. cond b (Some r.1) (lookup (same_text currency) rs)) here) ∙ e in
     let is : sum ≡ r.1 = cc in
     rw here (ap (λ z. (r.0, z +ℤ weight) ∷ rs) is))
     (λ there.
-    let later = sym (ap (λ b. cond b (Some r.1) (lookup (same_name currency) rs)) there) ∙ e in
+    let later = sym (ap (λ b. cond b (Some r.1) (lookup (same_text currency) rs)) there) ∙ e in
     rw there (ap (λ rest. r ∷ rest) (insert_entry-adds rs currency sum weight later)))
 
-pub insert_entry-begins : (rs : List (List ℕ × ℤ)) (currency : List ℕ) (weight : ℤ) → lookup (same_name currency) rs ≡ None → insert_entry same_name rs currency weight ≡ add_weight rs (currency, weight)
+pub insert_entry-begins : (rs : List (List ℕ × ℤ)) (currency : List ℕ) (weight : ℤ) → lookup (same_text currency) rs ≡ None → insert_entry same_text rs currency weight ≡ add_weight rs (currency, weight)
 insert_entry-begins [] currency weight e = refl
-insert_entry-begins (r ∷ rs) currency weight e = by_bool (same_name currency r.0)
-    (λ here. let some : Some r.1 ≡ None = sym (ap (λ b. cond b (Some r.1) (lookup (same_name currency) rs)) here) ∙ e in absurd cc)
+insert_entry-begins (r ∷ rs) currency weight e = by_bool (same_text currency r.0)
+    (λ here. let some : Some r.1 ≡ None = sym (ap (λ b. cond b (Some r.1) (lookup (same_text currency) rs)) here) ∙ e in absurd cc)
     (λ there.
-    let later = sym (ap (λ b. cond b (Some r.1) (lookup (same_name currency) rs)) there) ∙ e in
+    let later = sym (ap (λ b. cond b (Some r.1) (lookup (same_text currency) rs)) there) ∙ e in
     rw there (ap (λ rest. r ∷ rest) (insert_entry-begins rs currency weight later)))
 
 -- ---- Bounds.
 
-pub lookup-within : (n : ℕ) (rs : List (List ℕ × ℤ)) (currency : List ℕ) (sum : ℤ) → AreWithin n rs → lookup (same_name currency) rs ≡ Some sum → unsigned_abs sum ≤ n * 10 ^ 34
+pub lookup-within : (n : ℕ) (rs : List (List ℕ × ℤ)) (currency : List ℕ) (sum : ℤ) → AreWithin n rs → lookup (same_text currency) rs ≡ Some sum → unsigned_abs sum ≤ n * 10 ^ 34
 lookup-within n [] currency sum all e = absurd cc
-lookup-within n (r ∷ rs) currency sum all e = by_bool (same_name currency r.0)
+lookup-within n (r ∷ rs) currency sum all e = by_bool (same_text currency r.0)
     (λ here.
-    let same : Some r.1 ≡ Some sum = sym (ap (λ b. cond b (Some r.1) (lookup (same_name currency) rs)) here) ∙ e in
+    let same : Some r.1 ≡ Some sum = sym (ap (λ b. cond b (Some r.1) (lookup (same_text currency) rs)) here) ∙ e in
     let is : r.1 ≡ sum = cc in
     rw is at all.0)
-    (λ there. lookup-within n rs currency sum all.1 (sym (ap (λ b. cond b (Some r.1) (lookup (same_name currency) rs)) there) ∙ e))
+    (λ there. lookup-within n rs currency sum all.1 (sym (ap (λ b. cond b (Some r.1) (lookup (same_text currency) rs)) there) ∙ e))
 
 pub AreWithin-more : (n m : ℕ) (rs : List (List ℕ × ℤ)) → n ≤ m → AreWithin n rs → AreWithin m rs
 AreWithin-more n m [] le all = tt
@@ -188,6 +190,6 @@ pub AreWithin-add_weight : (n : ℕ) (rs : List (List ℕ × ℤ)) (w : List ℕ
 AreWithin-add_weight n [] w small all = (omega arith, tt)
 AreWithin-add_weight n (r ∷ rs) w small all =
     let size = all.0 in
-    by_bool (same_name w.0 r.0)
+    by_bool (same_text w.0 r.0)
     (λ here. rw here (omega (arith, sum_size r.1 w.1), AreWithin-more n (n + 1) rs (omega arith) all.1))
     (λ there. rw there (omega arith, AreWithin-add_weight n rs w small all.1))

@@ -7,9 +7,10 @@ use Rattle.std.proofs.lemmas.Bool.{cases_Bool, cases_lt}
 use Rattle.std.proofs.lemmas.Bool.Decides.{nat_tests}
 use Rattle.lot_ledger.specs.declared.leg.Position.{Position}
 use Rattle.lot_ledger.specs.declared.leg.Leg.{Leg}
-use Rattle.lot_ledger.specs.declared.command.Amount.{Amount}
-use Rattle.lot_ledger.specs.declared.command.Posting.{Posting}
-use Rattle.lot_ledger.specs.Leg.{same_position, held, TellsHeld, non_zero}
+use Rattle.lot_command.specs.declared.command.Amount.{Amount}
+use Rattle.lot_command.specs.declared.command.Posting.{Posting}
+use Rattle.lot_ledger.specs.Leg.{same_position, held, ListsHeld}
+use Rattle.lot_inv.specs.Inventory.{non_zero}
 use Rattle.lot_ledger.specs.Balance.{amount_legs, posting_legs, legs_for, opposite}
 use Rattle.lot_ledger.specs.Step.{too_many_postings}
 use Rattle.std.specs.Cmp.{signed_Decides}
@@ -43,18 +44,18 @@ told-or None z = non_zero-or z
 told-or (Some t) z = refl
 
 -- what a position holds after one more leg there
-pub held-after : (before legs : List Leg) (leg : Leg) (told : List (Position × ℤ)) (found : Option ℤ) → TellsHeld before legs told
+pub held-after : (before legs : List Leg) (leg : Leg) (told : List (Position × ℤ)) (found : Option ℤ) → ListsHeld before legs told
     → found ≡ option_or (lookup (same_position leg.position) told) (non_zero (held before leg.position))
     → held (before ++ legs ++ leg ∷ []) leg.position ≡ unwrap_or found (pos 0) +ℤ leg.units
 held-after before legs leg told found tells is =
     held-here (before ++ legs) leg ∙ ap (λ z. z +ℤ leg.units) (sym (tells leg.position) ∙ sym (told-or (lookup (same_position leg.position) told) (held before leg.position)) ∙ ap (λ (o : Option ℤ). unwrap_or o (pos 0)) (sym is))
 
 -- what is told stays right where the leg's position is told anew
-pub TellsHeld-push : (before legs : List Leg) (leg : Leg) (told new : List (Position × ℤ)) (after : ℤ) → TellsHeld before legs told
+pub ListsHeld-push : (before legs : List Leg) (leg : Leg) (told new : List (Position × ℤ)) (after : ℤ) → ListsHeld before legs told
     → after ≡ held (before ++ legs ++ leg ∷ []) leg.position
     → ((q : Position) → lookup (same_position q) new ≡ cond (same_position leg.position q) (Some after) (lookup (same_position q) told))
-    → TellsHeld before (legs ++ leg ∷ []) new
-TellsHeld-push before legs leg told new after tells is updates q =
+    → ListsHeld before (legs ++ leg ∷ []) new
+ListsHeld-push before legs leg told new after tells is updates q =
     ap (λ o. unwrap_or o (held before q)) (updates q) ∙ by ∙ ap (λ ls. held ls q) (append_assoc before legs (leg ∷ []))
   where
     by : unwrap_or (cond (same_position leg.position q) (Some after) (lookup (same_position q) told)) (held before q) ≡ held (before ++ legs ++ leg ∷ []) q

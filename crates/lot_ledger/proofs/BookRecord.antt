@@ -1,11 +1,10 @@
 -- What a book keeps beside its entries, once one more entry stands.
 use Rattle.std.proofs.Common.{◌≡◌, ℕ, Bool, true, false, inl, inr, cond, List, [], ◌∷◌, ◌++◌, Option, Some, None, refl, sym, ap, ◌∙◌, ℤ}
 use Rattle.std.specs.BTreeMap.{BTreeMap, IsOrdered, get}
-use Rattle.std.specs.Cmp.Lexicographic.{slice_cmp}
 use Rattle.std.specs.List.Sorted.{IsStrictlySortedBy}
 use Rattle.std.specs.Map.{keys_of, lookup}
 use Rattle.std.specs.Option.{option_or, unwrap_or}
-use Rattle.std.specs.Ordering.{nat_cmp, is_eq}
+use Rattle.std.specs.Ordering.{is_eq}
 use Rattle.std.proofs.lemmas.Bool.{cases_Bool}
 use Rattle.std.proofs.lemmas.Grind.{flat_map-append}
 use Rattle.std.proofs.lemmas.List.{append-nil}
@@ -13,22 +12,23 @@ use Rattle.std.proofs.lemmas.Map.Keys.{sorted_head}
 use Rattle.lot_ledger.specs.declared.leg.Entry.{Entry}
 use Rattle.lot_ledger.specs.declared.leg.Leg.{Leg}
 use Rattle.lot_ledger.specs.declared.leg.Position.{Position}
-use Rattle.lot_ledger.specs.declared.command.Command.{Command}
-use Rattle.lot_ledger.specs.declared.command.Command.TheVariants.{Opening, Transaction}
+use Rattle.lot_command.specs.declared.command.Command.{Command}
+use Rattle.lot_command.specs.declared.command.Command.TheVariants.{Opening, Transaction}
 use Rattle.lot_ledger.specs.Book.{IsKept}
-use Rattle.lot_ledger.specs.Leg.{TellsHeld, held, legs_of, non_zero, position_cmp, same_position, settled}
+use Rattle.lot_ledger.specs.Leg.{ListsHeld, held, legs_of, position_cmp, same_position, settled}
+use Rattle.lot_inv.specs.Inventory.{non_zero}
 use Rattle.lot_ledger.specs.Step.{Step, Accept, opened_on, opening_day}
-use Rattle.lot_ledger.specs.Sum.{same_name}
+use Rattle.lot_base.specs.Text.{same_text, text_cmp}
 use Rattle.lot_base.proofs.MapLemmas.{none_below}
-use Rattle.lot_ledger.proofs.NameLemmas.{one_name, same_name-ordered}
+use Rattle.lot_base.proofs.TextLemmas.{one_text, same_text-ordered}
 use Rattle.lot_ledger.proofs.OrderLemmas.{one_position, same_position-turned}
 
 -- ---- openings
 
 -- the account of an opening has its day, and every other what it had
 pub opening_day-or : (account other : List ℕ) (day : ℤ) (had : Option ℤ)
-    → cond (is_eq (slice_cmp nat_cmp account other)) (Some day) had ≡ option_or (cond (same_name other account) (Some day) None) had
-opening_day-or account other day had = ap (λ b. cond b (Some day) had) (same_name-ordered account other) ∙ by (same_name other account)
+    → cond (is_eq (text_cmp account other)) (Some day) had ≡ option_or (cond (same_text other account) (Some day) None) had
+opening_day-or account other day had = ap (λ b. cond b (Some day) had) (same_text-ordered account other) ∙ by (same_text other account)
   where
     by : (b : Bool) → cond b (Some day) had ≡ option_or (cond b (Some day) None) had
     by true = refl
@@ -50,9 +50,9 @@ opened_on-push (first ∷ entries) entry account = ap (option_or (opening_day ac
 opened_either : (entries : List Entry) (command : Command) (legs : List Leg) (account : List ℕ) → Step entries command (Accept legs)
     → option_or (opening_day account command) (opened_on entries account) ≡ option_or (opened_on entries account) (opening_day account command)
 opened_either entries (Transaction t) legs account step = sym (or_none (opened_on entries account))
-opened_either entries (Opening o) legs account step = elim (cases_Bool (same_name account o.account)) [
+opened_either entries (Opening o) legs account step = elim (cases_Bool (same_text account o.account)) [
   | inl here ↦
-      let unknown : opened_on entries account ≡ None = ap (opened_on entries) (one_name account o.account here) ∙ step.0 in
+      let unknown : opened_on entries account ≡ None = ap (opened_on entries) (one_text account o.account here) ∙ step.0 in
       rw (here, unknown) refl
   | inr other ↦ rw other (sym (or_none (opened_on entries account)))
 ]
@@ -84,8 +84,8 @@ legs_of-push entries command legs =
 pub IsKept-push : (entries : List Entry) (command : Command) (legs : List Leg) (days opened : BTreeMap (List ℕ) ℤ) (sums kept told : BTreeMap Position ℤ)
     → IsKept entries days sums
     → Step entries command (Accept legs)
-    → TellsHeld (legs_of entries) legs told.entries
-    → ((account : List ℕ) → get (slice_cmp nat_cmp) opened account ≡ option_or (opening_day account command) (get (slice_cmp nat_cmp) days account))
+    → ListsHeld (legs_of entries) legs told.entries
+    → ((account : List ℕ) → get text_cmp opened account ≡ option_or (opening_day account command) (get text_cmp days account))
     → ((p : Position) → get position_cmp kept p ≡ settled (get position_cmp told p) (get position_cmp sums p))
     → IsOrdered position_cmp kept
     → IsKept (entries ++ record { command = command; legs = legs } ∷ []) opened kept

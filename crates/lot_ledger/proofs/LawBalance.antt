@@ -11,57 +11,59 @@ use Rattle.lot_ledger.specs.declared.leg.Leg.{Leg}
 use Rattle.lot_ledger.specs.declared.leg.Entry.{Entry}
 use Rattle.lot_ledger.specs.declared.refusal.Refusal.{Refusal}
 use Rattle.lot_ledger.specs.declared.refusal.Refusal.TheVariants.{InexactFill, NotBalanced}
-use Rattle.lot_ledger.specs.declared.command.Command.{Command}
-use Rattle.lot_ledger.specs.declared.command.Command.TheVariants.{Opening, Transaction}
-use Rattle.lot_ledger.specs.Sum.{sum_in, same_name, first_appearances}
-use Rattle.lot_ledger.specs.Balance.{weight_of, is_units, is_zero, opposite, residuals, legs_for, fill_of, first_legs, empty_postings}
+use Rattle.lot_command.specs.declared.command.Command.{Command}
+use Rattle.lot_command.specs.declared.command.Command.TheVariants.{Opening, Transaction}
+use Rattle.lot_ledger.specs.Currencies.{sum_in, first_appearances}
+use Rattle.lot_base.specs.Text.{same_text}
+use Rattle.lot_ledger.specs.Balance.{weight_of, fits_units, is_zero, opposite, residuals, legs_for, fill_of, first_legs, elided_postings}
 use Rattle.lot_ledger.specs.Step.{Accept, Step, NoneHolds, refusals, inexact_fill, not_balanced}
 use Rattle.lot_ledger.specs.Book.{Continues, IsBook}
 use Rattle.lot_ledger.specs.Laws.{Balances}
 use Rattle.lot_ledger.proofs.BalanceLemmas.{opposite_exact}
 use Rattle.lot_ledger.proofs.CaseLemmas.{by_bool}
-use Rattle.lot_ledger.proofs.NameLemmas.{one_name, without, beside}
+use Rattle.lot_base.proofs.TextLemmas.{one_text}
+use Rattle.lot_ledger.proofs.CurrencyLemmas.{without, beside}
 use Rattle.lot_ledger.proofs.SumLemmas.{sum_in-cons, sum_in_here, sum_in_apart, sum_in-append, sum_in-unnamed}
 
 -- ---- Residuals.
 
 beside_without_it : (f : List ℕ → ℤ) (name : List ℕ) (names : List (List ℕ)) → sum_in (beside f (without name names)) name ≡ pos 0
 beside_without_it f name [] = refl
-beside_without_it f name (other ∷ names) = by_bool (same_name name other)
+beside_without_it f name (other ∷ names) = by_bool (same_text name other)
     (λ e. ap (λ b. sum_in (beside f (cond (not b) (other ∷ without name names) (without name names))) name) e ∙ beside_without_it f name names)
     (λ e. ap (λ b. sum_in (beside f (cond (not b) (other ∷ without name names) (without name names))) name) e
     ∙ sum_in_apart (other, f other) (beside f (without name names)) name e ∙ beside_without_it f name names)
 
-beside_without : (f : List ℕ → ℤ) (gone name : List ℕ) → same_name name gone ≡ false → (names : List (List ℕ)) → sum_in (beside f (without gone names)) name ≡ sum_in (beside f names) name
+beside_without : (f : List ℕ → ℤ) (gone name : List ℕ) → same_text name gone ≡ false → (names : List (List ℕ)) → sum_in (beside f (without gone names)) name ≡ sum_in (beside f names) name
 beside_without f gone name apart [] = refl
 beside_without f gone name apart (other ∷ names) =
     let rest = beside_without f gone name apart names in
-    by_bool (same_name gone other)
+    by_bool (same_text gone other)
     (λ e. ap (λ b. sum_in (beside f (cond (not b) (other ∷ without gone names) (without gone names))) name) e ∙ rest
-    ∙ sym (sum_in_apart (other, f other) (beside f names) name (ap (same_name name) (sym (one_name gone other e)) ∙ apart)))
+    ∙ sym (sum_in_apart (other, f other) (beside f names) name (ap (same_text name) (sym (one_text gone other e)) ∙ apart)))
     (λ e. ap (λ b. sum_in (beside f (cond (not b) (other ∷ without gone names) (without gone names))) name) e
     ∙ sum_in-cons (other, f other) (beside f (without gone names)) name
-    ∙ ap (λ z. cond (same_name name other) (f other +ℤ z) z) rest
+    ∙ ap (λ z. cond (same_text name other) (f other +ℤ z) z) rest
     ∙ sym (sum_in-cons (other, f other) (beside f names) name))
 
 -- the names of a list, each once, have the numbers that the names have
-beside_first : (f : List ℕ → ℤ) (name : List ℕ) (names : List (List ℕ)) → sum_in (beside f (first_appearances names)) name ≡ cond (list_any (same_name name) names) (f name) (pos 0)
+beside_first : (f : List ℕ → ℤ) (name : List ℕ) (names : List (List ℕ)) → sum_in (beside f (first_appearances names)) name ≡ cond (list_any (same_text name) names) (f name) (pos 0)
 beside_first f name [] = refl
-beside_first f name (first ∷ names) = by_bool (same_name name first)
+beside_first f name (first ∷ names) = by_bool (same_text name first)
     (λ e. sum_in_here (first, f first) (beside f (without first (first_appearances names))) name e
-    ∙ ap (λ z. f first +ℤ z) (ap (λ n. sum_in (beside f (without first (first_appearances names))) n) (one_name name first e) ∙ beside_without_it f first (first_appearances names))
+    ∙ ap (λ z. f first +ℤ z) (ap (λ n. sum_in (beside f (without first (first_appearances names))) n) (one_text name first e) ∙ beside_without_it f first (first_appearances names))
     ∙ +ℤ_idr (f first)
-    ∙ ap f (sym (one_name name first e))
-    ∙ ap (λ b. cond (b || list_any (same_name name) names) (f name) (pos 0)) (sym e))
+    ∙ ap f (sym (one_text name first e))
+    ∙ ap (λ b. cond (b || list_any (same_text name) names) (f name) (pos 0)) (sym e))
     (λ e. sum_in_apart (first, f first) (beside f (without first (first_appearances names))) name e
     ∙ beside_without f first name e (first_appearances names)
     ∙ beside_first f name names
-    ∙ ap (λ b. cond (b || list_any (same_name name) names) (f name) (pos 0)) (sym e))
+    ∙ ap (λ b. cond (b || list_any (same_text name) names) (f name) (pos 0)) (sym e))
 
 -- the sum in a name that no pair has is zero
-nothing_in : (name : List ℕ) (ps : List (List ℕ × ℤ)) → cond (list_any (same_name name) (map (λ (p : List ℕ × ℤ). p.0) ps)) (sum_in ps name) (pos 0) ≡ sum_in ps name
+nothing_in : (name : List ℕ) (ps : List (List ℕ × ℤ)) → cond (list_any (same_text name) (map (λ (p : List ℕ × ℤ). p.0) ps)) (sum_in ps name) (pos 0) ≡ sum_in ps name
 nothing_in name ps =
-    let any = list_any (same_name name) (map (λ (p : List ℕ × ℤ). p.0) ps) in
+    let any = list_any (same_text name) (map (λ (p : List ℕ × ℤ). p.0) ps) in
     by_bool any
     (λ e. ap (λ b. cond b (sum_in ps name) (pos 0)) e)
     (λ e. ap (λ b. cond b (sum_in ps name) (pos 0)) e ∙ sym (sum_in-unnamed name ps e))
@@ -74,7 +76,7 @@ residuals_sum legs currency =
 -- ---- The fill.
 
 AreUnits : List (List ℕ × ℤ) → Type 0
-AreUnits rs = AllByRecursion (λ (r : List ℕ × ℤ). is_units r.1 ≡ true) rs
+AreUnits rs = AllByRecursion (λ (r : List ℕ × ℤ). fits_units r.1 ≡ true) rs
 
 -- what takes up residuals weighs their opposite
 legs_weigh : (entry posting : ℕ) (account : List ℕ) (place : ℕ) (rs : List (List ℕ × ℤ)) (name : List ℕ) → AreUnits rs
@@ -84,7 +86,7 @@ legs_weigh entry posting account place [] name h = refl
 legs_weigh entry posting account place (r ∷ rs) name h =
     let rest = legs_weigh entry posting account (suc place) rs name h.1 in
     let more = map weight_of (legs_for entry posting account (suc place) rs) in
-    by_bool (same_name name r.0)
+    by_bool (same_text name r.0)
     (λ e. sum_in_here (r.0, opposite r.1 *ℤ pos one) more name e
     ∙ ap (λ z. z +ℤ sum_in more name) (opposite_exact r.1 h.0) ∙ ap (λ z. neg_ℤ r.1 +ℤ z) rest
     ∙ sym (neg_ℤ-+ℤ r.1 (sum_in rs name)) ∙ ap neg_ℤ (sym (sum_in_here r rs name e)))
@@ -96,7 +98,7 @@ left_over rs = filter (λ (r : List ℕ × ℤ). not (is_zero r.1)) rs
 units_left_over : (rs : List (List ℕ × ℤ)) → AreUnits rs → AreUnits (left_over rs)
 unfolding AreUnits left_over
 units_left_over [] h = tt
-units_left_over (r ∷ rs) h = elim (not (is_zero r.1)) as (λ b. AllByRecursion (λ (r : List ℕ × ℤ). is_units r.1 ≡ true) (cond b (r ∷ left_over rs) (left_over rs))) [
+units_left_over (r ∷ rs) h = elim (not (is_zero r.1)) as (λ b. AllByRecursion (λ (r : List ℕ × ℤ). fits_units r.1 ≡ true) (cond b (r ∷ left_over rs) (left_over rs))) [
   | true ↦ (h.0, units_left_over rs h.1)
   | false ↦ units_left_over rs h.1
 ]
@@ -109,11 +111,11 @@ left_over_sum (r ∷ rs) name =
     let rest = left_over_sum rs name in
     by_bool (is_zero r.1)
     (λ e. ap (λ b. sum_in (cond (not b) (r ∷ left_over rs) (left_over rs)) name) e ∙ rest
-    ∙ by_bool (same_name name r.0)
+    ∙ by_bool (same_text name r.0)
     (λ s. sym (+ℤ_idl (sum_in rs name)) ∙ ap (λ z. z +ℤ sum_in rs name) (sym ((signed_Decides r.1 (pos 0)).0 e)) ∙ sym (sum_in_here r rs name s))
     (λ s. sym (sum_in_apart r rs name s)))
     (λ e. ap (λ b. sum_in (cond (not b) (r ∷ left_over rs) (left_over rs)) name) e
-    ∙ sum_in-cons r (left_over rs) name ∙ ap (λ z. cond (same_name name r.0) (r.1 +ℤ z) z) rest ∙ sym (sum_in-cons r rs name))
+    ∙ sum_in-cons r (left_over rs) name ∙ ap (λ z. cond (same_text name r.0) (r.1 +ℤ z) z) rest ∙ sym (sum_in-cons r rs name))
 
 -- ---- What the conditions say that don't hold.
 
@@ -132,14 +134,14 @@ none_of [] h = tt
 none_of (None ∷ more) h = (refl, none_of more h)
 none_of (Some refusal ∷ more) h = absurd h
 
-are_units : (rs : List (List ℕ × ℤ)) → AllByRecursion (λ (r : List ℕ × ℤ). not (is_units r.1) ≡ false) rs → AreUnits rs
+are_units : (rs : List (List ℕ × ℤ)) → AllByRecursion (λ (r : List ℕ × ℤ). not (fits_units r.1) ≡ false) rs → AreUnits rs
 unfolding AreUnits
 are_units [] h = tt
-are_units (r ∷ rs) h = (not-false (is_units r.1) h.0, are_units rs h.1)
+are_units (r ∷ rs) h = (not-false (fits_units r.1) h.0, are_units rs h.1)
 
 zero_sum : (rs : List (List ℕ × ℤ)) (name : List ℕ) → AllByRecursion (λ (r : List ℕ × ℤ). not (is_zero r.1) ≡ false) rs → sum_in rs name ≡ pos 0
 zero_sum [] name h = refl
-zero_sum (r ∷ rs) name h = by_bool (same_name name r.0)
+zero_sum (r ∷ rs) name h = by_bool (same_text name r.0)
     (λ e. sum_in_here r rs name e ∙ ap (λ z. z +ℤ sum_in rs name) ((signed_Decides r.1 (pos 0)).0 (not-false (is_zero r.1) h.0)) ∙ +ℤ_idl (sum_in rs name) ∙ zero_sum rs name h.1)
     (λ e. sum_in_apart r rs name e ∙ zero_sum rs name h.1)
 
@@ -171,7 +173,7 @@ step_balances book (Opening o) legs h = λ currency. ap (λ (ls : List Leg). sum
 step_balances book (Transaction t) legs h =
     let none = none_of (refusals book t) h.0 in
     let from_inexact = none.1.1.1.1.1 in
-    subst Balances (sym h.1) (filled_balances (length book + 1) (empty_postings 1 t.postings) (first_legs (length book + 1) t) from_inexact.0 from_inexact.1.1.0)
+    subst Balances (sym h.1) (filled_balances (length book + 1) (elided_postings 1 t.postings) (first_legs (length book + 1) t) from_inexact.0 from_inexact.1.1.0)
 
 continued_balances : (before entries : List Entry) → Continues before entries → AllByRecursion (λ (entry : Entry). Balances entry.legs) entries
 continued_balances before [] h = tt

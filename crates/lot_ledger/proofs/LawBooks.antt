@@ -7,7 +7,7 @@ use Rattle.lot_ledger.specs.declared.leg.Entry.{Entry}
 use Rattle.lot_ledger.specs.declared.refusal.Refusal.{Refusal}
 use Rattle.lot_ledger.specs.declared.verdict.Verdict.{Verdict}
 use Rattle.lot_ledger.specs.declared.verdict.Verdict.TheVariants.{Accepted, Refused}
-use Rattle.lot_ledger.specs.declared.command.Command.{Command}
+use Rattle.lot_command.specs.declared.command.Command.{Command}
 use Rattle.lot_ledger.specs.Step.{Outcome, Accept, Refuse, Step}
 use Rattle.lot_ledger.specs.Book.{Judges, JudgesAll, Continues, IsBook}
 use Rattle.lot_ledger.proofs.LawLemmas.{some_outcome, one_outcome}

@@ -11,14 +11,16 @@ use Rattle.std.proofs.Math.IntN.{+ℤ_assoc, +ℤ_comm, +ℤ_idl, +ℤ_idr}
 use Rattle.lot_ledger.specs.declared.leg.Position.{Position}
 use Rattle.lot_ledger.specs.declared.leg.Leg.{Leg}
 use Rattle.lot_ledger.specs.declared.leg.Entry.{Entry}
-use Rattle.lot_ledger.specs.declared.command.Amount.{Amount}
-use Rattle.lot_ledger.specs.declared.command.Cost.{Cost}
-use Rattle.lot_ledger.specs.declared.command.Posting.{Posting}
-use Rattle.lot_ledger.specs.declared.command.Command.{Command}
-use Rattle.lot_ledger.specs.declared.command.Command.TheVariants.{Opening, Transaction}
-use Rattle.lot_ledger.specs.Sum.{sum_of, same_name}
-use Rattle.lot_ledger.specs.Leg.{position_cmp, same_position, held, non_zero, IsInventory, legs_of}
-use Rattle.lot_ledger.specs.Balance.{is_zero, lot_at, amount_leg, posting_legs, amount_legs, legs_for, fill_of, first_legs, fill_legs, empty_postings, residuals}
+use Rattle.lot_command.specs.declared.command.Amount.{Amount}
+use Rattle.lot_command.specs.declared.command.Cost.{Cost}
+use Rattle.lot_command.specs.declared.command.Posting.{Posting}
+use Rattle.lot_command.specs.declared.command.Command.{Command}
+use Rattle.lot_command.specs.declared.command.Command.TheVariants.{Opening, Transaction}
+use Rattle.lot_num.specs.Sum.{sum_of}
+use Rattle.lot_base.specs.Text.{same_text}
+use Rattle.lot_ledger.specs.Leg.{position_cmp, same_position, held, IsInventory, legs_of}
+use Rattle.lot_inv.specs.Inventory.{non_zero}
+use Rattle.lot_ledger.specs.Balance.{is_zero, lot_at, amount_leg, posting_legs, amount_legs, legs_for, fill_of, first_legs, fill_legs, elided_postings, residuals}
 use Rattle.lot_ledger.specs.Step.{Step, Accept}
 use Rattle.lot_ledger.specs.Book.{Continues, IsBook}
 use Rattle.lot_ledger.specs.Laws.{units_at_cost, bought_by, bought_in, bought, is_lot_of, at_cost}
@@ -176,12 +178,12 @@ is_some-lot_at day None = refl
 is_some-lot_at day (Some cost) = refl
 
 posting_buys : (account commodity : List ℕ) (entry place : ℕ) (day : ℤ) (posted : List ℕ) (amount : Option Amount)
-    → in_those (is_lot_of account commodity) (posting_legs entry place day posted amount) ≡ cond (same_name account posted) (units_at_cost commodity amount) (pos 0)
-posting_buys account commodity entry place day posted None = elim (same_name account posted) as (λ b. pos 0 ≡ cond b (pos 0) (pos 0)) [ true ↦ refl | false ↦ refl ]
+    → in_those (is_lot_of account commodity) (posting_legs entry place day posted amount) ≡ cond (same_text account posted) (units_at_cost commodity amount) (pos 0)
+posting_buys account commodity entry place day posted None = elim (same_text account posted) as (λ b. pos 0 ≡ cond b (pos 0) (pos 0)) [ true ↦ refl | false ↦ refl ]
 posting_buys account commodity entry place day posted (Some amount) =
     sum_where-cons (λ (leg : Leg). is_lot_of account commodity leg.position) (λ (leg : Leg). leg.units) (amount_leg entry place day posted amount) []
-    ∙ ap (λ lot. cond (lot && (same_name account posted && same_name commodity amount.commodity)) (amount.units +ℤ pos 0) (pos 0)) (is_some-lot_at day amount.cost)
-    ∙ by_tests (is_some amount.cost) (same_name account posted) (same_name commodity amount.commodity) amount.units
+    ∙ ap (λ lot. cond (lot && (same_text account posted && same_text commodity amount.commodity)) (amount.units +ℤ pos 0) (pos 0)) (is_some-lot_at day amount.cost)
+    ∙ by_tests (is_some amount.cost) (same_text account posted) (same_text commodity amount.commodity) amount.units
 
 postings_buy : (account commodity : List ℕ) (entry place : ℕ) (day : ℤ) (postings : List Posting)
     → in_those (is_lot_of account commodity) (amount_legs entry place day postings) ≡ sum_of (map (bought_by account commodity) postings)
@@ -205,7 +207,7 @@ step_buys account commodity book (Opening o) legs h = ap (in_those (is_lot_of ac
 step_buys account commodity book (Transaction t) legs h =
     ap (in_those (is_lot_of account commodity)) h.1
     ∙ in_those-append (is_lot_of account commodity) (first_legs (length book + 1) t) (fill_legs (length book + 1) t)
-    ∙ ap (λ z. in_those (is_lot_of account commodity) (first_legs (length book + 1) t) +ℤ z) (filled_buys_nothing account commodity (length book + 1) (empty_postings 1 t.postings) (residuals (first_legs (length book + 1) t)))
+    ∙ ap (λ z. in_those (is_lot_of account commodity) (first_legs (length book + 1) t) +ℤ z) (filled_buys_nothing account commodity (length book + 1) (elided_postings 1 t.postings) (residuals (first_legs (length book + 1) t)))
     ∙ +ℤ_idr (in_those (is_lot_of account commodity) (first_legs (length book + 1) t))
     ∙ postings_buy account commodity (length book + 1) 1 t.day t.postings
 

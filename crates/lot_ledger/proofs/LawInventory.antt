@@ -8,7 +8,8 @@ use Rattle.std.proofs.Common.{refl, sym, ap, ◌∙◌, ◌⊎◌, inl, inr, ⊎
 use Rattle.std.proofs.lemmas.Bool.{true≢false}
 use Rattle.lot_ledger.specs.declared.leg.Position.{Position}
 use Rattle.lot_ledger.specs.declared.leg.Leg.{Leg}
-use Rattle.lot_ledger.specs.Leg.{position_cmp, same_position, held, non_zero, IsInventory}
+use Rattle.lot_ledger.specs.Leg.{position_cmp, same_position, held, IsInventory}
+use Rattle.lot_inv.specs.Inventory.{non_zero}
 use Rattle.lot_base.proofs.MapLemmas.{one_map, found_by_order, keys_sorted}
 use Rattle.lot_ledger.proofs.OrderLemmas.{positions_total, exact_positions, one_position}
 use Rattle.lot_ledger.proofs.CaseLemmas.{by_bool}

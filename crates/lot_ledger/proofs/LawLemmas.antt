@@ -4,8 +4,8 @@ use Rattle.std.proofs.Common.{refl, sym, ap, ◌∙◌, ◌⊎◌, inl, inr}
 use Rattle.lot_ledger.specs.declared.leg.Entry.{Entry}
 use Rattle.lot_ledger.specs.declared.refusal.Refusal.{Refusal}
 use Rattle.lot_ledger.specs.declared.refusal.Refusal.TheVariants.{AlreadyOpen}
-use Rattle.lot_ledger.specs.declared.command.Command.{Command}
-use Rattle.lot_ledger.specs.declared.command.Command.TheVariants.{Opening, Transaction}
+use Rattle.lot_command.specs.declared.command.Command.{Command}
+use Rattle.lot_command.specs.declared.command.Command.TheVariants.{Opening, Transaction}
 use Rattle.lot_ledger.specs.Step.{Outcome, Accept, Refuse, Step, IsFirst, NoneHolds, opened_on, refusals}
 
 -- ---- A step has one outcome.

@@ -1,5 +1,5 @@
 pub mod CaseLemmas
-pub mod NameLemmas
+pub mod CurrencyLemmas
 pub mod SumLemmas
 pub mod OrderLemmas
 pub mod BalanceLemmas

@@ -3,35 +3,28 @@ use Rattle.std.specs.Prelude.{◌≡◌, true, Option, None, Some}
 use Rattle.std.specs.declared.cmp.Ordering.{Ordering}
 use Rattle.std.specs.declared.cmp.Ordering.TheVariants.{Less, Equal, Greater}
 use Rattle.std.specs.Cmp.{IsTotalOrder, Equal-is, tied_itself}
-use Rattle.std.specs.Cmp.Lexicographic.{slice_cmp, options_total}
+use Rattle.std.specs.Cmp.Lexicographic.{options_total}
 use Rattle.std.specs.Option.{option_cmp}
 use Rattle.std.specs.Ordering.{nat_cmp, int_cmp, is_eq, ordering_then}
 use Rattle.std.proofs.Common.{refl, ap}
 use Rattle.std.proofs.lemmas.Cmp.{then_total, on_total, eq_by_cmp_equiv, nat_cmp_total, int_cmp_total, nat_list_cmp_total}
 use Rattle.std.proofs.lemmas.Map.Lookups.{CmpEqualImpliesEq, exact_unsigned, exact_signed, exact_bytes}
+use Rattle.lot_base.specs.Text.{text_cmp}
 use Rattle.lot_base.proofs.OrderLemmas.{both_equal, exact_options}
-use Rattle.lot_ledger.specs.declared.leg.LotKey.{LotKey}
+use Rattle.lot_inv.proofs.OrderLemmas.{lots_total, exact_lots}
+use Rattle.lot_inv.specs.declared.lot_key.LotKey.{LotKey}
 use Rattle.lot_ledger.specs.declared.leg.Position.{Position}
-use Rattle.lot_ledger.specs.Leg.{lot_cmp, position_cmp, same_position}
-
-lots_total : IsTotalOrder lot_cmp
-lots_total = then_total (on_total (λ (k : LotKey). k.day) int_cmp_total)
-    (then_total (on_total (λ (k : LotKey). k.currency) nat_list_cmp_total) (on_total (λ (k : LotKey). k.number) nat_cmp_total))
+use Rattle.lot_ledger.specs.Leg.{position_cmp, same_position}
+use Rattle.lot_inv.specs.LotKey.{lot_cmp}
 
 pub positions_total : IsTotalOrder position_cmp
 positions_total = then_total (on_total (λ (p : Position). p.account) nat_list_cmp_total)
     (then_total (on_total (λ (p : Position). p.commodity) nat_list_cmp_total) (on_total (λ (p : Position). p.lot) (options_total lots_total)))
 
-exact_lots : CmpEqualImpliesEq lot_cmp
-exact_lots a b e =
-    let day = both_equal (int_cmp a.day b.day) (ordering_then (slice_cmp nat_cmp a.currency b.currency) (nat_cmp a.number b.number)) e in
-    let rest = both_equal (slice_cmp nat_cmp a.currency b.currency) (nat_cmp a.number b.number) day.1 in
-    λ i. record { day = exact_signed a.day b.day day.0 i; currency = exact_bytes a.currency b.currency rest.0 i; number = exact_unsigned a.number b.number rest.1 i }
-
 pub exact_positions : CmpEqualImpliesEq position_cmp
 exact_positions p q e =
-    let account = both_equal (slice_cmp nat_cmp p.account q.account) (ordering_then (slice_cmp nat_cmp p.commodity q.commodity) (option_cmp lot_cmp p.lot q.lot)) e in
-    let rest = both_equal (slice_cmp nat_cmp p.commodity q.commodity) (option_cmp lot_cmp p.lot q.lot) account.1 in
+    let account = both_equal (text_cmp p.account q.account) (ordering_then (text_cmp p.commodity q.commodity) (option_cmp lot_cmp p.lot q.lot)) e in
+    let rest = both_equal (text_cmp p.commodity q.commodity) (option_cmp lot_cmp p.lot q.lot) account.1 in
     λ i. record { account = exact_bytes p.account q.account account.0 i; commodity = exact_bytes p.commodity q.commodity rest.0 i; lot = exact_options lot_cmp exact_lots p.lot q.lot rest.1 i }
 
 pub one_position : (p q : Position) → same_position p q ≡ true → p ≡ q

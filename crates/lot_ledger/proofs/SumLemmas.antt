@@ -4,7 +4,9 @@ use Rattle.std.specs.List.{list_any}
 use Rattle.std.proofs.Common.{refl, sym, ap, ◌∙◌}
 use Rattle.std.proofs.Math.IntN.{+ℤ_assoc, +ℤ_idl, +ℤ_idr}
 use Rattle.std.proofs.lemmas.Bool.{or_parts}
-use Rattle.lot_ledger.specs.Sum.{sum_of, sum_in, same_name}
+use Rattle.lot_num.specs.Sum.{sum_of}
+use Rattle.lot_ledger.specs.Currencies.{sum_in}
+use Rattle.lot_base.specs.Text.{same_text}
 use Rattle.lot_ledger.proofs.CaseLemmas.{by_bool}
 
 -- the sum over what passes a test
@@ -55,32 +57,32 @@ sum_where-none p f (x ∷ xs) none =
 -- ---- Sums in a name.
 
 abbrev in_name : List ℕ → List ℕ × ℤ → Bool
-in_name name pair = same_name name pair.0
+in_name name pair = same_text name pair.0
 
 abbrev number : List ℕ × ℤ → ℤ
 number pair = pair.1
 
-pub sum_in-cons : (p : List ℕ × ℤ) (ps : List (List ℕ × ℤ)) (name : List ℕ) → sum_in (p ∷ ps) name ≡ cond (same_name name p.0) (p.1 +ℤ sum_in ps name) (sum_in ps name)
+pub sum_in-cons : (p : List ℕ × ℤ) (ps : List (List ℕ × ℤ)) (name : List ℕ) → sum_in (p ∷ ps) name ≡ cond (same_text name p.0) (p.1 +ℤ sum_in ps name) (sum_in ps name)
 sum_in-cons p ps name = sum_where-cons (in_name name) number p ps
 
-pub sum_in_here : (p : List ℕ × ℤ) (ps : List (List ℕ × ℤ)) (name : List ℕ) → same_name name p.0 ≡ true → sum_in (p ∷ ps) name ≡ p.1 +ℤ sum_in ps name
+pub sum_in_here : (p : List ℕ × ℤ) (ps : List (List ℕ × ℤ)) (name : List ℕ) → same_text name p.0 ≡ true → sum_in (p ∷ ps) name ≡ p.1 +ℤ sum_in ps name
 sum_in_here p ps name = sum_where_here (in_name name) number p ps
 
-pub sum_in_apart : (p : List ℕ × ℤ) (ps : List (List ℕ × ℤ)) (name : List ℕ) → same_name name p.0 ≡ false → sum_in (p ∷ ps) name ≡ sum_in ps name
+pub sum_in_apart : (p : List ℕ × ℤ) (ps : List (List ℕ × ℤ)) (name : List ℕ) → same_text name p.0 ≡ false → sum_in (p ∷ ps) name ≡ sum_in ps name
 sum_in_apart p ps name = sum_where_apart (in_name name) number p ps
 
 pub sum_in-append : (ps qs : List (List ℕ × ℤ)) (name : List ℕ) → sum_in (ps ++ qs) name ≡ sum_in ps name +ℤ sum_in qs name
 sum_in-append ps qs name = sum_where-append (in_name name) number ps qs
 
-pub sum_in-push_here : (ps : List (List ℕ × ℤ)) (p : List ℕ × ℤ) (name : List ℕ) → same_name name p.0 ≡ true → sum_in (ps ++ p ∷ []) name ≡ sum_in ps name +ℤ p.1
+pub sum_in-push_here : (ps : List (List ℕ × ℤ)) (p : List ℕ × ℤ) (name : List ℕ) → same_text name p.0 ≡ true → sum_in (ps ++ p ∷ []) name ≡ sum_in ps name +ℤ p.1
 sum_in-push_here ps p name e = sum_where-push (in_name name) number ps p ∙ ap (λ b. cond b (sum_in ps name +ℤ p.1) (sum_in ps name)) e
 
-pub sum_in-push_apart : (ps : List (List ℕ × ℤ)) (p : List ℕ × ℤ) (name : List ℕ) → same_name name p.0 ≡ false → sum_in (ps ++ p ∷ []) name ≡ sum_in ps name
+pub sum_in-push_apart : (ps : List (List ℕ × ℤ)) (p : List ℕ × ℤ) (name : List ℕ) → same_text name p.0 ≡ false → sum_in (ps ++ p ∷ []) name ≡ sum_in ps name
 sum_in-push_apart ps p name e = sum_where-push (in_name name) number ps p ∙ ap (λ b. cond b (sum_in ps name +ℤ p.1) (sum_in ps name)) e
 
 -- the sum in a name that no pair has is zero
 pub sum_in-none : (name : List ℕ) (ps : List (List ℕ × ℤ)) → list_any (in_name name) ps ≡ false → sum_in ps name ≡ pos 0
 sum_in-none name ps none = sum_where-none (in_name name) number ps none
 
-pub sum_in-unnamed : (name : List ℕ) (ps : List (List ℕ × ℤ)) → list_any (same_name name) (map (λ (p : List ℕ × ℤ). p.0) ps) ≡ false → sum_in ps name ≡ pos 0
-sum_in-unnamed name ps none = sum_in-none name ps (sym (list_any-map (same_name name) (λ (p : List ℕ × ℤ). p.0) ps) ∙ none)
+pub sum_in-unnamed : (name : List ℕ) (ps : List (List ℕ × ℤ)) → list_any (same_text name) (map (λ (p : List ℕ × ℤ). p.0) ps) ≡ false → sum_in ps name ≡ pos 0
+sum_in-unnamed name ps none = sum_in-none name ps (sym (list_any-map (same_text name) (λ (p : List ℕ × ℤ). p.0) ps) ∙ none)

@@ -4,20 +4,21 @@ use Rattle.std.specs.Ordering.{int_eq}
 use Rattle.std.specs.List.{AllByRecursion}
 use Rattle.std.specs.Option.{is_none}
 use Rattle.lot_num.specs.Amount.{one}
-use Rattle.lot_ledger.specs.declared.leg.LotKey.{LotKey}
+use Rattle.lot_inv.specs.declared.lot_key.LotKey.{LotKey}
 use Rattle.lot_ledger.specs.declared.leg.Leg.{Leg}
-use Rattle.lot_ledger.specs.declared.command.Posting.{Posting}
-use Rattle.lot_ledger.specs.declared.command.Amount.{Amount}
-use Rattle.lot_ledger.specs.declared.command.Cost.{Cost}
-use Rattle.lot_ledger.specs.declared.command.Transaction.{Transaction}
-use Rattle.lot_ledger.specs.Sum.{same_name, sum_in, first_appearances}
+use Rattle.lot_command.specs.declared.command.Posting.{Posting}
+use Rattle.lot_command.specs.declared.command.Amount.{Amount}
+use Rattle.lot_command.specs.declared.command.Cost.{Cost}
+use Rattle.lot_command.specs.declared.command.Transaction.{Transaction}
+use Rattle.lot_base.specs.Text.{same_text}
+use Rattle.lot_ledger.specs.Currencies.{sum_in, first_appearances}
 
 -- ---- The legs of the postings with amounts.
 
 -- the lot that a cost names on a day, or none
 abbrev pub lot_at : ℤ → Option Cost → Option LotKey
 lot_at day None = None
-lot_at day (Some cost) = Some (record { day = day; currency = cost.currency; number = cost.number })
+lot_at day (Some cost) = Some (record { day = day; currency = cost.currency; number = cost.number; label = None })
 
 -- the leg of a posting with an amount: with a cost into the lot of that cost and the transaction's day, else plain
 abbrev pub amount_leg : ℕ → ℕ → ℤ → List ℕ → Amount → Leg
@@ -60,15 +61,15 @@ residuals legs = map (λ (currency : List ℕ). (currency, sum_in (map weight_of
 -- residuals once one more weight is added: in place, or behind the others where its currency is new
 abbrev pub add_weight : List (List ℕ × ℤ) → List ℕ × ℤ → List (List ℕ × ℤ)
 add_weight [] w = w ∷ []
-add_weight (r ∷ rs) w = if same_name w.0 r.0 then (r.0, r.1 +ℤ w.1) ∷ rs else r ∷ add_weight rs w
+add_weight (r ∷ rs) w = if same_text w.0 r.0 then (r.0, r.1 +ℤ w.1) ∷ rs else r ∷ add_weight rs w
 
 -- each residual is at most so many times 10^34, which no weight reaches
 abbrev pub AreWithin : ℕ → List (List ℕ × ℤ) → Type 0
 AreWithin n rs = AllByRecursion (λ (r : List ℕ × ℤ). unsigned_abs r.1 ≤ n * 10 ^ 34) rs
 
 -- whether a weight is so many units: it has no decimal past the eighth, and is in range
-abbrev pub is_units : ℤ → Bool
-is_units z = (unsigned_abs z % one == 0) && nat_lt (unsigned_abs z) (10 ^ 18 * one)
+abbrev pub fits_units : ℤ → Bool
+fits_units z = (unsigned_abs z % one == 0) && nat_lt (unsigned_abs z) (10 ^ 18 * one)
 
 abbrev pub is_zero : ℤ → Bool
 is_zero z = int_eq z (pos 0)
@@ -76,11 +77,11 @@ is_zero z = int_eq z (pos 0)
 -- ---- The fill: what the posting without amount takes.
 
 -- the places, counted on from that of the first posting, and the accounts of the postings without amount
-abbrev pub empty_postings : ℕ → List Posting → List (ℕ × List ℕ)
-empty_postings place [] = []
-empty_postings place (posting ∷ postings) =
-    if is_none posting.amount then (place, posting.account) ∷ empty_postings (suc place) postings
-    else empty_postings (suc place) postings
+abbrev pub elided_postings : ℕ → List Posting → List (ℕ × List ℕ)
+elided_postings place [] = []
+elided_postings place (posting ∷ postings) =
+    if is_none posting.amount then (place, posting.account) ∷ elided_postings (suc place) postings
+    else elided_postings (suc place) postings
 
 -- the units that take up a residual: its opposite
 abbrev pub opposite : ℤ → ℤ
@@ -108,4 +109,4 @@ abbrev pub first_legs : ℕ → Transaction → List Leg
 first_legs entry t = amount_legs entry 1 t.day t.postings
 
 abbrev pub fill_legs : ℕ → Transaction → List Leg
-fill_legs entry t = fill_of entry (empty_postings 1 t.postings) (residuals (first_legs entry t))
+fill_legs entry t = fill_of entry (elided_postings 1 t.postings) (residuals (first_legs entry t))

@@ -1,14 +1,13 @@
 -- Books: lists of entries, each of which is the acceptance that a step gives on the entries before it.
 use Rattle.std.specs.Prelude.{◌≡◌, ℕ, ℤ, List, [], ◌∷◌, ◌++◌, ⊤}
-use Rattle.std.specs.Ordering.{nat_cmp}
-use Rattle.std.specs.Cmp.Lexicographic.{slice_cmp}
 use Rattle.std.specs.BTreeMap.{BTreeMap, get}
+use Rattle.lot_base.specs.Text.{text_cmp}
 use Rattle.lot_ledger.specs.declared.leg.Leg.{Leg}
 use Rattle.lot_ledger.specs.declared.leg.Position.{Position}
 use Rattle.lot_ledger.specs.declared.leg.Entry.{Entry}
 use Rattle.lot_ledger.specs.declared.verdict.Verdict.{Verdict}
 use Rattle.lot_ledger.specs.declared.verdict.Verdict.TheVariants.{Accepted, Refused}
-use Rattle.lot_ledger.specs.declared.command.Command.{Command}
+use Rattle.lot_command.specs.declared.command.Command.{Command}
 use Rattle.lot_ledger.specs.Leg.{IsInventory, legs_of}
 use Rattle.lot_ledger.specs.Step.{Step, Accept, Refuse, opened_on}
 
@@ -38,5 +37,5 @@ IsBook entries = Continues [] entries
 -- What a book keeps beside its entries says what they come to: the day on which each account was opened, and the
 -- inventory of their legs.
 pub record IsKept (entries : List Entry) (opened : BTreeMap (List ℕ) ℤ) (held : BTreeMap Position ℤ) : Type 0 where
-  pub openings : (account : List ℕ) → get (slice_cmp nat_cmp) opened account ≡ opened_on entries account
+  pub openings : (account : List ℕ) → get text_cmp opened account ≡ opened_on entries account
   pub inventory : IsInventory (legs_of entries) held.entries

@@ -4,11 +4,13 @@ use Rattle.std.specs.Option.{is_some}
 use Rattle.lot_ledger.specs.declared.leg.Position.{Position}
 use Rattle.lot_ledger.specs.declared.leg.Leg.{Leg}
 use Rattle.lot_ledger.specs.declared.leg.Entry.{Entry}
-use Rattle.lot_ledger.specs.declared.command.Amount.{Amount}
-use Rattle.lot_ledger.specs.declared.command.Posting.{Posting}
-use Rattle.lot_ledger.specs.declared.command.Command.{Command}
-use Rattle.lot_ledger.specs.declared.command.Command.TheVariants.{Opening, Transaction}
-use Rattle.lot_ledger.specs.Sum.{sum_of, sum_in, same_name}
+use Rattle.lot_command.specs.declared.command.Amount.{Amount}
+use Rattle.lot_command.specs.declared.command.Posting.{Posting}
+use Rattle.lot_command.specs.declared.command.Command.{Command}
+use Rattle.lot_command.specs.declared.command.Command.TheVariants.{Opening, Transaction}
+use Rattle.lot_num.specs.Sum.{sum_of}
+use Rattle.lot_ledger.specs.Currencies.{sum_in}
+use Rattle.lot_base.specs.Text.{same_text}
 use Rattle.lot_ledger.specs.Balance.{weight_of}
 
 -- in every currency the weights of the legs sum to zero
@@ -22,12 +24,12 @@ Balances legs = (currency : List ℕ) → sum_in (map weight_of legs) currency �
 abbrev pub units_at_cost : List ℕ → Option Amount → ℤ
 units_at_cost commodity None = pos 0
 units_at_cost commodity (Some amount) =
-    if is_some amount.cost && same_name commodity amount.commodity then amount.units else pos 0
+    if is_some amount.cost && same_text commodity amount.commodity then amount.units else pos 0
 
 -- what a posting buys of the commodity into the account
 abbrev pub bought_by : List ℕ → List ℕ → Posting → ℤ
 bought_by account commodity posting =
-    if same_name account posting.account then units_at_cost commodity posting.amount else pos 0
+    if same_text account posting.account then units_at_cost commodity posting.amount else pos 0
 
 -- what the postings of a command buy
 abbrev pub bought_in : List ℕ → List ℕ → Command → ℤ
@@ -44,7 +46,7 @@ bought entries account commodity =
 -- whether a position is a lot of the commodity in the account
 abbrev pub is_lot_of : List ℕ → List ℕ → Position → Bool
 is_lot_of account commodity position =
-    is_some position.lot && (same_name account position.account && same_name commodity position.commodity)
+    is_some position.lot && (same_text account position.account && same_text commodity position.commodity)
 
 -- what the rows of an inventory hold of a commodity in lots of an account
 abbrev pub at_cost : List (Position × ℤ) → List ℕ → List ℕ → ℤ

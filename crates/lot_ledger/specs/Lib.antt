@@ -1,4 +1,4 @@
-pub mod Sum
+pub mod Currencies
 pub mod Leg
 pub mod Balance
 pub mod Step

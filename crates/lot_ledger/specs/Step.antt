@@ -1,6 +1,6 @@
 -- What becomes of a command: it is accepted with its legs, or refused by the first refusal whose condition holds.
 -- Each condition looks over all entries of the book (docs/RULES.md, Refusals).
-use Rattle.std.specs.Prelude.{◌≡◌, ◌≢◌, ℕ, ◌+◌, ◌^◌, Bool, false, not, nat_lt, nat_le, if◌then◌else◌, List, [], ◌∷◌, ◌++◌, length, find, Option, None, Some, ℤ, int_lt, unsigned_abs, ⊤}
+use Rattle.std.specs.Prelude.{◌≡◌, ◌≢◌, ℕ, suc, ◌+◌, Bool, false, not, nat_lt, nat_le, if◌then◌else◌, List, [], ◌∷◌, ◌++◌, length, find, Option, None, Some, ℤ, int_lt, unsigned_abs, position, ⊤}
 use Rattle.std.specs.Option.{option_map, option_or, is_none}
 use Rattle.lot_ledger.specs.declared.leg.Leg.{Leg}
 use Rattle.lot_ledger.specs.declared.leg.Entry.{Entry}
@@ -8,19 +8,20 @@ use Rattle.lot_ledger.specs.declared.refusal.Refusal.{Refusal}
 use Rattle.lot_ledger.specs.declared.refusal.Refusal.TheVariants.{AlreadyOpen, UnknownAccount, NotOpenYet, TooManyPostings, TwoElided, Range, InexactFill, NotBalanced}
 use Rattle.lot_ledger.specs.declared.refusal.Stop.{Stop}
 use Rattle.lot_ledger.specs.declared.refusal.Stop.TheVariants.{Refused, Memory}
-use Rattle.lot_ledger.specs.declared.command.Posting.{Posting}
-use Rattle.lot_ledger.specs.declared.command.Command.{Command}
-use Rattle.lot_ledger.specs.declared.command.Command.TheVariants.{Opening, Transaction}
-use Rattle.lot_ledger.specs.declared.command.Transaction.{Transaction as TransactionOf}
-use Rattle.lot_ledger.specs.Sum.{same_name, place_of}
+use Rattle.lot_command.specs.declared.command.Posting.{Posting}
+use Rattle.lot_command.specs.declared.command.Command.{Command}
+use Rattle.lot_command.specs.declared.command.Command.TheVariants.{Opening, Transaction}
+use Rattle.lot_command.specs.declared.command.Transaction.{Transaction as TransactionOf}
+use Rattle.lot_num.specs.Amount.{units_limit}
+use Rattle.lot_base.specs.Text.{same_text}
 use Rattle.lot_ledger.specs.Leg.{held, legs_of}
-use Rattle.lot_ledger.specs.Balance.{is_units, is_zero, residuals, empty_postings, first_legs, fill_legs}
+use Rattle.lot_ledger.specs.Balance.{fits_units, is_zero, residuals, elided_postings, first_legs, fill_legs}
 
 -- ---- Accounts.
 
 -- the day on which a command opens the account, if it does
 abbrev pub opening_day : List ℕ → Command → Option ℤ
-opening_day account (Opening o) = if same_name account o.account then Some o.day else None
+opening_day account (Opening o) = if same_text account o.account then Some o.day else None
 opening_day account (Transaction t) = None
 
 -- the day on which an entry of the book opened the account, if one did
@@ -29,6 +30,14 @@ opened_on [] account = None
 opened_on (entry ∷ entries) account = option_or (opening_day account entry.command) (opened_on entries account)
 
 -- ---- The conditions of a transaction's refusals, in their order.
+
+-- the place, from 1, of the first item that passes
+abbrev pub place_of : {X : Type 0} → (X → Bool) → List X → Option ℕ
+place_of passes items = option_map suc (position passes items)
+
+-- a transaction has at most so many postings
+abbrev pub most_postings : ℕ
+most_postings = 64
 
 -- an account that no opening names, at the first posting with one
 abbrev pub unknown_account : List Entry → List Posting → Option Refusal
@@ -46,7 +55,7 @@ not_open_yet book day postings =
     option_map NotOpenYet (place_of (λ (p : Posting). opens_after day (opened_on book p.account)) postings)
 
 abbrev pub too_many_postings : List Posting → Option Refusal
-too_many_postings postings = if nat_lt 64 (length postings) then Some TooManyPostings else None
+too_many_postings postings = if nat_lt most_postings (length postings) then Some TooManyPostings else None
 
 abbrev pub two_elided : List (ℕ × List ℕ) → Option Refusal
 two_elided empty = if nat_le 2 (length empty) then Some TwoElided else None
@@ -55,7 +64,7 @@ two_elided empty = if nat_le 2 (length empty) then Some TwoElided else None
 abbrev pub breaking_posting : List Leg → List Leg → Option ℕ
 breaking_posting before [] = None
 breaking_posting before (leg ∷ legs) =
-    if nat_lt (unsigned_abs (held (before ++ leg ∷ []) leg.position)) (10 ^ 18)
+    if nat_lt (unsigned_abs (held (before ++ leg ∷ []) leg.position)) units_limit
     then breaking_posting (before ++ leg ∷ []) legs else Some leg.posting
 
 abbrev pub out_of_range : List Leg → List Leg → Option Refusal
@@ -68,7 +77,7 @@ first_currency fails rs = option_map (λ (r : List ℕ × ℤ). r.0) (find (λ (
 -- there is a posting without amount, and a residual that isn't units
 abbrev pub inexact_fill : List (ℕ × List ℕ) → List (List ℕ × ℤ) → Option Refusal
 inexact_fill [] rs = None
-inexact_fill (empty ∷ more) rs = option_map InexactFill (first_currency (λ z. not (is_units z)) rs)
+inexact_fill (empty ∷ more) rs = option_map InexactFill (first_currency (λ z. not (fits_units z)) rs)
 
 -- there is no posting without amount, and a residual that isn't zero
 abbrev pub not_balanced : List (ℕ × List ℕ) → List (List ℕ × ℤ) → Option Refusal
@@ -81,11 +90,11 @@ refusals book t =
     unknown_account book t.postings
     ∷ not_open_yet book t.day t.postings
     ∷ too_many_postings t.postings
-    ∷ two_elided (empty_postings 1 t.postings)
+    ∷ two_elided (elided_postings 1 t.postings)
     ∷ out_of_range (legs_of book) (first_legs (length book + 1) t)
-    ∷ inexact_fill (empty_postings 1 t.postings) (residuals (first_legs (length book + 1) t))
+    ∷ inexact_fill (elided_postings 1 t.postings) (residuals (first_legs (length book + 1) t))
     ∷ out_of_range (legs_of book ++ first_legs (length book + 1) t) (fill_legs (length book + 1) t)
-    ∷ not_balanced (empty_postings 1 t.postings) (residuals (first_legs (length book + 1) t))
+    ∷ not_balanced (elided_postings 1 t.postings) (residuals (first_legs (length book + 1) t))
     ∷ []
 
 -- a part of the judgement stops at the refusal that it found, or for want of memory

@@ -1,7 +1,7 @@
 ghost use Rattle.std.specs.Prelude.{◌≡◌, ◌<◌, ◌≤◌, ◌^◌, unsigned_abs, [], None, not, length, map, filter, IfOk, IfErr, OnOk};
 ghost use Rattle.std.specs.Option.{option_map};
 ghost use Rattle.lot_ledger.specs.declared.refusal.Refusal.TheVariants.{InexactFill};
-ghost use Rattle.lot_ledger.specs.Balance.{residuals, add_weight, AreWithin, opposite, is_units, is_zero};
+ghost use Rattle.lot_ledger.specs.Balance.{residuals, add_weight, AreWithin, opposite, fits_units, is_zero};
 ghost use Rattle.lot_ledger.specs.Step.{Stops, first_currency, not_balanced};
 
 use crate::leg::Leg;
@@ -77,11 +77,11 @@ impl Residuals {
     /// What the posting without amount takes: the opposite of each sum that isn't zero. Refused where some sum
     /// is no units.
     pub fn fills(&self, alloc: Global) -> Result<Vec<(Commodity, Units)>, Stop>
-        ensures exact { OnOk result (first_currency (λ z. not (is_units z)) self.now ≡ None) }
+        ensures exact { OnOk result (first_currency (λ z. not (fits_units z)) self.now ≡ None) }
         ensures fills { IfOk result (λ fills. fills.items
             ≡ map (λ r. (r.0, opposite r.1)) (filter (λ r. not (is_zero r.1)) self.now)) }
         ensures refused { IfErr result (λ stop.
-            Stops (option_map InexactFill (first_currency (λ z. not (is_units z)) self.now)) stop) }
+            Stops (option_map InexactFill (first_currency (λ z. not (fits_units z)) self.now)) stop) }
     {
         let mut fills = Vec::new(alloc);
         for (currency, sum) in &self.sums {

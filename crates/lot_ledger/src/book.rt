@@ -1,14 +1,14 @@
 ghost use Rattle.std.specs.Prelude.{◌≡◌, ℕ, ◌+◌, List, ◌++◌, ◌∷◌, [], length, IfOk, OnOk, if◌then◌else◌};
 ghost use Rattle.std.specs.BTreeMap.{IsOrdered, get};
-ghost use Rattle.std.specs.Cmp.Lexicographic.{slice_cmp};
 ghost use Rattle.std.specs.Option.{option_or};
-ghost use Rattle.std.specs.Ordering.{nat_cmp};
+ghost use Rattle.lot_base.specs.Text.{text_cmp};
 ghost use Rattle.lot_ledger.specs.declared.leg.Position.{Position};
-ghost use Rattle.lot_ledger.specs.Leg.{IsInventory, TellsHeld, held, legs_of, non_zero, position_cmp, same_position, settled};
+ghost use Rattle.lot_ledger.specs.Leg.{IsInventory, ListsHeld, held, legs_of, position_cmp, same_position, settled};
+ghost use Rattle.lot_inv.specs.Inventory.{non_zero};
 ghost use Rattle.lot_ledger.specs.Step.{Step, Accept, opened_on, opening_day};
 ghost use Rattle.lot_ledger.specs.Book.{Judges};
 
-use crate::command::Command;
+use lot_command::Command;
 use crate::decide::Change;
 use crate::leg::{Entry, Position};
 use crate::refusal::Stop;
@@ -98,7 +98,7 @@ impl Book {
     /// Writes an accepted command and what it changes.
     fn record(self, command: Command, change: Change) -> Result<Book, AllocError>
         requires step { Step self command (Accept change.legs) }
-        requires held { TellsHeld (legs_of self) change.legs change.held.entries }
+        requires held { ListsHeld (legs_of self) change.legs change.held.entries }
         ensures { IfOk result (λ book. book ≡ self ++ record { command = command; legs = change.legs } ∷ []) }
     {
         let Book {
@@ -122,8 +122,8 @@ impl Book {
 
 /// Keeps the day of an opening. Of a transaction nothing is kept here.
 fn keep_opening(opened: &mut BTreeMap<Account, Day>, command: &Command) -> Result<(), AllocError>
-    ensures { OnOk result ((account : List ℕ) → get (slice_cmp nat_cmp) opened.new account
-        ≡ option_or (opening_day account command.now) (get (slice_cmp nat_cmp) opened.old account)) }
+    ensures { OnOk result ((account : List ℕ) → get text_cmp opened.new account
+        ≡ option_or (opening_day account command.now) (get text_cmp opened.old account)) }
 {
     if let Command::Opening(opening) = command {
         opened.insert(opening.account.copy()?, opening.day)?;

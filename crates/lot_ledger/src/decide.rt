@@ -1,19 +1,19 @@
 ghost use Rattle.std.specs.Prelude.{◌≡◌, ◌+◌, ◌++◌, ◌∷◌, [], None, Some, length, IfOk, IfErr, OnOk, MatchOption, MatchResult, SomeIff};
 ghost use Rattle.std.specs.Option.{option_or};
 ghost use Rattle.std.specs.BTreeMap.{IsEmpty};
-ghost use Rattle.lot_ledger.specs.declared.command.Command.TheVariants.{Opening as OpeningOf, Transaction as TransactionOf};
+ghost use Rattle.lot_command.specs.declared.command.Command.TheVariants.{Opening as OpeningOf, Transaction as TransactionOf};
 ghost use Rattle.lot_num.specs.Amount.{IsUnits};
-ghost use Rattle.lot_ledger.specs.Leg.{TellsHeld, held, legs_of};
-ghost use Rattle.lot_ledger.specs.Balance.{lot_at, empty_postings, first_legs, fill_of};
+ghost use Rattle.lot_ledger.specs.Leg.{ListsHeld, held, legs_of};
+ghost use Rattle.lot_ledger.specs.Balance.{lot_at, elided_postings, first_legs, fill_of};
 ghost use Rattle.lot_ledger.specs.Step.{Step, Accept, Stops, StopsStep, opened_on, opens_after, unknown_account, not_open_yet, too_many_postings, two_elided, out_of_range, inexact_fill};
 
 use crate::balance::Residuals;
 use crate::book::Book;
-use crate::command::{Amount, Command, Cost, Opening, Posting, Transaction};
-use crate::items::Items;
-use crate::leg::{Leg, LotKey, Position};
+use crate::leg::{Leg, Position};
 use crate::refusal::{Refusal, Stop};
 use lot_base::{Account, Day};
+use lot_command::{Amount, Command, Cost, Items, Opening, Posting, Transaction};
+use lot_inv::LotKey;
 use lot_num::Units;
 use std::alloc::{AllocError, Global};
 use std::collections::BTreeMap;
@@ -45,7 +45,7 @@ impl Book {
     /// What a command would change, or why it is refused.
     pub(crate) fn decide(&self, alloc: Global, command: &Command) -> Result<Change, Stop>
         ensures accepted { IfOk result (λ change. Step self.now command.now (Accept change.legs)) }
-        ensures held { IfOk result (λ change. TellsHeld (legs_of self.now) change.legs change.held.entries) }
+        ensures held { IfOk result (λ change. ListsHeld (legs_of self.now) change.legs change.held.entries) }
         ensures refused { IfErr result (λ stop. StopsStep self.now command.now stop) }
     {
         match command {
@@ -56,7 +56,7 @@ impl Book {
 
     fn decide_opening(&self, alloc: Global, opening: &Opening) -> Result<Change, Stop>
         ensures accepted { IfOk result (λ change. Step self.now (OpeningOf opening.now) (Accept change.legs)) }
-        ensures held { IfOk result (λ change. TellsHeld (legs_of self.now) change.legs change.held.entries) }
+        ensures held { IfOk result (λ change. ListsHeld (legs_of self.now) change.legs change.held.entries) }
         ensures refused { IfErr result (λ stop. StopsStep self.now (OpeningOf opening.now) stop) }
     {
         if self.opened(&opening.account).is_some() {
@@ -68,7 +68,7 @@ impl Book {
     /// Each step looks at all postings before the next one does.
     fn decide_transaction(&self, alloc: Global, transaction: &Transaction) -> Result<Change, Stop>
         ensures accepted { IfOk result (λ change. Step self.now (TransactionOf transaction.now) (Accept change.legs)) }
-        ensures held { IfOk result (λ change. TellsHeld (legs_of self.now) change.legs change.held.entries) }
+        ensures held { IfOk result (λ change. ListsHeld (legs_of self.now) change.legs change.held.entries) }
         ensures refused { IfErr result (λ stop. StopsStep self.now (TransactionOf transaction.now) stop) }
     {
         let postings = transaction.postings.as_slice();
@@ -121,7 +121,7 @@ impl Book {
     /// The legs of the postings with amounts.
     fn post_amounts(&self, alloc: Global, transaction: &Transaction) -> Result<Change, Stop>
         ensures legs { IfOk result (λ change. change.legs ≡ first_legs (length self.now + 1) transaction.now) }
-        ensures held { IfOk result (λ change. TellsHeld (legs_of self.now) change.legs change.held.entries) }
+        ensures held { IfOk result (λ change. ListsHeld (legs_of self.now) change.legs change.held.entries) }
         ensures in_range { OnOk result
             (out_of_range (legs_of self.now) (first_legs (length self.now + 1) transaction.now) ≡ None) }
         ensures refused { IfErr result (λ stop.
@@ -151,11 +151,11 @@ impl Book {
         elided: Elided<'_>,
         change: &mut Change,
     ) -> Result<(), Stop>
-        requires held { TellsHeld (legs_of self.now) change.old.legs change.old.held.entries }
+        requires held { ListsHeld (legs_of self.now) change.old.legs change.old.held.entries }
         ensures exact { OnOk result (inexact_fill (elided.entry ∷ []) residuals.now ≡ None) }
         ensures legs { OnOk result (change.new.legs ≡ change.old.legs
             ++ fill_of (length self.now + 1) (elided.entry ∷ []) residuals.now) }
-        ensures held { OnOk result (TellsHeld (legs_of self.now) change.new.legs change.new.held.entries) }
+        ensures held { OnOk result (ListsHeld (legs_of self.now) change.new.legs change.new.held.entries) }
         ensures in_range { OnOk result (out_of_range (legs_of self.now ++ change.old.legs)
             (fill_of (length self.now + 1) (elided.entry ∷ []) residuals.now) ≡ None) }
         ensures refused { IfErr result (λ stop. Stops
@@ -183,9 +183,9 @@ impl Book {
 
     /// One more leg. Refused where what its position holds after it is no units.
     fn post(&self, leg: Leg, change: &mut Change) -> Result<(), Stop>
-        requires held { TellsHeld (legs_of self.now) change.old.legs change.old.held.entries }
+        requires held { ListsHeld (legs_of self.now) change.old.legs change.old.held.entries }
         ensures legs { OnOk result (change.new.legs ≡ change.old.legs ++ leg ∷ []) }
-        ensures held { OnOk result (TellsHeld (legs_of self.now) change.new.legs change.new.held.entries) }
+        ensures held { OnOk result (ListsHeld (legs_of self.now) change.new.legs change.new.held.entries) }
         ensures in_range { OnOk result (out_of_range (legs_of self.now ++ change.old.legs) (leg ∷ []) ≡ None) }
         ensures refused { IfErr result (λ stop.
             Stops (out_of_range (legs_of self.now ++ change.old.legs) (leg ∷ [])) stop) }
@@ -203,7 +203,7 @@ impl Book {
 
     /// What the leg's position holds after it, if that is units.
     fn held_after(&self, change: &Change, leg: &Leg) -> Option<Units>
-        requires { TellsHeld (legs_of self.now) change.now.legs change.now.held.entries }
+        requires { ListsHeld (legs_of self.now) change.now.legs change.now.held.entries }
         ensures { SomeIff result
             (IsUnits (held (legs_of self.now ++ change.now.legs ++ leg.now ∷ []) leg.now.position))
             (held (legs_of self.now ++ change.now.legs ++ leg.now ∷ []) leg.now.position) }
@@ -246,9 +246,9 @@ fn few_postings(postings: &[Posting]) -> Result<(), Refusal>
 /// The posting without amount, if there is one. Refused where there are two.
 fn only_elided(postings: &[Posting]) -> Result<Option<Elided<'_>>, Refusal>
     ensures { MatchResult result
-        (λ elided. MatchOption elided (empty_postings 1 postings.now ≡ [])
-        (λ elided. empty_postings 1 postings.now ≡ elided ∷ []))
-        (λ refusal. two_elided (empty_postings 1 postings.now) ≡ Some refusal) }
+        (λ elided. MatchOption elided (elided_postings 1 postings.now ≡ [])
+        (λ elided. elided_postings 1 postings.now ≡ elided ∷ []))
+        (λ refusal. two_elided (elided_postings 1 postings.now) ≡ Some refusal) }
 {
     let mut elided = None;
     for (index, posting) in postings.iter().enumerate() {
@@ -286,11 +286,12 @@ fn position_of(account: &Account, amount: &Amount, day: Day) -> Result<Position,
 }
 
 fn lot_of(cost: &Cost, day: Day) -> Result<LotKey, AllocError>
-    ensures { IfOk result (λ key. key ≡ record { day = day; currency = cost.now.currency; number = cost.now.number }) }
+    ensures { IfOk result (λ key. key ≡ record { day = day; currency = cost.now.currency; number = cost.now.number; label = None }) }
 {
     Ok(LotKey {
         day,
         currency: cost.currency.copy()?,
         number: cost.number,
+        label: None,
     })
 }

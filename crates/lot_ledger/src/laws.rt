@@ -6,7 +6,7 @@ ghost use Rattle.lot_ledger.specs.declared.leg.Entry.{Entry};
 ghost use Rattle.lot_ledger.specs.declared.leg.Position.{Position};
 ghost use Rattle.lot_ledger.specs.declared.leg.Leg.{Leg};
 ghost use Rattle.lot_ledger.specs.declared.verdict.Verdict.{Verdict};
-ghost use Rattle.lot_ledger.specs.declared.command.Command.{Command};
+ghost use Rattle.lot_command.specs.declared.command.Command.{Command};
 ghost use Rattle.lot_ledger.specs.Leg.{IsInventory, legs_of};
 ghost use Rattle.lot_ledger.specs.Step.{Outcome, Step};
 ghost use Rattle.lot_ledger.specs.Book.{JudgesAll, IsBook};

@@ -1,33 +1,11 @@
 ghost use Rattle.std.specs.Prelude.{◌≡◌, ◌<◌, ◌^◌, unsigned_abs, IfOk};
 ghost use Rattle.lot_ledger.specs.Balance.{weight_of};
 
-use crate::command::Command;
-use crate::items::Items;
-use lot_base::{Account, Commodity, Day};
-use lot_num::{Rate, Units, Wide, weight};
+use lot_base::{Account, Commodity};
+use lot_command::{Command, Items};
+use lot_inv::LotKey;
+use lot_num::{Units, Wide, weight};
 use std::alloc::AllocError;
-
-/// What ties units to the purchase that they came from. Keys are ordered by day, then currency, then number.
-#[derive(Debug, PartialEq, Eq, PartialOrd, Ord, Drop)]
-pub struct LotKey {
-    pub day: Day,
-    pub currency: Commodity,
-    /// The cost of one unit.
-    pub number: Rate,
-}
-
-impl LotKey {
-    /// The same key once more.
-    pub fn copy(&self) -> Result<LotKey, AllocError>
-        ensures { IfOk result (λ key. key ≡ self.now) }
-    {
-        Ok(LotKey {
-            day: self.day,
-            currency: self.currency.copy()?,
-            number: self.number,
-        })
-    }
-}
 
 /// Where units are held: in the lot of that key, or plain. Positions are in the order of the holdings: by
 /// account, then commodity, the plain one before the lots.

@@ -12,9 +12,9 @@ use Rattle.std.proofs.lemmas.Str.{IsUtf8-from_is_utf8}
 use Rattle.lot_num.specs.NumberText.{units_of, rate_of}
 use Rattle.lot_base.specs.Name.{is_account, is_commodity, is_note}
 use Rattle.lot_base.specs.Day.{named_day}
-use Rattle.lot_ledger.specs.declared.command.Posting.{Posting}
-use Rattle.lot_ledger.specs.declared.command.Amount.{Amount}
-use Rattle.lot_ledger.specs.declared.command.Cost.{Cost}
+use Rattle.lot_command.specs.declared.command.Posting.{Posting}
+use Rattle.lot_command.specs.declared.command.Amount.{Amount}
+use Rattle.lot_command.specs.declared.command.Cost.{Cost}
 use Rattle.lot_text.specs.declared.line.Line.{Line}
 use Rattle.lot_text.specs.declared.line.Line.TheVariants.{Opening as SaysOpening, Transaction as SaysHead, Posting as SaysPosting}
 use Rattle.lot_text.specs.Text.{IsOpening, IsNarration, IsHead, IsCost, IsAmount, IsPosting, is_plain}

@@ -11,12 +11,12 @@ use Rattle.lot_base.specs.Name.{is_account, is_commodity, is_note}
 use Rattle.lot_base.specs.Day.{named_day}
 use Rattle.lot_base.specs.declared.fault.NameFault.{NameFault}
 use Rattle.lot_base.specs.declared.fault.NameFault.TheVariants.{BadAccount, BadCommodity, BadLabel, BadNote, Memory as NoMemory}
-use Rattle.lot_ledger.specs.declared.command.Transaction.{Transaction as TransactionOf}
-use Rattle.lot_ledger.specs.declared.command.Posting.{Posting}
-use Rattle.lot_ledger.specs.declared.command.Amount.{Amount}
-use Rattle.lot_ledger.specs.declared.command.Cost.{Cost}
-use Rattle.lot_ledger.specs.declared.command.Command.{Command}
-use Rattle.lot_ledger.specs.declared.command.Command.TheVariants.{Opening, Transaction}
+use Rattle.lot_command.specs.declared.command.Transaction.{Transaction as TransactionOf}
+use Rattle.lot_command.specs.declared.command.Posting.{Posting}
+use Rattle.lot_command.specs.declared.command.Amount.{Amount}
+use Rattle.lot_command.specs.declared.command.Cost.{Cost}
+use Rattle.lot_command.specs.declared.command.Command.{Command}
+use Rattle.lot_command.specs.declared.command.Command.TheVariants.{Opening, Transaction}
 use Rattle.lot_text.specs.declared.line.Line.{Line}
 use Rattle.lot_text.specs.declared.line.Line.TheVariants.{Opening as SaysOpening, Transaction as SaysHead, Posting as SaysPosting}
 use Rattle.lot_text.specs.declared.line.LineFault.{LineFault}

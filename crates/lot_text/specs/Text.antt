@@ -6,14 +6,14 @@ use Rattle.std.specs.Str.{IsUtf8}
 use Rattle.lot_num.specs.NumberText.{units_of, rate_of}
 use Rattle.lot_base.specs.Name.{is_account, is_commodity, is_note}
 use Rattle.lot_base.specs.Day.{named_day}
-use Rattle.lot_ledger.specs.declared.command.Opening.{Opening as OpeningOf}
-use Rattle.lot_ledger.specs.declared.command.Posting.{Posting}
-use Rattle.lot_ledger.specs.declared.command.Amount.{Amount}
-use Rattle.lot_ledger.specs.declared.command.Cost.{Cost}
-use Rattle.lot_ledger.specs.declared.command.Command.{Command}
+use Rattle.lot_command.specs.declared.command.Opening.{Opening as OpeningOf}
+use Rattle.lot_command.specs.declared.command.Posting.{Posting}
+use Rattle.lot_command.specs.declared.command.Amount.{Amount}
+use Rattle.lot_command.specs.declared.command.Cost.{Cost}
+use Rattle.lot_command.specs.declared.command.Command.{Command}
 use Rattle.lot_text.specs.declared.reader.TextFault.{TextFault}
 use Rattle.lot_text.specs.declared.reader.TextFault.TheVariants.{Syntax, Memory}
-use Rattle.lot_ledger.specs.declared.command.Command.TheVariants.{Opening, Transaction}
+use Rattle.lot_command.specs.declared.command.Command.TheVariants.{Opening, Transaction}
 
 -- ---- Forms of a line, which is UTF-8. Its line end isn't part of it.
 

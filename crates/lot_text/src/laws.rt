@@ -2,7 +2,7 @@
 //! nothing.
 ghost use Rattle.std.specs.Prelude.{◌≡◌, ℕ, List};
 ghost use Rattle.lot_text.specs.Text.{Reads, IsFaultAt};
-ghost use Rattle.lot_ledger.specs.declared.command.Command.{Command};
+ghost use Rattle.lot_command.specs.declared.command.Command.{Command};
 
 /// A text says one list of commands or has one first faulty line, and never both.
 pub fn a_text_says_one_thing()

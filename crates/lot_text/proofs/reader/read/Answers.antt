@@ -2,7 +2,7 @@
 use Rattle.std.proofs.Common.{rules, List, ℕ, [], ◌∷◌, ◌++◌, ◌+◌, Some, sym, subst, ap, ◌∙◌}
 use Rattle.std.proofs.lemmas.List.{length_push}
 use Rattle.lot_text.specs.Text.{Reads}
-use Rattle.lot_ledger.specs.declared.command.Command.{Command}
+use Rattle.lot_command.specs.declared.command.Command.{Command}
 use Rattle.lot_text.proofs.TextLemmas.{IsFront, front-push, take-push, fault-at, fault-of, reads-at}
 use Rattle.lot_text.proofs.reader.read.Goals as goal
 

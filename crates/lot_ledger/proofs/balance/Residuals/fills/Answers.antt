@@ -1,7 +1,7 @@
 -- A sum that is units is taken up, unless it is zero; the first that isn't refuses.
 use Rattle.std.proofs.Common.{of_z, w64, ◌≡◌, ◌≢◌, Some, ◌++◌, ◌∷◌, ℤ, pos, ◌*ℤ◌, sym, ap, ◌∙◌, append_assoc}
 use Rattle.lot_num.specs.Amount.{one, IsUnits}
-use Rattle.lot_ledger.proofs.BalanceLemmas.{fills_of, no_units, fills_of-more, no_units-passes, no_units-stops}
+use Rattle.lot_ledger.proofs.BalanceLemmas.{fills_of, misfits_units, fills_of-more, misfit-passes, misfit-stops}
 use Rattle.lot_ledger.specs.declared.refusal.Refusal.TheVariants.{InexactFill}
 use Rattle.std.specs.Option.{option_map}
 use Rattle.lot_ledger.specs.Step.{first_currency}
@@ -25,8 +25,8 @@ loop-currency-preserved c =
           ∙ ap (λ fills. old ++ fills) (sym (fills_of-more currency sum units rest same other))
           ∙ ap (λ sums. old ++ fills_of sums) (sym c.in-Some.ensures.steps)
           ∙ c.loop-currency.invariant.taken;
-      exact = sym (no_units-passes currency sum units rest within same)
-          ∙ ap (first_currency no_units) (sym c.in-Some.ensures.steps)
+      exact = sym (misfit-passes currency sum units rest within same)
+          ∙ ap (first_currency misfits_units) (sym c.in-Some.ensures.steps)
           ∙ c.loop-currency.invariant.exact;
     }
 
@@ -38,6 +38,6 @@ returns-in-None-to_units-clause-refused c =
     rw c.into.ensures
     (ap (option_map InexactFill)
     (sym c.loop-currency.invariant.exact
-    ∙ ap (first_currency no_units) c.in-Some.ensures.steps
-    ∙ no_units-stops currency sum c.next.new.self none
+    ∙ ap (first_currency misfits_units) c.in-Some.ensures.steps
+    ∙ misfit-stops currency sum c.next.new.self none
     ∙ ap Some (sym c.in_ok-currency-in-None-to_units.ensures)))

@@ -5,7 +5,7 @@ use Rattle.std.specs.Option.{option_map, is_none}
 use Rattle.std.proofs.lemmas.Iterator.{YieldsList-from_slice}
 use Rattle.std.proofs.lemmas.Iterator.Search.{position_from_yields_List}
 use Rattle.lot_ledger.specs.declared.refusal.Refusal.TheVariants.{UnknownAccount}
-use Rattle.lot_ledger.specs.declared.command.Posting.{Posting}
+use Rattle.lot_command.specs.declared.command.Posting.{Posting}
 use Rattle.lot_ledger.specs.Step.{opened_on}
 use Rattle.lot_ledger.proofs.book.Book.every_account_known.Goals as goal
 

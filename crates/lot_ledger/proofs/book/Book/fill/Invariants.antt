@@ -1,5 +1,5 @@
 use Rattle.std.proofs.Common.{◌≡◌, ◌+◌, ◌++◌, ◌∷◌, [], length}
-use Rattle.lot_ledger.specs.Leg.{TellsHeld, legs_of}
+use Rattle.lot_ledger.specs.Leg.{ListsHeld, legs_of}
 use Rattle.lot_ledger.specs.Balance.{fill_of}
 use Rattle.lot_ledger.specs.Step.{out_of_range}
 use Rattle.lot_ledger.proofs.BookLemmas.{filled}
@@ -12,7 +12,7 @@ invariant-loop-index l =
     let all = fill_of entry ((l.elided-inside.posting, l.elided-inside.account.now) ∷ []) l.residuals in
     let left = filled entry l.elided-inside.posting l.elided-inside.account.now l.index-iterator.count l.index-iterator.iter.rest.items in
     record {
-      tells : TellsHeld (legs_of l.self) l.change.legs l.change.held.entries;
+      tells : ListsHeld (legs_of l.self) l.change.legs l.change.held.entries;
       legs : l.change.legs ++ left ≡ l.fn.change.legs ++ all;
       range : out_of_range (legs_of l.self ++ l.change.legs) left ≡ out_of_range (legs_of l.self ++ l.fn.change.legs) all;
     }

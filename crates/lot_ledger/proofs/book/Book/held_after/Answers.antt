@@ -3,7 +3,8 @@ use Rattle.std.proofs.Common.{◌≡◌, ◌∙◌, sym, Some, None, pos, ◌+�
 use Rattle.std.specs.Map.{lookup}
 use Rattle.std.specs.Option.{option_or}
 use Rattle.std.proofs.lemmas.Int.{ints, to_z-of_z}
-use Rattle.lot_ledger.specs.Leg.{held, legs_of, non_zero, same_position}
+use Rattle.lot_ledger.specs.Leg.{held, legs_of, same_position}
+use Rattle.lot_inv.specs.Inventory.{non_zero}
 use Rattle.lot_ledger.proofs.BookLemmas.{held-after}
 use Rattle.lot_ledger.proofs.book.Book.held_after.Goals as goal
 

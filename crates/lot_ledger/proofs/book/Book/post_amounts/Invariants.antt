@@ -1,5 +1,5 @@
 use Rattle.std.proofs.Common.{◌≡◌, ◌+◌, ◌++◌, length}
-use Rattle.lot_ledger.specs.Leg.{TellsHeld, legs_of}
+use Rattle.lot_ledger.specs.Leg.{ListsHeld, legs_of}
 use Rattle.lot_ledger.specs.Balance.{first_legs}
 use Rattle.lot_ledger.specs.Step.{out_of_range}
 use Rattle.lot_ledger.proofs.BookLemmas.{amounts_from}
@@ -11,7 +11,7 @@ invariant-loop-index l =
     let entry = length l.self + 1 in
     let left = amounts_from entry l.transaction.day l.transaction.postings l.index in
     record {
-      tells : TellsHeld (legs_of l.self) l.change.legs l.change.held.entries;
+      tells : ListsHeld (legs_of l.self) l.change.legs l.change.held.entries;
       legs : l.change.legs ++ left ≡ first_legs entry l.transaction;
       range : out_of_range (legs_of l.self ++ l.change.legs) left ≡ out_of_range (legs_of l.self) (first_legs entry l.transaction);
     }

@@ -1,5 +1,5 @@
 -- The entries that were, and the new one behind them.
-use Rattle.lot_ledger.specs.Leg.{TellsHeld, legs_of}
+use Rattle.lot_ledger.specs.Leg.{ListsHeld, legs_of}
 use Rattle.lot_ledger.specs.Step.{Step, Accept}
 use Rattle.lot_ledger.proofs.BookRecord.{IsKept-push}
 use Rattle.lot_ledger.proofs.book.Book.record.Goals as goal
@@ -10,7 +10,7 @@ invariant_of-result c =
     let command = c.args.command in
     let change = c.args.change in
     let step : Step book.entries.items command (Accept change.legs) = rw c.self.view_is c.requires.step in
-    let tells : TellsHeld (legs_of book.entries.items) change.legs change.held.entries = rw c.self.view_is c.requires.held in
+    let tells : ListsHeld (legs_of book.entries.items) change.legs change.held.entries = rw c.self.view_is c.requires.held in
     rw c.in_ok-push.ensures.items
     (IsKept-push book.entries.items command change.legs book.opened c.keep_opening.new.opened book.held c.keep_held.new.held change.held c.self.invariant step tells
     c.in_ok-keep_opening.ensures c.in_ok-keep_held.ensures.each c.in_ok-keep_held.ensures.ordered)
