@@ -16,7 +16,7 @@ impl<T> Model for Items<T> {
 }
 
 impl<T: Drop> Items<T> {
-    ghost use Rattle.std.specs.Prelude.{◌≡◌, [], ◌∷◌, ◌++◌, OnOk, OnErr};
+    ghost use Rattle.std.specs.Prelude.{◌≡◌, [], ◌∷◌, ◌++◌, IfErr, OnOk, OnErr};
 
     /// No items.
     pub fn new(alloc: Global) -> Items<T>
@@ -27,10 +27,12 @@ impl<T: Drop> Items<T> {
         }
     }
 
-    /// Puts one more item behind the others. Where there is no memory for it, they stay as they were.
+    /// Puts one more item behind the others. Where there is no memory for it, they stay as they were, and the item is
+    /// given back.
     pub fn push(&mut self, item: T) -> Result<(), AllocFailed<T>>
         ensures ok { OnOk result (self.new ≡ self.old ++ item ∷ []) }
         ensures err { OnErr result (self.new ≡ self.old) }
+        ensures back { IfErr result (λ failed. failed.value ≡ item) }
     {
         self.items.push(item)
     }

@@ -4,16 +4,16 @@ use Rattle.std.specs.Prelude.{int_div, unsigned_abs}
 use Rattle.std.proofs.lemmas.Bool.{false_from_ne_true}
 use Rattle.std.proofs.lemmas.Bool.Decides.{nat_tests, Decides-int_eq}
 use Rattle.std.proofs.lemmas.Int.{unsigned_abs-mul}
-use Rattle.lot_num.specs.Amount.{one, IsUnits}
+use Rattle.lot_num.specs.Amount.{one, units_limit, IsUnits}
 use Rattle.lot_ledger.specs.Balance.{fits_units, is_zero, opposite}
 use Rattle.lot_ledger.specs.Step.{first_currency}
 
 -- ---- Units at scale 16.
 
-units_test : (n m : ℕ) → n ≡ m * one → m < 10 ^ 18 → (eqb (n % one) 0 && ltb n (10 ^ 18 * one)) ≡ true
+units_test : (n m : ℕ) → n ≡ m * one → m < units_limit → (eqb (n % one) 0 && ltb n (units_limit * one)) ≡ true
 units_test n m same within = grind (arith, nat_tests)
 
-divided : (n : ℕ) → (eqb (n % one) 0 && ltb n (10 ^ 18 * one)) ≡ true → (n / one * one ≡ n) × (n / one < 10 ^ 18)
+divided : (n : ℕ) → (eqb (n % one) 0 && ltb n (units_limit * one)) ≡ true → (n / one * one ≡ n) × (n / one < units_limit)
 divided n h = (grind (arith, nat_tests), grind (arith, nat_tests))
 
 quotient_of_negative : (n : ℕ) → int_div (neg_ℤ (pos n)) (pos one) ≡ neg_ℤ (pos (n / one))

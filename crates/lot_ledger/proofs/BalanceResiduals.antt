@@ -1,15 +1,19 @@
 -- One more leg: its weight is added to the residual of its currency.
-use Rattle.std.proofs.Common.{◌≡◌, ℕ, ◌+◌, ◌*◌, ◌^◌, ◌≤◌, ◌<◌, ℤ, ◌+ℤ◌, true, false, cond, not, ◌||◌, List, [], ◌∷◌, ◌++◌, length, get_or, take, map, None, Some, refl, ap, ◌∙◌, sym, arith}
+use Rattle.std.proofs.Common.{◌≡◌, ℕ, zero, suc, ◌+◌, ◌*◌, ◌≤◌, ◌<◌, ℤ, pos, ◌+ℤ◌, Option, true, false, cond, not, ◌||◌, List, [], ◌∷◌, ◌++◌, length, get_or, take, map, None, Some, refl, ap, ◌∙◌, sym, arith}
 use Rattle.std.specs.Prelude.{⊤, unsigned_abs}
 use Rattle.std.specs.List.{AllByRecursion, list_any}
 use Rattle.std.specs.Map.{lookup}
+use Rattle.std.specs.Option.{unwrap_or}
 use Rattle.std.proofs.lemmas.Int.{ints}
 use Rattle.std.proofs.lemmas.List.{map-append, take_more}
+use Rattle.std.proofs.lemmas.List.Sums.{sum_by_push, sum_by-take-le}
 use Rattle.indexmap.specs.IndexMap.{insert_entry}
 use Rattle.lot_ledger.specs.declared.leg.Leg.{Leg}
 use Rattle.lot_base.specs.Text.{same_text}
 use Rattle.lot_ledger.specs.Currencies.{sum_in, first_appearances}
-use Rattle.lot_ledger.specs.Balance.{weight_of, currencies, residuals, add_weight, AreWithin}
+use Rattle.lot_ledger.specs.Balance.{weight_of, currencies, residuals, residual_in, add_weight, units_moved, AreWithin}
+use Rattle.lot_ledger.specs.Step.{most_postings}
+use Rattle.lot_num.specs.Amount.{IsWide, rate_limit, units_limit}
 use Rattle.std.proofs.Math.IntN.{+ℤ_idl}
 use Rattle.lot_ledger.proofs.CaseLemmas.{by_bool}
 use Rattle.lot_base.proofs.TextLemmas.{one_text, same_text-itself, same_text-turned}
@@ -170,7 +174,7 @@ insert_entry-begins (r ∷ rs) currency weight e = by_bool (same_text currency r
 
 -- ---- Bounds.
 
-pub lookup-within : (n : ℕ) (rs : List (List ℕ × ℤ)) (currency : List ℕ) (sum : ℤ) → AreWithin n rs → lookup (same_text currency) rs ≡ Some sum → unsigned_abs sum ≤ n * 10 ^ 34
+lookup-within : (n : ℕ) (rs : List (List ℕ × ℤ)) (currency : List ℕ) (sum : ℤ) → AreWithin n rs → lookup (same_text currency) rs ≡ Some sum → unsigned_abs sum ≤ n * rate_limit
 lookup-within n [] currency sum all e = absurd cc
 lookup-within n (r ∷ rs) currency sum all e = by_bool (same_text currency r.0)
     (λ here.
@@ -186,10 +190,41 @@ AreWithin-more n m (r ∷ rs) le all = (let here = all.0 in omega arith, AreWith
 pub sum_size : (a b : ℤ) → unsigned_abs (a +ℤ b) ≤ unsigned_abs a + unsigned_abs b
 sum_size a b = omega (arith, ints)
 
-pub AreWithin-add_weight : (n : ℕ) (rs : List (List ℕ × ℤ)) (w : List ℕ × ℤ) → unsigned_abs w.1 < 10 ^ 34 → AreWithin n rs → AreWithin (n + 1) (add_weight rs w)
-AreWithin-add_weight n [] w small all = (omega arith, tt)
-AreWithin-add_weight n (r ∷ rs) w small all =
+-- the residual of a currency is within what all are within
+residual_in-within : (n : ℕ) (rs : List (List ℕ × ℤ)) (currency : List ℕ) → AreWithin n rs → unsigned_abs (residual_in currency rs) ≤ n * rate_limit
+residual_in-within n rs currency all = by (lookup (same_text currency) rs) refl
+  where
+    by : (found : Option ℤ) → lookup (same_text currency) rs ≡ found → unsigned_abs (unwrap_or found (pos 0)) ≤ n * rate_limit
+    by None e = omega arith
+    by (Some sum) e = lookup-within n rs currency sum all e
+
+-- one more weight of so many units stays within the limit of weights
+pub residual_in-fits : (n units : ℕ) (rs : List (List ℕ × ℤ)) (currency : List ℕ) (weight : ℤ) → AreWithin n rs → unsigned_abs weight ≤ units * rate_limit
+    → n + units ≤ most_postings * units_limit → IsWide (residual_in currency rs +ℤ weight)
+residual_in-fits n units rs currency weight all small few =
+    let size = residual_in-within n rs currency all in
+    omega (arith, sum_size (residual_in currency rs) weight)
+
+pub AreWithin-add_weight : (n units : ℕ) (rs : List (List ℕ × ℤ)) (w : List ℕ × ℤ) → unsigned_abs w.1 ≤ units * rate_limit → AreWithin n rs → AreWithin (n + units) (add_weight rs w)
+AreWithin-add_weight n units [] w small all = (omega arith, tt)
+AreWithin-add_weight n units (r ∷ rs) w small all =
     let size = all.0 in
     by_bool (same_text w.0 r.0)
-    (λ here. rw here (omega (arith, sum_size r.1 w.1), AreWithin-more n (n + 1) rs (omega arith) all.1))
-    (λ there. rw there (omega arith, AreWithin-add_weight n rs w small all.1))
+    (λ here. rw here (omega (arith, sum_size r.1 w.1), AreWithin-more n (n + units) rs (omega arith) all.1))
+    (λ there. rw there (omega arith, AreWithin-add_weight n units rs w small all.1))
+
+-- ---- Units moved.
+
+pub units_moved-more : (legs : List Leg) (i : ℕ) (leg : Leg) → i < length legs → leg ≡ get_or legs i leg
+    → units_moved (take (i + 1) legs) ≡ units_moved (take i legs) + unsigned_abs leg.units
+units_moved-more legs i leg inside is =
+    ap units_moved (take_more legs i leg inside) ∙ sum_by_push (λ (l : Leg). unsigned_abs l.units) (take i legs) (get_or legs i leg)
+    ∙ ap (λ (next : Leg). units_moved (take i legs) + unsigned_abs next.units) (sym is)
+
+-- some of the legs move no more than all
+pub units_moved-take : (legs : List Leg) (i : ℕ) → units_moved (take i legs) ≤ units_moved legs
+units_moved-take legs i = sum_by-take-le (λ (l : Leg). unsigned_abs l.units) legs i
+
+-- a further leg moves its units
+pub units_moved-push : (legs : List Leg) (leg : Leg) → units_moved (legs ++ leg ∷ []) ≡ units_moved legs + unsigned_abs leg.units
+units_moved-push legs leg = sum_by_push (λ (l : Leg). unsigned_abs l.units) legs leg

@@ -12,7 +12,7 @@ use Rattle.lot_command.specs.declared.command.Posting.{Posting}
 use Rattle.lot_ledger.specs.Leg.{same_position, held, ListsHeld}
 use Rattle.lot_inv.specs.Inventory.{non_zero}
 use Rattle.lot_ledger.specs.Balance.{amount_legs, posting_legs, legs_for, opposite}
-use Rattle.lot_ledger.specs.Step.{too_many_postings}
+use Rattle.lot_ledger.specs.Step.{most_postings, too_many_postings}
 use Rattle.std.specs.Cmp.{signed_Decides}
 use Rattle.lot_ledger.proofs.OrderLemmas.{one_position, same_position-itself, same_position-turned}
 use Rattle.lot_ledger.proofs.SumLemmas.{sum_where-push}
@@ -98,22 +98,10 @@ legs_for-filled entry posting account place (r ∷ rs) =
     } in
     ap (λ n. first ∷ legs_for entry posting account n rs) (sym (add-one place)) ∙ ap (λ legs. first ∷ legs) (legs_for-filled entry posting account (place + 1) rs)
 
--- ---- how many legs a transaction has
+-- ---- how many postings a transaction has
 
--- no posting gives more than one leg
-pub amount_legs-few : (entry place : ℕ) (day : ℤ) (postings : List Posting) → length (amount_legs entry place day postings) ≤ length postings
-amount_legs-few entry place day [] = omega arith
-amount_legs-few entry place day (posting ∷ postings) =
-    let more = amount_legs-few entry (suc place) day postings in
-    rw (length-append (posting_legs entry place day posting.account posting.amount) (amount_legs entry (suc place) day postings)) (by posting.amount more)
-  where
-    by : (amount : Option Amount) → length (amount_legs entry (suc place) day postings) ≤ length postings
-        → length (posting_legs entry place day posting.account amount) + length (amount_legs entry (suc place) day postings) ≤ suc (length postings)
-    by None more = omega arith
-    by (Some amount) more = omega arith
-
-pub few-postings : (postings : List Posting) → too_many_postings postings ≡ None → length postings ≤ 64
-few-postings postings e = elim (cases_lt 64 (length postings)) [
+pub few-postings : (postings : List Posting) → too_many_postings postings ≡ None → length postings ≤ most_postings
+few-postings postings e = elim (cases_lt most_postings (length postings)) [
   | inl many ↦ absurd (grind (arith, nat_tests))
   | inr few ↦ few
 ]

@@ -1,9 +1,10 @@
 -- What a transaction weighs, and what it leaves over (after Beancount's Language Syntax).
-use Rattle.std.specs.Prelude.{ℕ, suc, ◌*◌, ◌^◌, ◌%◌, ◌≤◌, ◌==◌, ◌&&◌, Bool, not, nat_lt, if◌then◌else◌, List, [], ◌∷◌, ◌++◌, map, filter, Option, None, Some, ℤ, pos, ◌+ℤ◌, ◌*ℤ◌, neg_ℤ, int_div, unsigned_abs}
+use Rattle.std.specs.Prelude.{ℕ, suc, ◌*◌, ◌%◌, ◌≤◌, ◌==◌, ◌&&◌, Bool, not, nat_lt, if◌then◌else◌, List, [], ◌∷◌, ◌++◌, map, filter, sum_by, Option, None, Some, ℤ, pos, ◌+ℤ◌, ◌*ℤ◌, neg_ℤ, int_div, unsigned_abs}
 use Rattle.std.specs.Ordering.{int_eq}
 use Rattle.std.specs.List.{AllByRecursion}
-use Rattle.std.specs.Option.{is_none}
-use Rattle.lot_num.specs.Amount.{one}
+use Rattle.std.specs.Map.{lookup}
+use Rattle.std.specs.Option.{is_none, unwrap_or}
+use Rattle.lot_num.specs.Amount.{one, rate_limit, units_limit}
 use Rattle.lot_inv.specs.declared.lot_key.LotKey.{LotKey}
 use Rattle.lot_ledger.specs.declared.leg.Leg.{Leg}
 use Rattle.lot_command.specs.declared.command.Posting.{Posting}
@@ -63,13 +64,22 @@ abbrev pub add_weight : List (List ℕ × ℤ) → List ℕ × ℤ → List (Lis
 add_weight [] w = w ∷ []
 add_weight (r ∷ rs) w = if same_text w.0 r.0 then (r.0, r.1 +ℤ w.1) ∷ rs else r ∷ add_weight rs w
 
--- each residual is at most so many times 10^34, which no weight reaches
-abbrev pub AreWithin : ℕ → List (List ℕ × ℤ) → Type 0
-AreWithin n rs = AllByRecursion (λ (r : List ℕ × ℤ). unsigned_abs r.1 ≤ n * 10 ^ 34) rs
+-- the residual of a currency, zero where the currency doesn't appear
+abbrev pub residual_in : List ℕ → List (List ℕ × ℤ) → ℤ
+residual_in currency rs = unwrap_or (lookup (same_text currency) rs) (pos 0)
 
--- whether a weight is so many units: it has no decimal past the eighth, and is in range
+-- How many units legs move, sign aside. The legs of one posting have one sign and add up to its units, so a posting
+-- moves fewer than the limit of units, however many legs it has.
+abbrev pub units_moved : List Leg → ℕ
+units_moved legs = sum_by (λ (leg : Leg). unsigned_abs leg.units) legs
+
+-- each residual is at most what so many units weigh at the limit of rates
+abbrev pub AreWithin : ℕ → List (List ℕ × ℤ) → Type 0
+AreWithin moved rs = AllByRecursion (λ (r : List ℕ × ℤ). unsigned_abs r.1 ≤ moved * rate_limit) rs
+
+-- whether a weight is that of so many units: it has no decimal past the eighth, and the units are in range
 abbrev pub fits_units : ℤ → Bool
-fits_units z = (unsigned_abs z % one == 0) && nat_lt (unsigned_abs z) (10 ^ 18 * one)
+fits_units z = (unsigned_abs z % one == 0) && nat_lt (unsigned_abs z) (units_limit * one)
 
 abbrev pub is_zero : ℤ → Bool
 is_zero z = int_eq z (pos 0)

@@ -1,8 +1,9 @@
-ghost use Rattle.std.specs.Prelude.{◌≡◌, ◌<◌, ◌≤◌, ◌^◌, unsigned_abs, [], None, not, length, map, filter, IfOk, IfErr, OnOk};
+ghost use Rattle.std.specs.Prelude.{◌≡◌, ◌≤◌, ◌*◌, ◌+ℤ◌, [], None, not, map, filter, IfOk, IfErr, OnOk};
 ghost use Rattle.std.specs.Option.{option_map};
+ghost use Rattle.lot_num.specs.Amount.{IsWide, units_limit};
 ghost use Rattle.lot_ledger.specs.declared.refusal.Refusal.TheVariants.{InexactFill};
-ghost use Rattle.lot_ledger.specs.Balance.{residuals, add_weight, AreWithin, opposite, fits_units, is_zero};
-ghost use Rattle.lot_ledger.specs.Step.{Stops, first_currency, not_balanced};
+ghost use Rattle.lot_ledger.specs.Balance.{residuals, residual_in, add_weight, units_moved, opposite, fits_units, is_zero};
+ghost use Rattle.lot_ledger.specs.Step.{Stops, first_currency, most_postings, not_balanced};
 
 use crate::leg::Leg;
 use crate::refusal::{Refusal, Stop};
@@ -28,9 +29,9 @@ impl Model for Residuals {
 }
 
 impl Residuals {
-    /// What the legs leave over.
+    /// Returns what the legs leave over. The error is out of memory.
     pub fn of(alloc: Global, legs: &[Leg]) -> Result<Residuals, AllocError>
-        requires { length legs.now ≤ 64 }
+        requires { units_moved legs.now ≤ most_postings * units_limit }
         ensures { IfOk result (λ r. r ≡ residuals legs.now) }
     {
         let mut residuals = Residuals {
@@ -43,10 +44,9 @@ impl Residuals {
         Ok(residuals)
     }
 
-    /// Adds one more weight to what is left over in its currency. The sum of so few weights always is a `Wide`.
+    /// Adds one more weight to what is left over in its currency. The error is out of memory.
     fn add(&mut self, currency: &Commodity, weight: Wide) -> Result<(), AllocError>
-        requires room { AreWithin 63 self.now }
-        requires small { unsigned_abs weight < 10 ^ 34 }
+        requires { IsWide (residual_in currency.now self.old +ℤ weight) }
         ensures { OnOk result (self.new ≡ add_weight self.old (currency.now, weight)) }
     {
         let sum = match self.sums.get(currency) {

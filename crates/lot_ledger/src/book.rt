@@ -8,12 +8,12 @@ ghost use Rattle.lot_inv.specs.Inventory.{non_zero};
 ghost use Rattle.lot_ledger.specs.Step.{Step, Accept, opened_on, opening_day};
 ghost use Rattle.lot_ledger.specs.Book.{Judges};
 
-use lot_command::Command;
-use crate::decide::Change;
+use crate::decide::{Change, decide};
 use crate::leg::{Entry, Position};
 use crate::refusal::Stop;
 use crate::verdict::Verdict;
 use lot_base::{Account, Day};
+use lot_command::Command;
 use lot_num::Units;
 use std::alloc::{AllocError, Global};
 use std::collections::BTreeMap;
@@ -60,7 +60,7 @@ impl Book {
     pub fn judge(self, alloc: Global, command: Command) -> Result<(Book, Verdict), AllocError>
         ensures { IfOk result (λ judged. Judges self command judged.1 judged.0) }
     {
-        match self.decide(alloc, &command) {
+        match decide(alloc, &self, &command) {
             Ok(change) => Ok((self.record(command, change)?, Verdict::Accepted)),
             Err(Stop::Refused(refusal)) => Ok((self, Verdict::Refused(refusal))),
             Err(Stop::Memory) => Err(AllocError),

@@ -1,10 +1,10 @@
-ghost use Rattle.std.specs.Prelude.{◌≡◌, ◌+◌, ◌++◌, ◌∷◌, [], None, Some, length, IfOk, IfErr, OnOk, MatchOption, MatchResult, SomeIff};
+ghost use Rattle.std.specs.Prelude.{◌≡◌, ◌≤◌, ◌+◌, ◌*◌, ◌++◌, ◌∷◌, [], None, Some, length, IfOk, IfErr, OnOk, MatchOption, MatchResult, SomeIff};
 ghost use Rattle.std.specs.Option.{option_or};
 ghost use Rattle.std.specs.BTreeMap.{IsEmpty};
 ghost use Rattle.lot_command.specs.declared.command.Command.TheVariants.{Opening as OpeningOf, Transaction as TransactionOf};
-ghost use Rattle.lot_num.specs.Amount.{IsUnits};
+ghost use Rattle.lot_num.specs.Amount.{IsUnits, units_limit};
 ghost use Rattle.lot_ledger.specs.Leg.{ListsHeld, held, legs_of};
-ghost use Rattle.lot_ledger.specs.Balance.{lot_at, elided_postings, first_legs, fill_of};
+ghost use Rattle.lot_ledger.specs.Balance.{lot_at, elided_postings, first_legs, fill_of, units_moved};
 ghost use Rattle.lot_ledger.specs.Step.{Step, Accept, Stops, StopsStep, opened_on, opens_after, unknown_account, not_open_yet, too_many_postings, two_elided, out_of_range, inexact_fill};
 
 use crate::balance::Residuals;
@@ -41,181 +41,178 @@ impl Change {
     }
 }
 
-impl Book {
-    /// What a command would change, or why it is refused.
-    pub(crate) fn decide(&self, alloc: Global, command: &Command) -> Result<Change, Stop>
-        ensures accepted { IfOk result (λ change. Step self.now command.now (Accept change.legs)) }
-        ensures held { IfOk result (λ change. ListsHeld (legs_of self.now) change.legs change.held.entries) }
-        ensures refused { IfErr result (λ stop. StopsStep self.now command.now stop) }
-    {
-        match command {
-            Command::Opening(opening) => self.decide_opening(alloc, opening),
-            Command::Transaction(transaction) => self.decide_transaction(alloc, transaction),
-        }
+/// What a command would change, or why it is refused.
+pub(crate) fn decide(alloc: Global, book: &Book, command: &Command) -> Result<Change, Stop>
+    ensures accepted { IfOk result (λ change. Step book.now command.now (Accept change.legs)) }
+    ensures held { IfOk result (λ change. ListsHeld (legs_of book.now) change.legs change.held.entries) }
+    ensures refused { IfErr result (λ stop. StopsStep book.now command.now stop) }
+{
+    match command {
+        Command::Opening(opening) => decide_opening(alloc, book, opening),
+        Command::Transaction(transaction) => decide_transaction(alloc, book, transaction),
     }
+}
 
-    fn decide_opening(&self, alloc: Global, opening: &Opening) -> Result<Change, Stop>
-        ensures accepted { IfOk result (λ change. Step self.now (OpeningOf opening.now) (Accept change.legs)) }
-        ensures held { IfOk result (λ change. ListsHeld (legs_of self.now) change.legs change.held.entries) }
-        ensures refused { IfErr result (λ stop. StopsStep self.now (OpeningOf opening.now) stop) }
-    {
-        if self.opened(&opening.account).is_some() {
-            return Err(Refusal::AlreadyOpen.into());
-        }
-        Ok(Change::new(alloc))
+fn decide_opening(alloc: Global, book: &Book, opening: &Opening) -> Result<Change, Stop>
+    ensures accepted { IfOk result (λ change. Step book.now (OpeningOf opening.now) (Accept change.legs)) }
+    ensures held { IfOk result (λ change. ListsHeld (legs_of book.now) change.legs change.held.entries) }
+    ensures refused { IfErr result (λ stop. StopsStep book.now (OpeningOf opening.now) stop) }
+{
+    if book.opened(&opening.account).is_some() {
+        return Err(Refusal::AlreadyOpen.into());
     }
+    Ok(Change::new(alloc))
+}
 
-    /// Each step looks at all postings before the next one does.
-    fn decide_transaction(&self, alloc: Global, transaction: &Transaction) -> Result<Change, Stop>
-        ensures accepted { IfOk result (λ change. Step self.now (TransactionOf transaction.now) (Accept change.legs)) }
-        ensures held { IfOk result (λ change. ListsHeld (legs_of self.now) change.legs change.held.entries) }
-        ensures refused { IfErr result (λ stop. StopsStep self.now (TransactionOf transaction.now) stop) }
-    {
-        let postings = transaction.postings.as_slice();
-        self.every_account_known(postings)?;
-        self.every_account_open(postings, transaction.day)?;
-        few_postings(postings)?;
-        let elided = only_elided(postings)?;
-        let mut change = self.post_amounts(alloc, transaction)?;
-        let residuals = Residuals::of(alloc, change.legs.as_slice())?;
-        match elided {
-            Some(elided) => self.fill(alloc, &residuals, elided, &mut change)?,
-            None => residuals.balanced()?,
-        }
-        Ok(change)
+/// Each step looks at all postings before the next one does.
+fn decide_transaction(alloc: Global, book: &Book, transaction: &Transaction) -> Result<Change, Stop>
+    ensures accepted { IfOk result (λ change. Step book.now (TransactionOf transaction.now) (Accept change.legs)) }
+    ensures held { IfOk result (λ change. ListsHeld (legs_of book.now) change.legs change.held.entries) }
+    ensures refused { IfErr result (λ stop. StopsStep book.now (TransactionOf transaction.now) stop) }
+{
+    let postings = transaction.postings.as_slice();
+    every_account_known(book, postings)?;
+    every_account_open(book, postings, transaction.day)?;
+    few_postings(postings)?;
+    let elided = only_elided(postings)?;
+    let mut change = post_amounts(alloc, book, transaction)?;
+    let residuals = Residuals::of(alloc, change.legs.as_slice())?;
+    match elided {
+        Some(elided) => fill(alloc, book, &residuals, elided, &mut change)?,
+        None => residuals.balanced()?,
     }
+    Ok(change)
+}
 
-    fn every_account_known(&self, postings: &[Posting]) -> Result<(), Refusal>
-        ensures { MatchResult result (λ _. unknown_account self.now postings.now ≡ None)
-            (λ refusal. unknown_account self.now postings.now ≡ Some refusal) }
+fn every_account_known(book: &Book, postings: &[Posting]) -> Result<(), Refusal>
+    ensures { MatchResult result (λ _. unknown_account book.now postings.now ≡ None)
+        (λ refusal. unknown_account book.now postings.now ≡ Some refusal) }
+{
+    match postings
+        .iter()
+        .position(|posting| book.opened(&posting.account).is_none())
     {
-        match postings
-            .iter()
-            .position(|posting| self.opened(&posting.account).is_none())
-        {
-            Some(index) => Err(Refusal::UnknownAccount { posting: index + 1 }),
-            None => Ok(()),
-        }
+        Some(index) => Err(Refusal::UnknownAccount { posting: index + 1 }),
+        None => Ok(()),
     }
+}
 
-    fn every_account_open(&self, postings: &[Posting], day: Day) -> Result<(), Refusal>
-        ensures { MatchResult result (λ _. not_open_yet self.now day postings.now ≡ None)
-            (λ refusal. not_open_yet self.now day postings.now ≡ Some refusal) }
+fn every_account_open(book: &Book, postings: &[Posting], day: Day) -> Result<(), Refusal>
+    ensures { MatchResult result (λ _. not_open_yet book.now day postings.now ≡ None)
+        (λ refusal. not_open_yet book.now day postings.now ≡ Some refusal) }
+{
+    match postings
+        .iter()
+        .position(|posting| opens_after(book, day, &posting.account))
     {
-        match postings
-            .iter()
-            .position(|posting| self.opens_after(day, &posting.account))
-        {
-            Some(index) => Err(Refusal::NotOpenYet { posting: index + 1 }),
-            None => Ok(()),
-        }
+        Some(index) => Err(Refusal::NotOpenYet { posting: index + 1 }),
+        None => Ok(()),
     }
+}
 
-    /// Whether the account was opened, but after the day.
-    fn opens_after(&self, day: Day, account: &Account) -> bool
-        ensures { result ≡ opens_after day (opened_on self.now account.now) }
-    {
-        self.opened(account).is_some_and(|opened| day < opened)
-    }
+/// Whether the account was opened, but after the day.
+fn opens_after(book: &Book, day: Day, account: &Account) -> bool
+    ensures { result ≡ opens_after day (opened_on book.now account.now) }
+{
+    book.opened(account).is_some_and(|opened| day < opened)
+}
 
-    /// The legs of the postings with amounts.
-    fn post_amounts(&self, alloc: Global, transaction: &Transaction) -> Result<Change, Stop>
-        ensures legs { IfOk result (λ change. change.legs ≡ first_legs (length self.now + 1) transaction.now) }
-        ensures held { IfOk result (λ change. ListsHeld (legs_of self.now) change.legs change.held.entries) }
-        ensures in_range { OnOk result
-            (out_of_range (legs_of self.now) (first_legs (length self.now + 1) transaction.now) ≡ None) }
-        ensures refused { IfErr result (λ stop.
-            Stops (out_of_range (legs_of self.now) (first_legs (length self.now + 1) transaction.now)) stop) }
-    {
-        let mut change = Change::new(alloc);
-        for (index, posting) in transaction.postings.as_slice().iter().enumerate() {
-            if let Some(amount) = &posting.amount {
-                let leg = Leg {
-                    entry: self.next_entry(),
-                    posting: index + 1,
-                    place: 0,
-                    position: position_of(&posting.account, amount, transaction.day)?,
-                    units: amount.units,
-                };
-                self.post(leg, &mut change)?;
-            }
-        }
-        Ok(change)
-    }
-
-    /// The plain legs of the posting without amount, which take what the others leave over.
-    fn fill(
-        &self,
-        alloc: Global,
-        residuals: &Residuals,
-        elided: Elided<'_>,
-        change: &mut Change,
-    ) -> Result<(), Stop>
-        requires held { ListsHeld (legs_of self.now) change.old.legs change.old.held.entries }
-        ensures exact { OnOk result (inexact_fill (elided.entry ∷ []) residuals.now ≡ None) }
-        ensures legs { OnOk result (change.new.legs ≡ change.old.legs
-            ++ fill_of (length self.now + 1) (elided.entry ∷ []) residuals.now) }
-        ensures held { OnOk result (ListsHeld (legs_of self.now) change.new.legs change.new.held.entries) }
-        ensures in_range { OnOk result (out_of_range (legs_of self.now ++ change.old.legs)
-            (fill_of (length self.now + 1) (elided.entry ∷ []) residuals.now) ≡ None) }
-        ensures refused { IfErr result (λ stop. Stops
-            (option_or (inexact_fill (elided.entry ∷ []) residuals.now)
-            (out_of_range (legs_of self.now ++ change.old.legs)
-            (fill_of (length self.now + 1) (elided.entry ∷ []) residuals.now))) stop) }
-    {
-        for (index, (currency, units)) in residuals.fills(alloc)?.into_iter().enumerate() {
-            let position = Position {
-                account: elided.account.copy()?,
-                commodity: currency,
-                lot: None,
-            };
+/// The legs of the postings with amounts.
+fn post_amounts(alloc: Global, book: &Book, transaction: &Transaction) -> Result<Change, Stop>
+    ensures legs { IfOk result (λ change. change.legs ≡ first_legs (length book.now + 1) transaction.now) }
+    ensures moved { IfOk result (λ change. units_moved change.legs ≤ length transaction.now.postings * units_limit) }
+    ensures held { IfOk result (λ change. ListsHeld (legs_of book.now) change.legs change.held.entries) }
+    ensures in_range { OnOk result
+        (out_of_range (legs_of book.now) (first_legs (length book.now + 1) transaction.now) ≡ None) }
+    ensures refused { IfErr result (λ stop.
+        Stops (out_of_range (legs_of book.now) (first_legs (length book.now + 1) transaction.now)) stop) }
+{
+    let mut change = Change::new(alloc);
+    for (index, posting) in transaction.postings.as_slice().iter().enumerate() {
+        if let Some(amount) = &posting.amount {
             let leg = Leg {
-                entry: self.next_entry(),
-                posting: elided.posting,
-                place: index,
-                position,
-                units,
+                entry: book.next_entry(),
+                posting: index + 1,
+                place: 0,
+                position: position_of(&posting.account, amount, transaction.day)?,
+                units: amount.units,
             };
-            self.post(leg, change)?;
+            post(book, leg, &mut change)?;
         }
-        Ok(())
     }
+    Ok(change)
+}
 
-    /// One more leg. Refused where what its position holds after it is no units.
-    fn post(&self, leg: Leg, change: &mut Change) -> Result<(), Stop>
-        requires held { ListsHeld (legs_of self.now) change.old.legs change.old.held.entries }
-        ensures legs { OnOk result (change.new.legs ≡ change.old.legs ++ leg ∷ []) }
-        ensures held { OnOk result (ListsHeld (legs_of self.now) change.new.legs change.new.held.entries) }
-        ensures in_range { OnOk result (out_of_range (legs_of self.now ++ change.old.legs) (leg ∷ []) ≡ None) }
-        ensures refused { IfErr result (λ stop.
-            Stops (out_of_range (legs_of self.now ++ change.old.legs) (leg ∷ [])) stop) }
-    {
-        let Some(held) = self.held_after(change, &leg) else {
-            return Err(Refusal::Range {
-                posting: leg.posting,
-            }
-            .into());
+/// The plain legs of the posting without amount, which take what the others leave over.
+fn fill(
+    alloc: Global,
+    book: &Book,
+    residuals: &Residuals,
+    elided: Elided<'_>,
+    change: &mut Change,
+) -> Result<(), Stop>
+    requires held { ListsHeld (legs_of book.now) change.old.legs change.old.held.entries }
+    ensures exact { OnOk result (inexact_fill (elided.entry ∷ []) residuals.now ≡ None) }
+    ensures legs { OnOk result (change.new.legs ≡ change.old.legs
+        ++ fill_of (length book.now + 1) (elided.entry ∷ []) residuals.now) }
+    ensures held { OnOk result (ListsHeld (legs_of book.now) change.new.legs change.new.held.entries) }
+    ensures in_range { OnOk result (out_of_range (legs_of book.now ++ change.old.legs)
+        (fill_of (length book.now + 1) (elided.entry ∷ []) residuals.now) ≡ None) }
+    ensures refused { IfErr result (λ stop. Stops
+        (option_or (inexact_fill (elided.entry ∷ []) residuals.now)
+        (out_of_range (legs_of book.now ++ change.old.legs)
+        (fill_of (length book.now + 1) (elided.entry ∷ []) residuals.now))) stop) }
+{
+    for (index, (currency, units)) in residuals.fills(alloc)?.into_iter().enumerate() {
+        let position = Position {
+            account: elided.account.copy()?,
+            commodity: currency,
+            lot: None,
         };
-        change.held.insert(leg.position.copy()?, held)?;
-        change.legs.push(leg)?;
-        Ok(())
+        let leg = Leg {
+            entry: book.next_entry(),
+            posting: elided.posting,
+            place: index,
+            position,
+            units,
+        };
+        post(book, leg, change)?;
     }
+    Ok(())
+}
 
-    /// What the leg's position holds after it, if that is units.
-    fn held_after(&self, change: &Change, leg: &Leg) -> Option<Units>
-        requires { ListsHeld (legs_of self.now) change.now.legs change.now.held.entries }
-        ensures { SomeIff result
-            (IsUnits (held (legs_of self.now ++ change.now.legs ++ leg.now ∷ []) leg.now.position))
-            (held (legs_of self.now ++ change.now.legs ++ leg.now ∷ []) leg.now.position) }
-    {
-        let told = change.held.get(&leg.position).copied();
-        match told.or(self.held(&leg.position)) {
-            Some(held) => held.checked_add(leg.units),
-            // Where nothing is held the leg's units are the sum. They are in range, which their mantissa tells.
-            // They are units, as they stand. Made anew, the proof sees it.
-            None => Units::from_mantissa(leg.units.mantissa()),
+/// One more leg. Refused where what its position holds after it is no units.
+fn post(book: &Book, leg: Leg, change: &mut Change) -> Result<(), Stop>
+    requires held { ListsHeld (legs_of book.now) change.old.legs change.old.held.entries }
+    ensures legs { OnOk result (change.new.legs ≡ change.old.legs ++ leg ∷ []) }
+    ensures moved { OnOk result (units_moved change.new.legs ≤ units_moved change.old.legs + units_limit) }
+    ensures held { OnOk result (ListsHeld (legs_of book.now) change.new.legs change.new.held.entries) }
+    ensures in_range { OnOk result (out_of_range (legs_of book.now ++ change.old.legs) (leg ∷ []) ≡ None) }
+    ensures refused { IfErr result (λ stop.
+        Stops (out_of_range (legs_of book.now ++ change.old.legs) (leg ∷ [])) stop) }
+{
+    let _in_range = leg.units.mantissa(); // for the clause on the units moved
+    let Some(held) = held_after(book, change, &leg) else {
+        return Err(Refusal::Range {
+            posting: leg.posting,
         }
-    }
+        .into());
+    };
+    change.held.insert(leg.position.copy()?, held)?;
+    change.legs.push(leg)?;
+    Ok(())
+}
+
+/// What the leg's position holds after it, if that is units.
+fn held_after(book: &Book, change: &Change, leg: &Leg) -> Option<Units>
+    requires { ListsHeld (legs_of book.now) change.now.legs change.now.held.entries }
+    ensures { SomeIff result
+        (IsUnits (held (legs_of book.now ++ change.now.legs ++ leg.now ∷ []) leg.now.position))
+        (held (legs_of book.now ++ change.now.legs ++ leg.now ∷ []) leg.now.position) }
+{
+    let listed = change.held.get(&leg.position).copied();
+    let held = listed.or(book.held(&leg.position));
+    held.unwrap_or(Units::ZERO).checked_add(leg.units)
 }
 
 /// The posting without amount: its place, from 1, and its account. A contract sees the two as a pair.

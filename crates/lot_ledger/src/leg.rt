@@ -1,4 +1,5 @@
-ghost use Rattle.std.specs.Prelude.{◌≡◌, ◌<◌, ◌^◌, unsigned_abs, IfOk};
+ghost use Rattle.std.specs.Prelude.{◌≡◌, ◌≤◌, ◌*◌, unsigned_abs, IfOk};
+ghost use Rattle.lot_num.specs.Amount.{rate_limit};
 ghost use Rattle.lot_ledger.specs.Balance.{weight_of};
 
 use lot_base::{Account, Commodity};
@@ -52,7 +53,7 @@ impl Leg {
     /// units themselves.
     pub fn weight(&self) -> (&Commodity, Wide)
         ensures value { (result.0.now, result.1) ≡ weight_of self.now }
-        ensures bound { unsigned_abs result.1 < 10 ^ 34 }
+        ensures bound { unsigned_abs result.1 ≤ unsigned_abs self.now.units * rate_limit }
     {
         match &self.position.lot {
             Some(lot) => (&lot.currency, weight(self.units, lot.number)),

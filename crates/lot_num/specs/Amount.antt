@@ -1,5 +1,5 @@
 -- Which whole numbers are mantissas (docs/RULES.md, Numbers).
-use Rattle.std.specs.Prelude.{ℕ, ◌^◌, ◌*◌, ◌<◌, ◌≤◌, ℤ, unsigned_abs}
+use Rattle.std.specs.Prelude.{ℕ, ◌^◌, ◌<◌, ◌≤◌, ℤ, unsigned_abs}
 
 -- One, as a mantissa at scale 8.
 abbrev pub one : ℕ
@@ -18,10 +18,6 @@ rate_limit = 10 ^ 16
 -- the absolute mantissas of wide numbers are at most this
 abbrev pub greatest_wide : ℕ
 greatest_wide = 10 ^ 38
-
--- the absolute weights of units at a rate are below this
-abbrev pub weight_limit : ℕ
-weight_limit = units_limit * rate_limit
 
 -- ---- The kinds.
 

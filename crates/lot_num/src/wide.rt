@@ -1,6 +1,6 @@
-ghost use Rattle.std.specs.Prelude.{◌≡◌, ◌<◌, ℤ, pos, ◌+ℤ◌, ◌*ℤ◌, neg_ℤ, unsigned_abs, SomeIff, IfOk, IfSome};
+ghost use Rattle.std.specs.Prelude.{◌≡◌, ◌≤◌, ◌*◌, ℤ, pos, ◌+ℤ◌, ◌*ℤ◌, neg_ℤ, unsigned_abs, SomeIff, IfOk, IfSome};
 ghost use Rattle.std.specs.String.{string_bytes};
-ghost use Rattle.lot_num.specs.Amount.{weight_limit};
+ghost use Rattle.lot_num.specs.Amount.{rate_limit};
 
 use crate::printed::{Decimals, amount_text};
 use crate::rate::Rate;
@@ -102,7 +102,7 @@ impl Wide {
 /// The exact weight of so many units at a rate, which always is a weight: units times rate, at scale 16.
 pub fn weight(units: Units, rate: Rate) -> Wide
     ensures value { result ≡ units *ℤ pos rate }
-    ensures bound { unsigned_abs result < weight_limit }
+    ensures bound { unsigned_abs result ≤ unsigned_abs units * rate_limit }
 {
     Wide::exactly(i128::from(units.mantissa()) * i128::from(rate.mantissa()))
 }

@@ -1,9 +1,9 @@
--- The sum so far is bounded, so the new one is a weight; the entry takes it in place, or goes last.
+-- The sum is a weight, as required; the entry takes it in place, or goes last.
 use Rattle.std.proofs.Common.{◌≡◌, Some, None, ◌+ℤ◌, sym, ap, ◌∙◌, arith}
 use Rattle.std.specs.Map.{lookup}
 use Rattle.indexmap.specs.IndexMap.{insert_entry}
 use Rattle.lot_base.specs.Text.{same_text}
-use Rattle.lot_ledger.proofs.BalanceResiduals.{insert_entry-adds, insert_entry-begins, lookup-within, sum_size}
+use Rattle.lot_ledger.proofs.BalanceResiduals.{insert_entry-adds, insert_entry-begins}
 use Rattle.lot_ledger.proofs.balance.Residuals.add.Goals as goal
 use Rattle.lot_ledger.proofs.balance.Residuals.add.Goals.{in-Some+in-Some-checked_add, in-None}
 
@@ -13,8 +13,8 @@ unreachable-requires c =
     let currency = c.args.currency.now in
     let sum = c.in-Some.sum.now in
     let found : lookup (same_text currency) before ≡ Some sum = ap (lookup (same_text currency)) (sym c.self.view_is) ∙ sym c.in-Some.ensures.value in
-    let size = lookup-within 63 before currency sum c.requires.room found in
-    c.in-None-checked_add.ensures (omega (arith, sum_size sum c.args.weight))
+    let fits = rw found at c.requires in
+    c.in-None-checked_add.ensures fits
 
 pub returns : goal.returns
 returns c =

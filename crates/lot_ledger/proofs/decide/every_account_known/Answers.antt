@@ -7,16 +7,16 @@ use Rattle.std.proofs.lemmas.Iterator.Search.{position_from_yields_List}
 use Rattle.lot_ledger.specs.declared.refusal.Refusal.TheVariants.{UnknownAccount}
 use Rattle.lot_command.specs.declared.command.Posting.{Posting}
 use Rattle.lot_ledger.specs.Step.{opened_on}
-use Rattle.lot_ledger.proofs.book.Book.every_account_known.Goals as goal
+use Rattle.lot_ledger.proofs.decide.every_account_known.Goals as goal
 
 pub returns-in-Some : goal.returns-in-Some
 returns-in-Some c =
-    let test = λ (p : Posting). is_none (opened_on c.args.self.now p.account) in
+    let test = λ (p : Posting). is_none (opened_on c.args.book.now p.account) in
     let found : c.position.result ≡ position test c.args.postings.now = position_from_yields_List test _ _ c.position.result c.position.ensures.ran (YieldsList-from_slice c.args.postings.now cc) (λ x b q k. search (rules, tests)) in
     ap (λ o. option_map UnknownAccount (option_map suc o)) (sym found ∙ c.in-Some.is) ∙ ap (λ n. Some (UnknownAccount n)) (sym (add-one c.in-Some.index))
 
 pub returns-in-None : goal.returns-in-None
 returns-in-None c =
-    let test = λ (p : Posting). is_none (opened_on c.args.self.now p.account) in
+    let test = λ (p : Posting). is_none (opened_on c.args.book.now p.account) in
     let found : c.position.result ≡ position test c.args.postings.now = position_from_yields_List test _ _ c.position.result c.position.ensures.ran (YieldsList-from_slice c.args.postings.now cc) (λ x b q k. search (rules, tests)) in
     ap (λ o. option_map UnknownAccount (option_map suc o)) (sym found ∙ c.in-None.is)

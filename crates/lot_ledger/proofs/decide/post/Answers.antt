@@ -4,11 +4,11 @@ use Rattle.std.specs.Map.{lookup}
 use Rattle.lot_ledger.specs.declared.leg.Position.{Position}
 use Rattle.lot_ledger.specs.Leg.{held, legs_of, same_position}
 use Rattle.lot_ledger.proofs.BookLemmas.{ListsHeld-push}
-use Rattle.lot_ledger.proofs.book.Book.post.Goals as goal
+use Rattle.lot_ledger.proofs.decide.post.Goals as goal
 
 pub returns-clause-held : goal.returns-clause-held
 returns-clause-held c =
-    let before = legs_of c.args.self.now in
+    let before = legs_of c.args.book.now in
     let leg = c.args.leg in
     let change = c.args.change.now in
     let copied : c.in_ok-copy.field-0 ≡ leg.position = c.in_ok-copy.ensures in

@@ -4,11 +4,11 @@ use Rattle.lot_ledger.specs.Leg.{legs_of}
 use Rattle.lot_ledger.specs.Balance.{legs_for, opposite, is_zero}
 use Rattle.lot_ledger.specs.Step.{out_of_range}
 use Rattle.lot_ledger.proofs.BookLemmas.{filled, legs_for-filled}
-use Rattle.lot_ledger.proofs.book.Book.fill.Goals as goal
+use Rattle.lot_ledger.proofs.decide.fill.Goals as goal
 
 pub loop-index-init : goal.loop-index-init
 loop-index-init c =
-    let entry = length c.args.self.now + 1 in
+    let entry = length c.args.book.now + 1 in
     let posting = c.elided.inside.posting in
     let account = c.elided.inside.account.now in
     let rs = filter (λ (r : List ℕ × ℤ). not (is_zero r.1)) c.args.residuals.now in
@@ -19,5 +19,5 @@ loop-index-init c =
     record {
       tells = c.requires.held;
       legs = ap (λ ls. c.args.change.now.legs ++ ls) left;
-      range = ap (out_of_range (legs_of c.args.self.now ++ c.args.change.now.legs)) left;
+      range = ap (out_of_range (legs_of c.args.book.now ++ c.args.change.now.legs)) left;
     }
