@@ -22,19 +22,19 @@ pub struct Opening {
 #[derive(Drop)]
 pub struct Transaction {
     pub day: Day,
-    /// What it says of itself, if anything.
+    /// The note on it, if there is one.
     pub narration: Option<Note>,
     pub postings: Items<Posting>,
 }
 
-/// One line of a transaction. A posting without amount takes what the others leave over.
+/// One line of a transaction. A posting without an amount is elided: it takes what balances the others.
 #[derive(Debug, PartialEq, Eq, Drop)]
 pub struct Posting {
     pub account: Account,
     pub amount: Option<Amount>,
 }
 
-/// So many units of a commodity, and what one of them cost, where a lot is bought.
+/// Units of a commodity, and what one of them cost, where a lot is bought.
 #[derive(Debug, PartialEq, Eq, Drop)]
 pub struct Amount {
     pub units: Units,
@@ -42,7 +42,7 @@ pub struct Amount {
     pub cost: Option<Cost>,
 }
 
-/// What one unit of a lot cost.
+/// What one unit of a lot cost: a rate in a currency.
 #[derive(Debug, PartialEq, Eq, Drop)]
 pub struct Cost {
     pub number: Rate,

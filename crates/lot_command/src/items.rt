@@ -18,7 +18,7 @@ impl<T> Model for Items<T> {
 impl<T: Drop> Items<T> {
     ghost use Rattle.std.specs.Prelude.{◌≡◌, [], ◌∷◌, ◌++◌, IfErr, OnOk, OnErr};
 
-    /// No items.
+    /// Returns an empty list.
     pub fn new(alloc: Global) -> Items<T>
         ensures { result ≡ [] }
     {
@@ -27,8 +27,7 @@ impl<T: Drop> Items<T> {
         }
     }
 
-    /// Puts one more item behind the others. Where there is no memory for it, they stay as they were, and the item is
-    /// given back.
+    /// Appends an item. Where there is no memory for it, the list is unchanged, and the error gives the item back.
     pub fn push(&mut self, item: T) -> Result<(), AllocFailed<T>>
         ensures ok { OnOk result (self.new ≡ self.old ++ item ∷ []) }
         ensures err { OnErr result (self.new ≡ self.old) }
@@ -37,7 +36,7 @@ impl<T: Drop> Items<T> {
         self.items.push(item)
     }
 
-    /// All of them.
+    /// Returns all items.
     pub fn as_slice(&self) -> &[T]
         ensures { result.now ≡ self.now }
     {

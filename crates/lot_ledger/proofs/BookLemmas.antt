@@ -39,29 +39,29 @@ non_zero-or z = elim (cases_Bool (int_eq z (pos 0))) [
   | inr other ↦ rw other refl
 ]
 
-told-or : (told : Option ℤ) (z : ℤ) → unwrap_or (option_or told (non_zero z)) (pos 0) ≡ unwrap_or told z
-told-or None z = non_zero-or z
-told-or (Some t) z = refl
+listed-or : (listed : Option ℤ) (z : ℤ) → unwrap_or (option_or listed (non_zero z)) (pos 0) ≡ unwrap_or listed z
+listed-or None z = non_zero-or z
+listed-or (Some t) z = refl
 
 -- what a position holds after one more leg there
-pub held-after : (before legs : List Leg) (leg : Leg) (told : List (Position × ℤ)) (found : Option ℤ) → ListsHeld before legs told
-    → found ≡ option_or (lookup (same_position leg.position) told) (non_zero (held before leg.position))
+pub held-after : (before legs : List Leg) (leg : Leg) (listed : List (Position × ℤ)) (found : Option ℤ) → ListsHeld before legs listed
+    → found ≡ option_or (lookup (same_position leg.position) listed) (non_zero (held before leg.position))
     → held (before ++ legs ++ leg ∷ []) leg.position ≡ unwrap_or found (pos 0) +ℤ leg.units
-held-after before legs leg told found tells is =
-    held-here (before ++ legs) leg ∙ ap (λ z. z +ℤ leg.units) (sym (tells leg.position) ∙ sym (told-or (lookup (same_position leg.position) told) (held before leg.position)) ∙ ap (λ (o : Option ℤ). unwrap_or o (pos 0)) (sym is))
+held-after before legs leg listed found lists is =
+    held-here (before ++ legs) leg ∙ ap (λ z. z +ℤ leg.units) (sym (lists leg.position) ∙ sym (listed-or (lookup (same_position leg.position) listed) (held before leg.position)) ∙ ap (λ (o : Option ℤ). unwrap_or o (pos 0)) (sym is))
 
--- what is told stays right where the leg's position is told anew
-pub ListsHeld-push : (before legs : List Leg) (leg : Leg) (told new : List (Position × ℤ)) (after : ℤ) → ListsHeld before legs told
+-- what is listed stays right where the leg's position is listed anew
+pub ListsHeld-push : (before legs : List Leg) (leg : Leg) (listed new : List (Position × ℤ)) (after : ℤ) → ListsHeld before legs listed
     → after ≡ held (before ++ legs ++ leg ∷ []) leg.position
-    → ((q : Position) → lookup (same_position q) new ≡ cond (same_position leg.position q) (Some after) (lookup (same_position q) told))
+    → ((q : Position) → lookup (same_position q) new ≡ cond (same_position leg.position q) (Some after) (lookup (same_position q) listed))
     → ListsHeld before (legs ++ leg ∷ []) new
-ListsHeld-push before legs leg told new after tells is updates q =
+ListsHeld-push before legs leg listed new after lists is updates q =
     ap (λ o. unwrap_or o (held before q)) (updates q) ∙ by ∙ ap (λ ls. held ls q) (append_assoc before legs (leg ∷ []))
   where
-    by : unwrap_or (cond (same_position leg.position q) (Some after) (lookup (same_position q) told)) (held before q) ≡ held (before ++ legs ++ leg ∷ []) q
+    by : unwrap_or (cond (same_position leg.position q) (Some after) (lookup (same_position q) listed)) (held before q) ≡ held (before ++ legs ++ leg ∷ []) q
     by = elim (cases_Bool (same_position leg.position q)) [
       | inl here ↦ rw here (is ∙ ap (held (before ++ legs ++ leg ∷ [])) (one_position leg.position q here))
-      | inr apart ↦ rw apart (tells q ∙ sym (held-elsewhere (before ++ legs) leg q apart))
+      | inr apart ↦ rw apart (lists q ∙ sym (held-elsewhere (before ++ legs) leg q apart))
     ]
 
 -- ---- the legs of the postings with amounts

@@ -70,7 +70,7 @@ settled-turn k sum rows had now p sorted is = elim (cases_Bool (same_position k 
   | inr other ↦ rw (same_position-turned p k, other, is, other) refl
 ]
 
-settled-sum : (told : Option ℤ) (before : ℤ) → settled told (non_zero before) ≡ non_zero (unwrap_or told before)
+settled-sum : (listed : Option ℤ) (before : ℤ) → settled listed (non_zero before) ≡ non_zero (unwrap_or listed before)
 settled-sum None before = refl
 settled-sum (Some sum) before = refl
 
@@ -81,15 +81,15 @@ legs_of-push entries command legs =
 
 -- ---- one more entry
 
-pub IsKept-push : (entries : List Entry) (command : Command) (legs : List Leg) (days opened : BTreeMap (List ℕ) ℤ) (sums kept told : BTreeMap Position ℤ)
+pub IsKept-push : (entries : List Entry) (command : Command) (legs : List Leg) (days opened : BTreeMap (List ℕ) ℤ) (sums kept listed : BTreeMap Position ℤ)
     → IsKept entries days sums
     → Step entries command (Accept legs)
-    → ListsHeld (legs_of entries) legs told.entries
+    → ListsHeld (legs_of entries) legs listed.entries
     → ((account : List ℕ) → get text_cmp opened account ≡ option_or (opening_day account command) (get text_cmp days account))
-    → ((p : Position) → get position_cmp kept p ≡ settled (get position_cmp told p) (get position_cmp sums p))
+    → ((p : Position) → get position_cmp kept p ≡ settled (get position_cmp listed p) (get position_cmp sums p))
     → IsOrdered position_cmp kept
     → IsKept (entries ++ record { command = command; legs = legs } ∷ []) opened kept
-IsKept-push entries command legs days opened sums kept told was step tells openings holdings ordered =
+IsKept-push entries command legs days opened sums kept listed was step lists openings holdings ordered =
     let entry : Entry = record { command = command; legs = legs } in
     record {
       openings = λ account.
@@ -98,8 +98,8 @@ IsKept-push entries command legs days opened sums kept told was step tells openi
       inventory = record {
         in_order = ordered;
         each = λ p.
-            holdings p ∙ ap (settled (lookup (same_position p) told.entries)) (was.inventory.each p)
-            ∙ settled-sum (lookup (same_position p) told.entries) (held (legs_of entries) p)
-            ∙ ap non_zero (tells p ∙ ap (λ ls. held ls p) (sym (legs_of-push entries command legs)));
+            holdings p ∙ ap (settled (lookup (same_position p) listed.entries)) (was.inventory.each p)
+            ∙ settled-sum (lookup (same_position p) listed.entries) (held (legs_of entries) p)
+            ∙ ap non_zero (lists p ∙ ap (λ ls. held ls p) (sym (legs_of-push entries command legs)));
       };
     }

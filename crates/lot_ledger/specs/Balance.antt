@@ -1,4 +1,4 @@
--- What a transaction weighs, and what it leaves over (after Beancount's Language Syntax).
+-- What a transaction weighs, and its residuals (after Beancount's Language Syntax).
 use Rattle.std.specs.Prelude.{ℕ, suc, ◌*◌, ◌%◌, ◌≤◌, ◌==◌, ◌&&◌, Bool, not, nat_lt, if◌then◌else◌, List, [], ◌∷◌, ◌++◌, map, filter, sum_by, Option, None, Some, ℤ, pos, ◌+ℤ◌, ◌*ℤ◌, neg_ℤ, int_div, unsigned_abs}
 use Rattle.std.specs.Ordering.{int_eq}
 use Rattle.std.specs.List.{AllByRecursion}
@@ -84,9 +84,9 @@ fits_units z = (unsigned_abs z % one == 0) && nat_lt (unsigned_abs z) (units_lim
 abbrev pub is_zero : ℤ → Bool
 is_zero z = int_eq z (pos 0)
 
--- ---- The fill: what the posting without amount takes.
+-- ---- The fill: what the elided posting, which has no amount, takes.
 
--- the places, counted on from that of the first posting, and the accounts of the postings without amount
+-- the places, counted on from that of the first posting, and the accounts of the elided postings
 abbrev pub elided_postings : ℕ → List Posting → List (ℕ × List ℕ)
 elided_postings place [] = []
 elided_postings place (posting ∷ postings) =

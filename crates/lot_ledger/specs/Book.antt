@@ -11,13 +11,13 @@ use Rattle.lot_command.specs.declared.command.Command.{Command}
 use Rattle.lot_ledger.specs.Leg.{IsInventory, legs_of}
 use Rattle.lot_ledger.specs.Step.{Step, Accept, Refuse, opened_on}
 
--- a command judged on a book: what is said of it, and the book after it
+-- a command judged on a book: the verdict, and the book after it
 abbrev pub Judges : List Entry → Command → Verdict → List Entry → Type 0
 Judges before command Accepted after =
     (legs : List Leg) × Step before command (Accept legs) × (after ≡ before ++ record { command = command; legs = legs } ∷ [])
 Judges before command (Refused refusal) after = Step before command (Refuse refusal) × (after ≡ before)
 
--- commands judged in their order: what is said of each, and the book after all
+-- commands judged in their order: the verdict on each, and the book after all
 abbrev pub JudgesAll : List Entry → List Command → List Verdict → List Entry → Type 0
 JudgesAll before [] [] after = after ≡ before
 JudgesAll before (command ∷ commands) (verdict ∷ verdicts) after =
@@ -34,8 +34,8 @@ Continues before (entry ∷ entries) =
 abbrev pub IsBook : List Entry → Type 0
 IsBook entries = Continues [] entries
 
--- What a book keeps beside its entries says what they come to: the day on which each account was opened, and the
--- inventory of their legs.
+-- What a book keeps beside its entries agrees with them: the day on which each account was opened, and the inventory of
+-- their legs.
 pub record IsKept (entries : List Entry) (opened : BTreeMap (List ℕ) ℤ) (held : BTreeMap Position ℤ) : Type 0 where
   pub openings : (account : List ℕ) → get text_cmp opened account ≡ opened_on entries account
   pub inventory : IsInventory (legs_of entries) held.entries

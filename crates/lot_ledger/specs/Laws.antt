@@ -1,4 +1,4 @@
--- What the laws of steps and books say.
+-- The laws of steps and books.
 use Rattle.std.specs.Prelude.{◌≡◌, ℕ, ◌&&◌, Bool, if◌then◌else◌, List, map, filter, Option, None, Some, ℤ, pos}
 use Rattle.std.specs.Option.{is_some}
 use Rattle.lot_ledger.specs.declared.leg.Position.{Position}

@@ -35,12 +35,12 @@ pub record IsInventory (legs : List Leg) (rows : List (Position × ℤ)) : Type 
 abbrev pub legs_of : List Entry → List Leg
 legs_of entries = flat_map (λ (entry : Entry). entry.legs) entries
 
--- What more legs change is told rightly: after them each position holds what is told of it, or else what it held before.
+-- Rows list what further legs change: after them each position holds what is listed of it, or else what it held before.
 abbrev pub ListsHeld : List Leg → List Leg → List (Position × ℤ) → Type 0
-ListsHeld before legs told =
-    (position : Position) → unwrap_or (lookup (same_position position) told) (held before position) ≡ held (before ++ legs) position
+ListsHeld before legs listed =
+    (position : Position) → unwrap_or (lookup (same_position position) listed) (held before position) ≡ held (before ++ legs) position
 
--- what a position has once it is told: the new sum unless it is zero, or what it had where nothing is told of it
+-- what a position has once a change is recorded: the listed sum unless it is zero, or what it had where none is listed
 abbrev pub settled : Option ℤ → Option ℤ → Option ℤ
 settled None had = had
 settled (Some sum) had = non_zero sum

@@ -1,5 +1,5 @@
 -- What becomes of a command: it is accepted with its legs, or refused by the first refusal whose condition holds.
--- Each condition looks over all entries of the book (docs/RULES.md, Refusals).
+-- Each condition looks over all entries of the book (docs/RULES.md, Order of refusals).
 use Rattle.std.specs.Prelude.{◌≡◌, ◌≢◌, ℕ, suc, ◌+◌, Bool, false, not, nat_lt, nat_le, if◌then◌else◌, List, [], ◌∷◌, ◌++◌, length, find, Option, None, Some, ℤ, int_lt, unsigned_abs, position, ⊤}
 use Rattle.std.specs.Option.{option_map, option_or, is_none}
 use Rattle.lot_ledger.specs.declared.leg.Leg.{Leg}
@@ -60,7 +60,7 @@ too_many_postings postings = if nat_lt most_postings (length postings) then Some
 abbrev pub two_elided : List (ℕ × List ℕ) → Option Refusal
 two_elided empty = if nat_le 2 (length empty) then Some TwoElided else None
 
--- the posting of the first leg after which what its position holds is no units, each leg seeing those before it
+-- the posting of the first leg after which its position is out of the range of units, each leg seeing those before it
 abbrev pub breaking_posting : List Leg → List Leg → Option ℕ
 breaking_posting before [] = None
 breaking_posting before (leg ∷ legs) =
@@ -74,12 +74,12 @@ out_of_range before legs = option_map Range (breaking_posting before legs)
 abbrev pub first_currency : (ℤ → Bool) → List (List ℕ × ℤ) → Option (List ℕ)
 first_currency fails rs = option_map (λ (r : List ℕ × ℤ). r.0) (find (λ (r : List ℕ × ℤ). fails r.1) rs)
 
--- there is a posting without amount, and a residual that isn't units
+-- there is an elided posting, and a residual that isn't that of units
 abbrev pub inexact_fill : List (ℕ × List ℕ) → List (List ℕ × ℤ) → Option Refusal
 inexact_fill [] rs = None
 inexact_fill (empty ∷ more) rs = option_map InexactFill (first_currency (λ z. not (fits_units z)) rs)
 
--- there is no posting without amount, and a residual that isn't zero
+-- there is no elided posting, and a residual that isn't zero
 abbrev pub not_balanced : List (ℕ × List ℕ) → List (List ℕ × ℤ) → Option Refusal
 not_balanced [] rs = option_map NotBalanced (first_currency (λ z. not (is_zero z)) rs)
 not_balanced (empty ∷ more) rs = None
@@ -97,7 +97,7 @@ refusals book t =
     ∷ not_balanced (elided_postings 1 t.postings) (residuals (first_legs (length book + 1) t))
     ∷ []
 
--- a part of the judgement stops at the refusal that it found, or for want of memory
+-- a part of the judgement stops at the refusal that it found, or out of memory
 abbrev pub Stops : Option Refusal → Stop → Type 0
 Stops found (Refused refusal) = found ≡ Some refusal
 Stops found Memory = ⊤
@@ -129,7 +129,7 @@ Step book (Transaction t) (Accept legs) =
     NoneHolds (refusals book t) × (legs ≡ first_legs (length book + 1) t ++ fill_legs (length book + 1) t)
 Step book (Transaction t) (Refuse refusal) = IsFirst (refusals book t) refusal
 
--- the judgement of a command stops at the refusal that the step gives, or for want of memory
+-- the judgement of a command stops at the refusal that the step gives, or out of memory
 abbrev pub StopsStep : List Entry → Command → Stop → Type 0
 StopsStep book command (Refused refusal) = Step book command (Refuse refusal)
 StopsStep book command Memory = ⊤

@@ -13,8 +13,8 @@ use lot_num::{Units, Wide};
 use std::alloc::{AllocError, Global};
 use std::marker::Model;
 
-/// What legs leave over in each currency, in the order in which the currencies first appear. A contract sees the
-/// currencies, each beside its residual.
+/// The residuals of legs: for each currency the sum of the weights in it, in the order in which the currencies first
+/// appear. A contract sees the currencies, each beside its residual.
 #[derive(Drop)]
 pub(crate) struct Residuals {
     sums: IndexMap<Commodity, Wide>,
@@ -29,7 +29,7 @@ impl Model for Residuals {
 }
 
 impl Residuals {
-    /// Returns what the legs leave over. The error is out of memory.
+    /// Returns the residuals of the legs. The error is out of memory.
     pub fn of(alloc: Global, legs: &[Leg]) -> Result<Residuals, AllocError>
         requires { units_moved legs.now ≤ most_postings * units_limit }
         ensures { IfOk result (λ r. r ≡ residuals legs.now) }
@@ -44,7 +44,7 @@ impl Residuals {
         Ok(residuals)
     }
 
-    /// Adds one more weight to what is left over in its currency. The error is out of memory.
+    /// Adds one more weight to the residual of its currency. The error is out of memory.
     fn add(&mut self, currency: &Commodity, weight: Wide) -> Result<(), AllocError>
         requires { IsWide (residual_in currency.now self.old +ℤ weight) }
         ensures { OnOk result (self.new ≡ add_weight self.old (currency.now, weight)) }
@@ -60,7 +60,7 @@ impl Residuals {
         Ok(())
     }
 
-    /// Refused where some currency doesn't sum to zero.
+    /// Returns `NotBalanced` with the first currency whose residual isn't zero, if there is one.
     pub fn balanced(&self) -> Result<(), Stop>
         ensures ok { OnOk result (not_balanced [] self.now ≡ None) }
         ensures refused { IfErr result (λ stop. Stops (not_balanced [] self.now) stop) }
@@ -74,8 +74,8 @@ impl Residuals {
         Ok(())
     }
 
-    /// What the posting without amount takes: the opposite of each sum that isn't zero. Refused where some sum
-    /// is no units.
+    /// Returns what the elided posting takes: the opposite of each residual that isn't zero, as units. The refusal is
+    /// `InexactFill` with the first currency whose residual isn't that of units.
     pub fn fills(&self, alloc: Global) -> Result<Vec<(Commodity, Units)>, Stop>
         ensures exact { OnOk result (first_currency (λ z. not (fits_units z)) self.now ≡ None) }
         ensures fills { IfOk result (λ fills. fills.items

@@ -21,7 +21,7 @@ use std::marker::Model;
 
 /// The accepted commands with their legs, in the order in which they were accepted.
 ///
-/// What the entries open and hold is kept beside them, so that a command is judged without going over them all.
+/// What the entries open and hold is kept beside them, so that judging a command doesn't go over them all.
 #[derive(Drop)]
 pub struct Book {
     entries: Vec<Entry>,
@@ -44,7 +44,7 @@ impl Model for Book {
 }
 
 impl Book {
-    /// A book without entries.
+    /// Returns a book without entries.
     pub fn new(alloc: Global) -> Book
         ensures { result ≡ [] }
     {
@@ -55,8 +55,8 @@ impl Book {
         }
     }
 
-    /// Judges a command, and answers the book with its verdict: the command has become its last entry, or the book
-    /// is as it was. For want of memory the book is lost.
+    /// Judges a command, and returns the book with the verdict: where it is accepted the command is the last entry, and
+    /// where it is refused the book is as it was. The error is out of memory; the book is then lost.
     pub fn judge(self, alloc: Global, command: Command) -> Result<(Book, Verdict), AllocError>
         ensures { IfOk result (λ judged. Judges self command judged.1 judged.0) }
     {
@@ -67,35 +67,35 @@ impl Book {
         }
     }
 
-    /// The day on which the account was opened, if it was.
+    /// Returns the day on which the account was opened, if it was.
     pub(crate) fn opened(&self, account: &Account) -> Option<Day>
         ensures { result ≡ opened_on self.now account.now }
     {
         self.opened.get(account).copied()
     }
 
-    /// The units of a position, if they aren't zero.
+    /// Returns the units of a position, if they aren't zero.
     pub(crate) fn held(&self, position: &Position) -> Option<Units>
         ensures { result ≡ non_zero (held (legs_of self.now) position.now) }
     {
         self.held.get(position).copied()
     }
 
-    /// The place of the entry that comes next, from 1.
+    /// Returns the place of the entry that comes next, from 1.
     pub(crate) fn next_entry(&self) -> usize
         ensures { result ≡ length self.now + 1 }
     {
         self.entries.len() + 1
     }
 
-    /// The positions with units that aren't zero, in their order, and what each holds.
+    /// Returns the positions with units that aren't zero, in their order, each with its units.
     pub fn holdings(&self) -> &BTreeMap<Position, Units>
         ensures { IsInventory (legs_of self.now) result.now.entries }
     {
         &self.held
     }
 
-    /// Writes an accepted command and what it changes.
+    /// Records an accepted command and what it changes. The error is out of memory; the book is then lost.
     fn record(self, command: Command, change: Change) -> Result<Book, AllocError>
         requires step { Step self command (Accept change.legs) }
         requires held { ListsHeld (legs_of self) change.legs change.held.entries }
@@ -120,7 +120,7 @@ impl Book {
     }
 }
 
-/// Keeps the day of an opening. Of a transaction nothing is kept here.
+/// Records the day of an opening, and nothing of a transaction. The error is out of memory.
 fn keep_opening(opened: &mut BTreeMap<Account, Day>, command: &Command) -> Result<(), AllocError>
     ensures { OnOk result ((account : List ℕ) → get text_cmp opened.new account
         ≡ option_or (opening_day account command.now) (get text_cmp opened.old account)) }
@@ -131,7 +131,7 @@ fn keep_opening(opened: &mut BTreeMap<Account, Day>, command: &Command) -> Resul
     Ok(())
 }
 
-/// Keeps what the positions of a change hold. A position that holds nothing any more is forgotten.
+/// Records what the positions of a change hold. A position at zero units is removed. The error is out of memory.
 fn keep_held(
     held: &mut BTreeMap<Position, Units>,
     changed: BTreeMap<Position, Units>,
@@ -147,7 +147,7 @@ fn keep_held(
     Ok(())
 }
 
-/// Keeps the units of a position, or forgets it where they are zero.
+/// Records the units of a position, or removes it where they are zero. The error is out of memory.
 fn keep_units(
     held: &mut BTreeMap<Position, Units>,
     position: Position,

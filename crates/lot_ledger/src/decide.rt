@@ -19,10 +19,10 @@ use std::alloc::{AllocError, Global};
 use std::collections::BTreeMap;
 use std::marker::Model;
 
-/// The most postings that a transaction may have.
+/// The most postings that a transaction may have (`most_postings` of the definitions).
 const MOST_POSTINGS: usize = 64;
 
-/// What an accepted command changes: its legs, and what each position that they touch holds after them.
+/// What an accepted command changes: its legs, and the units of each position that they touch, after them.
 #[derive(Drop)]
 pub(crate) struct Change {
     pub legs: Items<Leg>,
@@ -30,6 +30,7 @@ pub(crate) struct Change {
 }
 
 impl Change {
+    /// Returns a change without legs.
     fn new(alloc: Global) -> Change
         ensures legs { result.legs ≡ [] }
         ensures held { IsEmpty result.held }
@@ -41,7 +42,7 @@ impl Change {
     }
 }
 
-/// What a command would change, or why it is refused.
+/// Returns what a command would change, or why it is refused, or out of memory.
 pub(crate) fn decide(alloc: Global, book: &Book, command: &Command) -> Result<Change, Stop>
     ensures accepted { IfOk result (λ change. Step book.now command.now (Accept change.legs)) }
     ensures held { IfOk result (λ change. ListsHeld (legs_of book.now) change.legs change.held.entries) }
@@ -53,6 +54,7 @@ pub(crate) fn decide(alloc: Global, book: &Book, command: &Command) -> Result<Ch
     }
 }
 
+/// The same for an opening.
 fn decide_opening(alloc: Global, book: &Book, opening: &Opening) -> Result<Change, Stop>
     ensures accepted { IfOk result (λ change. Step book.now (OpeningOf opening.now) (Accept change.legs)) }
     ensures held { IfOk result (λ change. ListsHeld (legs_of book.now) change.legs change.held.entries) }
@@ -64,7 +66,7 @@ fn decide_opening(alloc: Global, book: &Book, opening: &Opening) -> Result<Chang
     Ok(Change::new(alloc))
 }
 
-/// Each step looks at all postings before the next one does.
+/// The same for a transaction. Each step looks at all postings before the next one does.
 fn decide_transaction(alloc: Global, book: &Book, transaction: &Transaction) -> Result<Change, Stop>
     ensures accepted { IfOk result (λ change. Step book.now (TransactionOf transaction.now) (Accept change.legs)) }
     ensures held { IfOk result (λ change. ListsHeld (legs_of book.now) change.legs change.held.entries) }
@@ -84,6 +86,7 @@ fn decide_transaction(alloc: Global, book: &Book, transaction: &Transaction) -> 
     Ok(change)
 }
 
+/// Returns `UnknownAccount` with the first posting to an account that was never opened, if there is one.
 fn every_account_known(book: &Book, postings: &[Posting]) -> Result<(), Refusal>
     ensures { MatchResult result (λ _. unknown_account book.now postings.now ≡ None)
         (λ refusal. unknown_account book.now postings.now ≡ Some refusal) }
@@ -97,6 +100,7 @@ fn every_account_known(book: &Book, postings: &[Posting]) -> Result<(), Refusal>
     }
 }
 
+/// Returns `NotOpenYet` with the first posting to an account that is opened after the day, if there is one.
 fn every_account_open(book: &Book, postings: &[Posting], day: Day) -> Result<(), Refusal>
     ensures { MatchResult result (λ _. not_open_yet book.now day postings.now ≡ None)
         (λ refusal. not_open_yet book.now day postings.now ≡ Some refusal) }
@@ -110,14 +114,14 @@ fn every_account_open(book: &Book, postings: &[Posting], day: Day) -> Result<(),
     }
 }
 
-/// Whether the account was opened, but after the day.
+/// Returns whether the account was opened, but after the day.
 fn opens_after(book: &Book, day: Day, account: &Account) -> bool
     ensures { result ≡ opens_after day (opened_on book.now account.now) }
 {
     book.opened(account).is_some_and(|opened| day < opened)
 }
 
-/// The legs of the postings with amounts.
+/// Returns the legs of the postings with amounts, or `Range` at the first after which a position is out of range.
 fn post_amounts(alloc: Global, book: &Book, transaction: &Transaction) -> Result<Change, Stop>
     ensures legs { IfOk result (λ change. change.legs ≡ first_legs (length book.now + 1) transaction.now) }
     ensures moved { IfOk result (λ change. units_moved change.legs ≤ length transaction.now.postings * units_limit) }
@@ -143,7 +147,7 @@ fn post_amounts(alloc: Global, book: &Book, transaction: &Transaction) -> Result
     Ok(change)
 }
 
-/// The plain legs of the posting without amount, which take what the others leave over.
+/// Adds the legs of the elided posting, which take the residuals.
 fn fill(
     alloc: Global,
     book: &Book,
@@ -181,7 +185,7 @@ fn fill(
     Ok(())
 }
 
-/// One more leg. Refused where what its position holds after it is no units.
+/// Adds one more leg. The refusal is `Range` where the units of its position are out of range after it.
 fn post(book: &Book, leg: Leg, change: &mut Change) -> Result<(), Stop>
     requires held { ListsHeld (legs_of book.now) change.old.legs change.old.held.entries }
     ensures legs { OnOk result (change.new.legs ≡ change.old.legs ++ leg ∷ []) }
@@ -191,7 +195,7 @@ fn post(book: &Book, leg: Leg, change: &mut Change) -> Result<(), Stop>
     ensures refused { IfErr result (λ stop.
         Stops (out_of_range (legs_of book.now ++ change.old.legs) (leg ∷ [])) stop) }
 {
-    let _in_range = leg.units.mantissa(); // for the clause on the units moved
+    let _in_range = leg.units.mantissa(); // says to the prover that they are below the limit of units
     let Some(held) = held_after(book, change, &leg) else {
         return Err(Refusal::Range {
             posting: leg.posting,
@@ -203,7 +207,7 @@ fn post(book: &Book, leg: Leg, change: &mut Change) -> Result<(), Stop>
     Ok(())
 }
 
-/// What the leg's position holds after it, if that is units.
+/// Returns the units of the leg's position after it, or none where they are out of range.
 fn held_after(book: &Book, change: &Change, leg: &Leg) -> Option<Units>
     requires { ListsHeld (legs_of book.now) change.now.legs change.now.held.entries }
     ensures { SomeIff result
@@ -215,7 +219,7 @@ fn held_after(book: &Book, change: &Change, leg: &Leg) -> Option<Units>
     held.unwrap_or(Units::ZERO).checked_add(leg.units)
 }
 
-/// The posting without amount: its place, from 1, and its account. A contract sees the two as a pair.
+/// The elided posting: its place, from 1, and its account. A contract sees the two as a pair.
 #[derive(Drop)]
 struct Elided<'a> {
     posting: usize,
@@ -230,6 +234,7 @@ impl<'a> Model for Elided<'a> {
     ghost view = { λ e. (e.posting, e.account.now) };
 }
 
+/// Returns `TooManyPostings` where there are more than `MOST_POSTINGS`.
 fn few_postings(postings: &[Posting]) -> Result<(), Refusal>
     ensures { MatchResult result (λ _. too_many_postings postings.now ≡ None)
         (λ refusal. too_many_postings postings.now ≡ Some refusal) }
@@ -240,7 +245,7 @@ fn few_postings(postings: &[Posting]) -> Result<(), Refusal>
     Ok(())
 }
 
-/// The posting without amount, if there is one. Refused where there are two.
+/// Returns the elided posting, if there is one, or `TwoElided` where there are two.
 fn only_elided(postings: &[Posting]) -> Result<Option<Elided<'_>>, Refusal>
     ensures { MatchResult result
         (λ elided. MatchOption elided (elided_postings 1 postings.now ≡ [])
@@ -262,8 +267,8 @@ fn only_elided(postings: &[Posting]) -> Result<Option<Elided<'_>>, Refusal>
     Ok(elided)
 }
 
-/// Where an amount goes: with a cost into the lot of that cost and the transaction's day, else into the plain
-/// units.
+/// Returns the position of an amount: with a cost the lot of that cost and the transaction's day, else plain. The error
+/// is out of memory.
 fn position_of(account: &Account, amount: &Amount, day: Day) -> Result<Position, AllocError>
     ensures { IfOk result (λ position. position ≡ record {
       account = account.now;
@@ -282,6 +287,7 @@ fn position_of(account: &Account, amount: &Amount, day: Day) -> Result<Position,
     })
 }
 
+/// Returns the key of a lot of that cost, opened on that day, without a label. The error is out of memory.
 fn lot_of(cost: &Cost, day: Day) -> Result<LotKey, AllocError>
     ensures { IfOk result (λ key. key ≡ record { day = day; currency = cost.now.currency; number = cost.now.number; label = None }) }
 {

@@ -1,5 +1,5 @@
-//! What holds of the definitions that the contracts of this crate cite: of steps and books. Each law is a function that
-//! does nothing.
+//! Laws of the definitions that the contracts of this crate cite: of steps and books. Each is the contract of a function
+//! that does nothing.
 ghost use Rattle.std.specs.Prelude.{◌≡◌, ℕ, ℤ, List};
 ghost use Rattle.std.specs.List.{AllByRecursion};
 ghost use Rattle.lot_ledger.specs.declared.leg.Entry.{Entry};
@@ -12,8 +12,8 @@ ghost use Rattle.lot_ledger.specs.Step.{Outcome, Step};
 ghost use Rattle.lot_ledger.specs.Book.{JudgesAll, IsBook};
 ghost use Rattle.lot_ledger.specs.Laws.{Balances, bought, at_cost};
 
-/// On every book each command comes to an outcome, and to no other: it is accepted with the one list of legs, or
-/// refused for the one cause.
+/// On every book each command comes to one outcome, and only one: it is accepted with one list of legs, or refused for
+/// one cause.
 pub fn a_step_has_one_outcome()
     ensures some { (book : List Entry) (command : Command) → (outcome : Outcome) × Step book command outcome }
     ensures one { (book : List Entry) (command : Command) (a b : Outcome)
@@ -26,16 +26,16 @@ pub fn every_transaction_balances()
         → AllByRecursion (λ (entry : Entry). Balances entry.legs) entries }
 {}
 
-/// What the holdings of a book show of a commodity in lots of an account is what its commands bought there, no
-/// unit more and no unit less.
+/// In every book the units of a commodity that an account holds in lots are those that the commands bought there at a
+/// cost.
 pub fn units_at_cost_are_those_bought()
     ensures { (entries : List Entry) (rows : List (Position × ℤ)) (account commodity : List ℕ)
         → IsBook entries → IsInventory (legs_of entries) rows
         → at_cost rows account commodity ≡ bought entries account commodity }
 {}
 
-/// Commands are judged in one way: there is one list of verdicts, and one list of entries in the end, which is a
-/// book where the one in the beginning was.
+/// Commands are judged in one way: there is one list of verdicts, and one list of entries after them, which is a book
+/// where the list before them was.
 pub fn judged_commands_make_a_book()
     ensures some { (before : List Entry) (commands : List Command)
         → (verdicts : List Verdict) × (after : List Entry) × JudgesAll before commands verdicts after }
@@ -46,7 +46,7 @@ pub fn judged_commands_make_a_book()
         → JudgesAll before commands verdicts after → IsBook before → IsBook after }
 {}
 
-/// Legs have an inventory, and no other.
+/// Legs have one inventory, and only one.
 pub fn a_book_has_one_inventory()
     ensures some { (legs : List Leg) → (rows : List (Position × ℤ)) × IsInventory legs rows }
     ensures one { (legs : List Leg) (rows others : List (Position × ℤ))

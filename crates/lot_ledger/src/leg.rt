@@ -8,8 +8,8 @@ use lot_inv::LotKey;
 use lot_num::{Units, Wide, weight};
 use std::alloc::AllocError;
 
-/// Where units are held: in the lot of that key, or plain. Positions are in the order of the holdings: by
-/// account, then commodity, the plain one before the lots.
+/// Where units are held: an account, a commodity, and the key of a lot, or none for plain units. Positions are ordered as
+/// the holdings are: by account, then commodity, the plain one before the lots.
 #[derive(Debug, PartialEq, Eq, PartialOrd, Ord, Drop)]
 pub struct Position {
     pub account: Account,
@@ -19,7 +19,7 @@ pub struct Position {
 }
 
 impl Position {
-    /// The same position once more.
+    /// Returns a copy. The error is out of memory.
     pub fn copy(&self) -> Result<Position, AllocError>
         ensures { IfOk result (λ position. position ≡ self.now) }
     {
@@ -35,7 +35,7 @@ impl Position {
     }
 }
 
-/// So many units that a posting of an entry puts into a position, or takes out of it.
+/// Units that a posting of an entry puts into a position, or, below zero, takes out of it.
 #[derive(Drop)]
 pub struct Leg {
     /// The place of the entry in its book, from 1.
@@ -49,8 +49,8 @@ pub struct Leg {
 }
 
 impl Leg {
-    /// Where it weighs, and how much: in a lot its units times the lot's number, in the lot's currency; else the
-    /// units themselves.
+    /// Returns the currency and the weight: for a lot its units times the number of its key, in the key's currency; for
+    /// plain units the units, in their commodity.
     pub fn weight(&self) -> (&Commodity, Wide)
         ensures value { (result.0.now, result.1) ≡ weight_of self.now }
         ensures bound { unsigned_abs result.1 ≤ unsigned_abs self.now.units * rate_limit }

@@ -2,11 +2,11 @@
 //!
 //! - `leg`: legs and positions, and entries, which are accepted commands with their legs.
 //! - `book`: the list of entries, and what they open and hold.
-//! - `decide`: a command judged against a book.
-//! - `balance`: what a transaction leaves over in each currency.
+//! - `decide`: what a command would change, or why it is refused.
+//! - `balance`: the residuals of a transaction.
 //! - `refusal`: why a command is refused.
-//! - `verdict`: what is said of a command.
-//! - `laws`: what holds of the definitions that the contracts cite.
+//! - `verdict`: how a command was judged.
+//! - `laws`: laws of the definitions that the contracts cite.
 #![tactic(auto)]
 
 mod balance;

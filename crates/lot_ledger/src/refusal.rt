@@ -2,7 +2,8 @@ use lot_base::Commodity;
 use std::alloc::{AllocError, AllocFailed};
 use thiserror::Error;
 
-/// Why a command is refused (docs/RULES.md). Places of postings are counted from 1 in their transaction.
+/// Why a command is refused (docs/RULES.md, Order of refusals). Places of postings are counted from 1 in their
+/// transaction.
 #[derive(Debug, PartialEq, Eq, Drop, Error)]
 pub enum Refusal {
     /// The account was opened before.
@@ -14,16 +15,16 @@ pub enum Refusal {
     /// The transaction's day is before the opening of the posting's account.
     #[error("the account of posting {posting} is not open on that day")]
     NotOpenYet { posting: usize },
-    /// The transaction has more than 64 postings.
-    #[error("a transaction has at most 64 postings")]
+    /// The transaction has too many postings.
+    #[error("the transaction has too many postings")]
     TooManyPostings,
-    /// Two postings have no amount.
+    /// Two postings are elided.
     #[error("only one posting may have no amount")]
     TwoElided,
-    /// What is held after the posting is no units.
+    /// After the posting the units of a position are out of range.
     #[error("posting {posting} leaves the range of units")]
     Range { posting: usize },
-    /// What the posting without amount would take in the currency is no units.
+    /// What the elided posting would take in the currency has too many decimals, or is out of range.
     #[error("what is left over in {currency} has too many decimals or is too large")]
     InexactFill { currency: Commodity },
     /// The weights in the currency don't sum to zero, and every posting has an amount.
@@ -37,7 +38,7 @@ pub(crate) enum Stop {
     /// The rules refuse it, and the book is as it was.
     #[error("{0}")]
     Refused(Refusal),
-    /// There was no memory for it.
+    /// Out of memory.
     #[error("out of memory")]
     Memory,
 }

@@ -1,6 +1,6 @@
 use crate::refusal::Refusal;
 
-/// What is said of a command.
+/// How a command was judged.
 #[derive(Debug, PartialEq, Eq, Drop)]
 pub enum Verdict {
     /// It became an entry of the book.

@@ -57,24 +57,24 @@ cut-none (b ∷ word) h =
     let more : cut word ≡ None = cut-none word parts.1 in
     rw (no, more) refl
 
-cut-parts_by : (b : ℕ) (text front rest : List ℕ) (space : Bool) → eqb b 32 ≡ space → (o : Option (List ℕ × List ℕ)) → cut text ≡ o
+cut-parts_by : (b : ℕ) (text prefix rest : List ℕ) (space : Bool) → eqb b 32 ≡ space → (o : Option (List ℕ × List ℕ)) → cut text ≡ o
     → ((x y : List ℕ) → cut text ≡ Some (x, y) → text ≡ x ++ 32 ∷ y)
-    → cut (b ∷ text) ≡ Some (front, rest) → b ∷ text ≡ front ++ 32 ∷ rest
+    → cut (b ∷ text) ≡ Some (prefix, rest) → b ∷ text ≡ prefix ++ 32 ∷ rest
 unfolding cut
-cut-parts_by b text front rest true e o g ih h =
-    let same = some_pair_parts [] front text rest (rw e at h) in
+cut-parts_by b text prefix rest true e o g ih h =
+    let same = some_pair_parts [] prefix text rest (rw e at h) in
     rw (← same.0, ← same.1, eqb-true b 32 e) refl
-cut-parts_by b text front rest false e None g ih h = absurd (none-some _ (rw (e, g) at h))
-cut-parts_by b text front rest false e (Some p) g ih h =
-    let same = some_pair_parts (b ∷ p.0) front p.1 rest (rw (e, g) at h) in
+cut-parts_by b text prefix rest false e None g ih h = absurd (none-some _ (rw (e, g) at h))
+cut-parts_by b text prefix rest false e (Some p) g ih h =
+    let same = some_pair_parts (b ∷ p.0) prefix p.1 rest (rw (e, g) at h) in
     rw (← same.0, ← same.1) (ap (λ t. b ∷ t) (ih p.0 p.1 g))
 
-pub cut-parts : (text front rest : List ℕ) → cut text ≡ Some (front, rest) → text ≡ front ++ 32 ∷ rest
+pub cut-parts : (text prefix rest : List ℕ) → cut text ≡ Some (prefix, rest) → text ≡ prefix ++ 32 ∷ rest
 unfolding cut
-cut-parts [] front rest h = absurd (none-some _ h)
-cut-parts (b ∷ text) front rest h = cut-parts_by b text front rest (eqb b 32) refl (cut text) refl (cut-parts text) h
+cut-parts [] prefix rest h = absurd (none-some _ h)
+cut-parts (b ∷ text) prefix rest h = cut-parts_by b text prefix rest (eqb b 32) refl (cut text) refl (cut-parts text) h
 
--- what a search for the first space answers
+-- what a search for the first space returns
 pub cut-result : (text : List ℕ) (r : Option (Bor (List ℕ) × Bor (List ℕ)))
     → MatchOption r ((i : ℕ) → i < length text → get_or text i 0 ≢ 32) (λ x. (text ≡ x.0.now ++ (32 ∷ x.1.now)) × ((i : ℕ) → i < length x.0.now → get_or x.0.now i 0 ≢ 32))
     → MatchOption r (cut text ≡ None) (λ parts. cut text ≡ Some (parts.0.now, parts.1.now))
@@ -96,29 +96,29 @@ without_first-parts first (b ∷ text) rest h =
     let found = cond_some (eqb b first) text rest h in
     rw (eqb-true b first found.0, found.1) refl
 
-without_last-is : (last : ℕ) (front : List ℕ) → without_last last (front ++ last ∷ []) ≡ Some front
+without_last-is : (last : ℕ) (prefix : List ℕ) → without_last last (prefix ++ last ∷ []) ≡ Some prefix
 unfolding without_last
 without_last-is last [] = rw (eq-eqb last last refl) refl
 without_last-is last (b ∷ []) = rw (eq-eqb last last refl) refl
-without_last-is last (b ∷ c ∷ front) =
-    let more : without_last last (c ∷ front ++ last ∷ []) ≡ Some (c ∷ front) = without_last-is last (c ∷ front) in
+without_last-is last (b ∷ c ∷ prefix) =
+    let more : without_last last (c ∷ prefix ++ last ∷ []) ≡ Some (c ∷ prefix) = without_last-is last (c ∷ prefix) in
     rw more refl
 
-without_last-parts_by : (last b : ℕ) (text front : List ℕ) (o : Option (List ℕ)) → without_last last text ≡ o
+without_last-parts_by : (last b : ℕ) (text prefix : List ℕ) (o : Option (List ℕ)) → without_last last text ≡ o
     → ((x : List ℕ) → without_last last text ≡ Some x → text ≡ x ++ last ∷ [])
-    → option_map (λ t. b ∷ t) o ≡ Some front → b ∷ text ≡ front ++ last ∷ []
-without_last-parts_by last b text front None g ih h = absurd (none-some _ h)
-without_last-parts_by last b text front (Some x) g ih h =
-    rw (← same_Some (b ∷ x) front h) (ap (λ t. b ∷ t) (ih x g))
+    → option_map (λ t. b ∷ t) o ≡ Some prefix → b ∷ text ≡ prefix ++ last ∷ []
+without_last-parts_by last b text prefix None g ih h = absurd (none-some _ h)
+without_last-parts_by last b text prefix (Some x) g ih h =
+    rw (← same_Some (b ∷ x) prefix h) (ap (λ t. b ∷ t) (ih x g))
 
-without_last-parts : (last : ℕ) (text front : List ℕ) → without_last last text ≡ Some front → text ≡ front ++ last ∷ []
+without_last-parts : (last : ℕ) (text prefix : List ℕ) → without_last last text ≡ Some prefix → text ≡ prefix ++ last ∷ []
 unfolding without_last
-without_last-parts last [] front h = absurd (none-some _ h)
-without_last-parts last (b ∷ []) front h =
-    let found = cond_some (eqb b last) [] front h in
+without_last-parts last [] prefix h = absurd (none-some _ h)
+without_last-parts last (b ∷ []) prefix h =
+    let found = cond_some (eqb b last) [] prefix h in
     rw (← found.1, eqb-true b last found.0) refl
-without_last-parts last (b ∷ c ∷ text) front h =
-    without_last-parts_by last b (c ∷ text) front (without_last last (c ∷ text)) refl (without_last-parts last (c ∷ text)) h
+without_last-parts last (b ∷ c ∷ text) prefix h =
+    without_last-parts_by last b (c ∷ text) prefix (without_last last (c ∷ text)) refl (without_last-parts last (c ∷ text)) h
 
 pub inside-is : (first last : ℕ) (within : List ℕ) → inside first last (first ∷ (within ++ last ∷ [])) ≡ Some within
 unfolding inside
@@ -134,9 +134,9 @@ pub inside-no_first : (first last : ℕ) (text : List ℕ) → ((rest : List ℕ
 inside-no_first first last text h =
     none_unless (inside first last text) (λ within e. h _ (inside-parts first last text within e))
 
--- what the search for the last byte answers, behind the first one
+-- what the search for the last byte returns, behind the first one
 pub inside-result : (first last : ℕ) (text rest : List ℕ) (r : Option (Bor (List ℕ))) → text ≡ first ∷ rest
-    → MatchOption r ((front : List ℕ) → rest ≢ front ++ (last ∷ [])) (λ x. rest ≡ x.now ++ (last ∷ []))
+    → MatchOption r ((prefix : List ℕ) → rest ≢ prefix ++ (last ∷ [])) (λ x. rest ≡ x.now ++ (last ∷ []))
     → MatchOption r (inside first last text ≡ None) (λ within. inside first last text ≡ Some within.now)
 inside-result first last text rest None e h =
     none_unless (inside first last text)
@@ -279,10 +279,10 @@ date_in-words [] date h = absurd (none-some _ h)
 date_in-words (year ∷ []) date h = absurd (none-some _ h)
 date_in-words (year ∷ month ∷ []) date h = absurd (none-some _ h)
 date_in-words (year ∷ month ∷ day ∷ []) date h =
-    let told = date_of-parts _ _ _ date h in
-    and_from _ _ (number_in-word 4 4 year told.0.0 told.0.1)
-    (and_from _ _ (number_in-word 1 2 month told.1.0 told.1.1)
-    (and_from _ _ (number_in-word 1 2 day told.2.0 told.2.1) refl))
+    let parts = date_of-parts _ _ _ date h in
+    and_from _ _ (number_in-word 4 4 year parts.0.0 parts.0.1)
+    (and_from _ _ (number_in-word 1 2 month parts.1.0 parts.1.1)
+    (and_from _ _ (number_in-word 1 2 day parts.2.0 parts.2.1) refl))
 date_in-words (year ∷ month ∷ day ∷ more ∷ parts) date h = absurd (none-some _ h)
 
 pub day-word : (text : List ℕ) (day : ℤ) → named_day text ≡ Some day → IsWord text

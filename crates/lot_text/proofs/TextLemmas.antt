@@ -147,24 +147,24 @@ says-read : (said : List Command) (commands : List Command) (pending : Option Tr
 says-read [] commands pending lines none =
     ((commands, pending), ap (take_lines commands pending) none, sym (append-nil (closed commands pending)))
 says-read (Opening o ∷ said) commands pending lines (line, rest, form, says, whole) =
-    let front = closed commands pending ++ Opening o ∷ [] in
-    let more = says-read said front None rest says in (
+    let prefix = closed commands pending ++ Opening o ∷ [] in
+    let more = says-read said prefix None rest says in (
       more.0,
       ap (take_lines commands pending) whole
-          ∙ take-more commands pending line rest (SaysOpening o) (front, None) form refl
+          ∙ take-more commands pending line rest (SaysOpening o) (prefix, None) form refl
           ∙ more.1,
       more.2 ∙ append_assoc (closed commands pending) (Opening o ∷ []) said,
     )
 says-read (Transaction t ∷ said) commands pending lines (head, postings, rest, form, forms, says, whole) =
-    let front = closed commands pending in
+    let prefix = closed commands pending in
     let begun : TransactionOf = record { day = t.day; narration = t.narration; postings = [] } in
-    let more = says-read said front (Some t) rest says in (
+    let more = says-read said prefix (Some t) rest says in (
       more.0,
       ap (take_lines commands pending) whole
-          ∙ take-more commands pending head (postings ++ rest) (SaysHead begun) (front, Some begun) (form, refl) refl
-          ∙ take-postings front begun postings rest t.postings forms
+          ∙ take-more commands pending head (postings ++ rest) (SaysHead begun) (prefix, Some begun) (form, refl) refl
+          ∙ take-postings prefix begun postings rest t.postings forms
           ∙ more.1,
-      more.2 ∙ append_assoc front (Transaction t ∷ []) said,
+      more.2 ∙ append_assoc prefix (Transaction t ∷ []) said,
     )
 
 -- lines that say commands are read as these
@@ -173,13 +173,13 @@ said_reads lines said says = says-read said [] None lines says
 
 -- ---- One more line.
 
-pub take-front : (commands : List Command) (pending : Option TransactionOf) (xs ys : List (List ℕ)) (after : List Command × Option TransactionOf)
+pub take-prefix : (commands : List Command) (pending : Option TransactionOf) (xs ys : List (List ℕ)) (after : List Command × Option TransactionOf)
     → take_lines commands pending xs ≡ Some after → take_lines commands pending (xs ++ ys) ≡ take_lines after.0 after.1 ys
-take-front commands pending [] ys after h =
+take-prefix commands pending [] ys after h =
     ap (λ (s : List Command × Option TransactionOf). take_lines s.0 s.1 ys) (same_Some _ after h)
-take-front commands pending (x ∷ xs) ys after h =
+take-prefix commands pending (x ∷ xs) ys after h =
     option_and_then_some (λ s. take_lines s.0 s.1 xs) (take_line commands pending x) after h
-    (λ s e f. then_is (λ s. take_lines s.0 s.1 (xs ++ ys)) (take_line commands pending x) s e ∙ take-front s.0 s.1 xs ys after f)
+    (λ s e f. then_is (λ s. take_lines s.0 s.1 (xs ++ ys)) (take_line commands pending x) s e ∙ take-prefix s.0 s.1 xs ys after f)
 
 take-one : (commands : List Command) (pending : Option TransactionOf) (line : List ℕ) (o : Option (List Command × Option TransactionOf))
     → take_line commands pending line ≡ o → take_lines commands pending (line ∷ []) ≡ o
@@ -189,7 +189,7 @@ take-one commands pending line (Some after) e = rw e refl
 pub take-push : (xs : List (List ℕ)) (line : List ℕ) (commands : List Command) (pending : Option TransactionOf)
     (o : Option (List Command × Option TransactionOf)) → take_lines [] None xs ≡ Some (commands, pending)
     → take_line commands pending line ≡ o → take_lines [] None (xs ++ line ∷ []) ≡ o
-take-push xs line commands pending o h e = take-front [] None xs (line ∷ []) (commands, pending) h ∙ take-one commands pending line o e
+take-push xs line commands pending o h e = take-prefix [] None xs (line ∷ []) (commands, pending) h ∙ take-one commands pending line o e
 
 -- ---- The lines of a text.
 
@@ -238,27 +238,27 @@ text-lines (b ∷ text) = text-lines_by b text (eqb b 10) refl (text-lines text)
 
 -- ---- The lines before a place in a text.
 
-abbrev pub IsFront : List (List ℕ) → List ℕ → List ℕ → Type 0
-IsFront lines text rest = (more : List (List ℕ)) → IsTextOf more rest → IsTextOf (lines ++ more) text
+abbrev pub IsPrefix : List (List ℕ) → List ℕ → List ℕ → Type 0
+IsPrefix lines text rest = (more : List (List ℕ)) → IsTextOf more rest → IsTextOf (lines ++ more) text
 
-pub front-push : (lines : List (List ℕ)) (text rest line behind : List ℕ) → IsFront lines text rest → TakesLine rest line behind
-    → IsFront (lines ++ line ∷ []) text behind
-front-push lines text rest line behind front takes = λ more h.
+pub prefix-push : (lines : List (List ℕ)) (text rest line behind : List ℕ) → IsPrefix lines text rest → TakesLine rest line behind
+    → IsPrefix (lines ++ line ∷ []) text behind
+prefix-push lines text rest line behind prefix takes = λ more h.
     subst (λ (zs : List (List ℕ)). IsTextOf zs text) (sym (append_assoc lines (line ∷ []) more))
-    (front (line ∷ more) (text-cons rest line behind more takes h))
+    (prefix (line ∷ more) (text-cons rest line behind more takes h))
 
 -- all lines of a text
-pub front-whole : (lines : List (List ℕ)) (text : List ℕ) → IsFront lines text [] → IsTextOf lines text
-front-whole lines text front = subst (λ (zs : List (List ℕ)). IsTextOf zs text) (append-nil lines) (front [] refl)
+pub prefix-whole : (lines : List (List ℕ)) (text : List ℕ) → IsPrefix lines text [] → IsTextOf lines text
+prefix-whole lines text prefix = subst (λ (zs : List (List ℕ)). IsTextOf zs text) (append-nil lines) (prefix [] refl)
 
 -- a line that does not fit behind those before it
 pub fault-at : (lines : List (List ℕ)) (text rest line behind : List ℕ) (number : ℕ) (commands : List Command) (pending : Option TransactionOf)
-    → IsFront lines text rest → TakesLine rest line behind → number ≡ length lines + 1
+    → IsPrefix lines text rest → TakesLine rest line behind → number ≡ length lines + 1
     → take_lines [] None lines ≡ Some (commands, pending) → take_line commands pending line ≡ None
     → IsFaultAt text number
-fault-at lines text rest line behind number commands pending front takes place read none = (
+fault-at lines text rest line behind number commands pending prefix takes place read none = (
   lines ++ line ∷ lines_of behind,
-  front (line ∷ lines_of behind) (text-cons rest line behind (lines_of behind) takes (text-lines behind)),
+  prefix (line ∷ lines_of behind) (text-cons rest line behind (lines_of behind) takes (text-lines behind)),
   record {
     before = lines;
     line = line;
@@ -272,8 +272,8 @@ fault-at lines text rest line behind number commands pending front takes place r
 )
 
 pub reads-at : (lines : List (List ℕ)) (text : List ℕ) (commands : List Command) (pending : Option TransactionOf)
-    → IsFront lines text [] → take_lines [] None lines ≡ Some (commands, pending) → Reads text (closed commands pending)
-reads-at lines text commands pending front read = (lines, front-whole lines text front, read_says lines commands pending read)
+    → IsPrefix lines text [] → take_lines [] None lines ≡ Some (commands, pending) → Reads text (closed commands pending)
+reads-at lines text commands pending prefix read = (lines, prefix-whole lines text prefix, read_says lines commands pending read)
 
 -- ---- The search for a line end.
 
@@ -307,9 +307,9 @@ line-last text e some =
     let whole : take (position_or_len (λ b. eqb b 10) text) text ≡ text = take_all _ text (no_place _ (length text) e) in
     (subst (λ (t : List ℕ). IsLine t) whole (within-prefix text), inr (refl, some, refl))
 
--- ---- What the reader answers.
+-- ---- What the reader returns.
 
-pub fault-of : (text : List ℕ) (answer : TextFault) (fault : LineFault) (number : ℕ) → (fault ≡ Syntax → IsFaultAt text number)
-    → answer ≡ of_line fault number → IsFaultOf text answer
-fault-of text answer Syntax number h e = rw e (h refl)
-fault-of text answer Memory number h e = rw e tt
+pub fault-of : (text : List ℕ) (result : TextFault) (fault : LineFault) (number : ℕ) → (fault ≡ Syntax → IsFaultAt text number)
+    → result ≡ of_line fault number → IsFaultOf text result
+fault-of text result Syntax number h e = rw e (h refl)
+fault-of text result Memory number h e = rw e tt

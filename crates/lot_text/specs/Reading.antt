@@ -1,4 +1,4 @@
--- Ledger text as it is read, from its front on: what each part of a line comes to, and what a line does to the
+-- Ledger text as it is read, from its beginning on: what each part of a line comes to, and what a line does to the
 -- commands so far. That this is what the forms of a line say is proved, both ways, in proofs/TextForms.antt and
 -- proofs/TextLemmas.antt.
 use Rattle.std.specs.Prelude.{◌≡◌, ◌≢◌, ◌⊎◌, ℕ, ◌==◌, ◌&&◌, Bool, if◌then◌else◌, List, [], ◌∷◌, ◌++◌, codes, Option, Some, None, option_and_then, option_map, Result, Ok, Err, ℤ, pos, int_lt, ⊤}
@@ -30,7 +30,7 @@ infixl 10 ◌>>=◌
 abbrev pub ◌>>=◌ : {A B : Type 0} → Option A → (A → Option B) → Option B
 o >>= f = option_and_then f o
 
--- ---- What a parser may answer: what the text says, `Syntax` where it says nothing, and want of memory.
+-- ---- What a parser may return: what the text says, `Syntax` where it says nothing, and out of memory.
 
 abbrev pub Gives : {X : Type 0} → Option X → Result X LineFault → Type 0
 Gives said (Ok x) = said ≡ Some x
@@ -60,7 +60,7 @@ without_first first (b ∷ text) = if b == first then Some text else None
 unfoldable pub without_last : ℕ → List ℕ → Option (List ℕ)
 without_last last [] = None
 without_last last (b ∷ []) = if b == last then Some [] else None
-without_last last (b ∷ c ∷ text) = option_map (λ front. b ∷ front) (without_last last (c ∷ text))
+without_last last (b ∷ c ∷ text) = option_map (λ prefix. b ∷ prefix) (without_last last (c ∷ text))
 
 -- what stands between those two
 unfoldable pub inside : ℕ → ℕ → List ℕ → Option (List ℕ)
@@ -178,7 +178,7 @@ take_lines commands pending (line ∷ lines) = take_line commands pending line >
 
 -- ---- The lines of a text, one after another.
 
--- a line is taken off the front of a text: up to its line end, or all of a text that has none
+-- a line is taken off the prefix of a text: up to its line end, or all of a text that has none
 abbrev pub TakesLine : List ℕ → List ℕ → List ℕ → Type 0
 TakesLine text line rest = IsLine line × ((text ≡ line ++ 10 ∷ rest) ⊎ ((text ≡ line) × (line ≢ []) × (rest ≡ [])))
 

@@ -105,7 +105,7 @@ Reads text commands = (lines : List (List ℕ)) × IsTextOf lines text × Says l
 abbrev pub IsFaultAt : List ℕ → ℕ → Type 0
 IsFaultAt text number = (lines : List (List ℕ)) × IsTextOf lines text × IsFirstFault lines number
 
--- the fault of a text is at its first faulty line; want of memory may always be answered
+-- the fault of a text is at its first faulty line; out of memory may always be reported
 abbrev pub IsFaultOf : List ℕ → TextFault → Type 0
 IsFaultOf text (Syntax number) = IsFaultAt text number
 IsFaultOf text Memory = ⊤

@@ -1,5 +1,5 @@
-//! What holds of the definitions that the contracts of this crate cite: of ledger texts. Each law is a function that does
-//! nothing.
+//! Laws of the definitions that the contracts of this crate cite: of ledger texts. Each is the contract of a function
+//! that does nothing.
 ghost use Rattle.std.specs.Prelude.{◌≡◌, ℕ, List};
 ghost use Rattle.lot_text.specs.Text.{Reads, IsFaultAt};
 ghost use Rattle.lot_command.specs.declared.command.Command.{Command};

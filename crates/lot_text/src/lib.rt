@@ -2,7 +2,7 @@
 //!
 //! - `line`: what one line says.
 //! - `reader`: which commands all lines say together.
-//! - `laws`: what holds of the definitions that the contracts cite.
+//! - `laws`: laws of the definitions that the contracts cite.
 #![tactic(auto)]
 
 pub mod laws;

@@ -4,7 +4,7 @@ ghost use Rattle.lot_text.specs.Text.{is_plain};
 ghost use Rattle.lot_text.specs.Reading.{Gives, cut, inside, cost_of, held_of, amount_of, posting_of, note_of, done_of, head_of, line_of};
 
 use lot_base::{Account, Commodity, Day, DayFault, NameFault, Note};
-use lot_ledger::{Amount, Cost, Items, Opening, Posting, Transaction};
+use lot_command::{Amount, Cost, Items, Opening, Posting, Transaction};
 use lot_num::{NumberFault, Rate, Units};
 use std::alloc::{AllocError, AllocFailed, Global};
 use std::str::{self, Utf8Error};
@@ -21,7 +21,7 @@ pub(crate) enum Line {
 pub(crate) enum LineFault {
     /// The line fits no form.
     Syntax,
-    /// There was no memory for what it says.
+    /// Out of memory.
     Memory,
 }
 
@@ -94,7 +94,7 @@ impl From<Utf8Error> for LineFault {
     }
 }
 
-/// What a line says, without its line end.
+/// Returns what a line says, given without its line end.
 #[tactic(auto, unfolding(crate::specs::Reading::line_of))]
 pub(crate) fn parse(alloc: Global, line: &[u8]) -> Result<Line, LineFault>
     ensures { Gives (line_of line.now) result }
@@ -106,7 +106,7 @@ pub(crate) fn parse(alloc: Global, line: &[u8]) -> Result<Line, LineFault>
     }
 }
 
-/// A line that isn't indented: a day and what is done on it.
+/// Returns what a line that isn't indented says: a day and what is done on it.
 #[tactic(auto, unfolding(crate::specs::Reading::head_of))]
 fn parse_head(alloc: Global, text: &str) -> Result<Line, LineFault>
     ensures { Gives (head_of text.now) result }
@@ -117,7 +117,7 @@ fn parse_head(alloc: Global, text: &str) -> Result<Line, LineFault>
     parse_directive(alloc, Day::parse(day)?, directive)
 }
 
-/// What is done on a day: a transaction begins, or an account is opened.
+/// Returns what is done on a day: a transaction begins, or an account is opened.
 #[tactic(auto, unfolding(crate::specs::Reading::done_of))]
 fn parse_directive(alloc: Global, day: Day, text: &str) -> Result<Line, LineFault>
     ensures { Gives (done_of day text.now) result }
@@ -141,7 +141,7 @@ fn parse_directive(alloc: Global, day: Day, text: &str) -> Result<Line, LineFaul
     }
 }
 
-/// A transaction to which no posting belongs yet.
+/// Returns a transaction without postings.
 fn transaction(alloc: Global, day: Day, narration: Option<Note>) -> Transaction
     ensures day { result.day ≡ day }
     ensures narration { result.narration ≡ narration }
@@ -154,7 +154,7 @@ fn transaction(alloc: Global, day: Day, narration: Option<Note>) -> Transaction
     }
 }
 
-/// The note between two quotes, with neither quote nor backslash in it.
+/// Returns the note between two quotes, with neither quote nor backslash in it.
 #[tactic(auto, unfolding(crate::specs::Reading::note_of))]
 fn parse_narration(alloc: Global, text: &str) -> Result<Note, LineFault>
     ensures { Gives (note_of text.now) result }
@@ -165,7 +165,7 @@ fn parse_narration(alloc: Global, text: &str) -> Result<Note, LineFault>
     }
 }
 
-/// A posting, without the two spaces before it: an account, and an amount or none.
+/// Returns a posting, given without the two spaces before it: an account, and an amount or none.
 #[tactic(auto, unfolding(crate::specs::Reading::posting_of))]
 fn parse_posting(alloc: Global, text: &str) -> Result<Posting, LineFault>
     ensures { Gives (posting_of text.now) result }
@@ -189,7 +189,7 @@ fn parse_posting(alloc: Global, text: &str) -> Result<Posting, LineFault>
     }
 }
 
-/// An amount: units, a commodity, and a cost or none.
+/// Returns an amount: units, a commodity, and a cost or none.
 #[tactic(auto, unfolding(crate::specs::Reading::amount_of))]
 fn parse_amount(alloc: Global, text: &str) -> Result<Amount, LineFault>
     ensures { Gives (amount_of text.now) result }
@@ -200,7 +200,7 @@ fn parse_amount(alloc: Global, text: &str) -> Result<Amount, LineFault>
     parse_held(alloc, Units::parse(units)?, held)
 }
 
-/// So many units of a commodity, with a cost or none. With a cost they are above zero.
+/// Returns the amount of these units: a commodity, and a cost or none. With a cost the units are above zero.
 #[tactic(auto, unfolding(crate::specs::Reading::held_of))]
 fn parse_held(alloc: Global, units: Units, text: &str) -> Result<Amount, LineFault>
     ensures { Gives (held_of units text.now) result }
@@ -229,7 +229,7 @@ fn parse_held(alloc: Global, units: Units, text: &str) -> Result<Amount, LineFau
     }
 }
 
-/// A cost: a number and a currency in braces.
+/// Returns a cost: a number and a currency in braces.
 #[tactic(auto, unfolding(crate::specs::Reading::cost_of))]
 fn parse_cost(alloc: Global, text: &str) -> Result<Cost, LineFault>
     ensures { Gives (cost_of text.now) result }
@@ -245,14 +245,14 @@ fn parse_cost(alloc: Global, text: &str) -> Result<Cost, LineFault>
     Ok(Cost { number, currency })
 }
 
-/// What stands before the first space of a text, and what stands behind it.
+/// Returns what stands before the first space of a text, and what stands behind it, or none where it has no space.
 fn cut(text: &str) -> Option<(&str, &str)>
     ensures { MatchOption result (cut text.now ≡ None) (λ parts. cut text.now ≡ Some (parts.0.now, parts.1.now)) }
 {
     text.split_once(' ')
 }
 
-/// What stands between the two characters, of ASCII, that a text begins and ends with.
+/// Returns what stands between the two ASCII characters that a text begins and ends with, or none for another text.
 fn inside(text: &str, first: char, last: char) -> Option<&str>
     requires first { first < 128 }
     requires last { last < 128 }
@@ -261,7 +261,7 @@ fn inside(text: &str, first: char, last: char) -> Option<&str>
     text.strip_prefix(first)?.strip_suffix(last)
 }
 
-/// Whether a text has neither a quote nor a backslash in it.
+/// Returns whether a text has neither a quote nor a backslash in it.
 fn is_plain(text: &str) -> bool
     ensures { result ≡ list_all is_plain text.now }
 {

@@ -5,7 +5,7 @@ ghost use Rattle.lot_text.specs.Reading.{closed, put, take_line, GivesLine, of_l
 ghost use Rattle.lot_text.specs.declared.line.LineFault.TheVariants.{Syntax};
 
 use crate::line::{Line, LineFault, parse};
-use lot_ledger::{Command, Opening, Posting, Transaction};
+use lot_command::{Command, Opening, Posting, Transaction};
 use std::alloc::{AllocError, Global};
 use thiserror::Error;
 
@@ -15,13 +15,13 @@ pub enum TextFault {
     /// The first line, counted from 1, that fits no form or is a posting without a transaction.
     #[error("line {line} is not understood")]
     Syntax { line: u64 },
-    /// There was no memory for the commands.
+    /// Out of memory.
     #[error("out of memory")]
     Memory,
 }
 
 impl TextFault {
-    /// What a fault of that line is for the text.
+    /// Returns the fault of the text for a fault of that line.
     fn of_line(fault: LineFault, line: u64) -> TextFault
         ensures { result ≡ of_line fault line }
     {
@@ -43,7 +43,8 @@ impl From<AllocError> for TextFault {
     }
 }
 
-/// The commands that a ledger text says (docs/FORMATS.md, Ledger text). The first faulty line decides.
+/// Returns the commands that a ledger text says (docs/FORMATS.md, Ledger text), or the number of its first faulty line,
+/// or out of memory.
 pub fn read(alloc: Global, text: &[u8]) -> Result<Vec<Command>, TextFault>
     ensures commands { IfOk result (λ commands. Reads text.now commands.items) }
     ensures fault { IfErr result (λ fault. IsFaultOf text.now fault) }
@@ -109,7 +110,7 @@ impl Reading {
         }
     }
 
-    /// Takes what the next line says.
+    /// Adds what the next line says.
     #[tactic(auto, unfolding(crate::specs::Reading::take_line))]
     fn take(&mut self, alloc: Global, line: &[u8]) -> Result<(), LineFault>
         ensures ok { OnOk result (take_line self.old.commands.items self.old.pending line.now
@@ -124,7 +125,7 @@ impl Reading {
         }
     }
 
-    /// Puts a posting behind those of the transaction so far.
+    /// Appends a posting to the transaction so far, or reports `Syntax` where there is none.
     fn post(&mut self, posting: Posting) -> Result<(), LineFault>
         ensures ok { OnOk result (put self.old.commands.items self.old.pending (Line.Posting posting)
             ≡ Some (self.new.commands.items, self.new.pending)) }
@@ -136,7 +137,7 @@ impl Reading {
         Ok(())
     }
 
-    /// A transaction begins, to which the next postings belong.
+    /// Begins a transaction, to which the next postings belong. The error is out of memory.
     fn begin(&mut self, transaction: Transaction) -> Result<(), AllocError>
         ensures { OnOk result (put self.old.commands.items self.old.pending (Line.Transaction transaction)
             ≡ Some (self.new.commands.items, self.new.pending)) }
@@ -146,7 +147,7 @@ impl Reading {
         Ok(())
     }
 
-    /// An account is opened.
+    /// Adds an opening. The error is out of memory.
     fn open(&mut self, opening: Opening) -> Result<(), AllocError>
         ensures { OnOk result (put self.old.commands.items self.old.pending (Line.Opening opening)
             ≡ Some (self.new.commands.items, self.new.pending)) }
@@ -156,7 +157,7 @@ impl Reading {
         Ok(())
     }
 
-    /// From here on no posting belongs to the transaction so far.
+    /// Ends the transaction so far: no further posting belongs to it. The error is out of memory.
     fn close(&mut self) -> Result<(), AllocError>
         ensures commands { OnOk result (self.new.commands.items ≡ closed self.old.commands.items self.old.pending) }
         ensures pending { OnOk result (self.new.pending ≡ None) }
@@ -167,7 +168,7 @@ impl Reading {
         Ok(())
     }
 
-    /// All commands, once there is no line left.
+    /// Returns all commands, once there is no line left. The error is out of memory.
     fn finish(mut self) -> Result<Vec<Command>, AllocError>
         ensures { IfOk result (λ commands. commands.items ≡ closed self.commands.items self.pending) }
     {

@@ -1,4 +1,4 @@
--- `position` finds the first posting at which the closure answers true.
+-- `position` finds the first posting at which the closure returns true.
 use Rattle.std.proofs.Common.{◌≡◌, suc, Some, sym, ap, ◌∙◌, rules, tests, add-one}
 use Rattle.std.specs.Prelude.{position}
 use Rattle.std.specs.Option.{option_map}

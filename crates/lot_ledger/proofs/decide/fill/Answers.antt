@@ -17,7 +17,7 @@ loop-index-init c =
     let count : it.count ≡ 0 = ap (λ it. it.count) c.into_iter-index-iterator.ensures.into_iter_gives ∙ c.enumerate-index-items.ensures.count in
     let left : filled entry posting account it.count it.iter.rest.items ≡ legs_for entry posting account 0 rs = ap (λ n. filled entry posting account n it.iter.rest.items) count ∙ ap (filled entry posting account 0) items ∙ sym (legs_for-filled entry posting account 0 rs) in
     record {
-      tells = c.requires.held;
+      lists = c.requires.held;
       legs = ap (λ ls. c.args.change.now.legs ++ ls) left;
       range = ap (out_of_range (legs_of c.args.book.now ++ c.args.change.now.legs)) left;
     }

@@ -12,7 +12,7 @@ invariant-loop-index l =
     let all = fill_of entry ((l.elided-inside.posting, l.elided-inside.account.now) ∷ []) l.residuals in
     let left = filled entry l.elided-inside.posting l.elided-inside.account.now l.index-iterator.count l.index-iterator.iter.rest.items in
     record {
-      tells : ListsHeld (legs_of l.book) l.change.legs l.change.held.entries;
+      lists : ListsHeld (legs_of l.book) l.change.legs l.change.held.entries;
       legs : l.change.legs ++ left ≡ l.fn.change.legs ++ all;
       range : out_of_range (legs_of l.book ++ l.change.legs) left ≡ out_of_range (legs_of l.book ++ l.fn.change.legs) all;
     }

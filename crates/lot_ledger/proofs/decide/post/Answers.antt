@@ -1,4 +1,4 @@
--- The leg's position is told anew, and no other.
+-- The leg's position is listed anew, and no other.
 use Rattle.std.proofs.Common.{◌≡◌, ◌++◌, ◌∷◌, [], Some, cond}
 use Rattle.std.specs.Map.{lookup}
 use Rattle.lot_ledger.specs.declared.leg.Position.{Position}

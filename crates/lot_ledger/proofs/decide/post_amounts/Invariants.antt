@@ -12,7 +12,7 @@ invariant-loop-index l =
     let entry = length l.book + 1 in
     let left = amounts_from entry l.transaction.day l.transaction.postings l.index in
     record {
-      tells : ListsHeld (legs_of l.book) l.change.legs l.change.held.entries;
+      lists : ListsHeld (legs_of l.book) l.change.legs l.change.held.entries;
       legs : l.change.legs ++ left ≡ first_legs entry l.transaction;
       moved : units_moved l.change.legs ≤ l.index * units_limit;
       range : out_of_range (legs_of l.book ++ l.change.legs) left ≡ out_of_range (legs_of l.book) (first_legs entry l.transaction);

@@ -1,4 +1,4 @@
--- Each position once, with what it holds; and rows in order that answer alike are the same.
+-- Each position once, with what it holds; and rows in order with the same look-ups are the same.
 use Rattle.lot_ledger.proofs.LawInventory.{some_inventory, one_inventory}
 use Rattle.lot_ledger.proofs.laws.a_book_has_one_inventory.Goals as goal
 

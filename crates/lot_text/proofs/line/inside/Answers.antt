@@ -1,4 +1,4 @@
--- What the two searches answer together.
+-- What the two searches return together.
 use Rattle.std.proofs.Common.{None, Some}
 use Rattle.std.proofs.lemmas.Str.Pattern.{strip_prefix_char, strip_suffix_char}
 use Rattle.lot_text.proofs.TextCuts.{inside-no_first, inside-result}

@@ -3,26 +3,26 @@ use Rattle.std.proofs.Common.{rules, List, ℕ, [], ◌∷◌, ◌++◌, ◌+◌
 use Rattle.std.proofs.lemmas.List.{length_push}
 use Rattle.lot_text.specs.Text.{Reads}
 use Rattle.lot_command.specs.declared.command.Command.{Command}
-use Rattle.lot_text.proofs.TextLemmas.{IsFront, front-push, take-push, fault-at, fault-of, reads-at}
+use Rattle.lot_text.proofs.TextLemmas.{IsPrefix, prefix-push, take-push, fault-at, fault-of, reads-at}
 use Rattle.lot_text.proofs.reader.read.Goals as goal
 
 pub returns-in-Err-clause-fault : goal.returns-in-Err-clause-fault
 returns-in-Err-clause-fault c =
-    let (lines, count, front, read) = c.loop-line.invariant.lines in
+    let (lines, count, prefix, read) = c.loop-line.invariant.lines in
     fault-of c.args.text.now c.of_line.result c.in-Err.fault (c.loop-line.number + 1)
     (λ syntax. fault-at lines c.args.text.now c.loop-line.line-iterator.rest.now c.in-Some.line.now c.next.new.self.rest.now (c.loop-line.number + 1)
-    c.loop-line.reading.commands.items c.loop-line.reading.pending front c.in-Some.ensures.steps (ap (λ n. n + 1) count) read (c.in-Err.ensures.fault syntax))
+    c.loop-line.reading.commands.items c.loop-line.reading.pending prefix c.in-Some.ensures.steps (ap (λ n. n + 1) count) read (c.in-Err.ensures.fault syntax))
     c.of_line.ensures
 
 pub loop-line-preserved : goal.loop-line-preserved
 loop-line-preserved c =
-    let (lines, count, front, read) = c.loop-line.invariant.lines in
+    let (lines, count, prefix, read) = c.loop-line.invariant.lines in
     record {
       few = search rules;
       lines = (
         lines ++ c.in-Some.line.now ∷ [],
         ap (λ n. n + 1) count ∙ sym (length_push lines c.in-Some.line.now),
-        front-push lines c.args.text.now c.loop-line.line-iterator.rest.now c.in-Some.line.now c.next.new.self.rest.now front c.in-Some.ensures.steps,
+        prefix-push lines c.args.text.now c.loop-line.line-iterator.rest.now c.in-Some.line.now c.next.new.self.rest.now prefix c.in-Some.ensures.steps,
         take-push lines c.in-Some.line.now c.loop-line.reading.commands.items c.loop-line.reading.pending
             (Some (c.take.new.self.commands.items, c.take.new.self.pending)) read c.in_default.ensures.ok,
       );
@@ -30,7 +30,7 @@ loop-line-preserved c =
 
 pub returns-clause-commands : goal.returns-clause-commands
 returns-clause-commands c =
-    let (lines, count, front, read) = c.loop-line.invariant.lines in
-    let whole = subst (λ (rest : List ℕ). IsFront lines c.args.text.now rest) c.in-None.ensures.steps.0 front in
+    let (lines, count, prefix, read) = c.loop-line.invariant.lines in
+    let whole = subst (λ (rest : List ℕ). IsPrefix lines c.args.text.now rest) c.in-None.ensures.steps.0 prefix in
     subst (λ (commands : List Command). Reads c.args.text.now commands) (sym c.in_ok-finish.ensures)
     (reads-at lines c.args.text.now c.loop-line.reading.commands.items c.loop-line.reading.pending whole read)

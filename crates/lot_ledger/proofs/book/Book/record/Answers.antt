@@ -10,7 +10,7 @@ invariant_of-result c =
     let command = c.args.command in
     let change = c.args.change in
     let step : Step book.entries.items command (Accept change.legs) = rw c.self.view_is c.requires.step in
-    let tells : ListsHeld (legs_of book.entries.items) change.legs change.held.entries = rw c.self.view_is c.requires.held in
+    let lists : ListsHeld (legs_of book.entries.items) change.legs change.held.entries = rw c.self.view_is c.requires.held in
     rw c.in_ok-push.ensures.items
-    (IsKept-push book.entries.items command change.legs book.opened c.keep_opening.new.opened book.held c.keep_held.new.held change.held c.self.invariant step tells
+    (IsKept-push book.entries.items command change.legs book.opened c.keep_opening.new.opened book.held c.keep_held.new.held change.held c.self.invariant step lists
     c.in_ok-keep_opening.ensures c.in_ok-keep_held.ensures.each c.in_ok-keep_held.ensures.ordered)
