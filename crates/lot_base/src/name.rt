@@ -1,10 +1,10 @@
-ghost use Rattle.std.specs.Prelude.{◌≡◌, ◌==◌, ◌↔◌, ◌⊎◌, false, IsTrue, IfOk, IfErr, IsOk, IsErrOf, Some};
+ghost use Rattle.std.specs.Prelude.{◌≡◌, ◌↔◌, ◌⊎◌, false, IsTrue, IfOk, IfErr, IsOk, IsErrOf, Some};
 ghost use Rattle.std.proofs.Common.{rules};
 ghost use Rattle.std.specs.Cmp.Rules.{comparing, hashing};
 ghost use Rattle.std.specs.Cmp.{partial_order_from_own_ties};
-ghost use Rattle.std.specs.Ordering.{nat_cmp, as_partial_cmp};
-ghost use Rattle.std.specs.Cmp.Lexicographic.{pointwise, slice_cmp};
+ghost use Rattle.std.specs.Ordering.{as_partial_cmp};
 ghost use Rattle.std.specs.Hash as fed;
+ghost use Rattle.lot_base.specs.Text.{same_text, text_cmp};
 
 use crate::fault::NameFault;
 use crate::grammars::{AccountGrammar, CommodityGrammar, Grammar, LabelGrammar, NoteGrammar};
@@ -86,7 +86,7 @@ impl<G: Grammar> Name<G> {
 }
 
 impl<G: Grammar> PartialEq for Name<G> {
-    ghost eq = { pointwise ◌==◌ };
+    ghost eq = { same_text };
 
     ghost laws = { Prim.search (comparing, rules) };
 
@@ -100,7 +100,7 @@ impl<G: Grammar> Eq for Name<G> {
 }
 
 impl<G: Grammar> PartialOrd for Name<G> {
-    ghost partial_cmp = { as_partial_cmp (slice_cmp nat_cmp) };
+    ghost partial_cmp = { as_partial_cmp text_cmp };
 
     ghost laws = { partial_order_from_own_ties (Prim.search (comparing, rules)) (Prim.search (comparing, rules)) };
 
@@ -110,7 +110,7 @@ impl<G: Grammar> PartialOrd for Name<G> {
 }
 
 impl<G: Grammar> Ord for Name<G> {
-    ghost cmp = { slice_cmp nat_cmp };
+    ghost cmp = { text_cmp };
 
     ghost total = { Prim.search (comparing, rules) };
 

@@ -1,15 +1,15 @@
 -- The orders of lot keys and of places are total, and tell all of them apart.
 use Rattle.std.specs.Prelude.{◌≡◌, None, Some}
-use Rattle.std.specs.declared.cmp.Ordering.{Ordering}
 use Rattle.std.specs.declared.cmp.Ordering.TheVariants.{Less, Equal, Greater}
 use Rattle.std.specs.Cmp.{IsTotalOrder}
-use Rattle.std.specs.Cmp.Lexicographic.{slice_cmp, options_total}
+use Rattle.std.specs.Cmp.Lexicographic.{options_total}
 use Rattle.std.specs.Option.{option_cmp}
 use Rattle.std.specs.Ordering.{nat_cmp, int_cmp, ordering_then}
 use Rattle.std.proofs.Common.{refl, ap}
 use Rattle.std.proofs.lemmas.Cmp.{then_total, on_total, nat_cmp_total, int_cmp_total, nat_list_cmp_total}
 use Rattle.std.proofs.lemmas.Map.Lookups.{CmpEqualImpliesEq, exact_unsigned, exact_signed, exact_bytes}
 use Rattle.lot_base.proofs.OrderLemmas.{both_equal, exact_options}
+use Rattle.lot_base.specs.Text.{text_cmp}
 use Rattle.lot_inv.specs.declared.lot_key.LotKey.{LotKey}
 use Rattle.lot_inv.specs.Inventory.{Place, place_cmp}
 use Rattle.lot_inv.specs.LotKey.{lot_cmp}
@@ -27,16 +27,16 @@ places_total = then_total (on_total (λ (p : Place). p.0) nat_list_cmp_total) (o
 
 pub exact_lots : CmpEqualImpliesEq lot_cmp
 exact_lots a b e =
-    let labels = option_cmp (slice_cmp nat_cmp) a.label b.label in
+    let labels = option_cmp text_cmp a.label b.label in
     let numbers = ordering_then (nat_cmp a.number b.number) labels in
-    let day = both_equal (int_cmp a.day b.day) (ordering_then (slice_cmp nat_cmp a.currency b.currency) numbers) e in
-    let currency = both_equal (slice_cmp nat_cmp a.currency b.currency) numbers day.1 in
+    let day = both_equal (int_cmp a.day b.day) (ordering_then (text_cmp a.currency b.currency) numbers) e in
+    let currency = both_equal (text_cmp a.currency b.currency) numbers day.1 in
     let number = both_equal (nat_cmp a.number b.number) labels currency.1 in
     λ i. record {
       day = exact_signed a.day b.day day.0 i;
       currency = exact_bytes a.currency b.currency currency.0 i;
       number = exact_unsigned a.number b.number number.0 i;
-      label = exact_options (slice_cmp nat_cmp) exact_bytes a.label b.label number.1 i;
+      label = exact_options text_cmp exact_bytes a.label b.label number.1 i;
     }
 
 pub exact_positions : CmpEqualImpliesEq (option_cmp lot_cmp)
@@ -44,5 +44,5 @@ exact_positions = exact_options lot_cmp exact_lots
 
 pub exact_places : CmpEqualImpliesEq place_cmp
 exact_places p q e =
-    let parts = both_equal (slice_cmp nat_cmp p.0 q.0) (option_cmp lot_cmp p.1 q.1) e in
+    let parts = both_equal (text_cmp p.0 q.0) (option_cmp lot_cmp p.1 q.1) e in
     λ i. (exact_bytes p.0 q.0 parts.0 i, exact_positions p.1 q.1 parts.1 i)

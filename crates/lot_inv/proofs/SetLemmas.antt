@@ -2,14 +2,14 @@
 use Rattle.std.specs.Prelude.{◌≡◌, ◌≢◌, ℕ, Bool, true, false, cond, ◌&&◌, List, [], ◌∷◌, length, Option, None, Some, is_some, ℤ, pos, option_and_then, IfSome, Result, Ok, Err, OnErr}
 use Rattle.std.specs.BTreeMap.{is_at}
 use Rattle.std.specs.Cmp.{eq_by_cmp_equiv, tied_itself}
-use Rattle.std.specs.Cmp.Lexicographic.{slice_cmp}
 use Rattle.std.specs.FinMap.{get, insert, remove, from_entries, get-insert, get-remove, same_map}
 use Rattle.std.specs.List.Sorted.{IsStrictlySortedBy}
 use Rattle.std.specs.Map.{keys_of, lookup}
 use Rattle.std.specs.Option.{option_cmp, unwrap_or}
-use Rattle.std.specs.Ordering.{nat_cmp, int_eq, is_eq, eq_by_cmp}
+use Rattle.std.specs.Ordering.{int_eq, is_eq, eq_by_cmp}
 use Rattle.std.proofs.Common.{refl, sym, ap, subst, ◌∙◌}
 use Rattle.std.proofs.lemmas.Map.Lookups.{exact_bytes}
+use Rattle.lot_base.specs.Text.{text_cmp}
 use Rattle.lot_inv.specs.declared.inventory.Holding.{Holding}
 use Rattle.lot_inv.specs.declared.lot_key.LotKey.{LotKey}
 use Rattle.lot_inv.specs.Holding.{AreAlike, AreHoldings, HoldsSomething, IsHolding, IsSet, NoneIsEmpty, NoOtherIsEmpty, held_at, found, rows}
@@ -38,77 +38,77 @@ kept_when_set b units before after e h = e ∙ elim b as (λ b. cond b (non_zero
 
 -- the holding of a commodity is another one, or there is none any more
 abbrev pub Changes : List (List ℕ × Holding) → List (List ℕ × Holding) → List ℕ → Option Holding → Type 0
-Changes old new commodity at = (other : List ℕ) → lookup (is_at (slice_cmp nat_cmp other)) new
-    ≡ cond (is_eq (slice_cmp nat_cmp commodity other)) at (lookup (is_at (slice_cmp nat_cmp other)) old)
+Changes old new commodity at = (other : List ℕ) → lookup (is_at (text_cmp other)) new
+    ≡ cond (is_eq (text_cmp commodity other)) at (lookup (is_at (text_cmp other)) old)
 
 pub changes_inserted : (old mid new : List (List ℕ × Holding)) (commodity copied : List ℕ) (holding : Holding) → copied ≡ commodity → mid ≡ old
-    → ((other : List ℕ) → lookup (is_at (slice_cmp nat_cmp other)) new ≡ cond (is_eq (slice_cmp nat_cmp copied other)) (Some holding) (lookup (is_at (slice_cmp nat_cmp other)) mid))
+    → ((other : List ℕ) → lookup (is_at (text_cmp other)) new ≡ cond (is_eq (text_cmp copied other)) (Some holding) (lookup (is_at (text_cmp other)) mid))
     → Changes old new commodity (Some holding)
 changes_inserted old mid new commodity copied holding e m updates other =
     updates other
-    ∙ ap (λ c. cond (is_eq (slice_cmp nat_cmp c other)) (Some holding) (lookup (is_at (slice_cmp nat_cmp other)) mid)) e
-    ∙ ap (λ es. cond (is_eq (slice_cmp nat_cmp commodity other)) (Some holding) (lookup (is_at (slice_cmp nat_cmp other)) es)) m
+    ∙ ap (λ c. cond (is_eq (text_cmp c other)) (Some holding) (lookup (is_at (text_cmp other)) mid)) e
+    ∙ ap (λ es. cond (is_eq (text_cmp commodity other)) (Some holding) (lookup (is_at (text_cmp other)) es)) m
 
 pub holdings_changed : (old new : List (List ℕ × Holding)) (commodity : List ℕ) (holding : Holding) → AreHoldings old → IsHolding holding
-    → Changes old new commodity (Some holding) → IsStrictlySortedBy (slice_cmp nat_cmp) (keys_of new) → AreHoldings new
+    → Changes old new commodity (Some holding) → IsStrictlySortedBy text_cmp (keys_of new) → AreHoldings new
 holdings_changed old new commodity holding are is changes sorted = record {
   sorted = sorted;
   each = λ other. subst (λ o. IfSome o IsHolding) (sym (changes other)) (
-      elim (is_eq (slice_cmp nat_cmp commodity other)) as (λ b. IfSome (cond b (Some holding) (lookup (is_at (slice_cmp nat_cmp other)) old)) IsHolding) [
+      elim (is_eq (text_cmp commodity other)) as (λ b. IfSome (cond b (Some holding) (lookup (is_at (text_cmp other)) old)) IsHolding) [
         | true ↦ is
         | false ↦ are.each other
       ]);
 }
 
 pub found_forgotten : (old new : List (List ℕ × Holding)) (commodity : List ℕ) (holding : Holding)
-    → Some holding ≡ lookup (is_at (slice_cmp nat_cmp commodity)) old → ((key : Option LotKey) → held_at holding key ≡ None)
+    → Some holding ≡ lookup (is_at (text_cmp commodity)) old → ((key : Option LotKey) → held_at holding key ≡ None)
     → Changes old new commodity None → (place : Place) → found new place ≡ found old place
 found_forgotten old new commodity holding at nothing changes place =
     let find = option_and_then (λ (h : Holding). held_at h place.1) in
-    let o = slice_cmp nat_cmp commodity place.0 in
-    ap find (changes place.0) ∙ elim (is_eq o) as (λ b. is_eq o ≡ b → find (cond b None (lookup (is_at (slice_cmp nat_cmp place.0)) old)) ≡ found old place) [
-      | true ↦ λ e. sym (ap (λ c. find (lookup (is_at (slice_cmp nat_cmp c)) old)) (sym (exact_bytes commodity place.0 (is_equal o e))) ∙ ap find (sym at) ∙ nothing place.1)
+    let o = text_cmp commodity place.0 in
+    ap find (changes place.0) ∙ elim (is_eq o) as (λ b. is_eq o ≡ b → find (cond b None (lookup (is_at (text_cmp place.0)) old)) ≡ found old place) [
+      | true ↦ λ e. sym (ap (λ c. find (lookup (is_at (text_cmp c)) old)) (sym (exact_bytes commodity place.0 (is_equal o e))) ∙ ap find (sym at) ∙ nothing place.1)
       | false ↦ λ e. refl
     ] refl
 
 pub found_changed : (old new : List (List ℕ × Holding)) (commodity : List ℕ) (key : Option LotKey) (units : ℤ) (holding : Holding) (at : Option Holding)
-    → at ≡ lookup (is_at (slice_cmp nat_cmp commodity)) old
+    → at ≡ lookup (is_at (text_cmp commodity)) old
     → ((other : Option LotKey) → held_at holding other ≡ cond (is_eq (option_cmp lot_cmp key other)) (non_zero units) (option_and_then (λ (h : Holding). held_at h other) at))
     → Changes old new commodity (Some holding) → (place : Place) → found new place ≡ cond (is_eq (place_cmp (commodity, key) place)) (non_zero units) (found old place)
 found_changed old new commodity key units holding at is sets changes place =
     let find = option_and_then (λ (h : Holding). held_at h place.1) in
-    let o = slice_cmp nat_cmp commodity place.0 in
+    let o = text_cmp commodity place.0 in
     let k = option_cmp lot_cmp key place.1 in
     ap find (changes place.0)
-    ∙ elim (is_eq o) as (λ b. is_eq o ≡ b → find (cond b (Some holding) (lookup (is_at (slice_cmp nat_cmp place.0)) old)) ≡ cond (b && is_eq k) (non_zero units) (found old place)) [
-      | true ↦ λ e. sets place.1 ∙ ap (cond (is_eq k) (non_zero units)) (ap find is ∙ ap (λ c. find (lookup (is_at (slice_cmp nat_cmp c)) old)) (exact_bytes commodity place.0 (is_equal o e)))
+    ∙ elim (is_eq o) as (λ b. is_eq o ≡ b → find (cond b (Some holding) (lookup (is_at (text_cmp place.0)) old)) ≡ cond (b && is_eq k) (non_zero units) (found old place)) [
+      | true ↦ λ e. sets place.1 ∙ ap (cond (is_eq k) (non_zero units)) (ap find is ∙ ap (λ c. find (lookup (is_at (text_cmp c)) old)) (exact_bytes commodity place.0 (is_equal o e)))
       | false ↦ λ e. refl
     ] refl
     ∙ ap (λ b. cond b (non_zero units) (found old place)) (sym (eq_then o k))
 
 pub found_alike : (old new : List (List ℕ × Holding)) (commodity : List ℕ) (holding : Holding) (at : Option Holding)
-    → at ≡ lookup (is_at (slice_cmp nat_cmp commodity)) old
+    → at ≡ lookup (is_at (text_cmp commodity)) old
     → ((other : Option LotKey) → held_at holding other ≡ option_and_then (λ (h : Holding). held_at h other) at)
     → Changes old new commodity (Some holding) → AreAlike old new
 found_alike old new commodity holding at is same changes place =
     let find = option_and_then (λ (h : Holding). held_at h place.1) in
-    let o = slice_cmp nat_cmp commodity place.0 in
+    let o = text_cmp commodity place.0 in
     ap find (changes place.0)
-    ∙ elim (is_eq o) as (λ b. is_eq o ≡ b → find (cond b (Some holding) (lookup (is_at (slice_cmp nat_cmp place.0)) old)) ≡ found old place) [
-      | true ↦ λ e. same place.1 ∙ ap find is ∙ ap (λ c. find (lookup (is_at (slice_cmp nat_cmp c)) old)) (exact_bytes commodity place.0 (is_equal o e))
+    ∙ elim (is_eq o) as (λ b. is_eq o ≡ b → find (cond b (Some holding) (lookup (is_at (text_cmp place.0)) old)) ≡ found old place) [
+      | true ↦ λ e. same place.1 ∙ ap find is ∙ ap (λ c. find (lookup (is_at (text_cmp c)) old)) (exact_bytes commodity place.0 (is_equal o e))
       | false ↦ λ e. refl
     ] refl
 
 pub set_nothing : (old new : List (List ℕ × Holding)) (commodity : List ℕ) (key : Option LotKey) (units : ℤ)
-    → None ≡ lookup (is_at (slice_cmp nat_cmp commodity)) old → new ≡ old → non_zero units ≡ None → IsSet old new (commodity, key) units
+    → None ≡ lookup (is_at (text_cmp commodity)) old → new ≡ old → non_zero units ≡ None → IsSet old new (commodity, key) units
 set_nothing old new commodity key units at same zero place =
     let find = option_and_then (λ (h : Holding). held_at h place.1) in
-    let o = slice_cmp nat_cmp commodity place.0 in
+    let o = text_cmp commodity place.0 in
     let k = option_cmp lot_cmp key place.1 in
     ap (λ es. found es place) same
     ∙ elim (is_eq o) as (λ b. is_eq o ≡ b → found old place ≡ cond (b && is_eq k) (non_zero units) (found old place)) [
       | true ↦ λ e.
-          let none : found old place ≡ None = ap (λ c. find (lookup (is_at (slice_cmp nat_cmp c)) old)) (sym (exact_bytes commodity place.0 (is_equal o e))) ∙ ap find (sym at) in
+          let none : found old place ≡ None = ap (λ c. find (lookup (is_at (text_cmp c)) old)) (sym (exact_bytes commodity place.0 (is_equal o e))) ∙ ap find (sym at) in
           none ∙ elim (is_eq k) as (λ b. None ≡ cond b (non_zero units) (found old place)) [ true ↦ sym zero | false ↦ sym none ]
       | false ↦ λ e. refl
     ] refl
@@ -141,21 +141,21 @@ map_set old new held place units are still view is =
 pub none_empty : (old new : List (List ℕ × Holding)) (commodity : List ℕ) (at : Option Holding) → NoOtherIsEmpty commodity old
     → Changes old new commodity at → IfSome at HoldsSomething → NoneIsEmpty new
 none_empty old new commodity at kept changes holds other =
-    let o = slice_cmp nat_cmp commodity other in
+    let o = text_cmp commodity other in
     subst (λ o. IfSome o HoldsSomething) (sym (changes other)) (
-    elim (is_eq o) as (λ b. is_eq o ≡ b → IfSome (cond b at (lookup (is_at (slice_cmp nat_cmp other)) old)) HoldsSomething) [
+    elim (is_eq o) as (λ b. is_eq o ≡ b → IfSome (cond b at (lookup (is_at (text_cmp other)) old)) HoldsSomething) [
       | true ↦ λ e. holds
       | false ↦ λ e. kept other e
     ] refl)
 
 -- the same where nothing changes, and the commodity's own holding holds something
 pub none_empty_still : (holdings : List (List ℕ × Holding)) (commodity : List ℕ) → NoOtherIsEmpty commodity holdings
-    → IfSome (lookup (is_at (slice_cmp nat_cmp commodity)) holdings) HoldsSomething → NoneIsEmpty holdings
+    → IfSome (lookup (is_at (text_cmp commodity)) holdings) HoldsSomething → NoneIsEmpty holdings
 none_empty_still holdings commodity kept holds =
-    let at = λ (c : List ℕ). lookup (is_at (slice_cmp nat_cmp c)) holdings in
+    let at = λ (c : List ℕ). lookup (is_at (text_cmp c)) holdings in
     none_empty holdings holdings commodity (at commodity) kept (λ other.
-    elim (is_eq (slice_cmp nat_cmp commodity other)) as (λ b. is_eq (slice_cmp nat_cmp commodity other) ≡ b → at other ≡ cond b (at commodity) (at other)) [
-      | true ↦ λ e. ap at (sym (exact_bytes commodity other (is_equal (slice_cmp nat_cmp commodity other) e)))
+    elim (is_eq (text_cmp commodity other)) as (λ b. is_eq (text_cmp commodity other) ≡ b → at other ≡ cond b (at commodity) (at other)) [
+      | true ↦ λ e. ap at (sym (exact_bytes commodity other (is_equal (text_cmp commodity other) e)))
       | false ↦ λ e. refl
     ] refl) holds
 

@@ -1,11 +1,11 @@
 -- How an inventory is kept: what is held of each commodity, its plain units and its lots.
 use Rattle.std.specs.Prelude.{◌≡◌, ℕ, false, if◌then◌else◌, List, [], ◌∷◌, ◌++◌, Option, None, Some, ℤ, pos, IsSome, IfSome, option_and_then}
 use Rattle.std.specs.BTreeMap.{get, is_at}
-use Rattle.std.specs.Cmp.Lexicographic.{slice_cmp}
 use Rattle.std.specs.List.Sorted.{IsStrictlySortedBy}
 use Rattle.std.specs.Map.{keys_of, lookup}
 use Rattle.std.specs.Option.{unwrap_or}
-use Rattle.std.specs.Ordering.{nat_cmp, int_eq, is_eq}
+use Rattle.std.specs.Ordering.{int_eq, is_eq}
+use Rattle.lot_base.specs.Text.{text_cmp}
 use Rattle.lot_inv.specs.declared.inventory.Holding.{Holding}
 use Rattle.lot_inv.specs.declared.lot_key.LotKey.{LotKey}
 use Rattle.lot_inv.specs.Inventory.{Place, place_cmp, non_zero}
@@ -18,7 +18,7 @@ held_at holding (Some key) = get lot_cmp holding.lots key
 
 -- what the holdings have at a place
 abbrev pub found : List (List ℕ × Holding) → Place → Option ℤ
-found holdings place = option_and_then (λ (holding : Holding). held_at holding place.1) (lookup (is_at (slice_cmp nat_cmp place.0)) holdings)
+found holdings place = option_and_then (λ (holding : Holding). held_at holding place.1) (lookup (is_at (text_cmp place.0)) holdings)
 
 -- the row of the plain units of a commodity, where it has some
 abbrev pub plain_rows : List ℕ → ℤ → List (Place × ℤ)
@@ -49,17 +49,17 @@ HoldsSomething holding = (key : Option LotKey) × IsSome (held_at holding key)
 
 -- holdings in the order of their commodities
 pub record AreHoldings (holdings : List (List ℕ × Holding)) : Type 0 where
-  pub sorted : IsStrictlySortedBy (slice_cmp nat_cmp) (keys_of holdings)
-  pub each : (commodity : List ℕ) → IfSome (lookup (is_at (slice_cmp nat_cmp commodity)) holdings) IsHolding
+  pub sorted : IsStrictlySortedBy text_cmp (keys_of holdings)
+  pub each : (commodity : List ℕ) → IfSome (lookup (is_at (text_cmp commodity)) holdings) IsHolding
 
 -- no holding is kept of which nothing is left
 abbrev pub NoneIsEmpty : List (List ℕ × Holding) → Type 0
-NoneIsEmpty holdings = (commodity : List ℕ) → IfSome (lookup (is_at (slice_cmp nat_cmp commodity)) holdings) HoldsSomething
+NoneIsEmpty holdings = (commodity : List ℕ) → IfSome (lookup (is_at (text_cmp commodity)) holdings) HoldsSomething
 
 -- the same of every commodity but one
 abbrev pub NoOtherIsEmpty : List ℕ → List (List ℕ × Holding) → Type 0
-NoOtherIsEmpty commodity holdings = (other : List ℕ) → is_eq (slice_cmp nat_cmp commodity other) ≡ false
-    → IfSome (lookup (is_at (slice_cmp nat_cmp other)) holdings) HoldsSomething
+NoOtherIsEmpty commodity holdings = (other : List ℕ) → is_eq (text_cmp commodity other) ≡ false
+    → IfSome (lookup (is_at (text_cmp other)) holdings) HoldsSomething
 
 -- two lists of holdings have the same at each place
 abbrev pub AreAlike : List (List ℕ × Holding) → List (List ℕ × Holding) → Type 0

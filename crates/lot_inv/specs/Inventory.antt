@@ -2,18 +2,19 @@
 use Rattle.std.specs.Prelude.{◌≡◌, ℕ, Bool, ◌&&◌, ◌||◌, if◌then◌else◌, List, [], ◌∷◌, filter, Option, None, Some, ℤ, pos, ◌+ℤ◌, int_lt}
 use Rattle.std.specs.declared.cmp.Ordering.{Ordering}
 use Rattle.std.specs.BTreeMap.{is_at}
-use Rattle.std.specs.Cmp.Lexicographic.{slice_cmp}
 use Rattle.std.specs.Coded.{Coded, coded×, coded_option}
 use Rattle.std.specs.FinMap as finite
 use Rattle.std.specs.List.{list_any}
 use Rattle.std.specs.List.Sorted.{IsStrictlySortedBy}
 use Rattle.std.specs.Map.{keys_of, lookup, values_of}
 use Rattle.std.specs.Option.{option_cmp, unwrap_or}
-use Rattle.std.specs.Ordering.{nat_cmp, int_eq, is_eq, ordering_then}
+use Rattle.std.specs.Ordering.{int_eq, is_eq, ordering_then}
+use Rattle.lot_num.specs.Sum.{sum_of}
+use Rattle.lot_base.specs.Text.{coded_text, text_cmp}
 use Rattle.lot_inv.specs.declared.cost_spec.CostSpec.{CostSpec}
 use Rattle.lot_inv.specs.declared.lot_key.LotKey.{LotKey}
 use Rattle.lot_inv.specs.CostSpec.{fits}
-use Rattle.lot_inv.specs.LotKey.{lot_cmp, coded_text, coded_key}
+use Rattle.lot_inv.specs.LotKey.{lot_cmp, coded_key}
 
 -- ---- places and what they hold
 
@@ -23,7 +24,7 @@ Place = List ℕ × Option LotKey
 
 -- the order of places: by commodity, the plain one first, then the lots in the order of their keys
 abbrev pub place_cmp : Place → Place → Ordering
-place_cmp p q = ordering_then (slice_cmp nat_cmp p.0 q.0) (option_cmp lot_cmp p.1 q.1)
+place_cmp p q = ordering_then (text_cmp p.0 q.0) (option_cmp lot_cmp p.1 q.1)
 
 abbrev pub coded_place : Coded Place
 coded_place = coded× coded_text (coded_option coded_key)
@@ -55,7 +56,7 @@ abbrev pub lots_in : List ℕ → List (Place × ℤ) → List (LotKey × ℤ)
 lots_in commodity [] = []
 lots_in commodity (((other, None), units) ∷ rows) = lots_in commodity rows
 lots_in commodity (((other, Some key), units) ∷ rows) =
-    if is_eq (slice_cmp nat_cmp commodity other) then (key, units) ∷ lots_in commodity rows else lots_in commodity rows
+    if is_eq (text_cmp commodity other) then (key, units) ∷ lots_in commodity rows else lots_in commodity rows
 
 -- the lots of a commodity with their units, in the order of their keys
 unfoldable pub lots_of : Held → List ℕ → List (LotKey × ℤ)
@@ -72,11 +73,6 @@ other_sign a b = (int_lt a (pos 0) && int_lt (pos 0) b) || (int_lt (pos 0) a && 
 -- whether some lot of the commodity has the other sign
 abbrev pub reduces : Held → List ℕ → ℤ → Bool
 reduces held commodity units = list_any (λ lot. other_sign lot units) (values_of (lots_of held commodity))
-
--- the sum of whole numbers
-abbrev pub sum_of : List ℤ → ℤ
-sum_of [] = pos 0
-sum_of (z ∷ zs) = z +ℤ sum_of zs
 
 -- the units of all lots of the commodity
 abbrev pub sum : Held → List ℕ → ℤ

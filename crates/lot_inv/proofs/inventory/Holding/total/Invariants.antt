@@ -1,7 +1,7 @@
 use Rattle.std.proofs.Common.{◌≡◌, ◌+◌, ◌*◌, ◌≤◌, length, ◌+ℤ◌}
 use Rattle.std.specs.Prelude.{◌^◌, unsigned_abs}
 use Rattle.std.specs.Map.{values_of}
-use Rattle.lot_inv.specs.Inventory.{sum_of}
+use Rattle.lot_num.specs.Sum.{sum_of}
 use Rattle.lot_inv.proofs.inventory.Holding.total.Given as goal
 
 -- the sum so far and that of what is left are the whole sum, and there is room for what is left
