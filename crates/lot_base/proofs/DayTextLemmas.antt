@@ -3,7 +3,7 @@ use Rattle.std.proofs.Common.{◌≡◌, ℕ, ◌+◌, ◌-◌, ◌*◌, ◌/◌
 use Rattle.std.specs.Prelude.{cond, not, nat_le, ◌&&◌}
 use Rattle.std.specs.Char.{is_ascii_digit}
 use Rattle.std.specs.List.{slice_split, onto_first, list_all, position_or_len, before_first, after_first}
-use Rattle.std.proofs.lemmas.Bool.{cases_order}
+use Rattle.std.proofs.lemmas.Bool.{and_right, cases_order, not-false}
 use Rattle.std.proofs.lemmas.List.Folds.{list_all_at}
 use Rattle.std.proofs.lemmas.List.Sums.{prefix_len_stops, prefix_len-le-length}
 use Rattle.std.proofs.lemmas.Bool.Decides.{nat_tests}
@@ -25,14 +25,6 @@ date_of-no_day None month = refl
 date_of-no_day (Some y) None = refl
 date_of-no_day (Some y) (Some m) = refl
 
-no_conjunction : (a : Bool) → (a && false) ≡ false
-no_conjunction true = refl
-no_conjunction false = refl
-
-no_from_not : (b : Bool) → not b ≡ false → b ≡ true
-no_from_not true h = refl
-no_from_not false h = absurd (cc)
-
 separator-no_digit : (b : ℕ) → is_separator b ≡ true → is_ascii_digit b ≡ false
 separator-no_digit b h = grind (arith, nat_tests)
 
@@ -40,9 +32,9 @@ separator-no_digit b h = grind (arith, nat_tests)
 number_in-separator : (least most : ℕ) (part : List ℕ) → position_or_len is_separator part < length part → number_in least most part ≡ None
 number_in-separator least most part h =
     let at = position_or_len is_separator part in
-    let here : is_separator (get_or part at 0) ≡ true = no_from_not _ (prefix_len_stops (λ b. not (is_separator b)) part 0 h) in
+    let here : is_separator (get_or part at 0) ≡ true = not-false _ (prefix_len_stops (λ b. not (is_separator b)) part 0 h) in
     let other : list_all is_ascii_digit part ≡ false = list_all_at is_ascii_digit part at 0 h (separator-no_digit (get_or part at 0) here) in
-    let no : (nat_le least (length part) && nat_le (length part) most && list_all is_ascii_digit part) ≡ false = rw other (no_conjunction _) in
+    let no : (nat_le least (length part) && nat_le (length part) most && list_all is_ascii_digit part) ≡ false = rw other (and_right _ false refl) in
     rw no
 
 -- four parts or more are no date

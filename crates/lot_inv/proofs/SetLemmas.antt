@@ -12,11 +12,11 @@ use Rattle.std.proofs.lemmas.Map.Lookups.{exact_bytes}
 use Rattle.lot_base.specs.Text.{text_cmp}
 use Rattle.lot_inv.specs.declared.inventory.Holding.{Holding}
 use Rattle.lot_inv.specs.declared.lot_key.LotKey.{LotKey}
-use Rattle.lot_inv.specs.Holding.{AreAlike, AreHoldings, HoldsSomething, IsHolding, IsSet, NoneIsEmpty, NoOtherIsEmpty, held_at, found, rows}
-use Rattle.lot_inv.specs.Inventory.{Held, Place, place_cmp, non_zero, with_units}
+use Rattle.lot_inv.specs.Holding.{AreAlike, AreHoldings, HoldsSomething, IsHolding, ChangesPosition, NoneIsEmpty, NoOtherIsEmpty, held_at, found, rows}
+use Rattle.lot_inv.specs.Inventory.{Held, Position, position_cmp, non_zero, with_units}
 use Rattle.lot_inv.specs.LotKey.{lot_cmp}
 use Rattle.lot_inv.proofs.InventoryLemmas.{eq_then, get-rows, is_equal}
-use Rattle.lot_inv.proofs.OrderLemmas.{lots_total, positions_total, places_total, exact_places}
+use Rattle.lot_inv.proofs.OrderLemmas.{lots_total, lot_options_total, positions_total, exact_positions}
 
 pub on_err : {X Y : Type 0} {P : Type 0} (r : Result X Y) → P → OnErr r P
 on_err (Ok x) p = tt
@@ -62,77 +62,77 @@ holdings_changed old new commodity holding are is changes sorted = record {
 
 pub found_forgotten : (old new : List (List ℕ × Holding)) (commodity : List ℕ) (holding : Holding)
     → Some holding ≡ lookup (is_at (text_cmp commodity)) old → ((key : Option LotKey) → held_at holding key ≡ None)
-    → Changes old new commodity None → (place : Place) → found new place ≡ found old place
-found_forgotten old new commodity holding at nothing changes place =
-    let find = option_and_then (λ (h : Holding). held_at h place.1) in
-    let o = text_cmp commodity place.0 in
-    ap find (changes place.0) ∙ elim (is_eq o) as (λ b. is_eq o ≡ b → find (cond b None (lookup (is_at (text_cmp place.0)) old)) ≡ found old place) [
-      | true ↦ λ e. sym (ap (λ c. find (lookup (is_at (text_cmp c)) old)) (sym (exact_bytes commodity place.0 (is_equal o e))) ∙ ap find (sym at) ∙ nothing place.1)
+    → Changes old new commodity None → (position : Position) → found new position ≡ found old position
+found_forgotten old new commodity holding at nothing changes position =
+    let find = option_and_then (λ (h : Holding). held_at h position.1) in
+    let o = text_cmp commodity position.0 in
+    ap find (changes position.0) ∙ elim (is_eq o) as (λ b. is_eq o ≡ b → find (cond b None (lookup (is_at (text_cmp position.0)) old)) ≡ found old position) [
+      | true ↦ λ e. sym (ap (λ c. find (lookup (is_at (text_cmp c)) old)) (sym (exact_bytes commodity position.0 (is_equal o e))) ∙ ap find (sym at) ∙ nothing position.1)
       | false ↦ λ e. refl
     ] refl
 
 pub found_changed : (old new : List (List ℕ × Holding)) (commodity : List ℕ) (key : Option LotKey) (units : ℤ) (holding : Holding) (at : Option Holding)
     → at ≡ lookup (is_at (text_cmp commodity)) old
     → ((other : Option LotKey) → held_at holding other ≡ cond (is_eq (option_cmp lot_cmp key other)) (non_zero units) (option_and_then (λ (h : Holding). held_at h other) at))
-    → Changes old new commodity (Some holding) → (place : Place) → found new place ≡ cond (is_eq (place_cmp (commodity, key) place)) (non_zero units) (found old place)
-found_changed old new commodity key units holding at is sets changes place =
-    let find = option_and_then (λ (h : Holding). held_at h place.1) in
-    let o = text_cmp commodity place.0 in
-    let k = option_cmp lot_cmp key place.1 in
-    ap find (changes place.0)
-    ∙ elim (is_eq o) as (λ b. is_eq o ≡ b → find (cond b (Some holding) (lookup (is_at (text_cmp place.0)) old)) ≡ cond (b && is_eq k) (non_zero units) (found old place)) [
-      | true ↦ λ e. sets place.1 ∙ ap (cond (is_eq k) (non_zero units)) (ap find is ∙ ap (λ c. find (lookup (is_at (text_cmp c)) old)) (exact_bytes commodity place.0 (is_equal o e)))
+    → Changes old new commodity (Some holding) → (position : Position) → found new position ≡ cond (is_eq (position_cmp (commodity, key) position)) (non_zero units) (found old position)
+found_changed old new commodity key units holding at is sets changes position =
+    let find = option_and_then (λ (h : Holding). held_at h position.1) in
+    let o = text_cmp commodity position.0 in
+    let k = option_cmp lot_cmp key position.1 in
+    ap find (changes position.0)
+    ∙ elim (is_eq o) as (λ b. is_eq o ≡ b → find (cond b (Some holding) (lookup (is_at (text_cmp position.0)) old)) ≡ cond (b && is_eq k) (non_zero units) (found old position)) [
+      | true ↦ λ e. sets position.1 ∙ ap (cond (is_eq k) (non_zero units)) (ap find is ∙ ap (λ c. find (lookup (is_at (text_cmp c)) old)) (exact_bytes commodity position.0 (is_equal o e)))
       | false ↦ λ e. refl
     ] refl
-    ∙ ap (λ b. cond b (non_zero units) (found old place)) (sym (eq_then o k))
+    ∙ ap (λ b. cond b (non_zero units) (found old position)) (sym (eq_then o k))
 
 pub found_alike : (old new : List (List ℕ × Holding)) (commodity : List ℕ) (holding : Holding) (at : Option Holding)
     → at ≡ lookup (is_at (text_cmp commodity)) old
     → ((other : Option LotKey) → held_at holding other ≡ option_and_then (λ (h : Holding). held_at h other) at)
     → Changes old new commodity (Some holding) → AreAlike old new
-found_alike old new commodity holding at is same changes place =
-    let find = option_and_then (λ (h : Holding). held_at h place.1) in
-    let o = text_cmp commodity place.0 in
-    ap find (changes place.0)
-    ∙ elim (is_eq o) as (λ b. is_eq o ≡ b → find (cond b (Some holding) (lookup (is_at (text_cmp place.0)) old)) ≡ found old place) [
-      | true ↦ λ e. same place.1 ∙ ap find is ∙ ap (λ c. find (lookup (is_at (text_cmp c)) old)) (exact_bytes commodity place.0 (is_equal o e))
+found_alike old new commodity holding at is same changes position =
+    let find = option_and_then (λ (h : Holding). held_at h position.1) in
+    let o = text_cmp commodity position.0 in
+    ap find (changes position.0)
+    ∙ elim (is_eq o) as (λ b. is_eq o ≡ b → find (cond b (Some holding) (lookup (is_at (text_cmp position.0)) old)) ≡ found old position) [
+      | true ↦ λ e. same position.1 ∙ ap find is ∙ ap (λ c. find (lookup (is_at (text_cmp c)) old)) (exact_bytes commodity position.0 (is_equal o e))
       | false ↦ λ e. refl
     ] refl
 
 pub set_nothing : (old new : List (List ℕ × Holding)) (commodity : List ℕ) (key : Option LotKey) (units : ℤ)
-    → None ≡ lookup (is_at (text_cmp commodity)) old → new ≡ old → non_zero units ≡ None → IsSet old new (commodity, key) units
-set_nothing old new commodity key units at same zero place =
-    let find = option_and_then (λ (h : Holding). held_at h place.1) in
-    let o = text_cmp commodity place.0 in
-    let k = option_cmp lot_cmp key place.1 in
-    ap (λ es. found es place) same
-    ∙ elim (is_eq o) as (λ b. is_eq o ≡ b → found old place ≡ cond (b && is_eq k) (non_zero units) (found old place)) [
+    → None ≡ lookup (is_at (text_cmp commodity)) old → new ≡ old → non_zero units ≡ None → ChangesPosition old new (commodity, key) units
+set_nothing old new commodity key units at same zero position =
+    let find = option_and_then (λ (h : Holding). held_at h position.1) in
+    let o = text_cmp commodity position.0 in
+    let k = option_cmp lot_cmp key position.1 in
+    ap (λ es. found es position) same
+    ∙ elim (is_eq o) as (λ b. is_eq o ≡ b → found old position ≡ cond (b && is_eq k) (non_zero units) (found old position)) [
       | true ↦ λ e.
-          let none : found old place ≡ None = ap (λ c. find (lookup (is_at (text_cmp c)) old)) (sym (exact_bytes commodity place.0 (is_equal o e))) ∙ ap find (sym at) in
-          none ∙ elim (is_eq k) as (λ b. None ≡ cond b (non_zero units) (found old place)) [ true ↦ sym zero | false ↦ sym none ]
+          let none : found old position ≡ None = ap (λ c. find (lookup (is_at (text_cmp c)) old)) (sym (exact_bytes commodity position.0 (is_equal o e))) ∙ ap find (sym at) in
+          none ∙ elim (is_eq k) as (λ b. None ≡ cond b (non_zero units) (found old position)) [ true ↦ sym zero | false ↦ sym none ]
       | false ↦ λ e. refl
     ] refl
-    ∙ ap (λ b. cond b (non_zero units) (found old place)) (sym (eq_then o k))
+    ∙ ap (λ b. cond b (non_zero units) (found old position)) (sym (eq_then o k))
 
 pub map_alike : (old new : List (List ℕ × Holding)) (held : Held) → AreHoldings old → AreHoldings new → from_entries (rows old) ≡ held
     → AreAlike old new → from_entries (rows new) ≡ held
 map_alike old new held are still view alike =
-    same_map places_total exact_places (from_entries (rows new)) held (λ place.
-    get-rows new place still.sorted ∙ alike place ∙ sym (get-rows old place are.sorted) ∙ ap (λ m. get m place) view)
+    same_map positions_total exact_positions (from_entries (rows new)) held (λ position.
+    get-rows new position still.sorted ∙ alike position ∙ sym (get-rows old position are.sorted) ∙ ap (λ m. get m position) view)
 
-pub map_set : (old new : List (List ℕ × Holding)) (held : Held) (place : Place) (units : ℤ) → AreHoldings old → AreHoldings new → from_entries (rows old) ≡ held
-    → IsSet old new place units → from_entries (rows new) ≡ with_units held place units
-map_set old new held place units are still view is =
-    same_map places_total exact_places (from_entries (rows new)) (with_units held place units) (λ other.
-    let same : eq_by_cmp place_cmp place other ≡ eq_by_cmp place_cmp other place = (eq_by_cmp_equiv places_total).symm place other in
+pub map_set : (old new : List (List ℕ × Holding)) (held : Held) (position : Position) (units : ℤ) → AreHoldings old → AreHoldings new → from_entries (rows old) ≡ held
+    → ChangesPosition old new position units → from_entries (rows new) ≡ with_units held position units
+map_set old new held position units are still view is =
+    same_map positions_total exact_positions (from_entries (rows new)) (with_units held position units) (λ other.
+    let same : eq_by_cmp position_cmp position other ≡ eq_by_cmp position_cmp other position = (eq_by_cmp_equiv positions_total).symm position other in
     let before : found old other ≡ get held other = sym (get-rows old other are.sorted) ∙ ap (λ m. get m other) view in
     get-rows new other still.sorted ∙ is other
     ∙ ap (λ b. cond b (non_zero units) (found old other)) same
-    ∙ ap (cond (eq_by_cmp place_cmp other place) (non_zero units)) before
-    ∙ elim (int_eq units (pos 0)) as (λ b. cond (eq_by_cmp place_cmp other place) (cond b None (Some units)) (get held other)
-    ≡ get (cond b (remove held place) (insert held place units)) other) [
-      | true ↦ sym (get-remove places_total held place other)
-      | false ↦ sym (get-insert places_total held place units other)
+    ∙ ap (cond (eq_by_cmp position_cmp other position) (non_zero units)) before
+    ∙ elim (int_eq units (pos 0)) as (λ b. cond (eq_by_cmp position_cmp other position) (cond b None (Some units)) (get held other)
+    ≡ get (cond b (remove held position) (insert held position units)) other) [
+      | true ↦ sym (get-remove positions_total held position other)
+      | false ↦ sym (get-insert positions_total held position units other)
     ])
 
 -- ---- no holding is kept of which nothing is left
@@ -164,7 +164,7 @@ pub something_set : (holding : Holding) (key : Option LotKey) (units : ℤ) (bef
     → held_at holding key ≡ cond (is_eq (option_cmp lot_cmp key key)) (non_zero units) before → int_eq units (pos 0) ≡ false → HoldsSomething holding
 something_set holding key units before sets e = (
   key,
-  ap is_some (sets ∙ ap (λ o. cond (is_eq o) (non_zero units) before) (tied_itself positions_total key) ∙ ap (λ b. cond b None (Some units)) e),
+  ap is_some (sets ∙ ap (λ o. cond (is_eq o) (non_zero units) before) (tied_itself lot_options_total key) ∙ ap (λ b. cond b None (Some units)) e),
 )
 
 -- so is a lot

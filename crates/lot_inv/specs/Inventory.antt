@@ -1,4 +1,4 @@
--- What an inventory holds: a finite map from places to units that aren't zero (docs/RULES.md, Inventory).
+-- What an inventory holds: a finite map from positions to units that aren't zero (docs/RULES.md, Inventory).
 use Rattle.std.specs.Prelude.{◌≡◌, ℕ, Bool, ◌&&◌, ◌||◌, if◌then◌else◌, List, [], ◌∷◌, filter, Option, None, Some, ℤ, pos, ◌+ℤ◌, int_lt}
 use Rattle.std.specs.declared.cmp.Ordering.{Ordering}
 use Rattle.std.specs.BTreeMap.{is_at}
@@ -16,43 +16,43 @@ use Rattle.lot_inv.specs.declared.lot_key.LotKey.{LotKey}
 use Rattle.lot_inv.specs.CostSpec.{fits}
 use Rattle.lot_inv.specs.LotKey.{lot_cmp, coded_key}
 
--- ---- places and what they hold
+-- ---- positions and what they hold
 
 -- where units are held: a commodity, and the key of a lot, or none for the plain units
-abbrev pub Place : Type 0
-Place = List ℕ × Option LotKey
+abbrev pub Position : Type 0
+Position = List ℕ × Option LotKey
 
--- the order of places: by commodity, the plain one first, then the lots in the order of their keys
-abbrev pub place_cmp : Place → Place → Ordering
-place_cmp p q = ordering_then (text_cmp p.0 q.0) (option_cmp lot_cmp p.1 q.1)
+-- the order of positions: by commodity, the plain one first, then the lots in the order of their keys
+abbrev pub position_cmp : Position → Position → Ordering
+position_cmp p q = ordering_then (text_cmp p.0 q.0) (option_cmp lot_cmp p.1 q.1)
 
-abbrev pub coded_place : Coded Place
-coded_place = coded× coded_text (coded_option coded_key)
+abbrev pub coded_position : Coded Position
+coded_position = coded× coded_text (coded_option coded_key)
 
--- an inventory: the units of each place that holds some
+-- an inventory: the units of each position that holds some
 abbrev pub Held : Type 0
-Held = finite.FinMap place_cmp ℤ
+Held = finite.FinMap position_cmp ℤ
 
--- the units of a place, zero where it holds none
-abbrev pub units_at : Held → Place → ℤ
-units_at held place = unwrap_or (finite.get held place) (pos 0)
+-- the units of a position, zero where it holds none
+abbrev pub units_at : Held → Position → ℤ
+units_at held position = unwrap_or (finite.get held position) (pos 0)
 
--- what a place has of so many units: nothing where they are zero
+-- what a position has of so many units: nothing where they are zero
 abbrev pub non_zero : ℤ → Option ℤ
 non_zero units = if int_eq units (pos 0) then None else Some units
 
--- the inventory with so many units at a place, which leaves it where they are zero
-abbrev pub with_units : Held → Place → ℤ → Held
-with_units held place units = if int_eq units (pos 0) then finite.remove held place else finite.insert held place units
+-- the inventory with so many units at a position, which leaves it where they are zero
+abbrev pub with_units : Held → Position → ℤ → Held
+with_units held position units = if int_eq units (pos 0) then finite.remove held position else finite.insert held position units
 
--- the inventory with so many more units at a place
-abbrev pub added : Held → Place → ℤ → Held
-added held place units = with_units held place (units_at held place +ℤ units)
+-- the inventory with so many more units at a position
+abbrev pub added : Held → Position → ℤ → Held
+added held position units = with_units held position (units_at held position +ℤ units)
 
 -- ---- the lots of one commodity
 
 -- a row's lot, where the row is of a lot of the commodity
-abbrev pub lots_in : List ℕ → List (Place × ℤ) → List (LotKey × ℤ)
+abbrev pub lots_in : List ℕ → List (Position × ℤ) → List (LotKey × ℤ)
 lots_in commodity [] = []
 lots_in commodity (((other, None), units) ∷ rows) = lots_in commodity rows
 lots_in commodity (((other, Some key), units) ∷ rows) =

@@ -11,7 +11,7 @@ ghost use Rattle.lot_num.specs.Sum.{sum_of};
 ghost use Rattle.lot_inv.specs.Inventory.{added, lots_of, matching, non_zero, other_sign, reduces, sum, units_at};
 ghost use Rattle.lot_inv.specs.CostSpec.{fits};
 ghost use Rattle.lot_inv.specs.LotKey.{lot_cmp};
-ghost use Rattle.lot_inv.specs.Holding.{AreAlike, AreHoldings, IsSet, NoneIsEmpty, NoOtherIsEmpty};
+ghost use Rattle.lot_inv.specs.Holding.{AreAlike, AreHoldings, ChangesPosition, NoneIsEmpty, NoOtherIsEmpty};
 ghost use Rattle.lot_inv.specs.declared.lot_key.LotKey.{LotKey};
 ghost use Rattle.lot_inv.specs.declared.fault.InventoryFault.TheVariants.{Range};
 
@@ -45,11 +45,11 @@ impl Model for Inventory {
     ghost use Rattle.std.specs.Coded.{coded_ℤ};
     ghost use Rattle.std.specs.FinMap as finite;
     ghost use Rattle.lot_inv.specs.Holding.{AreHoldings, NoneIsEmpty, rows};
-    ghost use Rattle.lot_inv.specs.Inventory.{Held, coded_place};
+    ghost use Rattle.lot_inv.specs.Inventory.{Held, coded_position};
 
     ghost Value = { Held };
 
-    ghost coded = { finite.code coded_place coded_ℤ };
+    ghost coded = { finite.code coded_position coded_ℤ };
 
     ghost view = { λ i. finite.from_entries (rows i.held.entries) };
 
@@ -249,7 +249,7 @@ fn set(
     requires none_empty { NoneIsEmpty held.old.entries }
     ensures holdings { AreHoldings held.new.entries }
     ensures none_empty { NoneIsEmpty held.new.entries }
-    ensures ok { OnOk result (IsSet held.old.entries held.new.entries (commodity.now, option_copied key.entry) units) }
+    ensures ok { OnOk result (ChangesPosition held.old.entries held.new.entries (commodity.now, option_copied key.entry) units) }
     ensures err { OnErr result (AreAlike held.old.entries held.new.entries) }
 {
     match held.get_mut(commodity) {

@@ -26,8 +26,8 @@ returns-in_ok-set-in-Some-clause-ok c =
     let new = (c.get_mut.follows.lender c.set.new.self).entries in
     let at = sym (ap option_copied_mut c.in-Some.is) ∙ c.get_mut.ensures.value in
     let writes = (c.get_mut.follows.holds c.set.new.self).3 cc in
-    λ place. c.forget_if_empty.ensures.alike place
-    ∙ found_changed old new c.args.commodity.now (option_copied c.args.key) c.args.units c.set.new.self (Some c.in-Some.holding.now) at c.in_ok-set-in-Some.ensures.ok writes.0 place
+    λ position. c.forget_if_empty.ensures.alike position
+    ∙ found_changed old new c.args.commodity.now (option_copied c.args.key) c.args.units c.set.new.self (Some c.in-Some.holding.now) at c.in_ok-set-in-Some.ensures.ok writes.0 position
 
 pub returns-then-mantissa-eq0-clause-ok : goal.returns-then-mantissa-eq0-clause-ok
 returns-then-mantissa-eq0-clause-ok c =
