@@ -89,7 +89,7 @@ whole_more d c rest behind more false e false f h =
     let parts : (is_ascii_digit d && is_grouped (c ∷ rest)) ≡ true = sym (grouped-digit d c rest e f) ∙ h in
     (digit_from_test d (and_parts _ _ parts).0, inl (more ((and_parts _ _ parts).1)))
 
--- a comma in front leaves an empty group
+-- a comma in prefix leaves an empty group
 whole_from_test : (whole : List ℕ) → is_grouped whole ≡ true → IsWhole whole
 whole_from_test [] h = cc
 whole_from_test (d ∷ []) h = whole_last d (eqb d 44) refl h
@@ -97,12 +97,12 @@ whole_from_test (d ∷ c ∷ rest) h = whole_more d c rest (whole_from_test rest
 
 -- ---- Signs
 
-signs_by : (b : ℕ) (rest : List ℕ) (minus plus : Bool) → eqb b 45 ≡ minus → eqb b 43 ≡ plus → (front : List ℕ) × IsSign (cond minus Minus Plus) front × (b ∷ rest ≡ front ++ cond (minus || plus) rest (b ∷ rest))
+signs_by : (b : ℕ) (rest : List ℕ) (minus plus : Bool) → eqb b 45 ≡ minus → eqb b 43 ≡ plus → (prefix : List ℕ) × IsSign (cond minus Minus Plus) prefix × (b ∷ rest ≡ prefix ++ cond (minus || plus) rest (b ∷ rest))
 signs_by b rest true plus e f = (45 ∷ [], refl, ap (λ x. x ∷ rest) (eqb-true b 45 e))
 signs_by b rest false true e f = (43 ∷ [], inr refl, ap (λ x. x ∷ rest) (eqb-true b 43 f))
 signs_by b rest false false e f = ([], inl refl, refl)
 
-sign_from_text : (text : List ℕ) → (front : List ℕ) × IsSign (sign_of text) front × (text ≡ front ++ unsigned text)
+sign_from_text : (text : List ℕ) → (prefix : List ℕ) × IsSign (sign_of text) prefix × (text ≡ prefix ++ unsigned text)
 sign_from_text [] = ([], inl refl, refl)
 sign_from_text (b ∷ rest) = signs_by b rest (eqb b 45) (eqb b 43) refl refl
 
@@ -119,10 +119,10 @@ no_sign : (body : List ℕ) → StartsWithDigit body → (sign_of body ≡ Plus)
 no_sign [] h = absurd h
 no_sign (d ∷ ds) (low, high) = (grind (arith, nat_tests), grind (arith, nat_tests))
 
-text_from_sign : (sign : Sign) (front body : List ℕ) → IsSign sign front → StartsWithDigit body → (sign_of (front ++ body) ≡ sign) × (unsigned (front ++ body) ≡ body)
-text_from_sign Plus front body (inl none) digit = rw none (no_sign body digit)
-text_from_sign Plus front body (inr plus) digit = rw plus (refl, refl)
-text_from_sign Minus front body minus digit = rw minus (refl, refl)
+text_from_sign : (sign : Sign) (prefix body : List ℕ) → IsSign sign prefix → StartsWithDigit body → (sign_of (prefix ++ body) ≡ sign) × (unsigned (prefix ++ body) ≡ body)
+text_from_sign Plus prefix body (inl none) digit = rw none (no_sign body digit)
+text_from_sign Plus prefix body (inr plus) digit = rw plus (refl, refl)
+text_from_sign Minus prefix body minus digit = rw minus (refl, refl)
 
 -- ---- Points
 
@@ -182,7 +182,7 @@ text_is_spelled text good =
     let sign = sign_from_text text in
     let fraction = fraction_from_text (unsigned text) in
     record {
-      front = sign.0;
+      prefix = sign.0;
       back = fraction.0;
       is_sign = sign.1;
       is_whole = whole_from_test (whole_part text) ((and_parts _ _ good).0);
@@ -193,7 +193,7 @@ text_is_spelled text good =
 
 pub spelling_is_cut : (text : List ℕ) (sign : Sign) (whole fraction : List ℕ) → IsNumberText text sign whole fraction → (is_number text ≡ true) × (sign_of text ≡ sign) × (whole_part text ≡ whole) × (decimals text ≡ fraction)
 spelling_is_cut text sign whole fraction spelling =
-    let signed = text_from_sign sign spelling.front (whole ++ spelling.back) spelling.is_sign (whole_starts whole spelling.back spelling.is_whole) in
+    let signed = text_from_sign sign spelling.prefix (whole ++ spelling.back) spelling.is_sign (whole_starts whole spelling.back spelling.is_whole) in
     let cut = text_from_fraction whole fraction spelling.back (whole_no_point whole spelling.is_whole) spelling.is_fraction in
     let body : unsigned text ≡ whole ++ spelling.back = ap unsigned spelling.spelled ∙ signed.1 in
     let before : whole_part text ≡ whole = ap (before_first is_point) body ∙ cut.0 in

@@ -46,7 +46,7 @@ is_number text = is_grouped (whole_part text) && is_digits (decimals text)
 
 -- ---- What a number text says.
 
--- the number that the digits of a whole part write, its commas read over
+-- the number that the digits of a whole part write, its commas skipped
 abbrev pub whole_number : List ℕ → ℕ
 whole_number whole = digits_value 10 (filter is_ascii_digit whole)
 

@@ -1,4 +1,4 @@
-ghost use Rattle.std.specs.Prelude.{◌≡◌, ◌<◌, ◌^◌, ℤ, pos, ◌+ℤ◌, ◌*ℤ◌, neg_ℤ, unsigned_abs, SomeIff, IfOk};
+ghost use Rattle.std.specs.Prelude.{◌≡◌, ◌<◌, ◌*◌, ℤ, pos, ◌+ℤ◌, ◌*ℤ◌, neg_ℤ, unsigned_abs, SomeIff, IfOk};
 ghost use Rattle.std.specs.String.{string_bytes};
 
 use crate::number_text::{NumberFault, read};
@@ -7,8 +7,8 @@ use crate::wide::Wide;
 use std::alloc::{AllocError, Global};
 use std::marker::Model;
 
-/// So many units of a commodity, or a total of units: a whole number of hundred-millionths, below
-/// 10^18 of them in absolute value. Units below zero are owed, or taken out.
+/// Units of a commodity, or a total of units: a whole number of hundred-millionths, in absolute value below
+/// `Units::LIMIT`. Units below zero are owed, or taken out.
 #[derive(Clone, Copy, Debug, PartialEq, Eq, PartialOrd, Ord, Hash)]
 pub struct Units {
     mantissa: i64,
@@ -28,17 +28,17 @@ impl Model for Units {
 }
 
 impl Units {
-    ghost use Rattle.lot_num.specs.Amount.{one, IsUnits};
+    ghost use Rattle.lot_num.specs.Amount.{one, units_limit, IsUnits};
     ghost use Rattle.lot_num.specs.AmountText.{amount_text};
     ghost use Rattle.lot_num.specs.NumberText.{units_of};
 
-    /// The absolute mantissas that are too large: 10^18 and all above.
-    const LIMIT: u64 = 1_000_000_000_000_000_000;
+    /// The least absolute mantissa that is out of range, at scale 8.
+    pub const LIMIT: u64 = 1_000_000_000_000_000_000;
 
-    /// No units.
+    /// Zero units.
     pub const ZERO: Units = Units { mantissa: 0 };
 
-    /// The units with a mantissa at scale 8, or `None` where it is 10^18 or more in absolute value.
+    /// Returns the units with this mantissa at scale 8, or `None` where its absolute value is at least `LIMIT`.
     pub fn from_mantissa(mantissa: i64) -> Option<Units>
         ensures { SomeIff result (IsUnits mantissa) mantissa }
     {
@@ -49,7 +49,7 @@ impl Units {
         }
     }
 
-    /// The mantissa, at scale 8.
+    /// Returns the mantissa, at scale 8.
     pub fn mantissa(self) -> i64
         ensures value { result ≡ self }
         ensures in_range { IsUnits self }
@@ -57,7 +57,7 @@ impl Units {
         self.mantissa
     }
 
-    /// The same units with the other sign.
+    /// Returns the same units with the other sign.
     pub fn negated(self) -> Units
         ensures { result ≡ neg_ℤ self }
     {
@@ -66,22 +66,23 @@ impl Units {
         }
     }
 
-    /// The exact sum, or `None` where it is no units.
+    /// Returns the exact sum, or `None` where it is out of range.
     pub fn checked_add(self, other: Units) -> Option<Units>
         ensures { SomeIff result (IsUnits (self +ℤ other)) (self +ℤ other) }
     {
         Units::from_mantissa(self.mantissa + other.mantissa)
     }
 
-    /// The same amount at scale 16, as a weight.
+    /// Returns the same amount at scale 16, as a weight.
     pub fn wide(self) -> Wide
         ensures value { result ≡ self *ℤ pos one }
-        ensures bound { unsigned_abs result < 10 ^ 26 }
+        ensures bound { unsigned_abs result < units_limit * one }
     {
         Wide::exactly(i128::from(self.mantissa) * 100_000_000)
     }
 
-    /// The units that a number text says, or the first refusal that holds (docs/RULES.md, Number text).
+    /// Returns the units that a number text says, or the first fault of the text in the order of `NumberFault`
+    /// (docs/RULES.md, Number text). `Negative` never comes.
     pub fn parse(text: &str) -> Result<Units, NumberFault>
         ensures { result ≡ units_of text.now }
     {
@@ -91,15 +92,16 @@ impl Units {
         })
     }
 
-    /// The shortest number text that says these units: no zeros at the end of its decimals, and no point
-    /// where they are whole.
+    /// Returns the shortest number text that says these units: no zeros at the end of its decimals, and no point
+    /// where they are whole. The only error is out of memory.
     pub fn text(self, alloc: Global) -> Result<String, AllocError>
         ensures { IfOk result (λ t. string_bytes t ≡ amount_text 0 8 self) }
     {
         amount_text(alloc, i128::from(self.mantissa), Decimals::SHORTEST)
     }
 
-    /// The shortest number text with at least two decimals that says these units.
+    /// Returns the shortest number text with at least two decimals that says these units. The only error is out of
+    /// memory.
     pub fn text_money(self, alloc: Global) -> Result<String, AllocError>
         ensures { IfOk result (λ t. string_bytes t ≡ amount_text 2 8 self) }
     {
