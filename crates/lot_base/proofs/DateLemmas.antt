@@ -6,17 +6,17 @@ use Rattle.std.proofs.lemmas.Bool.{and_parts, false_from_ne_true}
 use Rattle.std.proofs.lemmas.Bool.Decides.{nat_tests}
 use Rattle.jiff_core.specs.Calendar.{days_from_civil, days_in_month, IsCivilDate}
 use Rattle.jiff_core.proofs.SignedLemmas.{signed_arith}
-use Rattle.lot_base.specs.Day.{IsDay, day_number, has_date, date_number}
+use Rattle.lot_base.specs.Day.{IsDay, day_number, last_year, has_date, date_number}
 
 le_yes : (a b : ℕ) → a ≤ b → nat_le a b ≡ true
 le_yes a b h = grind (arith, nat_tests)
 
 has_date-yes : (y m d : ℕ) → IsDay (pos y) (pos m) (pos d) → has_date y m d ≡ true
 has_date-yes y m d h =
-    let year : (1 ≤ y) × (y ≤ 9999) = (omega (arith, signed_arith, h.0), omega (arith, signed_arith, h.1.0.1)) in
+    let year : (1 ≤ y) × (y ≤ last_year) = (omega (arith, signed_arith, h.0), omega (arith, signed_arith, h.1.0.1)) in
     let month : (1 ≤ m) × (m ≤ 12) = (omega (arith, signed_arith, h.1.1.0), omega (arith, signed_arith, h.1.1.1)) in
     let day : (1 ≤ d) × (d ≤ days_in_month (pos y) m) = (omega (arith, signed_arith, h.1.2.0), omega (arith, signed_arith, h.1.2.1)) in
-    rw (le_yes 1 y year.0, le_yes y 9999 year.1, le_yes 1 m month.0, le_yes m 12 month.1, le_yes 1 d day.0, le_yes d (days_in_month (pos y) m) day.1)
+    rw (le_yes 1 y year.0, le_yes y last_year year.1, le_yes 1 m month.0, le_yes m 12 month.1, le_yes 1 d day.0, le_yes d (days_in_month (pos y) m) day.1)
 
 le_from_test : (a b : ℕ) → nat_le a b ≡ true → a ≤ b
 le_from_test a b h = grind (arith, nat_tests)
@@ -28,16 +28,16 @@ between low n high h =
 
 -- its year, month and day lie where they may
 date_parts : (y m d : ℕ) → has_date y m d ≡ true
-    → ((1 ≤ y) × (y ≤ 9999)) × ((1 ≤ m) × (m ≤ 12)) × ((1 ≤ d) × (d ≤ days_in_month (pos y) m))
+    → ((1 ≤ y) × (y ≤ last_year)) × ((1 ≤ m) × (m ≤ 12)) × ((1 ≤ d) × (d ≤ days_in_month (pos y) m))
 date_parts y m d h =
-    let days = and_parts ((nat_le 1 y && nat_le y 9999) && (nat_le 1 m && nat_le m 12)) (nat_le 1 d && nat_le d (days_in_month (pos y) m)) h in
-    let months = and_parts (nat_le 1 y && nat_le y 9999) (nat_le 1 m && nat_le m 12) days.0 in
-    (between 1 y 9999 months.0, between 1 m 12 months.1, between 1 d (days_in_month (pos y) m) days.1)
+    let days = and_parts ((nat_le 1 y && nat_le y last_year) && (nat_le 1 m && nat_le m 12)) (nat_le 1 d && nat_le d (days_in_month (pos y) m)) h in
+    let months = and_parts (nat_le 1 y && nat_le y last_year) (nat_le 1 m && nat_le m 12) days.0 in
+    (between 1 y last_year months.0, between 1 m 12 months.1, between 1 d (days_in_month (pos y) m) days.1)
 
 has_date-is : (y m d : ℕ) → has_date y m d ≡ true → IsDay (pos y) (pos m) (pos d)
 has_date-is y m d h =
     let parts = date_parts y m d h in
-    let year : (neg_ℤ (pos 9999) ≤ℤ pos y) × (pos y ≤ℤ pos 9999) = (omega (arith, signed_arith), omega (arith, signed_arith, parts.0)) in
+    let year : (neg_ℤ (pos last_year) ≤ℤ pos y) × (pos y ≤ℤ pos last_year) = (omega (arith, signed_arith), omega (arith, signed_arith, parts.0)) in
     let month : (pos 1 ≤ℤ pos m) × (pos m ≤ℤ pos 12) = (omega (arith, signed_arith, parts.1), omega (arith, signed_arith, parts.1)) in
     let day : (pos 1 ≤ℤ pos d) × (pos d ≤ℤ pos (days_in_month (pos y) m)) = (omega (arith, signed_arith, parts.2), omega (arith, signed_arith, parts.2)) in
     (omega (arith, signed_arith, parts.0), (year, month, day))

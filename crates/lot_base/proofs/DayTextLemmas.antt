@@ -1,13 +1,14 @@
 -- The date that a text says, part by part.
 use Rattle.std.proofs.Common.{◌≡◌, ℕ, ◌+◌, ◌-◌, ◌*◌, ◌/◌, ◌%◌, ◌<◌, inl, inr, Bool, true, false, List, [], ◌∷◌, length, get_or, Option, Some, None, refl, sym, ap, ◌∙◌, arith}
 use Rattle.std.specs.Prelude.{cond, not, nat_le, ◌&&◌}
-use Rattle.std.specs.Char.{is_ascii_digit}
+use Rattle.std.specs.Char.{digit_value, is_ascii_digit}
 use Rattle.std.specs.List.{slice_split, onto_first, list_all, position_or_len, before_first, after_first}
 use Rattle.std.proofs.lemmas.Bool.{and_right, cases_order, not-false}
 use Rattle.std.proofs.lemmas.List.Folds.{list_all_at}
 use Rattle.std.proofs.lemmas.List.Sums.{prefix_len_stops, prefix_len-le-length}
 use Rattle.std.proofs.lemmas.Bool.Decides.{nat_tests}
 use Rattle.std.proofs.lemmas.List.Splits.{slice_split_first}
+use Rattle.std.proofs.lemmas.Str.{digit_value_digit}
 use Rattle.lot_base.specs.Day.{is_separator, number_in, date_of, date_in, named_date, two_digits, four_digits, date_text}
 use Rattle.lot_base.proofs.SplitLemmas.{slice_split-whole}
 
@@ -78,15 +79,18 @@ digit-no_separator q = grind (arith, nat_tests)
 digit-is : (q : ℕ) → q < 10 → is_ascii_digit (48 + q) ≡ true
 digit-is q h = grind (arith, nat_tests)
 
+digit-says : (q : ℕ) → q < 10 → digit_value (48 + q) ≡ q
+digit-says q h = omega (arith, digit_value_digit (48 + q) (omega arith, omega arith))
+
 number_in-two : (n : ℕ) → n < 100 → number_in 1 2 (two_digits n) ≡ Some n
 number_in-two n h =
-    let value : 10 * (10 * 0 + (48 + n / 10 - 48)) + (48 + n % 10 - 48) ≡ n = omega arith in
-    rw (digit-is (n / 10) (omega arith), digit-is (n % 10) (omega arith), value)
+    let value : (0 * 10 + n / 10) * 10 + n % 10 ≡ n = omega arith in
+    rw (digit-is (n / 10) (omega arith), digit-is (n % 10) (omega arith), digit-says (n / 10) (omega arith), digit-says (n % 10) (omega arith), value)
 
 number_in-four : (n : ℕ) → n < 10_000 → number_in 4 4 (four_digits n) ≡ Some n
 number_in-four n h =
-    let value : 10 * (10 * (10 * (10 * 0 + (48 + n / 100 / 10 - 48)) + (48 + n / 100 % 10 - 48)) + (48 + n % 100 / 10 - 48)) + (48 + n % 100 % 10 - 48) ≡ n = omega arith in
-    rw (digit-is (n / 100 / 10) (omega arith), digit-is (n / 100 % 10) (omega arith), digit-is (n % 100 / 10) (omega arith), digit-is (n % 100 % 10) (omega arith), value)
+    let value : (((0 * 10 + n / 100 / 10) * 10 + n / 100 % 10) * 10 + n % 100 / 10) * 10 + n % 100 % 10 ≡ n = omega arith in
+    rw (digit-is (n / 100 / 10) (omega arith), digit-is (n / 100 % 10) (omega arith), digit-is (n % 100 / 10) (omega arith), digit-is (n % 100 % 10) (omega arith), digit-says (n / 100 / 10) (omega arith), digit-says (n / 100 % 10) (omega arith), digit-says (n % 100 / 10) (omega arith), digit-says (n % 100 % 10) (omega arith), value)
 
 date_text-parts : (y m d : ℕ) → slice_split is_separator (date_text y m d) ≡ four_digits y ∷ two_digits m ∷ two_digits d ∷ []
 date_text-parts y m d =

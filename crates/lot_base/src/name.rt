@@ -47,10 +47,10 @@ impl<G: Grammar> Model for Name<G> {
 }
 
 impl<G: Grammar> Name<G> {
-    /// The name with that text.
+    /// Returns the name with that text.
     ///
-    /// The fault of the grammar (`BadAccount`, `BadCommodity`, `BadLabel` or `BadNote`) exactly where the text isn't of it, and
-    /// `Memory` where there is no memory for a copy of the text.
+    /// The error is the fault of the grammar (`BadAccount`, `BadCommodity`, `BadLabel` or `BadNote`) exactly where the text
+    /// isn't of the grammar, and else `Memory` where there is no memory for a copy of the text.
     pub fn new(alloc: Global, text: &str) -> Result<Name<G>, NameFault>
         ensures ok { IfOk result (λ a. a ≡ text.now) }
         ensures good { IsOk result → IsTrue (G.is_name text.now) }
@@ -66,7 +66,7 @@ impl<G: Grammar> Name<G> {
         })
     }
 
-    /// Its text, which is of the grammar.
+    /// Returns the text of the name, which is of the grammar.
     pub fn as_str(&self) -> &str
         ensures value { result.now ≡ self.now }
         ensures grammar { IsTrue (G.is_name self.now) }
@@ -74,7 +74,7 @@ impl<G: Grammar> Name<G> {
         self.text.as_str()
     }
 
-    /// The same name once more. The error is want of memory.
+    /// Returns a copy of the name. The only error is out of memory.
     pub fn copy(&self) -> Result<Name<G>, AllocError>
         ensures { IfOk result (λ a. a ≡ self.now) }
     {
