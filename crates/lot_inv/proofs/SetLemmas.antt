@@ -1,5 +1,5 @@
 -- What a change of one holding does to the map that the rows of all holdings make.
-use Rattle.std.specs.Prelude.{◌≡◌, ◌≢◌, ℕ, Bool, true, false, cond, ◌&&◌, List, [], ◌∷◌, length, Option, None, Some, is_some, ℤ, pos, option_and_then, IfSome, Result, Ok, Err, OnErr}
+use Rattle.std.specs.Prelude.{◌≡◌, ◌≢◌, ℕ, Bool, true, false, cond, ◌&&◌, List, [], ◌∷◌, length, Option, None, Some, is_some, ℤ, pos, ◌+ℤ◌, option_and_then, IfSome, Result, Ok, Err, OnErr}
 use Rattle.std.specs.BTreeMap.{is_at}
 use Rattle.std.specs.Cmp.{eq_by_cmp_equiv, tied_itself}
 use Rattle.std.specs.FinMap.{get, insert, remove, from_entries, get-insert, get-remove, same_map}
@@ -12,15 +12,19 @@ use Rattle.std.proofs.lemmas.Map.Lookups.{exact_bytes}
 use Rattle.lot_base.specs.Text.{text_cmp}
 use Rattle.lot_inv.specs.declared.inventory.Holding.{Holding}
 use Rattle.lot_inv.specs.declared.lot_key.LotKey.{LotKey}
-use Rattle.lot_inv.specs.Holding.{AreAlike, AreHoldings, HoldsSomething, IsHolding, ChangesPosition, NoneIsEmpty, NoOtherIsEmpty, held_at, found, rows}
-use Rattle.lot_inv.specs.Inventory.{Held, Position, position_cmp, non_zero, with_units}
+use Rattle.lot_inv.specs.Holding.{AreAlike, AreHoldings, HoldsSomething, IsHolding, ChangesPosition, NeedsPosition, NoneIsEmpty, NoOtherIsEmpty, held_at, found, rows}
+use Rattle.lot_inv.specs.Inventory.{Held, Position, StoresMore, position_cmp, non_zero, units_at, with_units}
 use Rattle.lot_inv.specs.LotKey.{lot_cmp}
-use Rattle.lot_inv.proofs.InventoryLemmas.{eq_then, get-rows, is_equal}
+use Rattle.lot_inv.proofs.InventoryLemmas.{eq_then, found_seen, get-rows, is_equal}
 use Rattle.lot_inv.proofs.OrderLemmas.{lots_total, lot_options_total, positions_total, exact_positions}
 
 pub on_err : {X Y : Type 0} {P : Type 0} (r : Result X Y) → P → OnErr r P
 on_err (Ok x) p = tt
 on_err (Err y) p = p
+
+-- where nothing is held, what is added is the sum
+added_some : (at : Option ℤ) (units sum : ℤ) → at ≡ None → sum ≢ pos 0 → sum ≡ unwrap_or at (pos 0) +ℤ units → units ≢ pos 0
+added_some at units sum none some is zero = some (is ∙ ap (λ o. unwrap_or o (pos 0) +ℤ units) none ∙ ap (λ u. pos 0 +ℤ u) zero)
 
 -- units that are kept as they are to be, and are then set at one key, are so again
 pub kept_when_set : (b : Bool) (units : ℤ) (before after : Option ℤ) → after ≡ cond b (non_zero units) before
@@ -35,6 +39,16 @@ kept_when_set b units before after e h = e ∙ elim b as (λ b. cond b (non_zero
       | true ↦ λ e. refl
       | false ↦ λ e. sym (ap (λ b. cond b None (Some z)) e)
     ] refl
+
+-- a lot that wasn't held is one more
+pub lot_inserted : (old mid new : List (LotKey × ℤ)) (key copied : LotKey) (units : ℤ) → copied ≡ key → mid ≡ old → int_eq units (pos 0) ≡ false
+    → ((other : LotKey) → lookup (is_at (lot_cmp other)) new ≡ cond (is_eq (lot_cmp copied other)) (Some units) (lookup (is_at (lot_cmp other)) mid))
+    → (other : LotKey) → lookup (is_at (lot_cmp other)) new ≡ cond (is_eq (lot_cmp key other)) (non_zero units) (lookup (is_at (lot_cmp other)) old)
+lot_inserted old mid new key copied units e m some updates other =
+    updates other
+    ∙ ap (λ k. cond (is_eq (lot_cmp k other)) (Some units) (lookup (is_at (lot_cmp other)) mid)) e
+    ∙ ap (λ es. cond (is_eq (lot_cmp key other)) (Some units) (lookup (is_at (lot_cmp other)) es)) m
+    ∙ ap (λ b. cond (is_eq (lot_cmp key other)) (cond b None (Some units)) (lookup (is_at (lot_cmp other)) old)) (sym some)
 
 -- the holding of a commodity is another one, or there is none any more
 abbrev pub Changes : List (List ℕ × Holding) → List (List ℕ × Holding) → List ℕ → Option Holding → Type 0
@@ -134,6 +148,17 @@ map_set old new held position units are still view is =
       | true ↦ sym (get-remove positions_total held position other)
       | false ↦ sym (get-insert positions_total held position units other)
     ])
+
+-- what is new among the holdings is new in the map, and the units that it is to hold are those that are added
+pub stores_more : (holdings : List (List ℕ × Holding)) (held : Held) (commodity : List ℕ) (key : Option LotKey) (units sum : ℤ) → AreHoldings holdings
+    → from_entries (rows holdings) ≡ held → NeedsPosition holdings (commodity, key) → sum ≢ pos 0 → sum ≡ units_at held (commodity, key) +ℤ units
+    → StoresMore held (commodity, key) units
+stores_more holdings held commodity None units sum are view needs some is =
+    let nothing : (other : Option LotKey) → get held (commodity, other) ≡ None = λ other. found_seen holdings held commodity other None are view (sym needs) in
+    (added_some (get held (commodity, None)) units sum (nothing None) some is, nothing)
+stores_more holdings held commodity (Some key) units sum are view needs some is =
+    let none : get held (commodity, Some key) ≡ None = ap (λ m. get m (commodity, Some key)) (sym view) ∙ get-rows holdings (commodity, Some key) are.sorted ∙ needs in
+    (added_some (get held (commodity, Some key)) units sum none some is, none)
 
 -- ---- no holding is kept of which nothing is left
 

@@ -38,6 +38,16 @@ abbrev pub rows : List (List ℕ × Holding) → List (Position × ℤ)
 rows [] = []
 rows (entry ∷ entries) = plain_rows entry.0 entry.1.plain ++ (lot_rows entry.0 entry.1.lots.entries ++ rows entries)
 
+-- setting units at a key stores a new lot
+abbrev pub NeedsLot : Holding → Option LotKey → Type 0
+NeedsLot holding None = ⊥
+NeedsLot holding (Some key) = get lot_cmp holding.lots key ≡ None
+
+-- setting units at a position stores a new lot, or a new commodity
+abbrev pub NeedsPosition : List (List ℕ × Holding) → Position → Type 0
+NeedsPosition holdings (commodity, None) = lookup (is_at (text_cmp commodity)) holdings ≡ None
+NeedsPosition holdings (commodity, Some key) = found holdings (commodity, Some key) ≡ None
+
 -- a holding has its lots in order, none of them with zero units
 pub record IsHolding (holding : Holding) : Type 0 where
   pub sorted : IsStrictlySortedBy lot_cmp (keys_of holding.lots.entries)

@@ -1,5 +1,5 @@
 -- What an inventory holds: a finite map from positions to units that aren't zero (docs/RULES.md, Inventory).
-use Rattle.std.specs.Prelude.{◌≡◌, ℕ, Bool, ◌&&◌, ◌||◌, if◌then◌else◌, List, [], ◌∷◌, filter, Option, None, Some, ℤ, pos, ◌+ℤ◌, int_lt}
+use Rattle.std.specs.Prelude.{◌≡◌, ◌≢◌, ℕ, Bool, ◌&&◌, ◌||◌, if◌then◌else◌, List, [], ◌∷◌, filter, Option, None, Some, ℤ, pos, ◌+ℤ◌, int_lt}
 use Rattle.std.specs.declared.cmp.Ordering.{Ordering}
 use Rattle.std.specs.BTreeMap.{is_at}
 use Rattle.std.specs.Coded.{Coded, coded×, coded_option}
@@ -48,6 +48,11 @@ with_units held position units = if int_eq units (pos 0) then finite.remove held
 -- the inventory with so many more units at a position
 abbrev pub added : Held → Position → ℤ → Held
 added held position units = with_units held position (units_at held position +ℤ units)
+
+-- adding units at a position stores a new lot, or the first position of its commodity
+abbrev pub StoresMore : Held → Position → ℤ → Type 0
+StoresMore held (commodity, None) units = (units ≢ pos 0) × ((key : Option LotKey) → finite.get held (commodity, key) ≡ None)
+StoresMore held (commodity, Some key) units = (units ≢ pos 0) × (finite.get held (commodity, Some key) ≡ None)
 
 -- ---- the lots of one commodity
 
