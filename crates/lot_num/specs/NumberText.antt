@@ -93,6 +93,15 @@ with_no_sign (Err fault) = Err fault
 abbrev pub units_of : List ℕ → Result ℤ NumberFault
 units_of text = with_sign (read_below units_limit text)
 
+-- a mantissa that isn't below zero, as units
+abbrev pub as_units : Result ℕ NumberFault → Result ℤ NumberFault
+as_units (Ok n) = Ok (pos n)
+as_units (Err fault) = Err fault
+
+-- a total: the mantissa is below the limit of units, and not below zero
+abbrev pub total_of : List ℕ → Result ℤ NumberFault
+total_of text = as_units (with_no_sign (read_below units_limit text))
+
 -- a rate: the mantissa is below the limit of rates, and not below zero
 abbrev pub rate_of : List ℕ → Result ℕ NumberFault
 rate_of text = with_no_sign (read_below rate_limit text)

@@ -1,8 +1,9 @@
-ghost use Rattle.std.specs.Prelude.{◌≡◌, ◌<◌, ◌*◌, ℤ, pos, ◌+ℤ◌, ◌*ℤ◌, neg_ℤ, unsigned_abs, SomeIff, IfOk};
+ghost use Rattle.std.specs.Prelude.{◌≡◌, ◌<◌, ◌*◌, ℕ, ℤ, Some, pos, ◌+ℤ◌, ◌*ℤ◌, neg_ℤ, unsigned_abs, SomeIff, IfSome, IfOk};
 ghost use Rattle.std.specs.String.{string_bytes};
 
-use crate::number_text::{NumberFault, read};
+use crate::number_text::{NumberFault, Sign, read};
 use crate::printed::{Decimals, amount_text};
+use crate::rate::Rate;
 use crate::wide::Wide;
 use std::alloc::{AllocError, Global};
 use std::marker::Model;
@@ -28,9 +29,9 @@ impl Model for Units {
 }
 
 impl Units {
-    ghost use Rattle.lot_num.specs.Amount.{one, units_limit, IsUnits};
+    ghost use Rattle.lot_num.specs.Amount.{one, units_limit, IsUnits, IsPerUnit};
     ghost use Rattle.lot_num.specs.AmountText.{amount_text};
-    ghost use Rattle.lot_num.specs.NumberText.{units_of};
+    ghost use Rattle.lot_num.specs.NumberText.{units_of, total_of};
 
     /// The least absolute mantissa that is out of range, at scale 8.
     pub const LIMIT: u64 = 1_000_000_000_000_000_000;
@@ -90,6 +91,37 @@ impl Units {
         Ok(Units {
             mantissa: sign.of_magnitude(magnitude),
         })
+    }
+
+    /// Returns the total that a number text says, which isn't below zero, or the first fault of the text in the order of
+    /// `NumberFault`; `-0` is zero (docs/RULES.md, Number text).
+    pub fn parse_total(text: &str) -> Result<Units, NumberFault>
+        ensures { result ≡ total_of text.now }
+    {
+        match read(text, Self::LIMIT)? {
+            (Sign::Minus, magnitude) if magnitude > 0 => Err(NumberFault::Negative),
+            (_, magnitude) => Ok(Units {
+                mantissa: magnitude as i64,
+            }),
+        }
+    }
+
+    /// Returns the rate at which these units, sign aside, come to exactly the total: the total divided by the absolute
+    /// units. `None` where they are zero, or where the quotient is no rate: below zero, with more than eight decimals, or
+    /// too large.
+    pub fn per_unit(self, total: Units) -> Option<Rate>
+        ensures some { IfSome result (IsPerUnit self total) }
+        ensures every { (rate : ℕ) → IsPerUnit self total rate → result ≡ Some rate }
+    {
+        if total.mantissa < 0 {
+            return None;
+        }
+        let units = u128::from(self.mantissa.unsigned_abs());
+        let total = u128::from(total.mantissa.unsigned_abs()) * 100_000_000;
+        if units == 0 || total % units != 0 {
+            return None;
+        }
+        Rate::from_mantissa(u64::try_from(total / units).ok()?)
     }
 
     /// Returns the shortest number text that says these units: no zeros at the end of its decimals, and no point
