@@ -2,49 +2,42 @@
 use Rattle.std.proofs.Common.{◌≡◌, Some, ℕ, ◌≤◌, Bool, true, false, refl, arith, ℤ, pos, neg_ℤ, ◌≤ℤ◌}
 use Rattle.std.specs.Prelude.{nat_le, ◌&&◌, OkIff, Result, Ok, Err}
 use Rattle.std.specs.Result.{result_ok}
+use Rattle.std.proofs.lemmas.Bool.{and_parts, false_from_ne_true}
 use Rattle.std.proofs.lemmas.Bool.Decides.{nat_tests}
 use Rattle.jiff_core.specs.Calendar.{days_from_civil, days_in_month, IsCivilDate}
 use Rattle.jiff_core.proofs.SignedLemmas.{signed_arith}
-use Rattle.lot_base.specs.Day.{IsDay, day_number, has_date, date_number}
-
-no_from_denial : (b : Bool) → (b ≡ true → ⊥) → b ≡ false
-no_from_denial true h = absurd (h refl)
-no_from_denial false h = refl
+use Rattle.lot_base.specs.Day.{IsDay, day_number, last_year, has_date, date_number}
 
 le_yes : (a b : ℕ) → a ≤ b → nat_le a b ≡ true
 le_yes a b h = grind (arith, nat_tests)
 
 has_date-yes : (y m d : ℕ) → IsDay (pos y) (pos m) (pos d) → has_date y m d ≡ true
 has_date-yes y m d h =
-    let year : (1 ≤ y) × (y ≤ 9999) = (omega (arith, signed_arith, h.0), omega (arith, signed_arith, h.1.0.1)) in
+    let year : (1 ≤ y) × (y ≤ last_year) = (omega (arith, signed_arith, h.0), omega (arith, signed_arith, h.1.0.1)) in
     let month : (1 ≤ m) × (m ≤ 12) = (omega (arith, signed_arith, h.1.1.0), omega (arith, signed_arith, h.1.1.1)) in
     let day : (1 ≤ d) × (d ≤ days_in_month (pos y) m) = (omega (arith, signed_arith, h.1.2.0), omega (arith, signed_arith, h.1.2.1)) in
-    rw (le_yes 1 y year.0, le_yes y 9999 year.1, le_yes 1 m month.0, le_yes m 12 month.1, le_yes 1 d day.0, le_yes d (days_in_month (pos y) m) day.1)
+    rw (le_yes 1 y year.0, le_yes y last_year year.1, le_yes 1 m month.0, le_yes m 12 month.1, le_yes 1 d day.0, le_yes d (days_in_month (pos y) m) day.1)
 
 le_from_test : (a b : ℕ) → nat_le a b ≡ true → a ≤ b
 le_from_test a b h = grind (arith, nat_tests)
 
-both : (a b : Bool) → (a && b) ≡ true → (a ≡ true) × (b ≡ true)
-both true b h = (refl, h)
-both false b h = absurd (cc)
-
 between : (low n high : ℕ) → (nat_le low n && nat_le n high) ≡ true → (low ≤ n) × (n ≤ high)
 between low n high h =
-    let parts = both (nat_le low n) (nat_le n high) h in
+    let parts = and_parts (nat_le low n) (nat_le n high) h in
     (le_from_test low n parts.0, le_from_test n high parts.1)
 
 -- its year, month and day lie where they may
 date_parts : (y m d : ℕ) → has_date y m d ≡ true
-    → ((1 ≤ y) × (y ≤ 9999)) × ((1 ≤ m) × (m ≤ 12)) × ((1 ≤ d) × (d ≤ days_in_month (pos y) m))
+    → ((1 ≤ y) × (y ≤ last_year)) × ((1 ≤ m) × (m ≤ 12)) × ((1 ≤ d) × (d ≤ days_in_month (pos y) m))
 date_parts y m d h =
-    let days = both ((nat_le 1 y && nat_le y 9999) && (nat_le 1 m && nat_le m 12)) (nat_le 1 d && nat_le d (days_in_month (pos y) m)) h in
-    let months = both (nat_le 1 y && nat_le y 9999) (nat_le 1 m && nat_le m 12) days.0 in
-    (between 1 y 9999 months.0, between 1 m 12 months.1, between 1 d (days_in_month (pos y) m) days.1)
+    let days = and_parts ((nat_le 1 y && nat_le y last_year) && (nat_le 1 m && nat_le m 12)) (nat_le 1 d && nat_le d (days_in_month (pos y) m)) h in
+    let months = and_parts (nat_le 1 y && nat_le y last_year) (nat_le 1 m && nat_le m 12) days.0 in
+    (between 1 y last_year months.0, between 1 m 12 months.1, between 1 d (days_in_month (pos y) m) days.1)
 
 has_date-is : (y m d : ℕ) → has_date y m d ≡ true → IsDay (pos y) (pos m) (pos d)
 has_date-is y m d h =
     let parts = date_parts y m d h in
-    let year : (neg_ℤ (pos 9999) ≤ℤ pos y) × (pos y ≤ℤ pos 9999) = (omega (arith, signed_arith), omega (arith, signed_arith, parts.0)) in
+    let year : (neg_ℤ (pos last_year) ≤ℤ pos y) × (pos y ≤ℤ pos last_year) = (omega (arith, signed_arith), omega (arith, signed_arith, parts.0)) in
     let month : (pos 1 ≤ℤ pos m) × (pos m ≤ℤ pos 12) = (omega (arith, signed_arith, parts.1), omega (arith, signed_arith, parts.1)) in
     let day : (pos 1 ≤ℤ pos d) × (pos d ≤ℤ pos (days_in_month (pos y) m)) = (omega (arith, signed_arith, parts.2), omega (arith, signed_arith, parts.2)) in
     (omega (arith, signed_arith, parts.0), (year, month, day))
@@ -58,7 +51,7 @@ pub date_number-result : {E : Type 0} (r : Result ℤ E) (y m d : ℕ) → OkIff
     → result_ok r ≡ date_number (y, m, d)
 date_number-result (Ok n) y m d h = let yes = has_date-yes y m d h.0 in rw (yes, h.1)
 date_number-result (Err e) y m d h =
-    let no = no_from_denial (has_date y m d) (λ yes. h (has_date-is y m d yes)) in rw no
+    let no = false_from_ne_true (has_date y m d) (λ yes. h (has_date-is y m d yes)) in rw no
 
 pub IsDay-from_civil : (y m d : ℕ) → 1 ≤ y → IsCivilDate (pos y) m d → IsDay (pos y) (pos m) (pos d)
 IsDay-from_civil y m d low h =

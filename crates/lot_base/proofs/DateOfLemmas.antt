@@ -6,7 +6,7 @@ use Rattle.jiff_core.proofs.SignedLemmas.{signed_arith}
 use Rattle.jiff_core.proofs.CalendarLemmas.{days_from_civil-day_count, days_in_month_bounds}
 use Rattle.jiff_core.proofs.DateLemmas.{days_from_civil-day, days_from_civil-next_month, days_from_civil-next_year, days_from_civil-max}
 use borrow.Author.Differences.{up, down}
-use Rattle.lot_base.specs.Day.{IsDayNumber}
+use Rattle.lot_base.specs.Day.{IsDayNumber, last_day, last_year}
 use Rattle.lot_base.proofs.DayLemmas.{first_count}
 
 -- a date of the years 1 to 9999 with the number n
@@ -18,10 +18,10 @@ pub record DateOf (n : ℤ) : Type 0 where
   pub low : 1 ≤ year
   pub number : days_from_civil (pos year) month day ≡ n
 
--- 31 December comes last in the year 9999 alone
-year_below : (y : ℕ) (n : ℤ) → days_from_civil (pos y) 12 31 ≡ n → n <ℤ pos 2_932_896 → y ≤ 9999 → y < 9999
+-- 31 December comes last in the last year alone
+year_below : (y : ℕ) (n : ℤ) → days_from_civil (pos y) 12 31 ≡ n → n <ℤ last_day → y ≤ last_year → y < last_year
 year_below y n number lt le =
-    elim (cases_order y 9999) [
+    elim (cases_order y last_year) [
       | inr (inl below) ↦ below
       | inl same ↦
           let latest = rw same at number in
@@ -30,7 +30,7 @@ year_below y n number lt le =
     ]
 
 -- the day after a date
-next_day : (n next : ℤ) → next ≡ n +ℤ pos 1 → next ≤ℤ pos 2_932_896 → DateOf n → DateOf next
+next_day : (n next : ℤ) → next ≡ n +ℤ pos 1 → next ≤ℤ last_day → DateOf n → DateOf next
 next_day n next e high date =
     let y = date.year in
     let m = date.month in
@@ -57,7 +57,7 @@ next_day n next e high date =
         | inl december ↦
             let last_day : d ≡ 31 = rw december at last in
             let number : days_from_civil (pos y) 12 31 ≡ n = rw (december, last_day) at date.number in
-            let below : y < 9999 = year_below y n number (omega (arith, signed_arith, e, high)) (omega (arith, signed_arith, is.0)) in
+            let below : y < last_year = year_below y n number (omega (arith, signed_arith, e, high)) (omega (arith, signed_arith, is.0)) in
             record {
               year = y + 1;
               month = 1;

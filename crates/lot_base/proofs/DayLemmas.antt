@@ -11,7 +11,7 @@ use Rattle.jiff_core.proofs.CalendarLemmas.{days_from_civil-day_count, days_in_m
 use Rattle.jiff_core.proofs.MarchLemmas.{day_count-early}
 use Rattle.jiff_core.proofs.DateLemmas.{civil}
 use Rattle.jiff.specs.Words.{date_text as printed_date}
-use Rattle.lot_base.specs.Day.{IsDayNumber, count_to, year_of, month_of, day_of, date_text, day_text}
+use Rattle.lot_base.specs.Day.{IsDayNumber, first_day, last_year, count_to, year_of, month_of, day_of, date_text, day_text}
 
 -- ---- how many numbers pass
 
@@ -80,7 +80,7 @@ day_ahead y m d i h lt = omega (arith, signed_arith, days_from_civil-day_count, 
 pub year_of-date : (y m d : ℕ) → IsCivilDate (pos y) m d → year_of (days_from_civil (pos y) m d) ≡ y
 unfolding year_of
 year_of-date y m d h =
-    count_to-is (λ i. int_le (days_from_civil (pos i) 1 1) (days_from_civil (pos y) m d)) 9999 y (omega (arith, signed_arith, h.0.1))
+    count_to-is (λ i. int_le (days_from_civil (pos i) 1 1) (days_from_civil (pos y) m d)) last_year y (omega (arith, signed_arith, h.0.1))
     (λ i low high. le_is_true _ _ (year_begun y m d i h high))
     (λ i low high. lt_is_false _ _ (year_ahead y m d i h low))
 
@@ -121,7 +121,7 @@ date-in_range y m d h low =
     omega (arith, signed_arith, days_from_civil-day_count)
 
 -- and a date before them hasn't
-pub date-before_range : (y : ℤ) (m d : ℕ) → IsCivilDate y m d → y <ℤ pos 1 → days_from_civil y m d <ℤ neg_ℤ (pos 719_162)
+pub date-before_range : (y : ℤ) (m d : ℕ) → IsCivilDate y m d → y <ℤ pos 1 → days_from_civil y m d <ℤ first_day
 date-before_range y m d h low =
     omega (arith, signed_arith, days_from_civil-day_count, first_count, day_count-lt_year y m d (pos 1) 1 1 h (omega arith) low)
 

@@ -1,13 +1,14 @@
 -- The date that a text says, part by part.
 use Rattle.std.proofs.Common.{◌≡◌, ℕ, ◌+◌, ◌-◌, ◌*◌, ◌/◌, ◌%◌, ◌<◌, inl, inr, Bool, true, false, List, [], ◌∷◌, length, get_or, Option, Some, None, refl, sym, ap, ◌∙◌, arith}
 use Rattle.std.specs.Prelude.{cond, not, nat_le, ◌&&◌}
-use Rattle.std.specs.Char.{is_ascii_digit}
+use Rattle.std.specs.Char.{digit_value, is_ascii_digit}
 use Rattle.std.specs.List.{slice_split, onto_first, list_all, position_or_len, before_first, after_first}
-use Rattle.std.proofs.lemmas.Bool.{cases_order}
+use Rattle.std.proofs.lemmas.Bool.{and_right, cases_order, not-false}
 use Rattle.std.proofs.lemmas.List.Folds.{list_all_at}
 use Rattle.std.proofs.lemmas.List.Sums.{prefix_len_stops, prefix_len-le-length}
 use Rattle.std.proofs.lemmas.Bool.Decides.{nat_tests}
 use Rattle.std.proofs.lemmas.List.Splits.{slice_split_first}
+use Rattle.std.proofs.lemmas.Str.{digit_value_digit}
 use Rattle.lot_base.specs.Day.{is_separator, number_in, date_of, date_in, named_date, two_digits, four_digits, date_text}
 use Rattle.lot_base.proofs.SplitLemmas.{slice_split-whole}
 
@@ -25,14 +26,6 @@ date_of-no_day None month = refl
 date_of-no_day (Some y) None = refl
 date_of-no_day (Some y) (Some m) = refl
 
-no_conjunction : (a : Bool) → (a && false) ≡ false
-no_conjunction true = refl
-no_conjunction false = refl
-
-no_from_not : (b : Bool) → not b ≡ false → b ≡ true
-no_from_not true h = refl
-no_from_not false h = absurd (cc)
-
 separator-no_digit : (b : ℕ) → is_separator b ≡ true → is_ascii_digit b ≡ false
 separator-no_digit b h = grind (arith, nat_tests)
 
@@ -40,9 +33,9 @@ separator-no_digit b h = grind (arith, nat_tests)
 number_in-separator : (least most : ℕ) (part : List ℕ) → position_or_len is_separator part < length part → number_in least most part ≡ None
 number_in-separator least most part h =
     let at = position_or_len is_separator part in
-    let here : is_separator (get_or part at 0) ≡ true = no_from_not _ (prefix_len_stops (λ b. not (is_separator b)) part 0 h) in
+    let here : is_separator (get_or part at 0) ≡ true = not-false _ (prefix_len_stops (λ b. not (is_separator b)) part 0 h) in
     let other : list_all is_ascii_digit part ≡ false = list_all_at is_ascii_digit part at 0 h (separator-no_digit (get_or part at 0) here) in
-    let no : (nat_le least (length part) && nat_le (length part) most && list_all is_ascii_digit part) ≡ false = rw other (no_conjunction _) in
+    let no : (nat_le least (length part) && nat_le (length part) most && list_all is_ascii_digit part) ≡ false = rw other (and_right _ false refl) in
     rw no
 
 -- four parts or more are no date
@@ -86,15 +79,18 @@ digit-no_separator q = grind (arith, nat_tests)
 digit-is : (q : ℕ) → q < 10 → is_ascii_digit (48 + q) ≡ true
 digit-is q h = grind (arith, nat_tests)
 
+digit-says : (q : ℕ) → q < 10 → digit_value (48 + q) ≡ q
+digit-says q h = omega (arith, digit_value_digit (48 + q) (omega arith, omega arith))
+
 number_in-two : (n : ℕ) → n < 100 → number_in 1 2 (two_digits n) ≡ Some n
 number_in-two n h =
-    let value : 10 * (10 * 0 + (48 + n / 10 - 48)) + (48 + n % 10 - 48) ≡ n = omega arith in
-    rw (digit-is (n / 10) (omega arith), digit-is (n % 10) (omega arith), value)
+    let value : (0 * 10 + n / 10) * 10 + n % 10 ≡ n = omega arith in
+    rw (digit-is (n / 10) (omega arith), digit-is (n % 10) (omega arith), digit-says (n / 10) (omega arith), digit-says (n % 10) (omega arith), value)
 
 number_in-four : (n : ℕ) → n < 10_000 → number_in 4 4 (four_digits n) ≡ Some n
 number_in-four n h =
-    let value : 10 * (10 * (10 * (10 * 0 + (48 + n / 100 / 10 - 48)) + (48 + n / 100 % 10 - 48)) + (48 + n % 100 / 10 - 48)) + (48 + n % 100 % 10 - 48) ≡ n = omega arith in
-    rw (digit-is (n / 100 / 10) (omega arith), digit-is (n / 100 % 10) (omega arith), digit-is (n % 100 / 10) (omega arith), digit-is (n % 100 % 10) (omega arith), value)
+    let value : (((0 * 10 + n / 100 / 10) * 10 + n / 100 % 10) * 10 + n % 100 / 10) * 10 + n % 100 % 10 ≡ n = omega arith in
+    rw (digit-is (n / 100 / 10) (omega arith), digit-is (n / 100 % 10) (omega arith), digit-is (n % 100 / 10) (omega arith), digit-is (n % 100 % 10) (omega arith), digit-says (n / 100 / 10) (omega arith), digit-says (n / 100 % 10) (omega arith), digit-says (n % 100 / 10) (omega arith), digit-says (n % 100 % 10) (omega arith), value)
 
 date_text-parts : (y m d : ℕ) → slice_split is_separator (date_text y m d) ≡ four_digits y ∷ two_digits m ∷ two_digits d ∷ []
 date_text-parts y m d =

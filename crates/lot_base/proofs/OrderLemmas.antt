@@ -7,10 +7,10 @@ use Rattle.std.specs.Ordering.{ordering_then}
 use Rattle.std.proofs.Common.{refl, ap}
 use Rattle.std.proofs.lemmas.Map.Lookups.{CmpEqualImpliesEq}
 
-pub both_equal : (a b : Ordering) → ordering_then a b ≡ Equal → (a ≡ Equal) × (b ≡ Equal)
-both_equal Less b e = cc
-both_equal Equal b e = (refl, e)
-both_equal Greater b e = cc
+pub equal_parts : (a b : Ordering) → ordering_then a b ≡ Equal → (a ≡ Equal) × (b ≡ Equal)
+equal_parts Less b e = cc
+equal_parts Equal b e = (refl, e)
+equal_parts Greater b e = cc
 
 -- an order that tells values apart tells options of them apart
 pub exact_options : {K : Type 0} (order : K → K → Ordering) → CmpEqualImpliesEq order → CmpEqualImpliesEq (option_cmp order)

@@ -2,15 +2,12 @@
 use Rattle.std.proofs.Common.{◌≡◌, ℕ, ◌+◌, ◌-◌, ◌<◌, ◌≤◌, Bool, true, false, List, [], ◌∷◌, length, take, drop, Option, Some, None, refl, arith}
 use Rattle.std.specs.Prelude.{not, cond, nat_lt}
 use Rattle.std.specs.List.{slice_split, position_or_len, prefix_len}
+use Rattle.std.proofs.lemmas.Bool.{not-true}
 use Rattle.std.proofs.lemmas.Bool.Decides.{nat_tests}
 use Rattle.std.proofs.lemmas.List.{take_all, length-drop}
 use Rattle.std.proofs.lemmas.List.Elements.{All-from_get_or}
 use Rattle.std.proofs.lemmas.List.Splits.{slice_split_none, slice_split_first}
 use Rattle.std.proofs.lemmas.List.Sums.{prefix_len_passes, prefix_len-le-length}
-
-no_from_not : (b : Bool) → not b ≡ true → b ≡ false
-no_from_not true h = absurd (cc)
-no_from_not false h = refl
 
 -- where no element passes, all of the list is one part
 pub slice_split-whole : {X : Type 0} (p : X → Bool) (xs : List X) (d : X) → position_or_len p xs ≡ length xs → slice_split p xs ≡ xs ∷ []
@@ -18,9 +15,9 @@ slice_split-whole {X} p xs d none =
     slice_split_none p xs
     (All-from_get_or (λ x. p x ≡ false) xs d
     (λ i h. let within : i < prefix_len (λ (x : X). not (p x)) xs = omega arith in
-    no_from_not _ (prefix_len_passes (λ (x : X). not (p x)) xs i d within)))
+    not-true _ (prefix_len_passes (λ (x : X). not (p x)) xs i d within)))
 
--- what a search for the first such element answers
+-- what a search for the first such element returns
 abbrev pub first_place : {X : Type 0} → (X → Bool) → List X → Option ℕ
 first_place p xs = cond (nat_lt (position_or_len p xs) (length xs)) (Some (position_or_len p xs)) None
 

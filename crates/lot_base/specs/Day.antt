@@ -2,13 +2,26 @@
 use Rattle.std.specs.Prelude.{◌≡◌, ℕ, zero, suc, ◌+◌, ◌-◌, ◌*◌, ◌/◌, ◌%◌, Bool, ◌&&◌, ◌||◌, ◌==◌, nat_le, if◌then◌else◌, List, [], ◌∷◌, ◌++◌, length, fold, Option, Some, None, option_and_then, ℤ, pos, neg_ℤ, ◌≤ℤ◌, int_le, unsigned_abs}
 use Rattle.std.specs.Char.{is_ascii_digit}
 use Rattle.std.specs.List.{list_all, slice_split}
+use Rattle.std.specs.Str.Parse.{digits_value}
 use Rattle.jiff_core.specs.Calendar.{IsBetween, IsDate, days_from_civil, days_in_month}
 
 -- ---- numbers
 
--- the number of a day, from that of 0001-01-01 to that of 9999-12-31
+-- the number of 0001-01-01, in days since 1970-01-01
+abbrev pub first_day : ℤ
+first_day = neg_ℤ (pos 719_162)
+
+-- the number of 9999-12-31
+abbrev pub last_day : ℤ
+last_day = pos 2_932_896
+
+-- the last year of the calendar
+abbrev pub last_year : ℕ
+last_year = 9999
+
+-- the number of a day
 abbrev pub IsDayNumber : ℤ → Type 0
-IsDayNumber n = IsBetween (neg_ℤ (pos 719_162)) (pos 2_932_896) n
+IsDayNumber n = IsBetween first_day last_day n
 
 -- the calendar has that day of that month, and the year is 1 to 9999
 abbrev pub IsDay : ℤ → ℤ → ℤ → Type 0
@@ -25,7 +38,7 @@ count_to passes (suc n) = count_to passes n + (if passes (suc n) then 1 else 0)
 
 -- the year of a day: so many years, from year 1 on, have begun by then
 unfoldable pub year_of : ℤ → ℕ
-year_of n = count_to (λ year. int_le (days_from_civil (pos year) 1 1) n) 9999
+year_of n = count_to (λ year. int_le (days_from_civil (pos year) 1 1) n) last_year
 
 -- its month: so many months of that year have begun by then
 unfoldable pub month_of : ℤ → ℕ
@@ -58,14 +71,10 @@ day_text n = date_text (year_of n) (month_of n) (day_of n)
 abbrev pub is_separator : ℕ → Bool
 is_separator b = (b == 45) || (b == 47)
 
--- what a list of digits says
-abbrev pub digits_value : List ℕ → ℕ
-digits_value digits = fold (λ n b. 10 * n + (b - 48)) 0 digits
-
 -- the number that a part says in at least so many digits and at most so many
 abbrev pub number_in : ℕ → ℕ → List ℕ → Option ℕ
 number_in least most part =
-    if nat_le least (length part) && nat_le (length part) most && list_all is_ascii_digit part then Some (digits_value part) else None
+    if nat_le least (length part) && nat_le (length part) most && list_all is_ascii_digit part then Some (digits_value 10 part) else None
 
 -- a year, a month and a day, where each of them is there
 abbrev pub date_of : Option ℕ → Option ℕ → Option ℕ → Option (ℕ × ℕ × ℕ)
@@ -84,7 +93,7 @@ named_date text = date_in (slice_split is_separator text)
 -- whether the calendar of the years 1 to 9999 has the date
 abbrev pub has_date : ℕ → ℕ → ℕ → Bool
 has_date year month day =
-    (nat_le 1 year && nat_le year 9999) && (nat_le 1 month && nat_le month 12)
+    (nat_le 1 year && nat_le year last_year) && (nat_le 1 month && nat_le month 12)
     && (nat_le 1 day && nat_le day (days_in_month (pos year) month))
 
 -- the number of a date, where the calendar has it

@@ -1,8 +1,8 @@
 -- Which texts are names. A text is the list of its bytes in UTF-8.
 use Rattle.std.specs.Prelude.{ℕ, Bool, false, not, ◌&&◌, ◌||◌, ◌==◌, nat_le, ◌-◌, slice_index, List, [], ◌∷◌, length, codes}
 use Rattle.std.specs.Char.{is_ascii_digit, is_ascii_uppercase, is_ascii_alphanumeric, is_ascii_control}
-use Rattle.std.specs.Cmp.Lexicographic.{pointwise}
 use Rattle.std.specs.List.{list_all, list_any, slice_split}
+use Rattle.lot_base.specs.Text.{same_text}
 
 -- ---- the longest names, in bytes (docs/RULES.md, Limits)
 
@@ -30,7 +30,7 @@ roots = codes "Assets" ∷ codes "Liabilities" ∷ codes "Equity" ∷ codes "Inc
 
 -- whether this is the first component of an account
 unfoldable pub is_root : List ℕ → Bool
-is_root part = list_any (λ root. pointwise ◌==◌ part root) roots
+is_root part = list_any (λ root. same_text part root) roots
 
 -- whether this may stand in a component after its first byte: a letter, a digit or a dash
 abbrev pub is_component_byte : ℕ → Bool

@@ -13,16 +13,16 @@ use std::fmt;
 use std::marker::Model;
 use thiserror::Error;
 
-/// The number of 0001-01-01.
+/// The number of 0001-01-01, in days since 1970-01-01.
 const FIRST: i32 = -719_162;
 
-/// The number of 9999-12-31.
+/// The number of 9999-12-31, in days since 1970-01-01.
 const LAST: i32 = 2_932_896;
 
-/// Why there is no such day.
+/// Why there is no day.
 #[derive(Clone, Copy, Debug, PartialEq, Eq, Error)]
 pub enum DayFault {
-    /// The text is no day, or the calendar of the years 1 to 9999 hasn't that day.
+    /// The text isn't a day, or the calendar of the years 1 to 9999 hasn't that day.
     #[error("not a day of the years 1 to 9999")]
     BadDay,
 }
@@ -49,9 +49,9 @@ impl Model for Day {
 }
 
 impl Day {
-    /// The day of that year, month and day of the month, all counted from 1.
+    /// Returns the day of that year, month and day of the month, all counted from 1.
     ///
-    /// `BadDay` where the year isn't 1 to 9999 or the calendar hasn't that day.
+    /// The error is `BadDay`, exactly where the year isn't 1 to 9999 or the calendar hasn't that day.
     pub fn new(year: i16, month: i8, day: i8) -> Result<Day, DayFault>
         ensures { OkIff result (IsDay year month day) (day_number year month day) }
     {
@@ -66,10 +66,10 @@ impl Day {
         }
     }
 
-    /// The day that a text names: four digits, one or two digits, and one or two digits, with `-` or `/`
+    /// Returns the day that a text names: four digits, one or two digits, and one or two digits, with `-` or `/`
     /// between them, which may differ.
     ///
-    /// `BadDay` where the text isn't of this form, or the calendar of the years 1 to 9999 hasn't that day.
+    /// The error is `BadDay`, exactly where the text isn't of this form, or the calendar of the years 1 to 9999 hasn't that day.
     pub fn parse(text: &str) -> Result<Day, DayFault>
         ensures { result_ok result ≡ named_day text.now }
     {
@@ -79,7 +79,7 @@ impl Day {
         Day::new(year as i16, month as i8, day as i8)
     }
 
-    /// Its number, in days since 1970-01-01.
+    /// Returns the number of the day, in days since 1970-01-01.
     pub fn number(self) -> i32
         ensures value { result ≡ self }
         ensures bound { IsDayNumber result }
@@ -87,7 +87,7 @@ impl Day {
         self.number
     }
 
-    /// The day with that number, in days since 1970-01-01, if it is in the years 1 to 9999.
+    /// Returns the day with that number, in days since 1970-01-01, or `None` where it isn't in the years 1 to 9999.
     pub fn from_number(number: i32) -> Option<Day>
         ensures { SomeIff result (IsDayNumber number) number }
     {
@@ -97,14 +97,14 @@ impl Day {
         Some(Day { number })
     }
 
-    /// Its text, `YYYY-MM-DD`. The error is want of memory.
+    /// Returns the text of the day, `YYYY-MM-DD`. The only error is out of memory.
     pub fn text(self, alloc: Global) -> Result<String, AllocError>
         ensures { IfOk result (λ text. string_bytes text ≡ day_text self) }
     {
         self.to_string(alloc)
     }
 
-    /// The date of the calendar.
+    /// Returns the date of the calendar.
     fn date(self) -> Date
         ensures number { epoch_day result ≡ self }
         ensures year { pos 1 ≤ℤ result.year }
@@ -124,7 +124,7 @@ impl fmt::Display for Day {
     }
 }
 
-/// The year, month and day that a text names, which the calendar need not have.
+/// Returns the year, month and day that a text names, which the calendar need not have.
 fn named_date(text: &[u8]) -> Option<(u16, u16, u16)>
     ensures value { result ≡ named_date text.now }
     ensures bounds { IfSome result (λ date. (date.0 < 10_000) × (date.1 < 100) × (date.2 < 100)) }
@@ -138,7 +138,7 @@ fn named_date(text: &[u8]) -> Option<(u16, u16, u16)>
     ))
 }
 
-/// What stands before and after the first separator.
+/// Returns what stands before and after the first separator.
 fn cut(text: &[u8]) -> Option<(&[u8], &[u8])>
     ensures { MatchOption result (slice_split is_separator text.now ≡ text.now ∷ [])
         (λ cut. slice_split is_separator text.now ≡ cut.0.now ∷ slice_split is_separator cut.1.now) }
@@ -147,13 +147,14 @@ fn cut(text: &[u8]) -> Option<(&[u8], &[u8])>
     Some((&text[..at], &text[at + 1..]))
 }
 
+/// Returns whether the byte is a separator of a day text.
 fn is_separator(b: u8) -> bool
     ensures { result ≡ is_separator b }
 {
     b == b'-' || b == b'/'
 }
 
-/// The year that four digits say.
+/// Returns the year that four digits say.
 fn year_in(part: &[u8]) -> Option<u16>
     ensures value { result ≡ number_in 4 4 part.now }
     ensures bound { IfSome result (λ year. year < 10_000) }
@@ -164,7 +165,7 @@ fn year_in(part: &[u8]) -> Option<u16>
     }
 }
 
-/// The month or the day of the month that one or two digits say.
+/// Returns the month or the day of the month that one or two digits say.
 fn month_or_day_in(part: &[u8]) -> Option<u16>
     ensures value { result ≡ number_in 1 2 part.now }
     ensures bound { IfSome result (λ n. n < 100) }
@@ -176,7 +177,7 @@ fn month_or_day_in(part: &[u8]) -> Option<u16>
     }
 }
 
-/// What a digit says.
+/// Returns what a digit says.
 fn digit(b: u8) -> Option<u16>
     ensures { SomeIff result (IsTrue (is_ascii_digit b)) (b - 48) }
 {

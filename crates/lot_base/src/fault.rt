@@ -1,22 +1,22 @@
 use std::alloc::AllocError;
 use thiserror::Error;
 
-/// Why a text is no name of the kind that was asked for.
+/// Why there is no name of a text.
 #[derive(Clone, Copy, Debug, PartialEq, Eq, Error)]
 pub enum NameFault {
-    /// The text is no account.
+    /// The text isn't an account.
     #[error("not an account")]
     BadAccount,
-    /// The text is no commodity.
+    /// The text isn't a commodity.
     #[error("not a commodity")]
     BadCommodity,
-    /// The text is no label.
+    /// The text isn't a label.
     #[error("not a label")]
     BadLabel,
-    /// The text is no note.
+    /// The text isn't a note.
     #[error("not a note")]
     BadNote,
-    /// There was no memory for a copy of the text.
+    /// Out of memory for a copy of the text, which is a name.
     #[error("out of memory")]
     Memory,
 }

@@ -25,22 +25,22 @@ pub trait Grammar {
     // Whether a list of bytes is a name of this kind.
     ghost is_name: { List ℕ → Bool };
 
-    // What is said of a text that is no such name.
+    // The fault of a text that is no such name.
     ghost bad: { NameFault };
 
-    /// Whether the text is a name of this kind.
+    /// Returns whether the text is a name of this kind.
     fn accepts(text: &str) -> bool
         ensures { result ≡ is_name text.now };
 
-    /// The fault of a text that is no name of this kind.
+    /// Returns the fault of a text that is no name of this kind.
     fn fault() -> NameFault
         ensures { result ≡ bad };
 
-    // The fault of a text isn't want of memory.
+    // The fault of a text isn't out of memory.
     ghost blames_the_text: { bad ≢ Memory };
 }
 
-/// The grammar of accounts: at least two components joined by colons, at most 128 bytes.
+/// The grammar of accounts: at least two components joined by colons, at most `MAX_ACCOUNT` bytes.
 ///
 /// The first component is Assets, Liabilities, Equity, Income or Expenses. Each other one begins with a capital letter or
 /// a digit and goes on with letters, digits or dashes, all ASCII. After Beancount, Language Syntax; the bound on the
@@ -68,7 +68,7 @@ impl Grammar for AccountGrammar {
     }
 }
 
-/// Whether the text is the first component of an account.
+/// Returns whether the text is the first component of an account.
 #[tactic(auto, unfolding(crate::specs::Name::is_root))]
 fn is_root(text: &str) -> bool
     ensures { result ≡ is_root text.now }
@@ -79,14 +79,14 @@ fn is_root(text: &str) -> bool
     )
 }
 
-/// Whether the text is later components of an account, joined by colons.
+/// Returns whether the text is later components of an account, joined by colons.
 fn are_components(text: &str) -> bool
     ensures { result ≡ list_all is_component (components text.now) }
 {
     text.split(':').all(|part| is_component(part))
 }
 
-/// Whether the text is a later component of an account.
+/// Returns whether the text is a later component of an account.
 #[tactic(auto, unfolding(crate::specs::Name::is_component))]
 fn is_component(text: &str) -> bool
     ensures { result ≡ is_component text.now }
@@ -99,21 +99,21 @@ fn is_component(text: &str) -> bool
     }
 }
 
-/// Whether each byte may stand in a component of an account.
+/// Returns whether each byte may stand in a component of an account.
 fn are_component_bytes(bytes: &[u8]) -> bool
     ensures { result ≡ list_all is_component_byte bytes.now }
 {
     bytes.iter().all(|b| is_component_byte(*b))
 }
 
-/// Whether the byte may stand in a component of an account.
+/// Returns whether the byte may stand in a component of an account.
 fn is_component_byte(b: u8) -> bool
     ensures { result ≡ is_component_byte b }
 {
     b.is_ascii_alphanumeric() || b == b'-'
 }
 
-/// The grammar of commodities: 1 to 24 characters.
+/// The grammar of commodities: one character or more, at most `MAX_COMMODITY`.
 ///
 /// The first is a capital letter, the last a capital letter or a digit, and each is a capital letter, a digit or one of
 /// `'`, `.`, `_` and `-`. After Beancount, Language Syntax.
@@ -143,21 +143,21 @@ impl Grammar for CommodityGrammar {
     }
 }
 
-/// Whether each byte may stand in a commodity.
+/// Returns whether each byte may stand in a commodity.
 fn are_commodity_bytes(bytes: &[u8]) -> bool
     ensures { result ≡ list_all is_commodity_byte bytes.now }
 {
     bytes.iter().all(|b| is_commodity_byte(*b))
 }
 
-/// Whether the byte may stand in a commodity.
+/// Returns whether the byte may stand in a commodity.
 fn is_commodity_byte(b: u8) -> bool
     ensures { result ≡ is_commodity_byte b }
 {
     b.is_ascii_uppercase() || b.is_ascii_digit() || matches!(b, b'\'' | b'.' | b'_' | b'-')
 }
 
-/// The grammar of labels: 1 to 64 bytes of UTF-8, none of them a control byte (below 32, or 127), a quote or a
+/// The grammar of labels: one byte of UTF-8 or more, at most `MAX_LABEL`, none of them a control byte (below 32, or 127), a quote or a
 /// backslash.
 ///
 /// This project's own.
@@ -180,21 +180,21 @@ impl Grammar for LabelGrammar {
     }
 }
 
-/// Whether each byte may stand in a label.
+/// Returns whether each byte may stand in a label.
 fn are_label_bytes(bytes: &[u8]) -> bool
     ensures { result ≡ list_all is_label_byte bytes.now }
 {
     bytes.iter().all(|b| is_label_byte(*b))
 }
 
-/// Whether the byte may stand in a label.
+/// Returns whether the byte may stand in a label.
 fn is_label_byte(b: u8) -> bool
     ensures { result ≡ is_label_byte b }
 {
     !(b.is_ascii_control() || b == b'"' || b == b'\\')
 }
 
-/// The grammar of notes: at most 1,000 bytes of UTF-8, none of them a control byte (below 32, or 127) but the tab.
+/// The grammar of notes: at most `MAX_NOTE` bytes of UTF-8, none of them a control byte (below 32, or 127) but the tab.
 ///
 /// This project's own.
 pub struct NoteGrammar;
@@ -216,14 +216,14 @@ impl Grammar for NoteGrammar {
     }
 }
 
-/// Whether each byte may stand in a note.
+/// Returns whether each byte may stand in a note.
 fn are_note_bytes(bytes: &[u8]) -> bool
     ensures { result ≡ list_all is_note_byte bytes.now }
 {
     bytes.iter().all(|b| is_note_byte(*b))
 }
 
-/// Whether the byte may stand in a note.
+/// Returns whether the byte may stand in a note.
 fn is_note_byte(b: u8) -> bool
     ensures { result ≡ is_note_byte b }
 {

@@ -1,10 +1,10 @@
-ghost use Rattle.std.specs.Prelude.{◌≡◌, ◌==◌, ◌↔◌, ◌⊎◌, false, IsTrue, IfOk, IfErr, IsOk, IsErrOf, Some};
+ghost use Rattle.std.specs.Prelude.{◌≡◌, ◌↔◌, ◌⊎◌, false, IsTrue, IfOk, IfErr, IsOk, IsErrOf, Some};
 ghost use Rattle.std.proofs.Common.{rules};
 ghost use Rattle.std.specs.Cmp.Rules.{comparing, hashing};
 ghost use Rattle.std.specs.Cmp.{partial_order_from_own_ties};
-ghost use Rattle.std.specs.Ordering.{nat_cmp, as_partial_cmp};
-ghost use Rattle.std.specs.Cmp.Lexicographic.{pointwise, slice_cmp};
+ghost use Rattle.std.specs.Ordering.{as_partial_cmp};
 ghost use Rattle.std.specs.Hash as fed;
+ghost use Rattle.lot_base.specs.Text.{same_text, text_cmp};
 
 use crate::fault::NameFault;
 use crate::grammars::{AccountGrammar, CommodityGrammar, Grammar, LabelGrammar, NoteGrammar};
@@ -47,10 +47,10 @@ impl<G: Grammar> Model for Name<G> {
 }
 
 impl<G: Grammar> Name<G> {
-    /// The name with that text.
+    /// Returns the name with that text.
     ///
-    /// The fault of the grammar (`BadAccount`, `BadCommodity`, `BadLabel` or `BadNote`) exactly where the text isn't of it, and
-    /// `Memory` where there is no memory for a copy of the text.
+    /// The error is the fault of the grammar (`BadAccount`, `BadCommodity`, `BadLabel` or `BadNote`) exactly where the text
+    /// isn't of the grammar, and else `Memory` where there is no memory for a copy of the text.
     pub fn new(alloc: Global, text: &str) -> Result<Name<G>, NameFault>
         ensures ok { IfOk result (λ a. a ≡ text.now) }
         ensures good { IsOk result → IsTrue (G.is_name text.now) }
@@ -66,7 +66,7 @@ impl<G: Grammar> Name<G> {
         })
     }
 
-    /// Its text, which is of the grammar.
+    /// Returns the text of the name, which is of the grammar.
     pub fn as_str(&self) -> &str
         ensures value { result.now ≡ self.now }
         ensures grammar { IsTrue (G.is_name self.now) }
@@ -74,7 +74,7 @@ impl<G: Grammar> Name<G> {
         self.text.as_str()
     }
 
-    /// The same name once more. The error is want of memory.
+    /// Returns a copy of the name. The only error is out of memory.
     pub fn copy(&self) -> Result<Name<G>, AllocError>
         ensures { IfOk result (λ a. a ≡ self.now) }
     {
@@ -86,7 +86,7 @@ impl<G: Grammar> Name<G> {
 }
 
 impl<G: Grammar> PartialEq for Name<G> {
-    ghost eq = { pointwise ◌==◌ };
+    ghost eq = { same_text };
 
     ghost laws = { Prim.search (comparing, rules) };
 
@@ -100,7 +100,7 @@ impl<G: Grammar> Eq for Name<G> {
 }
 
 impl<G: Grammar> PartialOrd for Name<G> {
-    ghost partial_cmp = { as_partial_cmp (slice_cmp nat_cmp) };
+    ghost partial_cmp = { as_partial_cmp text_cmp };
 
     ghost laws = { partial_order_from_own_ties (Prim.search (comparing, rules)) (Prim.search (comparing, rules)) };
 
@@ -110,7 +110,7 @@ impl<G: Grammar> PartialOrd for Name<G> {
 }
 
 impl<G: Grammar> Ord for Name<G> {
-    ghost cmp = { slice_cmp nat_cmp };
+    ghost cmp = { text_cmp };
 
     ghost total = { Prim.search (comparing, rules) };
 

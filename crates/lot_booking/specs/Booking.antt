@@ -3,9 +3,10 @@ use Rattle.std.specs.Prelude.{◌≡◌, ◌≢◌, ℕ, ◌≤◌, nat_le, Bool
 use Rattle.std.specs.BTreeMap.{is_at}
 use Rattle.std.specs.Map.{lookup, values_of}
 use Rattle.std.specs.Option.{unwrap_or}
+use Rattle.lot_num.specs.Sum.{sum_of}
 use Rattle.lot_inv.specs.declared.cost_spec.CostSpec.{CostSpec}
 use Rattle.lot_inv.specs.declared.lot_key.LotKey.{LotKey}
-use Rattle.lot_inv.specs.Inventory.{Held, matching, other_sign, reduces, sum_of}
+use Rattle.lot_inv.specs.Inventory.{Held, matching, other_sign, reduces}
 use Rattle.lot_inv.specs.LotKey.{lot_cmp}
 use Rattle.lot_booking.specs.declared.cost.Cost.{Cost}
 use Rattle.lot_booking.specs.declared.cost.Cost.TheVariants.{Each}

@@ -10,8 +10,8 @@ use Rattle.std.proofs.Common.{refl, ap, ◌∙◌}
 use Rattle.std.proofs.lemmas.Cmp.{back_total, then_total, on_total, nat_cmp_total, int_cmp_total, nat_list_cmp_total, tied_itself, tied_back}
 use Rattle.std.proofs.lemmas.Map.Lookups.{CmpEqualImpliesEq}
 use Rattle.lot_inv.specs.declared.lot_key.LotKey.{LotKey}
-use Rattle.lot_inv.specs.LotKey.{text_cmp}
-use Rattle.lot_base.proofs.OrderLemmas.{both_equal}
+use Rattle.lot_base.proofs.OrderLemmas.{equal_parts}
+use Rattle.lot_base.specs.Text.{text_cmp}
 use Rattle.lot_inv.proofs.OrderLemmas.{lots_total, exact_lots}
 use Rattle.lot_booking.specs.Order.{IsOrder, label_cmp, oldest_first, newest_first, highest_first}
 
@@ -66,9 +66,9 @@ newest_total = then_total (back_total days_total) (then_total currencies_total (
 
 exact_newest : CmpEqualImpliesEq newest_cmp
 exact_newest a b e =
-    let day = both_equal (int_cmp b.day a.day) _ e in
-    let currency = both_equal (text_cmp a.currency b.currency) _ day.1 in
-    let number = both_equal (nat_cmp a.number b.number) _ currency.1 in
+    let day = equal_parts (int_cmp b.day a.day) _ e in
+    let currency = equal_parts (text_cmp a.currency b.currency) _ day.1 in
+    let number = equal_parts (nat_cmp a.number b.number) _ currency.1 in
     same_key a b (tied_back int_cmp_total b.day a.day day.0) currency.0 number.0 number.1
 
 abbrev highest_cmp : LotKey → LotKey → Ordering
@@ -80,9 +80,9 @@ highest_total = then_total (back_total numbers_total) (then_total days_total (th
 
 exact_highest : CmpEqualImpliesEq highest_cmp
 exact_highest a b e =
-    let number = both_equal (nat_cmp b.number a.number) _ e in
-    let day = both_equal (int_cmp a.day b.day) _ number.1 in
-    let currency = both_equal (text_cmp a.currency b.currency) _ day.1 in
+    let number = equal_parts (nat_cmp b.number a.number) _ e in
+    let day = equal_parts (int_cmp a.day b.day) _ number.1 in
+    let currency = equal_parts (text_cmp a.currency b.currency) _ day.1 in
     same_key a b day.0 currency.0 (tied_back nat_cmp_total b.number a.number number.0) currency.1
 
 -- ---- the three orders

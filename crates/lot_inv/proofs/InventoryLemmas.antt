@@ -4,13 +4,12 @@ use Rattle.std.specs.declared.cmp.Ordering.{Ordering}
 use Rattle.std.specs.declared.cmp.Ordering.TheVariants.{Less, Equal, Greater}
 use Rattle.std.specs.BTreeMap.{is_at}
 use Rattle.std.specs.Cmp.{tied_itself}
-use Rattle.std.specs.Cmp.Lexicographic.{slice_cmp}
 use Rattle.std.specs.FinMap.{get, entries, entries_sorted, from_entries, get-entries, get-from_entries}
 use Rattle.std.specs.List.{AllByRecursion}
 use Rattle.std.specs.List.Sorted.{IsStrictlySortedBy}
 use Rattle.std.specs.Map.{keys_of, lookup}
 use Rattle.std.specs.Option.{option_cmp, option_or, unwrap_or}
-use Rattle.std.specs.Ordering.{nat_cmp, int_eq, is_eq, ordering_then}
+use Rattle.std.specs.Ordering.{int_eq, is_eq, ordering_then}
 use Rattle.std.proofs.Common.{refl, sym, ap, subst, ◌∙◌}
 use Rattle.std.proofs.lemmas.List.{append-nil}
 use Rattle.std.proofs.lemmas.Cmp.{nat_list_cmp_total}
@@ -18,65 +17,66 @@ use Rattle.std.proofs.lemmas.Map.Lookups.{exact_bytes}
 use Rattle.lot_inv.specs.declared.inventory.Holding.{Holding}
 use Rattle.lot_inv.specs.declared.lot_key.LotKey.{LotKey}
 use Rattle.lot_inv.specs.Holding.{AreHoldings, IsHolding, held_at, found, plain_rows, lot_rows, rows}
-use Rattle.lot_inv.specs.Inventory.{Held, Place, place_cmp, non_zero, lots_in, lots_of}
+use Rattle.lot_inv.specs.Inventory.{Held, Position, position_cmp, non_zero, lots_in, lots_of}
 use Rattle.lot_inv.specs.LotKey.{lot_cmp}
 use Rattle.lot_base.proofs.MapLemmas.{one_map, keys_sorted, found_by_order, none_below}
-use Rattle.lot_inv.proofs.OrderLemmas.{places_total, exact_places}
+use Rattle.lot_base.specs.Text.{text_cmp}
+use Rattle.lot_inv.proofs.OrderLemmas.{positions_total, exact_positions}
 
 -- ---- the order of the rows
 
-abbrev IsBelow : Place → List (Place × ℤ) → Type 0
-IsBelow place rest = AllByRecursion (λ (other : Place). place_cmp place other ≡ Less) (keys_of rest)
+abbrev IsBelow : Position → List (Position × ℤ) → Type 0
+IsBelow position rest = AllByRecursion (λ (other : Position). position_cmp position other ≡ Less) (keys_of rest)
 
-same_commodity : (commodity : List ℕ) (o : Ordering) → ordering_then (slice_cmp nat_cmp commodity commodity) o ≡ o
+same_commodity : (commodity : List ℕ) (o : Ordering) → ordering_then (text_cmp commodity commodity) o ≡ o
 same_commodity commodity o = ap (λ r. ordering_then r o) (tied_itself nat_list_cmp_total commodity)
 
-below_lots : (commodity : List ℕ) (key : LotKey) (lots : List (LotKey × ℤ)) (rest : List (Place × ℤ))
+below_lots : (commodity : List ℕ) (key : LotKey) (lots : List (LotKey × ℤ)) (rest : List (Position × ℤ))
     → AllByRecursion (λ (other : LotKey). lot_cmp key other ≡ Less) (keys_of lots) → IsBelow (commodity, Some key) rest
     → IsBelow (commodity, Some key) (lot_rows commodity lots ++ rest)
 below_lots commodity key [] rest h k = k
 below_lots commodity key (lot ∷ lots) rest h k = (same_commodity commodity (lot_cmp key lot.0) ∙ h.0, below_lots commodity key lots rest h.1 k)
 
-plain_below_lots : (commodity : List ℕ) (lots : List (LotKey × ℤ)) (rest : List (Place × ℤ))
+plain_below_lots : (commodity : List ℕ) (lots : List (LotKey × ℤ)) (rest : List (Position × ℤ))
     → IsBelow (commodity, None) rest → IsBelow (commodity, None) (lot_rows commodity lots ++ rest)
 plain_below_lots commodity [] rest k = k
 plain_below_lots commodity (lot ∷ lots) rest k = (same_commodity commodity Less, plain_below_lots commodity lots rest k)
 
-other_below_lots : (place : Place) (commodity : List ℕ) (lots : List (LotKey × ℤ)) (rest : List (Place × ℤ))
-    → slice_cmp nat_cmp place.0 commodity ≡ Less → IsBelow place rest → IsBelow place (lot_rows commodity lots ++ rest)
-other_below_lots place commodity [] rest e k = k
-other_below_lots place commodity (lot ∷ lots) rest e k =
-    (ap (λ r. ordering_then r (option_cmp lot_cmp place.1 (Some lot.0))) e, other_below_lots place commodity lots rest e k)
+other_below_lots : (position : Position) (commodity : List ℕ) (lots : List (LotKey × ℤ)) (rest : List (Position × ℤ))
+    → text_cmp position.0 commodity ≡ Less → IsBelow position rest → IsBelow position (lot_rows commodity lots ++ rest)
+other_below_lots position commodity [] rest e k = k
+other_below_lots position commodity (lot ∷ lots) rest e k =
+    (ap (λ r. ordering_then r (option_cmp lot_cmp position.1 (Some lot.0))) e, other_below_lots position commodity lots rest e k)
 
-below_plain : (place : Place) (commodity : List ℕ) (units : ℤ) (rest : List (Place × ℤ))
-    → slice_cmp nat_cmp place.0 commodity ≡ Less → IsBelow place rest → IsBelow place (plain_rows commodity units ++ rest)
-below_plain place commodity units rest e k =
-    elim (int_eq units (pos 0)) as (λ b. IsBelow place (cond b [] (((commodity, None), units) ∷ []) ++ rest)) [
+below_plain : (position : Position) (commodity : List ℕ) (units : ℤ) (rest : List (Position × ℤ))
+    → text_cmp position.0 commodity ≡ Less → IsBelow position rest → IsBelow position (plain_rows commodity units ++ rest)
+below_plain position commodity units rest e k =
+    elim (int_eq units (pos 0)) as (λ b. IsBelow position (cond b [] (((commodity, None), units) ∷ []) ++ rest)) [
       | true ↦ k
-      | false ↦ (ap (λ r. ordering_then r (option_cmp lot_cmp place.1 None)) e, k)
+      | false ↦ (ap (λ r. ordering_then r (option_cmp lot_cmp position.1 None)) e, k)
     ]
 
-pub below_rows : (place : Place) (holdings : List (List ℕ × Holding))
-    → AllByRecursion (λ (other : List ℕ). slice_cmp nat_cmp place.0 other ≡ Less) (keys_of holdings) → IsBelow place (rows holdings)
-below_rows place [] h = tt
-below_rows place (entry ∷ holdings) h =
-    below_plain place entry.0 entry.1.plain (lot_rows entry.0 entry.1.lots.entries ++ rows holdings) h.0
-    (other_below_lots place entry.0 entry.1.lots.entries (rows holdings) h.0 (below_rows place holdings h.1))
+pub below_rows : (position : Position) (holdings : List (List ℕ × Holding))
+    → AllByRecursion (λ (other : List ℕ). text_cmp position.0 other ≡ Less) (keys_of holdings) → IsBelow position (rows holdings)
+below_rows position [] h = tt
+below_rows position (entry ∷ holdings) h =
+    below_plain position entry.0 entry.1.plain (lot_rows entry.0 entry.1.lots.entries ++ rows holdings) h.0
+    (other_below_lots position entry.0 entry.1.lots.entries (rows holdings) h.0 (below_rows position holdings h.1))
 
-sorted_lots : (commodity : List ℕ) (lots : List (LotKey × ℤ)) (rest : List (Place × ℤ))
-    → IsStrictlySortedBy lot_cmp (keys_of lots) → IsStrictlySortedBy place_cmp (keys_of rest)
-    → ((key : LotKey) → IsBelow (commodity, Some key) rest) → IsStrictlySortedBy place_cmp (keys_of (lot_rows commodity lots ++ rest))
+sorted_lots : (commodity : List ℕ) (lots : List (LotKey × ℤ)) (rest : List (Position × ℤ))
+    → IsStrictlySortedBy lot_cmp (keys_of lots) → IsStrictlySortedBy position_cmp (keys_of rest)
+    → ((key : LotKey) → IsBelow (commodity, Some key) rest) → IsStrictlySortedBy position_cmp (keys_of (lot_rows commodity lots ++ rest))
 unfolding IsStrictlySortedBy
 sorted_lots commodity [] rest h k above = k
 sorted_lots commodity (lot ∷ lots) rest h k above =
     (below_lots commodity lot.0 lots rest h.0 (above lot.0), sorted_lots commodity lots rest h.1 k above)
 
-sorted_plain : (commodity : List ℕ) (units : ℤ) (rest : List (Place × ℤ))
-    → IsStrictlySortedBy place_cmp (keys_of rest) → IsBelow (commodity, None) rest
-    → IsStrictlySortedBy place_cmp (keys_of (plain_rows commodity units ++ rest))
+sorted_plain : (commodity : List ℕ) (units : ℤ) (rest : List (Position × ℤ))
+    → IsStrictlySortedBy position_cmp (keys_of rest) → IsBelow (commodity, None) rest
+    → IsStrictlySortedBy position_cmp (keys_of (plain_rows commodity units ++ rest))
 unfolding IsStrictlySortedBy
 sorted_plain commodity units rest k above =
-    elim (int_eq units (pos 0)) as (λ b. IsStrictlySortedBy place_cmp (keys_of (cond b [] (((commodity, None), units) ∷ []) ++ rest))) [
+    elim (int_eq units (pos 0)) as (λ b. IsStrictlySortedBy position_cmp (keys_of (cond b [] (((commodity, None), units) ∷ []) ++ rest))) [
       | true ↦ k
       | false ↦ (above, k)
     ]
@@ -85,8 +85,8 @@ sorted_plain commodity units rest k above =
 abbrev pub LotsSorted : List (List ℕ × Holding) → Type 0
 LotsSorted holdings = AllByRecursion (λ (entry : List ℕ × Holding). IsStrictlySortedBy lot_cmp (keys_of entry.1.lots.entries)) holdings
 
-pub sorted_rows : (holdings : List (List ℕ × Holding)) → IsStrictlySortedBy (slice_cmp nat_cmp) (keys_of holdings) → LotsSorted holdings
-    → IsStrictlySortedBy place_cmp (keys_of (rows holdings))
+pub sorted_rows : (holdings : List (List ℕ × Holding)) → IsStrictlySortedBy text_cmp (keys_of holdings) → LotsSorted holdings
+    → IsStrictlySortedBy position_cmp (keys_of (rows holdings))
 unfolding IsStrictlySortedBy
 sorted_rows [] h k = tt
 sorted_rows (entry ∷ holdings) h k =
@@ -113,26 +113,26 @@ cond_same : {X : Type 0} (b : Bool) (x : X) → x ≡ cond b x x
 cond_same true x = refl
 cond_same false x = refl
 
--- what is found at a place in some rows
-abbrev found_in : Place → List (Place × ℤ) → Option ℤ
-found_in place rest = lookup (is_at (place_cmp place)) rest
+-- what is found at a position in some rows
+abbrev found_in : Position → List (Position × ℤ) → Option ℤ
+found_in position rest = lookup (is_at (position_cmp position)) rest
 
 -- what lots have at a key, of none where no key is given
 abbrev in_lots : Option LotKey → List (LotKey × ℤ) → Option ℤ
 in_lots None lots = None
 in_lots (Some key) lots = lookup (is_at (lot_cmp key)) lots
 
-found_in-lots : (commodity other : List ℕ) (key : Option LotKey) (lots : List (LotKey × ℤ)) (rest : List (Place × ℤ))
+found_in-lots : (commodity other : List ℕ) (key : Option LotKey) (lots : List (LotKey × ℤ)) (rest : List (Position × ℤ))
     → found_in (commodity, key) (lot_rows other lots ++ rest)
-    ≡ cond (is_eq (slice_cmp nat_cmp commodity other)) (option_or (in_lots key lots) (found_in (commodity, key) rest)) (found_in (commodity, key) rest)
-found_in-lots commodity other None [] rest = cond_same (is_eq (slice_cmp nat_cmp commodity other)) (found_in (commodity, None) rest)
-found_in-lots commodity other (Some key) [] rest = cond_same (is_eq (slice_cmp nat_cmp commodity other)) (found_in (commodity, Some key) rest)
+    ≡ cond (is_eq (text_cmp commodity other)) (option_or (in_lots key lots) (found_in (commodity, key) rest)) (found_in (commodity, key) rest)
+found_in-lots commodity other None [] rest = cond_same (is_eq (text_cmp commodity other)) (found_in (commodity, None) rest)
+found_in-lots commodity other (Some key) [] rest = cond_same (is_eq (text_cmp commodity other)) (found_in (commodity, Some key) rest)
 found_in-lots commodity other None (lot ∷ lots) rest =
-    let o = slice_cmp nat_cmp commodity other in
+    let o = text_cmp commodity other in
     ap (λ b. cond b (Some lot.1) (found_in (commodity, None) (lot_rows other lots ++ rest))) (eq_then o Less ∙ never_less (is_eq o))
     ∙ found_in-lots commodity other None lots rest
 found_in-lots commodity other (Some key) (lot ∷ lots) rest =
-    let o = slice_cmp nat_cmp commodity other in
+    let o = text_cmp commodity other in
     let r = lot_cmp key lot.0 in
     let left = found_in (commodity, Some key) rest in
     ap (λ b. cond b (Some lot.1) (found_in (commodity, Some key) (lot_rows other lots ++ rest))) (eq_then o r)
@@ -147,11 +147,11 @@ abbrev in_plain : Option LotKey → ℤ → Option ℤ
 in_plain None units = non_zero units
 in_plain (Some key) units = None
 
-found_in-plain : (commodity other : List ℕ) (key : Option LotKey) (units : ℤ) (rest : List (Place × ℤ))
+found_in-plain : (commodity other : List ℕ) (key : Option LotKey) (units : ℤ) (rest : List (Position × ℤ))
     → found_in (commodity, key) (plain_rows other units ++ rest)
-    ≡ cond (is_eq (slice_cmp nat_cmp commodity other)) (option_or (in_plain key units) (found_in (commodity, key) rest)) (found_in (commodity, key) rest)
+    ≡ cond (is_eq (text_cmp commodity other)) (option_or (in_plain key units) (found_in (commodity, key) rest)) (found_in (commodity, key) rest)
 found_in-plain commodity other None units rest =
-    let o = slice_cmp nat_cmp commodity other in
+    let o = text_cmp commodity other in
     let left = found_in (commodity, None) rest in
     elim (int_eq units (pos 0)) as (λ b. found_in (commodity, None) (cond b [] (((other, None), units) ∷ []) ++ rest)
     ≡ cond (is_eq o) (option_or (cond b None (Some units)) left) left) [
@@ -163,7 +163,7 @@ found_in-plain commodity other None units rest =
     true_right true = refl
     true_right false = refl
 found_in-plain commodity other (Some key) units rest =
-    let o = slice_cmp nat_cmp commodity other in
+    let o = text_cmp commodity other in
     let left = found_in (commodity, Some key) rest in
     elim (int_eq units (pos 0)) as (λ b. found_in (commodity, Some key) (cond b [] (((other, None), units) ∷ []) ++ rest) ≡ cond (is_eq o) left left) [
       | true ↦ cond_same (is_eq o) left
@@ -175,33 +175,33 @@ held-parts : (holding : Holding) (key : Option LotKey)
 held-parts holding None = elim (non_zero holding.plain) as (λ o. option_or o None ≡ o) [ None ↦ refl | Some v ↦ refl ]
 held-parts holding (Some key) = elim (lookup (is_at (lot_cmp key)) holding.lots.entries) as (λ o. option_or o None ≡ o) [ None ↦ refl | Some v ↦ refl ]
 
-none_in_below : (place : Place) (rest : List (Place × ℤ)) → IsBelow place rest → found_in place rest ≡ None
-none_in_below place [] h = refl
-none_in_below place (row ∷ rest) h = ap (λ o. cond (is_eq o) (Some row.1) (found_in place rest)) h.0 ∙ none_in_below place rest h.1
+none_in_below : (position : Position) (rest : List (Position × ℤ)) → IsBelow position rest → found_in position rest ≡ None
+none_in_below position [] h = refl
+none_in_below position (row ∷ rest) h = ap (λ o. cond (is_eq o) (Some row.1) (found_in position rest)) h.0 ∙ none_in_below position rest h.1
 
 pub is_equal : (o : Ordering) → is_eq o ≡ true → o ≡ Equal
 is_equal Less e = cc
 is_equal Equal e = refl
 is_equal Greater e = cc
 
-pub found_in-rows : (holdings : List (List ℕ × Holding)) (place : Place) → IsStrictlySortedBy (slice_cmp nat_cmp) (keys_of holdings)
-    → found_in place (rows holdings) ≡ found holdings place
+pub found_in-rows : (holdings : List (List ℕ × Holding)) (position : Position) → IsStrictlySortedBy text_cmp (keys_of holdings)
+    → found_in position (rows holdings) ≡ found holdings position
 unfolding IsStrictlySortedBy
-found_in-rows [] place h = refl
-found_in-rows (entry ∷ holdings) place h =
-    let o = slice_cmp nat_cmp place.0 entry.0 in
-    let left = found_in place (rows holdings) in
+found_in-rows [] position h = refl
+found_in-rows (entry ∷ holdings) position h =
+    let o = text_cmp position.0 entry.0 in
+    let left = found_in position (rows holdings) in
     let rest = lot_rows entry.0 entry.1.lots.entries ++ rows holdings in
-    found_in-plain place.0 entry.0 place.1 entry.1.plain rest
-    ∙ ap (λ x. cond (is_eq o) (option_or (in_plain place.1 entry.1.plain) x) x) (found_in-lots place.0 entry.0 place.1 entry.1.lots.entries (rows holdings))
+    found_in-plain position.0 entry.0 position.1 entry.1.plain rest
+    ∙ ap (λ x. cond (is_eq o) (option_or (in_plain position.1 entry.1.plain) x) x) (found_in-lots position.0 entry.0 position.1 entry.1.lots.entries (rows holdings))
     ∙ elim (is_eq o) as (λ b. is_eq o ≡ b
-    → cond b (option_or (in_plain place.1 entry.1.plain) (cond b (option_or (in_lots place.1 entry.1.lots.entries) left) left)) (cond b (option_or (in_lots place.1 entry.1.lots.entries) left) left)
-    ≡ option_and_then (λ (holding : Holding). held_at holding place.1) (cond b (Some entry.1) (lookup (is_at (slice_cmp nat_cmp place.0)) holdings))) [
+    → cond b (option_or (in_plain position.1 entry.1.plain) (cond b (option_or (in_lots position.1 entry.1.lots.entries) left) left)) (cond b (option_or (in_lots position.1 entry.1.lots.entries) left) left)
+    ≡ option_and_then (λ (holding : Holding). held_at holding position.1) (cond b (Some entry.1) (lookup (is_at (text_cmp position.0)) holdings))) [
       | true ↦ λ e.
-          let same : place.0 ≡ entry.0 = exact_bytes place.0 entry.0 (is_equal o e) in
-          let none : left ≡ None = none_in_below place (rows holdings) (below_rows place holdings (subst (λ c. AllByRecursion (λ (other : List ℕ). slice_cmp nat_cmp c other ≡ Less) (keys_of holdings)) (sym same) h.0)) in
-          ap (λ x. option_or (in_plain place.1 entry.1.plain) (option_or (in_lots place.1 entry.1.lots.entries) x)) none ∙ held-parts entry.1 place.1
-      | false ↦ λ e. found_in-rows holdings place h.1
+          let same : position.0 ≡ entry.0 = exact_bytes position.0 entry.0 (is_equal o e) in
+          let none : left ≡ None = none_in_below position (rows holdings) (below_rows position holdings (subst (λ c. AllByRecursion (λ (other : List ℕ). text_cmp c other ≡ Less) (keys_of holdings)) (sym same) h.0)) in
+          ap (λ x. option_or (in_plain position.1 entry.1.plain) (option_or (in_lots position.1 entry.1.lots.entries) x)) none ∙ held-parts entry.1 position.1
+      | false ↦ λ e. found_in-rows holdings position h.1
     ] refl
 
 -- ---- the lots of a commodity among the rows
@@ -211,17 +211,17 @@ abbrev pub lots_at : Option Holding → List (LotKey × ℤ)
 lots_at None = []
 lots_at (Some holding) = holding.lots.entries
 
-lots_in-lots : (commodity other : List ℕ) (lots : List (LotKey × ℤ)) (rest : List (Place × ℤ))
+lots_in-lots : (commodity other : List ℕ) (lots : List (LotKey × ℤ)) (rest : List (Position × ℤ))
     → lots_in commodity (lot_rows other lots ++ rest)
-    ≡ cond (is_eq (slice_cmp nat_cmp commodity other)) (lots ++ lots_in commodity rest) (lots_in commodity rest)
-lots_in-lots commodity other [] rest = cond_same (is_eq (slice_cmp nat_cmp commodity other)) (lots_in commodity rest)
+    ≡ cond (is_eq (text_cmp commodity other)) (lots ++ lots_in commodity rest) (lots_in commodity rest)
+lots_in-lots commodity other [] rest = cond_same (is_eq (text_cmp commodity other)) (lots_in commodity rest)
 lots_in-lots commodity other (lot ∷ lots) rest =
-    let b = is_eq (slice_cmp nat_cmp commodity other) in
+    let b = is_eq (text_cmp commodity other) in
     ap (λ ls. cond b (lot ∷ ls) ls) (lots_in-lots commodity other lots rest)
     ∙ elim b as (λ b. cond b (lot ∷ cond b (lots ++ lots_in commodity rest) (lots_in commodity rest)) (cond b (lots ++ lots_in commodity rest) (lots_in commodity rest))
     ≡ cond b (lot ∷ (lots ++ lots_in commodity rest)) (lots_in commodity rest)) [ true ↦ refl | false ↦ refl ]
 
-lots_in-plain : (commodity other : List ℕ) (units : ℤ) (rest : List (Place × ℤ)) → lots_in commodity (plain_rows other units ++ rest) ≡ lots_in commodity rest
+lots_in-plain : (commodity other : List ℕ) (units : ℤ) (rest : List (Position × ℤ)) → lots_in commodity (plain_rows other units ++ rest) ≡ lots_in commodity rest
 lots_in-plain commodity other units rest =
     elim (int_eq units (pos 0)) as (λ b. lots_in commodity (cond b [] (((other, None), units) ∷ []) ++ rest) ≡ lots_in commodity rest) [ true ↦ refl | false ↦ refl ]
 
@@ -229,45 +229,45 @@ less_is_not : (o : Ordering) → o ≡ Less → is_eq o ≡ false
 less_is_not o e = ap is_eq e
 
 no_lots : (commodity : List ℕ) (holdings : List (List ℕ × Holding))
-    → AllByRecursion (λ (other : List ℕ). slice_cmp nat_cmp commodity other ≡ Less) (keys_of holdings) → lots_in commodity (rows holdings) ≡ []
+    → AllByRecursion (λ (other : List ℕ). text_cmp commodity other ≡ Less) (keys_of holdings) → lots_in commodity (rows holdings) ≡ []
 no_lots commodity [] h = refl
 no_lots commodity (entry ∷ holdings) h =
     lots_in-plain commodity entry.0 entry.1.plain (lot_rows entry.0 entry.1.lots.entries ++ rows holdings)
     ∙ lots_in-lots commodity entry.0 entry.1.lots.entries (rows holdings)
-    ∙ ap (λ b. cond b (entry.1.lots.entries ++ lots_in commodity (rows holdings)) (lots_in commodity (rows holdings))) (less_is_not (slice_cmp nat_cmp commodity entry.0) h.0)
+    ∙ ap (λ b. cond b (entry.1.lots.entries ++ lots_in commodity (rows holdings)) (lots_in commodity (rows holdings))) (less_is_not (text_cmp commodity entry.0) h.0)
     ∙ no_lots commodity holdings h.1
 
-lots_in-rows : (holdings : List (List ℕ × Holding)) (commodity : List ℕ) → IsStrictlySortedBy (slice_cmp nat_cmp) (keys_of holdings)
-    → lots_in commodity (rows holdings) ≡ lots_at (lookup (is_at (slice_cmp nat_cmp commodity)) holdings)
+lots_in-rows : (holdings : List (List ℕ × Holding)) (commodity : List ℕ) → IsStrictlySortedBy text_cmp (keys_of holdings)
+    → lots_in commodity (rows holdings) ≡ lots_at (lookup (is_at (text_cmp commodity)) holdings)
 unfolding IsStrictlySortedBy
 lots_in-rows [] commodity h = refl
 lots_in-rows (entry ∷ holdings) commodity h =
-    let o = slice_cmp nat_cmp commodity entry.0 in
+    let o = text_cmp commodity entry.0 in
     let left = lots_in commodity (rows holdings) in
     lots_in-plain commodity entry.0 entry.1.plain (lot_rows entry.0 entry.1.lots.entries ++ rows holdings)
     ∙ lots_in-lots commodity entry.0 entry.1.lots.entries (rows holdings)
-    ∙ elim (is_eq o) as (λ b. is_eq o ≡ b → cond b (entry.1.lots.entries ++ left) left ≡ lots_at (cond b (Some entry.1) (lookup (is_at (slice_cmp nat_cmp commodity)) holdings))) [
+    ∙ elim (is_eq o) as (λ b. is_eq o ≡ b → cond b (entry.1.lots.entries ++ left) left ≡ lots_at (cond b (Some entry.1) (lookup (is_at (text_cmp commodity)) holdings))) [
       | true ↦ λ e.
           let same : commodity ≡ entry.0 = exact_bytes commodity entry.0 (is_equal o e) in
-          let none : left ≡ [] = no_lots commodity holdings (subst (λ c. AllByRecursion (λ (other : List ℕ). slice_cmp nat_cmp c other ≡ Less) (keys_of holdings)) (sym same) h.0) in
+          let none : left ≡ [] = no_lots commodity holdings (subst (λ c. AllByRecursion (λ (other : List ℕ). text_cmp c other ≡ Less) (keys_of holdings)) (sym same) h.0) in
           ap (λ ls. entry.1.lots.entries ++ ls) none ∙ append-nil entry.1.lots.entries
       | false ↦ λ e. lots_in-rows holdings commodity h.1
     ] refl
 
 -- ---- the map that the rows make
 
-pub get-rows : (holdings : List (List ℕ × Holding)) (place : Place) → IsStrictlySortedBy (slice_cmp nat_cmp) (keys_of holdings)
-    → get (from_entries {R = place_cmp} (rows holdings)) place ≡ found holdings place
-get-rows holdings place h = get-from_entries places_total (rows holdings) place ∙ found_by_order place_cmp place (rows holdings) ∙ found_in-rows holdings place h
+pub get-rows : (holdings : List (List ℕ × Holding)) (position : Position) → IsStrictlySortedBy text_cmp (keys_of holdings)
+    → get (from_entries {R = position_cmp} (rows holdings)) position ≡ found holdings position
+get-rows holdings position h = get-from_entries positions_total (rows holdings) position ∙ found_by_order position_cmp position (rows holdings) ∙ found_in-rows holdings position h
 
-entries-rows : (es : List (Place × ℤ)) → IsStrictlySortedBy place_cmp (keys_of es) → entries (from_entries {R = place_cmp} es) ≡ es
+entries-rows : (es : List (Position × ℤ)) → IsStrictlySortedBy position_cmp (keys_of es) → entries (from_entries {R = position_cmp} es) ≡ es
 entries-rows es h =
-    let m = from_entries {R = place_cmp} es in
-    one_map place_cmp places_total exact_places (entries m) es (keys_sorted place_cmp (entries m) (entries_sorted m)) h
-    (λ place. sym (found_by_order place_cmp place (entries m)) ∙ sym (get-entries m place) ∙ get-from_entries places_total es place ∙ found_by_order place_cmp place es)
+    let m = from_entries {R = position_cmp} es in
+    one_map position_cmp positions_total exact_positions (entries m) es (keys_sorted position_cmp (entries m) (entries_sorted m)) h
+    (λ position. sym (found_by_order position_cmp position (entries m)) ∙ sym (get-entries m position) ∙ get-from_entries positions_total es position ∙ found_by_order position_cmp position es)
 
-pub lots_of-rows : (holdings : List (List ℕ × Holding)) (commodity : List ℕ) → IsStrictlySortedBy (slice_cmp nat_cmp) (keys_of holdings) → LotsSorted holdings
-    → lots_of (from_entries {R = place_cmp} (rows holdings)) commodity ≡ lots_at (lookup (is_at (slice_cmp nat_cmp commodity)) holdings)
+pub lots_of-rows : (holdings : List (List ℕ × Holding)) (commodity : List ℕ) → IsStrictlySortedBy text_cmp (keys_of holdings) → LotsSorted holdings
+    → lots_of (from_entries {R = position_cmp} (rows holdings)) commodity ≡ lots_at (lookup (is_at (text_cmp commodity)) holdings)
 unfolding lots_of
 lots_of-rows holdings commodity h k = ap (lots_in commodity) (entries-rows (rows holdings) (sorted_rows holdings h k)) ∙ lots_in-rows holdings commodity h
 
@@ -276,41 +276,41 @@ lots_of-rows holdings commodity h k = ap (lots_in commodity) (entries-rows (rows
 some_head : (o : Ordering) (head : Holding) (rest : Option Holding) → is_eq o ≡ true → IfSome (cond (is_eq o) (Some head) rest) IsHolding → IsHolding head
 some_head o head rest e h = subst (λ b. IfSome (cond b (Some head) rest) IsHolding) e h
 
-each_sorted : (holdings : List (List ℕ × Holding)) → IsStrictlySortedBy (slice_cmp nat_cmp) (keys_of holdings)
-    → ((commodity : List ℕ) → IfSome (lookup (is_at (slice_cmp nat_cmp commodity)) holdings) IsHolding) → LotsSorted holdings
+each_sorted : (holdings : List (List ℕ × Holding)) → IsStrictlySortedBy text_cmp (keys_of holdings)
+    → ((commodity : List ℕ) → IfSome (lookup (is_at (text_cmp commodity)) holdings) IsHolding) → LotsSorted holdings
 unfolding IsStrictlySortedBy
 each_sorted [] h each = tt
 each_sorted (entry ∷ holdings) h each =
-    let head = some_head (slice_cmp nat_cmp entry.0 entry.0) entry.1 (lookup (is_at (slice_cmp nat_cmp entry.0)) holdings) (ap is_eq (tied_itself nat_list_cmp_total entry.0)) (each entry.0) in (
+    let head = some_head (text_cmp entry.0 entry.0) entry.1 (lookup (is_at (text_cmp entry.0)) holdings) (ap is_eq (tied_itself nat_list_cmp_total entry.0)) (each entry.0) in (
       head.sorted,
       each_sorted holdings h.1 (λ commodity.
-          elim (is_eq (slice_cmp nat_cmp commodity entry.0)) as (λ b. is_eq (slice_cmp nat_cmp commodity entry.0) ≡ b
-          → IfSome (cond b (Some entry.1) (lookup (is_at (slice_cmp nat_cmp commodity)) holdings)) IsHolding
-          → IfSome (lookup (is_at (slice_cmp nat_cmp commodity)) holdings) IsHolding) [
+          elim (is_eq (text_cmp commodity entry.0)) as (λ b. is_eq (text_cmp commodity entry.0) ≡ b
+          → IfSome (cond b (Some entry.1) (lookup (is_at (text_cmp commodity)) holdings)) IsHolding
+          → IfSome (lookup (is_at (text_cmp commodity)) holdings) IsHolding) [
             | true ↦ λ e g.
-                let same : commodity ≡ entry.0 = exact_bytes commodity entry.0 (is_equal (slice_cmp nat_cmp commodity entry.0) e) in
-                let none : lookup (is_at (slice_cmp nat_cmp commodity)) holdings ≡ None = none_below (slice_cmp nat_cmp) commodity holdings
-                (subst (λ c. AllByRecursion (λ (other : List ℕ). slice_cmp nat_cmp c other ≡ Less) (keys_of holdings)) (sym same) h.0) in
+                let same : commodity ≡ entry.0 = exact_bytes commodity entry.0 (is_equal (text_cmp commodity entry.0) e) in
+                let none : lookup (is_at (text_cmp commodity)) holdings ≡ None = none_below text_cmp commodity holdings
+                (subst (λ c. AllByRecursion (λ (other : List ℕ). text_cmp c other ≡ Less) (keys_of holdings)) (sym same) h.0) in
                 subst (λ o. IfSome o IsHolding) (sym none) tt
             | false ↦ λ e g. g
           ] refl (each commodity)),
     )
 
 pub lots_seen : (holdings : List (List ℕ × Holding)) (held : Held) (commodity : List ℕ) (at : Option Holding) → AreHoldings holdings
-    → from_entries (rows holdings) ≡ held → at ≡ lookup (is_at (slice_cmp nat_cmp commodity)) holdings → lots_of held commodity ≡ lots_at at
+    → from_entries (rows holdings) ≡ held → at ≡ lookup (is_at (text_cmp commodity)) holdings → lots_of held commodity ≡ lots_at at
 lots_seen holdings held commodity at are view is =
     ap (λ m. lots_of m commodity) (sym view)
     ∙ lots_of-rows holdings commodity are.sorted (each_sorted holdings are.sorted are.each)
     ∙ ap lots_at (sym is)
 
 pub found_seen : (holdings : List (List ℕ × Holding)) (held : Held) (commodity : List ℕ) (key : Option LotKey) (at : Option Holding) → AreHoldings holdings
-    → from_entries (rows holdings) ≡ held → at ≡ lookup (is_at (slice_cmp nat_cmp commodity)) holdings
+    → from_entries (rows holdings) ≡ held → at ≡ lookup (is_at (text_cmp commodity)) holdings
     → get held (commodity, key) ≡ option_and_then (λ (holding : Holding). held_at holding key) at
 found_seen holdings held commodity key at are view is =
     ap (λ m. get m (commodity, key)) (sym view) ∙ get-rows holdings (commodity, key) are.sorted ∙ ap (option_and_then (λ (holding : Holding). held_at holding key)) (sym is)
 
 pub holding_seen : (holdings : List (List ℕ × Holding)) (commodity : List ℕ) (holding : Holding) → AreHoldings holdings
-    → Some holding ≡ lookup (is_at (slice_cmp nat_cmp commodity)) holdings → IsHolding holding
+    → Some holding ≡ lookup (is_at (text_cmp commodity)) holdings → IsHolding holding
 holding_seen holdings commodity holding are is = subst (λ o. IfSome o IsHolding) (sym is) (are.each commodity)
 
 non_zero-again : (z : ℤ) → non_zero z ≡ non_zero (unwrap_or (non_zero z) (pos 0))

@@ -1,26 +1,30 @@
 -- What a change of one holding does to the map that the rows of all holdings make.
-use Rattle.std.specs.Prelude.{◌≡◌, ◌≢◌, ℕ, Bool, true, false, cond, ◌&&◌, List, [], ◌∷◌, length, Option, None, Some, is_some, ℤ, pos, option_and_then, IfSome, Result, Ok, Err, OnErr}
+use Rattle.std.specs.Prelude.{◌≡◌, ◌≢◌, ℕ, Bool, true, false, cond, ◌&&◌, List, [], ◌∷◌, length, Option, None, Some, is_some, ℤ, pos, ◌+ℤ◌, option_and_then, IfSome, Result, Ok, Err, OnErr}
 use Rattle.std.specs.BTreeMap.{is_at}
 use Rattle.std.specs.Cmp.{eq_by_cmp_equiv, tied_itself}
-use Rattle.std.specs.Cmp.Lexicographic.{slice_cmp}
 use Rattle.std.specs.FinMap.{get, insert, remove, from_entries, get-insert, get-remove, same_map}
 use Rattle.std.specs.List.Sorted.{IsStrictlySortedBy}
 use Rattle.std.specs.Map.{keys_of, lookup}
 use Rattle.std.specs.Option.{option_cmp, unwrap_or}
-use Rattle.std.specs.Ordering.{nat_cmp, int_eq, is_eq, eq_by_cmp}
+use Rattle.std.specs.Ordering.{int_eq, is_eq, eq_by_cmp}
 use Rattle.std.proofs.Common.{refl, sym, ap, subst, ◌∙◌}
 use Rattle.std.proofs.lemmas.Map.Lookups.{exact_bytes}
+use Rattle.lot_base.specs.Text.{text_cmp}
 use Rattle.lot_inv.specs.declared.inventory.Holding.{Holding}
 use Rattle.lot_inv.specs.declared.lot_key.LotKey.{LotKey}
-use Rattle.lot_inv.specs.Holding.{AreAlike, AreHoldings, HoldsSomething, IsHolding, IsSet, NoneIsEmpty, NoOtherIsEmpty, held_at, found, rows}
-use Rattle.lot_inv.specs.Inventory.{Held, Place, place_cmp, non_zero, with_units}
+use Rattle.lot_inv.specs.Holding.{AreAlike, AreHoldings, HoldsSomething, IsHolding, ChangesPosition, NeedsPosition, NoneIsEmpty, NoOtherIsEmpty, held_at, found, rows}
+use Rattle.lot_inv.specs.Inventory.{Held, Position, StoresMore, position_cmp, non_zero, units_at, with_units}
 use Rattle.lot_inv.specs.LotKey.{lot_cmp}
-use Rattle.lot_inv.proofs.InventoryLemmas.{eq_then, get-rows, is_equal}
-use Rattle.lot_inv.proofs.OrderLemmas.{lots_total, positions_total, places_total, exact_places}
+use Rattle.lot_inv.proofs.InventoryLemmas.{eq_then, found_seen, get-rows, is_equal}
+use Rattle.lot_inv.proofs.OrderLemmas.{lots_total, lot_options_total, positions_total, exact_positions}
 
 pub on_err : {X Y : Type 0} {P : Type 0} (r : Result X Y) → P → OnErr r P
 on_err (Ok x) p = tt
 on_err (Err y) p = p
+
+-- where nothing is held, what is added is the sum
+added_some : (at : Option ℤ) (units sum : ℤ) → at ≡ None → sum ≢ pos 0 → sum ≡ unwrap_or at (pos 0) +ℤ units → units ≢ pos 0
+added_some at units sum none some is zero = some (is ∙ ap (λ o. unwrap_or o (pos 0) +ℤ units) none ∙ ap (λ u. pos 0 +ℤ u) zero)
 
 -- units that are kept as they are to be, and are then set at one key, are so again
 pub kept_when_set : (b : Bool) (units : ℤ) (before after : Option ℤ) → after ≡ cond b (non_zero units) before
@@ -36,104 +40,125 @@ kept_when_set b units before after e h = e ∙ elim b as (λ b. cond b (non_zero
       | false ↦ λ e. sym (ap (λ b. cond b None (Some z)) e)
     ] refl
 
+-- a lot that wasn't held is one more
+pub lot_inserted : (old mid new : List (LotKey × ℤ)) (key copied : LotKey) (units : ℤ) → copied ≡ key → mid ≡ old → int_eq units (pos 0) ≡ false
+    → ((other : LotKey) → lookup (is_at (lot_cmp other)) new ≡ cond (is_eq (lot_cmp copied other)) (Some units) (lookup (is_at (lot_cmp other)) mid))
+    → (other : LotKey) → lookup (is_at (lot_cmp other)) new ≡ cond (is_eq (lot_cmp key other)) (non_zero units) (lookup (is_at (lot_cmp other)) old)
+lot_inserted old mid new key copied units e m some updates other =
+    updates other
+    ∙ ap (λ k. cond (is_eq (lot_cmp k other)) (Some units) (lookup (is_at (lot_cmp other)) mid)) e
+    ∙ ap (λ es. cond (is_eq (lot_cmp key other)) (Some units) (lookup (is_at (lot_cmp other)) es)) m
+    ∙ ap (λ b. cond (is_eq (lot_cmp key other)) (cond b None (Some units)) (lookup (is_at (lot_cmp other)) old)) (sym some)
+
 -- the holding of a commodity is another one, or there is none any more
 abbrev pub Changes : List (List ℕ × Holding) → List (List ℕ × Holding) → List ℕ → Option Holding → Type 0
-Changes old new commodity at = (other : List ℕ) → lookup (is_at (slice_cmp nat_cmp other)) new
-    ≡ cond (is_eq (slice_cmp nat_cmp commodity other)) at (lookup (is_at (slice_cmp nat_cmp other)) old)
+Changes old new commodity at = (other : List ℕ) → lookup (is_at (text_cmp other)) new
+    ≡ cond (is_eq (text_cmp commodity other)) at (lookup (is_at (text_cmp other)) old)
 
 pub changes_inserted : (old mid new : List (List ℕ × Holding)) (commodity copied : List ℕ) (holding : Holding) → copied ≡ commodity → mid ≡ old
-    → ((other : List ℕ) → lookup (is_at (slice_cmp nat_cmp other)) new ≡ cond (is_eq (slice_cmp nat_cmp copied other)) (Some holding) (lookup (is_at (slice_cmp nat_cmp other)) mid))
+    → ((other : List ℕ) → lookup (is_at (text_cmp other)) new ≡ cond (is_eq (text_cmp copied other)) (Some holding) (lookup (is_at (text_cmp other)) mid))
     → Changes old new commodity (Some holding)
 changes_inserted old mid new commodity copied holding e m updates other =
     updates other
-    ∙ ap (λ c. cond (is_eq (slice_cmp nat_cmp c other)) (Some holding) (lookup (is_at (slice_cmp nat_cmp other)) mid)) e
-    ∙ ap (λ es. cond (is_eq (slice_cmp nat_cmp commodity other)) (Some holding) (lookup (is_at (slice_cmp nat_cmp other)) es)) m
+    ∙ ap (λ c. cond (is_eq (text_cmp c other)) (Some holding) (lookup (is_at (text_cmp other)) mid)) e
+    ∙ ap (λ es. cond (is_eq (text_cmp commodity other)) (Some holding) (lookup (is_at (text_cmp other)) es)) m
 
 pub holdings_changed : (old new : List (List ℕ × Holding)) (commodity : List ℕ) (holding : Holding) → AreHoldings old → IsHolding holding
-    → Changes old new commodity (Some holding) → IsStrictlySortedBy (slice_cmp nat_cmp) (keys_of new) → AreHoldings new
+    → Changes old new commodity (Some holding) → IsStrictlySortedBy text_cmp (keys_of new) → AreHoldings new
 holdings_changed old new commodity holding are is changes sorted = record {
   sorted = sorted;
   each = λ other. subst (λ o. IfSome o IsHolding) (sym (changes other)) (
-      elim (is_eq (slice_cmp nat_cmp commodity other)) as (λ b. IfSome (cond b (Some holding) (lookup (is_at (slice_cmp nat_cmp other)) old)) IsHolding) [
+      elim (is_eq (text_cmp commodity other)) as (λ b. IfSome (cond b (Some holding) (lookup (is_at (text_cmp other)) old)) IsHolding) [
         | true ↦ is
         | false ↦ are.each other
       ]);
 }
 
 pub found_forgotten : (old new : List (List ℕ × Holding)) (commodity : List ℕ) (holding : Holding)
-    → Some holding ≡ lookup (is_at (slice_cmp nat_cmp commodity)) old → ((key : Option LotKey) → held_at holding key ≡ None)
-    → Changes old new commodity None → (place : Place) → found new place ≡ found old place
-found_forgotten old new commodity holding at nothing changes place =
-    let find = option_and_then (λ (h : Holding). held_at h place.1) in
-    let o = slice_cmp nat_cmp commodity place.0 in
-    ap find (changes place.0) ∙ elim (is_eq o) as (λ b. is_eq o ≡ b → find (cond b None (lookup (is_at (slice_cmp nat_cmp place.0)) old)) ≡ found old place) [
-      | true ↦ λ e. sym (ap (λ c. find (lookup (is_at (slice_cmp nat_cmp c)) old)) (sym (exact_bytes commodity place.0 (is_equal o e))) ∙ ap find (sym at) ∙ nothing place.1)
+    → Some holding ≡ lookup (is_at (text_cmp commodity)) old → ((key : Option LotKey) → held_at holding key ≡ None)
+    → Changes old new commodity None → (position : Position) → found new position ≡ found old position
+found_forgotten old new commodity holding at nothing changes position =
+    let find = option_and_then (λ (h : Holding). held_at h position.1) in
+    let o = text_cmp commodity position.0 in
+    ap find (changes position.0) ∙ elim (is_eq o) as (λ b. is_eq o ≡ b → find (cond b None (lookup (is_at (text_cmp position.0)) old)) ≡ found old position) [
+      | true ↦ λ e. sym (ap (λ c. find (lookup (is_at (text_cmp c)) old)) (sym (exact_bytes commodity position.0 (is_equal o e))) ∙ ap find (sym at) ∙ nothing position.1)
       | false ↦ λ e. refl
     ] refl
 
 pub found_changed : (old new : List (List ℕ × Holding)) (commodity : List ℕ) (key : Option LotKey) (units : ℤ) (holding : Holding) (at : Option Holding)
-    → at ≡ lookup (is_at (slice_cmp nat_cmp commodity)) old
+    → at ≡ lookup (is_at (text_cmp commodity)) old
     → ((other : Option LotKey) → held_at holding other ≡ cond (is_eq (option_cmp lot_cmp key other)) (non_zero units) (option_and_then (λ (h : Holding). held_at h other) at))
-    → Changes old new commodity (Some holding) → (place : Place) → found new place ≡ cond (is_eq (place_cmp (commodity, key) place)) (non_zero units) (found old place)
-found_changed old new commodity key units holding at is sets changes place =
-    let find = option_and_then (λ (h : Holding). held_at h place.1) in
-    let o = slice_cmp nat_cmp commodity place.0 in
-    let k = option_cmp lot_cmp key place.1 in
-    ap find (changes place.0)
-    ∙ elim (is_eq o) as (λ b. is_eq o ≡ b → find (cond b (Some holding) (lookup (is_at (slice_cmp nat_cmp place.0)) old)) ≡ cond (b && is_eq k) (non_zero units) (found old place)) [
-      | true ↦ λ e. sets place.1 ∙ ap (cond (is_eq k) (non_zero units)) (ap find is ∙ ap (λ c. find (lookup (is_at (slice_cmp nat_cmp c)) old)) (exact_bytes commodity place.0 (is_equal o e)))
+    → Changes old new commodity (Some holding) → (position : Position) → found new position ≡ cond (is_eq (position_cmp (commodity, key) position)) (non_zero units) (found old position)
+found_changed old new commodity key units holding at is sets changes position =
+    let find = option_and_then (λ (h : Holding). held_at h position.1) in
+    let o = text_cmp commodity position.0 in
+    let k = option_cmp lot_cmp key position.1 in
+    ap find (changes position.0)
+    ∙ elim (is_eq o) as (λ b. is_eq o ≡ b → find (cond b (Some holding) (lookup (is_at (text_cmp position.0)) old)) ≡ cond (b && is_eq k) (non_zero units) (found old position)) [
+      | true ↦ λ e. sets position.1 ∙ ap (cond (is_eq k) (non_zero units)) (ap find is ∙ ap (λ c. find (lookup (is_at (text_cmp c)) old)) (exact_bytes commodity position.0 (is_equal o e)))
       | false ↦ λ e. refl
     ] refl
-    ∙ ap (λ b. cond b (non_zero units) (found old place)) (sym (eq_then o k))
+    ∙ ap (λ b. cond b (non_zero units) (found old position)) (sym (eq_then o k))
 
 pub found_alike : (old new : List (List ℕ × Holding)) (commodity : List ℕ) (holding : Holding) (at : Option Holding)
-    → at ≡ lookup (is_at (slice_cmp nat_cmp commodity)) old
+    → at ≡ lookup (is_at (text_cmp commodity)) old
     → ((other : Option LotKey) → held_at holding other ≡ option_and_then (λ (h : Holding). held_at h other) at)
     → Changes old new commodity (Some holding) → AreAlike old new
-found_alike old new commodity holding at is same changes place =
-    let find = option_and_then (λ (h : Holding). held_at h place.1) in
-    let o = slice_cmp nat_cmp commodity place.0 in
-    ap find (changes place.0)
-    ∙ elim (is_eq o) as (λ b. is_eq o ≡ b → find (cond b (Some holding) (lookup (is_at (slice_cmp nat_cmp place.0)) old)) ≡ found old place) [
-      | true ↦ λ e. same place.1 ∙ ap find is ∙ ap (λ c. find (lookup (is_at (slice_cmp nat_cmp c)) old)) (exact_bytes commodity place.0 (is_equal o e))
+found_alike old new commodity holding at is same changes position =
+    let find = option_and_then (λ (h : Holding). held_at h position.1) in
+    let o = text_cmp commodity position.0 in
+    ap find (changes position.0)
+    ∙ elim (is_eq o) as (λ b. is_eq o ≡ b → find (cond b (Some holding) (lookup (is_at (text_cmp position.0)) old)) ≡ found old position) [
+      | true ↦ λ e. same position.1 ∙ ap find is ∙ ap (λ c. find (lookup (is_at (text_cmp c)) old)) (exact_bytes commodity position.0 (is_equal o e))
       | false ↦ λ e. refl
     ] refl
 
 pub set_nothing : (old new : List (List ℕ × Holding)) (commodity : List ℕ) (key : Option LotKey) (units : ℤ)
-    → None ≡ lookup (is_at (slice_cmp nat_cmp commodity)) old → new ≡ old → non_zero units ≡ None → IsSet old new (commodity, key) units
-set_nothing old new commodity key units at same zero place =
-    let find = option_and_then (λ (h : Holding). held_at h place.1) in
-    let o = slice_cmp nat_cmp commodity place.0 in
-    let k = option_cmp lot_cmp key place.1 in
-    ap (λ es. found es place) same
-    ∙ elim (is_eq o) as (λ b. is_eq o ≡ b → found old place ≡ cond (b && is_eq k) (non_zero units) (found old place)) [
+    → None ≡ lookup (is_at (text_cmp commodity)) old → new ≡ old → non_zero units ≡ None → ChangesPosition old new (commodity, key) units
+set_nothing old new commodity key units at same zero position =
+    let find = option_and_then (λ (h : Holding). held_at h position.1) in
+    let o = text_cmp commodity position.0 in
+    let k = option_cmp lot_cmp key position.1 in
+    ap (λ es. found es position) same
+    ∙ elim (is_eq o) as (λ b. is_eq o ≡ b → found old position ≡ cond (b && is_eq k) (non_zero units) (found old position)) [
       | true ↦ λ e.
-          let none : found old place ≡ None = ap (λ c. find (lookup (is_at (slice_cmp nat_cmp c)) old)) (sym (exact_bytes commodity place.0 (is_equal o e))) ∙ ap find (sym at) in
-          none ∙ elim (is_eq k) as (λ b. None ≡ cond b (non_zero units) (found old place)) [ true ↦ sym zero | false ↦ sym none ]
+          let none : found old position ≡ None = ap (λ c. find (lookup (is_at (text_cmp c)) old)) (sym (exact_bytes commodity position.0 (is_equal o e))) ∙ ap find (sym at) in
+          none ∙ elim (is_eq k) as (λ b. None ≡ cond b (non_zero units) (found old position)) [ true ↦ sym zero | false ↦ sym none ]
       | false ↦ λ e. refl
     ] refl
-    ∙ ap (λ b. cond b (non_zero units) (found old place)) (sym (eq_then o k))
+    ∙ ap (λ b. cond b (non_zero units) (found old position)) (sym (eq_then o k))
 
 pub map_alike : (old new : List (List ℕ × Holding)) (held : Held) → AreHoldings old → AreHoldings new → from_entries (rows old) ≡ held
     → AreAlike old new → from_entries (rows new) ≡ held
 map_alike old new held are still view alike =
-    same_map places_total exact_places (from_entries (rows new)) held (λ place.
-    get-rows new place still.sorted ∙ alike place ∙ sym (get-rows old place are.sorted) ∙ ap (λ m. get m place) view)
+    same_map positions_total exact_positions (from_entries (rows new)) held (λ position.
+    get-rows new position still.sorted ∙ alike position ∙ sym (get-rows old position are.sorted) ∙ ap (λ m. get m position) view)
 
-pub map_set : (old new : List (List ℕ × Holding)) (held : Held) (place : Place) (units : ℤ) → AreHoldings old → AreHoldings new → from_entries (rows old) ≡ held
-    → IsSet old new place units → from_entries (rows new) ≡ with_units held place units
-map_set old new held place units are still view is =
-    same_map places_total exact_places (from_entries (rows new)) (with_units held place units) (λ other.
-    let same : eq_by_cmp place_cmp place other ≡ eq_by_cmp place_cmp other place = (eq_by_cmp_equiv places_total).symm place other in
+pub map_set : (old new : List (List ℕ × Holding)) (held : Held) (position : Position) (units : ℤ) → AreHoldings old → AreHoldings new → from_entries (rows old) ≡ held
+    → ChangesPosition old new position units → from_entries (rows new) ≡ with_units held position units
+map_set old new held position units are still view is =
+    same_map positions_total exact_positions (from_entries (rows new)) (with_units held position units) (λ other.
+    let same : eq_by_cmp position_cmp position other ≡ eq_by_cmp position_cmp other position = (eq_by_cmp_equiv positions_total).symm position other in
     let before : found old other ≡ get held other = sym (get-rows old other are.sorted) ∙ ap (λ m. get m other) view in
     get-rows new other still.sorted ∙ is other
     ∙ ap (λ b. cond b (non_zero units) (found old other)) same
-    ∙ ap (cond (eq_by_cmp place_cmp other place) (non_zero units)) before
-    ∙ elim (int_eq units (pos 0)) as (λ b. cond (eq_by_cmp place_cmp other place) (cond b None (Some units)) (get held other)
-    ≡ get (cond b (remove held place) (insert held place units)) other) [
-      | true ↦ sym (get-remove places_total held place other)
-      | false ↦ sym (get-insert places_total held place units other)
+    ∙ ap (cond (eq_by_cmp position_cmp other position) (non_zero units)) before
+    ∙ elim (int_eq units (pos 0)) as (λ b. cond (eq_by_cmp position_cmp other position) (cond b None (Some units)) (get held other)
+    ≡ get (cond b (remove held position) (insert held position units)) other) [
+      | true ↦ sym (get-remove positions_total held position other)
+      | false ↦ sym (get-insert positions_total held position units other)
     ])
+
+-- what is new among the holdings is new in the map, and the units that it is to hold are those that are added
+pub stores_more : (holdings : List (List ℕ × Holding)) (held : Held) (commodity : List ℕ) (key : Option LotKey) (units sum : ℤ) → AreHoldings holdings
+    → from_entries (rows holdings) ≡ held → NeedsPosition holdings (commodity, key) → sum ≢ pos 0 → sum ≡ units_at held (commodity, key) +ℤ units
+    → StoresMore held (commodity, key) units
+stores_more holdings held commodity None units sum are view needs some is =
+    let nothing : (other : Option LotKey) → get held (commodity, other) ≡ None = λ other. found_seen holdings held commodity other None are view (sym needs) in
+    (added_some (get held (commodity, None)) units sum (nothing None) some is, nothing)
+stores_more holdings held commodity (Some key) units sum are view needs some is =
+    let none : get held (commodity, Some key) ≡ None = ap (λ m. get m (commodity, Some key)) (sym view) ∙ get-rows holdings (commodity, Some key) are.sorted ∙ needs in
+    (added_some (get held (commodity, Some key)) units sum none some is, none)
 
 -- ---- no holding is kept of which nothing is left
 
@@ -141,21 +166,21 @@ map_set old new held place units are still view is =
 pub none_empty : (old new : List (List ℕ × Holding)) (commodity : List ℕ) (at : Option Holding) → NoOtherIsEmpty commodity old
     → Changes old new commodity at → IfSome at HoldsSomething → NoneIsEmpty new
 none_empty old new commodity at kept changes holds other =
-    let o = slice_cmp nat_cmp commodity other in
+    let o = text_cmp commodity other in
     subst (λ o. IfSome o HoldsSomething) (sym (changes other)) (
-    elim (is_eq o) as (λ b. is_eq o ≡ b → IfSome (cond b at (lookup (is_at (slice_cmp nat_cmp other)) old)) HoldsSomething) [
+    elim (is_eq o) as (λ b. is_eq o ≡ b → IfSome (cond b at (lookup (is_at (text_cmp other)) old)) HoldsSomething) [
       | true ↦ λ e. holds
       | false ↦ λ e. kept other e
     ] refl)
 
 -- the same where nothing changes, and the commodity's own holding holds something
 pub none_empty_still : (holdings : List (List ℕ × Holding)) (commodity : List ℕ) → NoOtherIsEmpty commodity holdings
-    → IfSome (lookup (is_at (slice_cmp nat_cmp commodity)) holdings) HoldsSomething → NoneIsEmpty holdings
+    → IfSome (lookup (is_at (text_cmp commodity)) holdings) HoldsSomething → NoneIsEmpty holdings
 none_empty_still holdings commodity kept holds =
-    let at = λ (c : List ℕ). lookup (is_at (slice_cmp nat_cmp c)) holdings in
+    let at = λ (c : List ℕ). lookup (is_at (text_cmp c)) holdings in
     none_empty holdings holdings commodity (at commodity) kept (λ other.
-    elim (is_eq (slice_cmp nat_cmp commodity other)) as (λ b. is_eq (slice_cmp nat_cmp commodity other) ≡ b → at other ≡ cond b (at commodity) (at other)) [
-      | true ↦ λ e. ap at (sym (exact_bytes commodity other (is_equal (slice_cmp nat_cmp commodity other) e)))
+    elim (is_eq (text_cmp commodity other)) as (λ b. is_eq (text_cmp commodity other) ≡ b → at other ≡ cond b (at commodity) (at other)) [
+      | true ↦ λ e. ap at (sym (exact_bytes commodity other (is_equal (text_cmp commodity other) e)))
       | false ↦ λ e. refl
     ] refl) holds
 
@@ -164,7 +189,7 @@ pub something_set : (holding : Holding) (key : Option LotKey) (units : ℤ) (bef
     → held_at holding key ≡ cond (is_eq (option_cmp lot_cmp key key)) (non_zero units) before → int_eq units (pos 0) ≡ false → HoldsSomething holding
 something_set holding key units before sets e = (
   key,
-  ap is_some (sets ∙ ap (λ o. cond (is_eq o) (non_zero units) before) (tied_itself positions_total key) ∙ ap (λ b. cond b None (Some units)) e),
+  ap is_some (sets ∙ ap (λ o. cond (is_eq o) (non_zero units) before) (tied_itself lot_options_total key) ∙ ap (λ b. cond b None (Some units)) e),
 )
 
 -- so is a lot

@@ -1,14 +1,10 @@
 -- Which lots a cost specification fits.
 use Rattle.std.specs.Prelude.{ℕ, ◌==◌, Bool, true, ◌&&◌, ◌||◌, List, Option, None, Some, is_none}
-use Rattle.std.specs.Cmp.Lexicographic.{pointwise}
 use Rattle.std.specs.Option.{option_eq}
 use Rattle.std.specs.Ordering.{int_eq}
+use Rattle.lot_base.specs.Text.{same_text}
 use Rattle.lot_inv.specs.declared.cost_spec.CostSpec.{CostSpec}
 use Rattle.lot_inv.specs.declared.lot_key.LotKey.{LotKey}
-
--- whether two texts are one
-abbrev pub same_text : List ℕ → List ℕ → Bool
-same_text a b = pointwise ◌==◌ a b
 
 -- whether a part is the one that is given, where one is given
 abbrev pub agrees : {X : Type 0} → (X → X → Bool) → Option X → X → Bool

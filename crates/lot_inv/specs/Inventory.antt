@@ -1,61 +1,67 @@
--- What an inventory holds: a finite map from places to units that aren't zero (docs/RULES.md, Inventory).
-use Rattle.std.specs.Prelude.{◌≡◌, ℕ, Bool, ◌&&◌, ◌||◌, if◌then◌else◌, List, [], ◌∷◌, filter, Option, None, Some, ℤ, pos, ◌+ℤ◌, int_lt}
+-- What an inventory holds: a finite map from positions to units that aren't zero (docs/RULES.md, Inventory).
+use Rattle.std.specs.Prelude.{◌≡◌, ◌≢◌, ℕ, Bool, ◌&&◌, ◌||◌, if◌then◌else◌, List, [], ◌∷◌, filter, Option, None, Some, ℤ, pos, ◌+ℤ◌, int_lt}
 use Rattle.std.specs.declared.cmp.Ordering.{Ordering}
 use Rattle.std.specs.BTreeMap.{is_at}
-use Rattle.std.specs.Cmp.Lexicographic.{slice_cmp}
 use Rattle.std.specs.Coded.{Coded, coded×, coded_option}
 use Rattle.std.specs.FinMap as finite
 use Rattle.std.specs.List.{list_any}
 use Rattle.std.specs.List.Sorted.{IsStrictlySortedBy}
 use Rattle.std.specs.Map.{keys_of, lookup, values_of}
 use Rattle.std.specs.Option.{option_cmp, unwrap_or}
-use Rattle.std.specs.Ordering.{nat_cmp, int_eq, is_eq, ordering_then}
+use Rattle.std.specs.Ordering.{int_eq, is_eq, ordering_then}
+use Rattle.lot_num.specs.Sum.{sum_of}
+use Rattle.lot_base.specs.Text.{coded_text, text_cmp}
 use Rattle.lot_inv.specs.declared.cost_spec.CostSpec.{CostSpec}
 use Rattle.lot_inv.specs.declared.lot_key.LotKey.{LotKey}
 use Rattle.lot_inv.specs.CostSpec.{fits}
-use Rattle.lot_inv.specs.LotKey.{lot_cmp, coded_text, coded_key}
+use Rattle.lot_inv.specs.LotKey.{lot_cmp, coded_key}
 
--- ---- places and what they hold
+-- ---- positions and what they hold
 
 -- where units are held: a commodity, and the key of a lot, or none for the plain units
-abbrev pub Place : Type 0
-Place = List ℕ × Option LotKey
+abbrev pub Position : Type 0
+Position = List ℕ × Option LotKey
 
--- the order of places: by commodity, the plain one first, then the lots in the order of their keys
-abbrev pub place_cmp : Place → Place → Ordering
-place_cmp p q = ordering_then (slice_cmp nat_cmp p.0 q.0) (option_cmp lot_cmp p.1 q.1)
+-- the order of positions: by commodity, the plain one first, then the lots in the order of their keys
+abbrev pub position_cmp : Position → Position → Ordering
+position_cmp p q = ordering_then (text_cmp p.0 q.0) (option_cmp lot_cmp p.1 q.1)
 
-abbrev pub coded_place : Coded Place
-coded_place = coded× coded_text (coded_option coded_key)
+abbrev pub coded_position : Coded Position
+coded_position = coded× coded_text (coded_option coded_key)
 
--- an inventory: the units of each place that holds some
+-- an inventory: the units of each position that holds some
 abbrev pub Held : Type 0
-Held = finite.FinMap place_cmp ℤ
+Held = finite.FinMap position_cmp ℤ
 
--- the units of a place, zero where it holds none
-abbrev pub units_at : Held → Place → ℤ
-units_at held place = unwrap_or (finite.get held place) (pos 0)
+-- the units of a position, zero where it holds none
+abbrev pub units_at : Held → Position → ℤ
+units_at held position = unwrap_or (finite.get held position) (pos 0)
 
--- what a place has of so many units: nothing where they are zero
+-- what a position has of so many units: nothing where they are zero
 abbrev pub non_zero : ℤ → Option ℤ
 non_zero units = if int_eq units (pos 0) then None else Some units
 
--- the inventory with so many units at a place, which leaves it where they are zero
-abbrev pub with_units : Held → Place → ℤ → Held
-with_units held place units = if int_eq units (pos 0) then finite.remove held place else finite.insert held place units
+-- the inventory with so many units at a position, which leaves it where they are zero
+abbrev pub with_units : Held → Position → ℤ → Held
+with_units held position units = if int_eq units (pos 0) then finite.remove held position else finite.insert held position units
 
--- the inventory with so many more units at a place
-abbrev pub added : Held → Place → ℤ → Held
-added held place units = with_units held place (units_at held place +ℤ units)
+-- the inventory with so many more units at a position
+abbrev pub added : Held → Position → ℤ → Held
+added held position units = with_units held position (units_at held position +ℤ units)
+
+-- adding units at a position stores a new lot, or the first position of its commodity
+abbrev pub StoresMore : Held → Position → ℤ → Type 0
+StoresMore held (commodity, None) units = (units ≢ pos 0) × ((key : Option LotKey) → finite.get held (commodity, key) ≡ None)
+StoresMore held (commodity, Some key) units = (units ≢ pos 0) × (finite.get held (commodity, Some key) ≡ None)
 
 -- ---- the lots of one commodity
 
 -- a row's lot, where the row is of a lot of the commodity
-abbrev pub lots_in : List ℕ → List (Place × ℤ) → List (LotKey × ℤ)
+abbrev pub lots_in : List ℕ → List (Position × ℤ) → List (LotKey × ℤ)
 lots_in commodity [] = []
 lots_in commodity (((other, None), units) ∷ rows) = lots_in commodity rows
 lots_in commodity (((other, Some key), units) ∷ rows) =
-    if is_eq (slice_cmp nat_cmp commodity other) then (key, units) ∷ lots_in commodity rows else lots_in commodity rows
+    if is_eq (text_cmp commodity other) then (key, units) ∷ lots_in commodity rows else lots_in commodity rows
 
 -- the lots of a commodity with their units, in the order of their keys
 unfoldable pub lots_of : Held → List ℕ → List (LotKey × ℤ)
@@ -72,11 +78,6 @@ other_sign a b = (int_lt a (pos 0) && int_lt (pos 0) b) || (int_lt (pos 0) a && 
 -- whether some lot of the commodity has the other sign
 abbrev pub reduces : Held → List ℕ → ℤ → Bool
 reduces held commodity units = list_any (λ lot. other_sign lot units) (values_of (lots_of held commodity))
-
--- the sum of whole numbers
-abbrev pub sum_of : List ℤ → ℤ
-sum_of [] = pos 0
-sum_of (z ∷ zs) = z +ℤ sum_of zs
 
 -- the units of all lots of the commodity
 abbrev pub sum : Held → List ℕ → ℤ

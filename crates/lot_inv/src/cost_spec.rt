@@ -6,7 +6,7 @@ use lot_base::{Commodity, Day, Label};
 use lot_num::Rate;
 use std::alloc::AllocError;
 
-/// What a posting says of the lots that it means: any of the parts of a lot key.
+/// What a posting says of the lots that it takes or opens: any of the parts of a lot key.
 #[derive(Debug, Drop)]
 pub struct CostSpec {
     pub number: Option<Rate>,
@@ -16,7 +16,7 @@ pub struct CostSpec {
 }
 
 impl CostSpec {
-    /// The same specification once more. The error is want of memory.
+    /// Returns a copy of the specification. The only error is out of memory.
     pub fn copy(&self) -> Result<CostSpec, AllocError>
         ensures { IfOk result (λ spec. spec ≡ self.now) }
     {
@@ -36,7 +36,7 @@ impl CostSpec {
         })
     }
 
-    /// Whether each part that it gives equals the key's.
+    /// Returns whether each part that it gives equals the key's.
     pub fn fits(&self, key: &LotKey) -> bool
         ensures { result ≡ fits self.now key.now }
     {
@@ -47,7 +47,7 @@ impl CostSpec {
     }
 }
 
-/// Whether the part is the given one, where one is given.
+/// Returns whether the part is the given one, where one is given.
 fn agrees<T: PartialEq>(given: &Option<T>, part: &T) -> bool
     ensures { result ≡ agrees T.eq given.now part.now }
 {

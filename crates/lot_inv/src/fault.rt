@@ -1,13 +1,13 @@
 use std::alloc::AllocError;
 use thiserror::Error;
 
-/// Why units weren't added to an inventory.
+/// Why units aren't added to an inventory.
 #[derive(Clone, Copy, Debug, PartialEq, Eq, Error)]
 pub enum InventoryFault {
-    /// The sum leaves the limits of units.
+    /// The sum is out of range.
     #[error("the sum is out of range")]
     Range,
-    /// There was no memory for a further place.
+    /// Out of memory for a new lot or a new commodity.
     #[error("out of memory")]
     Memory,
 }

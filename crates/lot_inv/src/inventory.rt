@@ -1,4 +1,4 @@
-ghost use Rattle.std.specs.Prelude.{◌≡◌, ℕ, List, ℤ, pos, ◌+ℤ◌, ◌*ℤ◌, ◌+◌, ◌*◌, ◌^◌, ◌≤◌, length, option_copied, unsigned_abs, SomeIff, Option, None, cond, filter, ◌↔◌, IsTrue, IsFalse, IsOk, IsErrOf, IfOk, OnOk, OnErr};
+ghost use Rattle.std.specs.Prelude.{◌≡◌, ◌≢◌, ℕ, List, [], ℤ, pos, ◌+ℤ◌, ◌*ℤ◌, ◌+◌, ◌*◌, ◌^◌, ◌≤◌, length, option_copied, unsigned_abs, SomeIff, Option, None, cond, filter, ◌↔◌, IsTrue, IsFalse, IsOk, IsErrOf, IfOk, OnOk, OnErr};
 ghost use Rattle.std.specs.FinMap as finite;
 ghost use Rattle.std.specs.List.{list_any};
 ghost use Rattle.std.specs.List.Sorted.{IsStrictlySortedBy};
@@ -6,13 +6,14 @@ ghost use Rattle.std.specs.Map.{keys_of, values_of};
 ghost use Rattle.std.specs.BTreeMap.{IsOrdered, get};
 ghost use Rattle.std.specs.Option.{option_cmp, unwrap_or};
 ghost use Rattle.std.specs.Ordering.{is_eq};
-ghost use Rattle.lot_num.specs.Amount.{IsUnits, IsWide, one};
-ghost use Rattle.lot_inv.specs.Inventory.{added, lots_of, matching, non_zero, other_sign, reduces, sum, sum_of, units_at};
+ghost use Rattle.lot_num.specs.Amount.{IsUnits, IsWide, one, units_limit};
+ghost use Rattle.lot_num.specs.Sum.{sum_of};
+ghost use Rattle.lot_inv.specs.Inventory.{StoresMore, added, lots_of, matching, non_zero, other_sign, reduces, sum, units_at};
 ghost use Rattle.lot_inv.specs.CostSpec.{fits};
 ghost use Rattle.lot_inv.specs.LotKey.{lot_cmp};
-ghost use Rattle.lot_inv.specs.Holding.{AreAlike, AreHoldings, IsSet, NoneIsEmpty, NoOtherIsEmpty};
+ghost use Rattle.lot_inv.specs.Holding.{AreAlike, AreHoldings, ChangesPosition, NeedsPosition, NoneIsEmpty, NoOtherIsEmpty};
 ghost use Rattle.lot_inv.specs.declared.lot_key.LotKey.{LotKey};
-ghost use Rattle.lot_inv.specs.declared.fault.InventoryFault.TheVariants.{Range};
+ghost use Rattle.lot_inv.specs.declared.fault.InventoryFault.TheVariants.{Memory, Range};
 
 use crate::cost_spec::CostSpec;
 use crate::fault::InventoryFault;
@@ -25,7 +26,7 @@ use std::marker::Model;
 
 /// What is held of each commodity, plain and lot by lot.
 ///
-/// A contract sees an inventory as a finite map from places (a commodity, and the key of a lot or none) to units that
+/// A contract sees an inventory as a finite map from positions (a commodity, and the key of a lot or none) to units that
 /// aren't zero.
 #[derive(Drop)]
 pub struct Inventory {
@@ -44,11 +45,11 @@ impl Model for Inventory {
     ghost use Rattle.std.specs.Coded.{coded_ℤ};
     ghost use Rattle.std.specs.FinMap as finite;
     ghost use Rattle.lot_inv.specs.Holding.{AreHoldings, NoneIsEmpty, rows};
-    ghost use Rattle.lot_inv.specs.Inventory.{Held, coded_place};
+    ghost use Rattle.lot_inv.specs.Inventory.{Held, coded_position};
 
     ghost Value = { Held };
 
-    ghost coded = { finite.code coded_place coded_ℤ };
+    ghost coded = { finite.code coded_position coded_ℤ };
 
     ghost view = { λ i. finite.from_entries (rows i.held.entries) };
 
@@ -56,7 +57,7 @@ impl Model for Inventory {
 }
 
 impl Inventory {
-    /// An inventory that holds nothing.
+    /// Returns an inventory that holds nothing.
     pub fn new(alloc: Global) -> Inventory
         ensures { result ≡ finite.empty }
     {
@@ -66,7 +67,8 @@ impl Inventory {
         }
     }
 
-    /// The units of a commodity in the lot of that key, or its plain units. Zero where none are held.
+    /// Returns the units of a commodity in the lot of that key, or without a key its plain units. They are zero where
+    /// none are held.
     pub fn units(&self, commodity: &Commodity, key: Option<&LotKey>) -> Units
         ensures value { result ≡ units_at self.now (commodity.now, option_copied key.entry) }
         ensures held { finite.get self.now (commodity.now, option_copied key.entry) ≡ non_zero result }
@@ -77,7 +79,7 @@ impl Inventory {
         }
     }
 
-    /// How many lots of a commodity are held.
+    /// Returns how many lots of a commodity are held.
     pub fn lots(&self, commodity: &Commodity) -> u64
         ensures { result ≡ length (lots_of self.now commodity.now) }
     {
@@ -87,7 +89,7 @@ impl Inventory {
         }
     }
 
-    /// Whether some lot of the commodity has the other sign than the units. Plain units aren't looked at.
+    /// Returns whether some lot of the commodity has the other sign than the units. Plain units don't count.
     pub fn reduces(&self, commodity: &Commodity, units: Units) -> bool
         ensures { result ≡ reduces self.now commodity.now units }
     {
@@ -97,14 +99,14 @@ impl Inventory {
         }
     }
 
-    /// The units of all lots of a commodity. None where they are outside a wide number.
+    /// Returns the sum of the units of all lots of a commodity, at scale 16, or `None` where it is out of range.
     pub fn sum(&self, commodity: &Commodity) -> Option<Wide>
         ensures { SomeIff result (IsWide (sum self.now commodity.now *ℤ pos one)) (sum self.now commodity.now *ℤ pos one) }
     {
         wide(self.total(commodity))
     }
 
-    /// The sum of the mantissas of all lots of a commodity.
+    /// Returns the sum of the mantissas of all lots of a commodity, at scale 8.
     fn total(&self, commodity: &Commodity) -> i128
         ensures { result ≡ sum self.now commodity.now }
     {
@@ -114,7 +116,8 @@ impl Inventory {
         }
     }
 
-    /// The lots of a commodity that fit a specification, in the order of their keys. The error is want of memory.
+    /// Returns the lots of a commodity that a specification fits, in the order of their keys. The only error is out of
+    /// memory, and comes only where some lot fits.
     pub fn matching(
         &self,
         commodity: &Commodity,
@@ -122,6 +125,7 @@ impl Inventory {
     ) -> Result<Vec<(LotKey, Units)>, AllocError>
         ensures all { IfOk result (λ lots. lots.items ≡ matching self.now commodity.now spec.now) }
         ensures distinct { IfOk result (λ lots. IsStrictlySortedBy lot_cmp (keys_of lots.items)) }
+        ensures memory { OnErr result (matching self.now commodity.now spec.now ≢ []) }
     {
         match self.held.get(commodity) {
             Some(holding) => holding.matching(self.alloc, spec),
@@ -129,9 +133,11 @@ impl Inventory {
         }
     }
 
-    /// Adds units to the lot of that key, or to the plain units. What becomes zero is held no more.
+    /// Adds units to the lot of that key, or without a key to the plain units. What becomes zero is held no more.
     ///
-    /// `Range` exactly where the sum isn't units, and `Memory` where there is no memory for a further place.
+    /// The error is `Range` exactly where the sum is out of range. It is `Memory` only where units that aren't zero are
+    /// added to a lot that isn't held, or to plain units of a commodity of which nothing is held. On an error nothing
+    /// changes.
     pub fn add(
         &mut self,
         commodity: &Commodity,
@@ -141,6 +147,7 @@ impl Inventory {
         ensures ok { OnOk result (self.new ≡ added self.old (commodity.now, option_copied key.entry) units) }
         ensures good { IsOk result → IsUnits (units_at self.old (commodity.now, option_copied key.entry) +ℤ units) }
         ensures range { IsErrOf result Range ↔ (IsUnits (units_at self.old (commodity.now, option_copied key.entry) +ℤ units) → ⊥) }
+        ensures memory { IsErrOf result Memory → StoresMore self.old (commodity.now, option_copied key.entry) units }
         ensures err { OnErr result (self.new ≡ self.old) }
     {
         let sum = match self.units(commodity, key).checked_add(units) {
@@ -153,9 +160,9 @@ impl Inventory {
 }
 
 impl Holding {
-    ghost use Rattle.lot_inv.specs.Holding.{HoldsSomething, IsHolding, held_at};
+    ghost use Rattle.lot_inv.specs.Holding.{HoldsSomething, IsHolding, NeedsLot, held_at};
 
-    /// The units in the lot of that key, or the plain ones. Zero where none are held.
+    /// Returns the units in the lot of that key, or the plain ones. They are zero where none are held.
     fn units(&self, key: Option<&LotKey>) -> Units
         ensures { result ≡ unwrap_or (held_at self.now (option_copied key.entry)) (pos 0) }
     {
@@ -165,7 +172,7 @@ impl Holding {
         }
     }
 
-    /// Whether some lot has the other sign than the units.
+    /// Returns whether some lot has the other sign than the units.
     fn has_other_sign(&self, units: Units) -> bool
         ensures { result ≡ list_any (λ held. other_sign held units) (values_of self.now.lots.entries) }
     {
@@ -177,7 +184,7 @@ impl Holding {
         false
     }
 
-    /// A holding that holds nothing.
+    /// Returns a holding that holds nothing.
     fn new(alloc: Global) -> Holding
         ensures holding { IsHolding result }
         ensures nothing { (key : Option LotKey) → held_at result key ≡ None }
@@ -188,7 +195,7 @@ impl Holding {
         }
     }
 
-    /// Whether it holds nothing.
+    /// Returns whether it holds nothing.
     fn is_empty(&self) -> bool
         ensures nothing { IsTrue result → (key : Option LotKey) → held_at self.now key ≡ None }
         ensures something { IsFalse result → HoldsSomething self.now }
@@ -196,13 +203,16 @@ impl Holding {
         self.plain == Units::ZERO && self.lots.is_empty()
     }
 
-    /// Sets the units in the lot of that key, or the plain ones. A lot without units is held no more.
+    /// Sets the units in the lot of that key, or the plain ones. A lot of zero units is held no more. Only a lot that isn't
+    /// held yet needs memory.
     fn set(&mut self, key: Option<&LotKey>, units: Units) -> Result<(), AllocError>
         requires { IsHolding self.old }
         ensures holding { IsHolding self.new }
         ensures ok { OnOk result ((other : Option LotKey) → held_at self.new other
             ≡ cond (is_eq (option_cmp lot_cmp (option_copied key.entry) other)) (non_zero units) (held_at self.old other)) }
         ensures err { OnErr result ((other : Option LotKey) → held_at self.new other ≡ held_at self.old other) }
+        ensures memory { OnErr result (NeedsLot self.old (option_copied key.entry)) }
+        ensures some { OnErr result (units ≢ pos 0) }
     {
         match key {
             Some(key) => set_lot(&mut self.lots, key, units)?,
@@ -211,9 +221,10 @@ impl Holding {
         Ok(())
     }
 
-    /// The lots that fit a specification, in the order of their keys.
+    /// Returns the lots that a specification fits, in the order of their keys.
     fn matching(&self, alloc: Global, spec: &CostSpec) -> Result<Vec<(LotKey, Units)>, AllocError>
-        ensures { IfOk result (λ lots. lots.items ≡ filter (λ (lot : LotKey × ℤ). fits spec.now lot.0) self.now.lots.entries) }
+        ensures all { IfOk result (λ lots. lots.items ≡ filter (λ (lot : LotKey × ℤ). fits spec.now lot.0) self.now.lots.entries) }
+        ensures memory { OnErr result (filter (λ (lot : LotKey × ℤ). fits spec.now lot.0) self.now.lots.entries ≢ []) }
     {
         let mut fitting = Vec::new(alloc);
         for (key, units) in &self.lots {
@@ -224,7 +235,7 @@ impl Holding {
         Ok(fitting)
     }
 
-    /// The sum of the mantissas of all lots.
+    /// Returns the sum of the mantissas of all lots, at scale 8.
     fn total(&self) -> i128
         ensures { result ≡ sum_of (values_of self.now.lots.entries) }
     {
@@ -236,7 +247,7 @@ impl Holding {
     }
 }
 
-/// Sets the units at a place of an inventory.
+/// Sets the units at a position. Only a lot that isn't held yet, or a commodity of which nothing is held, needs memory.
 fn set(
     held: &mut BTreeMap<Commodity, Holding>,
     alloc: Global,
@@ -248,7 +259,9 @@ fn set(
     requires none_empty { NoneIsEmpty held.old.entries }
     ensures holdings { AreHoldings held.new.entries }
     ensures none_empty { NoneIsEmpty held.new.entries }
-    ensures ok { OnOk result (IsSet held.old.entries held.new.entries (commodity.now, option_copied key.entry) units) }
+    ensures ok { OnOk result (ChangesPosition held.old.entries held.new.entries (commodity.now, option_copied key.entry) units) }
+    ensures memory { OnErr result (NeedsPosition held.old.entries (commodity.now, option_copied key.entry)) }
+    ensures some { OnErr result (units ≢ pos 0) }
     ensures err { OnErr result (AreAlike held.old.entries held.new.entries) }
 {
     match held.get_mut(commodity) {
@@ -267,7 +280,7 @@ fn set(
     Ok(())
 }
 
-/// Forgets a commodity of which nothing is held any more.
+/// Removes a commodity of which nothing is held any more.
 fn forget_if_empty(held: &mut BTreeMap<Commodity, Holding>, commodity: &Commodity)
     requires holdings { AreHoldings held.old.entries }
     requires no_other_empty { NoOtherIsEmpty commodity.now held.old.entries }
@@ -283,38 +296,45 @@ fn forget_if_empty(held: &mut BTreeMap<Commodity, Holding>, commodity: &Commodit
     }
 }
 
-/// Sets the units of a lot, which is held no more where they are zero.
+/// Sets the units of a lot, which is held no more where they are zero. A lot that is held already changes in place.
 fn set_lot(lots: &mut BTreeMap<LotKey, Units>, key: &LotKey, units: Units) -> Result<(), AllocError>
     requires { IsOrdered lot_cmp lots.old }
     ensures ordered { IsOrdered lot_cmp lots.new }
     ensures each { OnOk result ((other : LotKey) → get lot_cmp lots.new other ≡ cond (is_eq (lot_cmp key.now other)) (non_zero units) (get lot_cmp lots.old other)) }
     ensures err { OnErr result (lots.new.entries ≡ lots.old.entries) }
+    ensures memory { OnErr result (get lot_cmp lots.old key.now ≡ None) }
+    ensures some { OnErr result (units ≢ pos 0) }
 {
     if units.mantissa() == 0 {
         lots.remove(key);
-    } else {
-        lots.insert(key.copy()?, units)?;
+        return Ok(());
+    }
+    match lots.get_mut(key) {
+        Some(held) => *held = units,
+        None => {
+            lots.insert(key.copy()?, units)?;
+        }
     }
     Ok(())
 }
 
-/// The wide number of a sum of mantissas of units. None where it is none.
+/// Returns the units of a mantissa at scale 16, or `None` where they are out of range.
 fn wide(mantissa: i128) -> Option<Wide>
     ensures { SomeIff result (IsWide (mantissa *ℤ pos one)) (mantissa *ℤ pos one) }
 {
     Wide::from_mantissa(mantissa.checked_mul(100_000_000)?)
 }
 
-/// A sum of mantissas, and the mantissa of further units.
+/// Returns a sum of mantissas and the mantissa of further units. The sum is that of at most 2^63 units.
 fn plus(total: i128, units: Units) -> i128
-    requires { unsigned_abs total ≤ 2 ^ 63 * 10 ^ 18 }
+    requires { unsigned_abs total ≤ 2 ^ 63 * units_limit }
     ensures value { result ≡ total +ℤ units }
-    ensures bound { unsigned_abs result ≤ unsigned_abs total + 10 ^ 18 }
+    ensures bound { unsigned_abs result ≤ unsigned_abs total + units_limit }
 {
     total + i128::from(units.mantissa())
 }
 
-/// Whether one of the two is below zero and the other above it.
+/// Returns whether one of the two is below zero and the other above it.
 pub fn is_other_sign(a: Units, b: Units) -> bool
     ensures { result ≡ other_sign a b }
 {

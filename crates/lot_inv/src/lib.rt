@@ -1,9 +1,9 @@
 //! Inventories: what an account holds, lot by lot.
 //!
-//! - `lot_key`: `LotKey`, what tells the lots of one commodity apart.
+//! - `lot_key`: `LotKey`, by which the lots of one commodity differ.
 //! - `cost_spec`: `CostSpec`, which lots a posting means.
-//! - `inventory`: `Inventory`, the units of each place of an account.
-//! - `fault`: `InventoryFault`, why units weren't added.
+//! - `inventory`: `Inventory`, the units of each position of an account.
+//! - `fault`: `InventoryFault`, why units aren't added.
 //! - `laws`: what holds of the definitions that the contracts cite.
 #![tactic(auto)]
 

@@ -4,7 +4,7 @@ use lot_base::{Commodity, Day, Label};
 use lot_num::Rate;
 use std::alloc::AllocError;
 
-/// What ties units to the purchase that they came from. Keys are ordered by day, currency, number and label, no
+/// Which purchase units came from. Keys are ordered by day, currency, number and label, no
 /// label before every label.
 #[derive(Debug, PartialEq, Eq, PartialOrd, Ord, Drop)]
 pub struct LotKey {
@@ -16,7 +16,7 @@ pub struct LotKey {
 }
 
 impl LotKey {
-    /// The same key once more. The error is want of memory.
+    /// Returns a copy of the key. The only error is out of memory.
     pub fn copy(&self) -> Result<LotKey, AllocError>
         ensures { IfOk result (λ key. key ≡ self.now) }
     {

@@ -14,11 +14,11 @@ use Rattle.lot_num.specs.AmountText.{zero_padded, shown_decimals}
 use Rattle.lot_num.specs.NumberGrammar.{AreDigits}
 use Rattle.lot_num.specs.NumberText.{first_decimals}
 
--- ---- Zeros in front of a number, and behind it
+-- ---- Zeros before a number, and behind it
 
-digits_value-zeros_front : (k : ℕ) (ds : List ℕ) → digits_value 10 (replicate k 48 ++ ds) ≡ digits_value 10 ds
-digits_value-zeros_front zero ds = refl
-digits_value-zeros_front (suc k) ds = digits_value-zeros_front k ds
+digits_value-zeros_before : (k : ℕ) (ds : List ℕ) → digits_value 10 (replicate k 48 ++ ds) ≡ digits_value 10 ds
+digits_value-zeros_before zero ds = refl
+digits_value-zeros_before (suc k) ds = digits_value-zeros_before k ds
 
 shift : (v p q : ℕ) → q ≡ p * 10 → (v * 10 + 0) * p ≡ v * q
 shift v p q e = rw e (omega arith)
@@ -90,7 +90,7 @@ all_shown least k n below small why =
       value =
           let none : suc k - length (zero_padded (suc k) n) ≡ 0 = omega arith in
           ap (λ e. digits_value 10 (zero_padded (suc k) n) * 10 ^ e) none
-          ∙ (omega (arith, digits_value-zeros_front (suc k - length (decimal n)) (decimal n), decimal_value n small));
+          ∙ (omega (arith, digits_value-zeros_before (suc k - length (decimal n)) (decimal n), decimal_value n small));
       shortest = λ others within says. all_needed least k n (length others) (digits_value 10 others) (length (zero_padded (suc k) n)) whole why within says;
     }
 
@@ -127,8 +127,8 @@ shown_decimals_shown least zero n below small = record {
   shortest = λ others within says. omega arith;
 }
 shown_decimals_shown least (suc k) n below small =
-    let front : n / 10 < 10 ^ k = omega (arith, pow_more 10 k) in
-    shown_by least k n (ltb least (suc k)) (eqb (n % 10) 0) refl refl below small (shown_decimals_shown least k (n / 10) front (omega arith))
+    let below_tenth : n / 10 < 10 ^ k = omega (arith, pow_more 10 k) in
+    shown_by least k n (ltb least (suc k)) (eqb (n % 10) 0) refl refl below small (shown_decimals_shown least k (n / 10) below_tenth (omega arith))
 
 -- ---- The first eight decimals, padded
 

@@ -4,7 +4,7 @@ use Rattle.std.specs.Prelude.{⊤}
 use Rattle.std.specs.Char.{is_ascii_digit}
 use Rattle.std.specs.List.{before_first, after_first, slice_split, onto_first, list_all, position_or_len}
 use Rattle.std.proofs.lemmas.Bool.Decides.{nat_tests}
-use Rattle.std.proofs.lemmas.Bool.{eqb-true}
+use Rattle.std.proofs.lemmas.Bool.{and_from, and_parts, eqb-true}
 use Rattle.lot_num.specs.declared.number_text.Sign.{Sign}
 use Rattle.lot_num.specs.declared.number_text.Sign.TheVariants.{Plus, Minus}
 use Rattle.lot_num.specs.NumberText.{sign_of, unsigned, is_point, whole_part, decimals, is_digits, is_group, is_grouped, is_number}
@@ -16,30 +16,19 @@ digit_from_test b h = (grind (arith, nat_tests), grind (arith, nat_tests))
 pub test_from_digit : (b : ℕ) → IsDigit b → is_ascii_digit b ≡ true
 test_from_digit b (low, high) = grind (arith, nat_tests)
 
-both_left : (a b : Bool) → (a && b) ≡ true → a ≡ true
-both_left true b h = refl
-both_left false b h = h
-
-both_right : (a b : Bool) → (a && b) ≡ true → b ≡ true
-both_right true b h = h
-both_right false b h = cc
-
 and_assoc : (a b c : Bool) → ((a && b) && c) ≡ (a && (b && c))
 and_assoc true b c = refl
 and_assoc false b c = refl
-
-both : (a b : Bool) → a ≡ true → b ≡ true → (a && b) ≡ true
-both a b h k = rw (h, k)
 
 -- ---- Digits
 
 digits_from_test : (ds : List ℕ) → is_digits ds ≡ true → AreDigits ds
 digits_from_test [] h = tt
-digits_from_test (d ∷ ds) h = (digit_from_test d (both_left _ _ h), digits_from_test ds (both_right _ _ h))
+digits_from_test (d ∷ ds) h = (digit_from_test d ((and_parts _ _ h).0), digits_from_test ds ((and_parts _ _ h).1))
 
 test_from_digits : (ds : List ℕ) → AreDigits ds → is_digits ds ≡ true
 test_from_digits [] h = refl
-test_from_digits (d ∷ ds) (first, others) = both _ _ (test_from_digit d first) (test_from_digits ds others)
+test_from_digits (d ∷ ds) (first, others) = and_from _ _ (test_from_digit d first) (test_from_digits ds others)
 
 -- ---- Whole parts
 
@@ -77,30 +66,30 @@ starts_no_comma c (x ∷ rest) h = no_comma c h.0
 
 test_from_whole : (whole : List ℕ) → IsWhole whole → is_grouped whole ≡ true
 test_from_whole [] h = absurd h
-test_from_whole (d ∷ []) h = grouped-last d (no_comma d h) ∙ both _ _ (both _ _ (test_from_digit d h) refl) refl
+test_from_whole (d ∷ []) h = grouped-last d (no_comma d h) ∙ and_from _ _ (and_from _ _ (test_from_digit d h) refl) refl
 test_from_whole (d ∷ c ∷ rest) (first, inl more) =
     let later : is_grouped (c ∷ rest) ≡ true = test_from_whole (c ∷ rest) more in
-    grouped-digit d c rest (no_comma d first) (starts_no_comma c rest more) ∙ both _ _ (test_from_digit d first) later
+    grouped-digit d c rest (no_comma d first) (starts_no_comma c rest more) ∙ and_from _ _ (test_from_digit d first) later
 test_from_whole (d ∷ c ∷ rest) (first, inr (comma, more)) =
     ap (λ b. is_grouped (d ∷ b ∷ rest)) comma
     ∙ grouped-comma d rest (no_comma d first)
-    ∙ both _ _ (both _ _ (test_from_digit d first) refl) (test_from_whole rest more)
+    ∙ and_from _ _ (and_from _ _ (test_from_digit d first) refl) (test_from_whole rest more)
 
 whole_last : (d : ℕ) (comma : Bool) → eqb d 44 ≡ comma → is_grouped (d ∷ []) ≡ true → IsDigit d
 whole_last d true e h = cc (rw e at h)
-whole_last d false e h = digit_from_test d (both_left _ _ (both_left _ _ (sym (grouped-last d e) ∙ h)))
+whole_last d false e h = digit_from_test d ((and_parts _ _ ((and_parts _ _ (sym (grouped-last d e) ∙ h)).0)).0)
 
 whole_more : (d c : ℕ) (rest : List ℕ) → (is_grouped rest ≡ true → IsWhole rest) → (is_grouped (c ∷ rest) ≡ true → IsWhole (c ∷ rest)) → (first : Bool) → eqb d 44 ≡ first → (second : Bool) → eqb c 44 ≡ second → is_grouped (d ∷ c ∷ rest) ≡ true → IsWhole (d ∷ c ∷ rest)
 whole_more d c rest behind more true e second f h = cc (rw e at h)
 whole_more d c rest behind more false e true f h =
     let comma : c ≡ 44 = eqb-true c 44 f in
     let parts : ((is_ascii_digit d && true) && is_grouped rest) ≡ true = sym (grouped-comma d rest e) ∙ sym (ap (λ b. is_grouped (d ∷ b ∷ rest)) comma) ∙ h in
-    (digit_from_test d (both_left _ _ (both_left _ _ parts)), inr (comma, behind (both_right _ _ parts)))
+    (digit_from_test d ((and_parts _ _ (and_parts _ _ parts).0).0), inr (comma, behind ((and_parts _ _ parts).1)))
 whole_more d c rest behind more false e false f h =
     let parts : (is_ascii_digit d && is_grouped (c ∷ rest)) ≡ true = sym (grouped-digit d c rest e f) ∙ h in
-    (digit_from_test d (both_left _ _ parts), inl (more (both_right _ _ parts)))
+    (digit_from_test d (and_parts _ _ parts).0, inl (more ((and_parts _ _ parts).1)))
 
--- a comma in front leaves an empty group
+-- a comma in prefix leaves an empty group
 whole_from_test : (whole : List ℕ) → is_grouped whole ≡ true → IsWhole whole
 whole_from_test [] h = cc
 whole_from_test (d ∷ []) h = whole_last d (eqb d 44) refl h
@@ -108,12 +97,12 @@ whole_from_test (d ∷ c ∷ rest) h = whole_more d c rest (whole_from_test rest
 
 -- ---- Signs
 
-signs_by : (b : ℕ) (rest : List ℕ) (minus plus : Bool) → eqb b 45 ≡ minus → eqb b 43 ≡ plus → (front : List ℕ) × IsSign (cond minus Minus Plus) front × (b ∷ rest ≡ front ++ cond (minus || plus) rest (b ∷ rest))
+signs_by : (b : ℕ) (rest : List ℕ) (minus plus : Bool) → eqb b 45 ≡ minus → eqb b 43 ≡ plus → (prefix : List ℕ) × IsSign (cond minus Minus Plus) prefix × (b ∷ rest ≡ prefix ++ cond (minus || plus) rest (b ∷ rest))
 signs_by b rest true plus e f = (45 ∷ [], refl, ap (λ x. x ∷ rest) (eqb-true b 45 e))
 signs_by b rest false true e f = (43 ∷ [], inr refl, ap (λ x. x ∷ rest) (eqb-true b 43 f))
 signs_by b rest false false e f = ([], inl refl, refl)
 
-sign_from_text : (text : List ℕ) → (front : List ℕ) × IsSign (sign_of text) front × (text ≡ front ++ unsigned text)
+sign_from_text : (text : List ℕ) → (prefix : List ℕ) × IsSign (sign_of text) prefix × (text ≡ prefix ++ unsigned text)
 sign_from_text [] = ([], inl refl, refl)
 sign_from_text (b ∷ rest) = signs_by b rest (eqb b 45) (eqb b 43) refl refl
 
@@ -130,10 +119,10 @@ no_sign : (body : List ℕ) → StartsWithDigit body → (sign_of body ≡ Plus)
 no_sign [] h = absurd h
 no_sign (d ∷ ds) (low, high) = (grind (arith, nat_tests), grind (arith, nat_tests))
 
-text_from_sign : (sign : Sign) (front body : List ℕ) → IsSign sign front → StartsWithDigit body → (sign_of (front ++ body) ≡ sign) × (unsigned (front ++ body) ≡ body)
-text_from_sign Plus front body (inl none) digit = rw none (no_sign body digit)
-text_from_sign Plus front body (inr plus) digit = rw plus (refl, refl)
-text_from_sign Minus front body minus digit = rw minus (refl, refl)
+text_from_sign : (sign : Sign) (prefix body : List ℕ) → IsSign sign prefix → StartsWithDigit body → (sign_of (prefix ++ body) ≡ sign) × (unsigned (prefix ++ body) ≡ body)
+text_from_sign Plus prefix body (inl none) digit = rw none (no_sign body digit)
+text_from_sign Plus prefix body (inr plus) digit = rw plus (refl, refl)
+text_from_sign Minus prefix body minus digit = rw minus (refl, refl)
 
 -- ---- Points
 
@@ -193,20 +182,20 @@ text_is_spelled text good =
     let sign = sign_from_text text in
     let fraction = fraction_from_text (unsigned text) in
     record {
-      front = sign.0;
+      prefix = sign.0;
       back = fraction.0;
       is_sign = sign.1;
-      is_whole = whole_from_test (whole_part text) (both_left _ _ good);
+      is_whole = whole_from_test (whole_part text) ((and_parts _ _ good).0);
       is_fraction = fraction.1;
-      are_digits = digits_from_test (decimals text) (both_right _ _ good);
+      are_digits = digits_from_test (decimals text) ((and_parts _ _ good).1);
       spelled = sign.2 ∙ ap (λ body. sign.0 ++ body) fraction.2;
     }
 
 pub spelling_is_cut : (text : List ℕ) (sign : Sign) (whole fraction : List ℕ) → IsNumberText text sign whole fraction → (is_number text ≡ true) × (sign_of text ≡ sign) × (whole_part text ≡ whole) × (decimals text ≡ fraction)
 spelling_is_cut text sign whole fraction spelling =
-    let signed = text_from_sign sign spelling.front (whole ++ spelling.back) spelling.is_sign (whole_starts whole spelling.back spelling.is_whole) in
+    let signed = text_from_sign sign spelling.prefix (whole ++ spelling.back) spelling.is_sign (whole_starts whole spelling.back spelling.is_whole) in
     let cut = text_from_fraction whole fraction spelling.back (whole_no_point whole spelling.is_whole) spelling.is_fraction in
     let body : unsigned text ≡ whole ++ spelling.back = ap unsigned spelling.spelled ∙ signed.1 in
     let before : whole_part text ≡ whole = ap (before_first is_point) body ∙ cut.0 in
     let behind : decimals text ≡ fraction = ap (after_first is_point) body ∙ cut.1 in
-    (both _ _ (ap is_grouped before ∙ test_from_whole whole spelling.is_whole) (ap is_digits behind ∙ test_from_digits fraction spelling.are_digits), ap sign_of spelling.spelled ∙ signed.0, before, behind)
+    (and_from _ _ (ap is_grouped before ∙ test_from_whole whole spelling.is_whole) (ap is_digits behind ∙ test_from_digits fraction spelling.are_digits), ap sign_of spelling.spelled ∙ signed.0, before, behind)

@@ -5,3 +5,4 @@ pub mod GrammarLemmas
 pub mod DecimalLemmas
 pub mod PrintedLemmas
 pub mod ShortestLemmas
+pub mod PerUnitLemmas

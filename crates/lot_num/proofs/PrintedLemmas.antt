@@ -52,13 +52,13 @@ read_below-spelled limit n text sign whole fraction spelling short says below =
     ∙ ap (λ s. Ok (s, magnitude text)) cut.1
     ∙ ap (λ m. Ok (sign, m)) amount
 
--- a magnitude with a sign in front
-pub spelled_behind : (front : List ℕ) (sign : Sign) (least n : ℕ) → IsSign sign front → n < units_limit → IsNumberText (front ++ magnitude_text least 8 n) sign (decimal (n / 10 ^ 8)) (shown_decimals least 8 (n % 10 ^ 8))
-spelled_behind front sign least n is_sign below =
+-- a magnitude behind a sign
+pub spelled_behind : (prefix : List ℕ) (sign : Sign) (least n : ℕ) → IsSign sign prefix → n < units_limit → IsNumberText (prefix ++ magnitude_text least 8 n) sign (decimal (n / 10 ^ 8)) (shown_decimals least 8 (n % 10 ^ 8))
+spelled_behind prefix sign least n is_sign below =
     let small : n / 10 ^ 8 < 2 ^ 64 = omega arith in
     let shown = shown_decimals_shown least 8 (n % 10 ^ 8) (omega arith) (omega arith) in
     record {
-      front = front;
+      prefix = prefix;
       back = point_and (shown_decimals least 8 (n % 10 ^ 8));
       is_sign = is_sign;
       is_whole = digits_are_whole (decimal (n / 10 ^ 8)) (decimal_digits (n / 10 ^ 8) small) (decimal_nonempty (n / 10 ^ 8) small);
@@ -73,11 +73,11 @@ magnitude_says least n below =
     let fraction : first_decimals (shown_decimals least 8 (n % 10 ^ 8)) ≡ n % 10 ^ 8 = first_decimals-short (shown_decimals least 8 (n % 10 ^ 8)) shown.short ∙ shown.value in
     omega (arith, whole_number-decimal (n / 10 ^ 8) (omega arith))
 
-read_printed : (limit : ℕ) (front : List ℕ) (sign : Sign) (least n : ℕ) → IsSign sign front → limit ≤ units_limit → n < limit → read_below limit (front ++ magnitude_text least 8 n) ≡ Ok (sign, n)
-read_printed limit front sign least n is_sign most below =
+read_printed : (limit : ℕ) (prefix : List ℕ) (sign : Sign) (least n : ℕ) → IsSign sign prefix → limit ≤ units_limit → n < limit → read_below limit (prefix ++ magnitude_text least 8 n) ≡ Ok (sign, n)
+read_printed limit prefix sign least n is_sign most below =
     let low : n < units_limit = omega arith in
     let shown = shown_decimals_shown least 8 (n % 10 ^ 8) (omega arith) (omega arith) in
-    read_below-spelled limit n (front ++ magnitude_text least 8 n) sign (decimal (n / 10 ^ 8)) (shown_decimals least 8 (n % 10 ^ 8)) (spelled_behind front sign least n is_sign low) shown.short (magnitude_says least n low) below
+    read_below-spelled limit n (prefix ++ magnitude_text least 8 n) sign (decimal (n / 10 ^ 8)) (shown_decimals least 8 (n % 10 ^ 8)) (spelled_behind prefix sign least n is_sign low) shown.short (magnitude_says least n low) below
 
 pub units_of-amount_text : (least : ℕ) (z : ℤ) → IsUnits z → units_of (amount_text least 8 z) ≡ Ok z
 unfolding amount_text

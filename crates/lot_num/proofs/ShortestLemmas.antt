@@ -126,7 +126,7 @@ shown-le least n ds below enough says =
 -- ---- Texts
 
 -- the printed magnitude is no longer than what stands behind the sign of a text that says it
-magnitude_shortest : (least n : ℕ) (text : List ℕ) (sign : Sign) (spelling : IsNumberText text sign (whole_part text) (decimals text)) → n < units_limit → magnitude text ≡ n → least ≤ length (decimals text) → length spelling.front + length (magnitude_text least 8 n) ≤ length text
+magnitude_shortest : (least n : ℕ) (text : List ℕ) (sign : Sign) (spelling : IsNumberText text sign (whole_part text) (decimals text)) → n < units_limit → magnitude text ≡ n → least ≤ length (decimals text) → length spelling.prefix + length (magnitude_text least 8 n) ≤ length text
 magnitude_shortest least n text sign spelling below says enough =
     let fraction : first_decimals (decimals text) < one = first_decimals-lt (decimals text) spelling.are_digits in
     let whole_says : whole_number (whole_part text) ≡ n / 10 ^ 8 = omega arith in
@@ -134,13 +134,13 @@ magnitude_shortest least n text sign spelling below says enough =
     let whole : length (decimal (n / 10 ^ 8)) ≤ length (whole_part text) = length-decimal-whole (whole_part text) (n / 10 ^ 8) spelling.is_whole whole_says (omega arith) in
     let shown : length (shown_decimals least 8 (n % 10 ^ 8)) ≤ length (decimals text) = shown-le least (n % 10 ^ 8) (decimals text) (omega arith) enough fraction_says in
     let back : length (point_and (shown_decimals least 8 (n % 10 ^ 8))) ≤ length spelling.back = point_and-le (shown_decimals least 8 (n % 10 ^ 8)) (decimals text) spelling.back shown spelling.is_fraction in
-    omega (arith, ap length spelling.spelled, length-append spelling.front (whole_part text ++ spelling.back), length-append (whole_part text) spelling.back, length-append (decimal (n / 10 ^ 8)) (point_and (shown_decimals least 8 (n % 10 ^ 8))))
+    omega (arith, ap length spelling.spelled, length-append spelling.prefix (whole_part text ++ spelling.back), length-append (whole_part text) spelling.back, length-append (decimal (n / 10 ^ 8)) (point_and (shown_decimals least 8 (n % 10 ^ 8))))
 
 -- an amount below zero is only said with a minus
-minus_is_written : (sign : Sign) (front : List ℕ) (m n : ℕ) → IsSign sign front → signed sign m ≡ negsuc n → (1 ≤ length front) × (m ≡ suc n)
-minus_is_written Plus front m n h says = cc
-minus_is_written Minus front zero n h says = cc
-minus_is_written Minus front (suc m) n h says = (omega (arith, ap length h), cc)
+minus_is_written : (sign : Sign) (prefix : List ℕ) (m n : ℕ) → IsSign sign prefix → signed sign m ≡ negsuc n → (1 ≤ length prefix) × (m ≡ suc n)
+minus_is_written Plus prefix m n h says = cc
+minus_is_written Minus prefix zero n h says = cc
+minus_is_written Minus prefix (suc m) n h says = (omega (arith, ap length h), cc)
 
 -- and of an amount from zero on the magnitude is the amount
 magnitude_is : (sign : Sign) (m n : ℕ) → signed sign m ≡ pos n → m ≡ n
@@ -167,7 +167,7 @@ least_shortest least (negsuc n) text says enough =
     let (sign, m, read, is) = from_units text (negsuc n) (read_below units_limit text) refl says in
     let reads = read_is units_limit text sign m read in
     let spelling = text_is_spelled text reads.0 in
-    let minus = minus_is_written (sign_of text) spelling.front m n spelling.is_sign (ap (λ s. signed s m) reads.1 ∙ is) in
+    let minus = minus_is_written (sign_of text) spelling.prefix m n spelling.is_sign (ap (λ s. signed s m) reads.1 ∙ is) in
     omega (arith, minus.0, magnitude_shortest least (suc n) text (sign_of text) spelling (omega (arith, reads.3, minus.1)) (reads.2 ∙ minus.1) enough)
 
 pub units_shortest : (z : ℤ) (text : List ℕ) → units_of text ≡ Ok z → length (amount_text 0 8 z) ≤ length text
@@ -176,9 +176,9 @@ units_shortest z text says = least_shortest 0 z text says (omega arith)
 pub money_shortest : (z : ℤ) (text : List ℕ) → units_of text ≡ Ok z → 2 ≤ length (decimals text) → length (amount_text 2 8 z) ≤ length text
 money_shortest = least_shortest 2
 
-money_spelled : (front : List ℕ) (sign : Sign) (n : ℕ) → IsSign sign front → n < units_limit → 2 ≤ length (decimals (front ++ magnitude_text 2 8 n))
-money_spelled front sign n is_sign below =
-    let cut = spelling_is_cut _ _ _ _ (spelled_behind front sign 2 n is_sign below) in
+money_spelled : (prefix : List ℕ) (sign : Sign) (n : ℕ) → IsSign sign prefix → n < units_limit → 2 ≤ length (decimals (prefix ++ magnitude_text 2 8 n))
+money_spelled prefix sign n is_sign below =
+    let cut = spelling_is_cut _ _ _ _ (spelled_behind prefix sign 2 n is_sign below) in
     let shown = shown_decimals_shown 2 8 (n % 10 ^ 8) (omega arith) (omega arith) in
     omega (arith, ap length cut.3, shown.enough)
 

@@ -11,8 +11,8 @@ pub shown-turn : (least places digits : ℕ) → least < places → digits % 10 
 unfolding shown_decimals
 shown-turn least zero digits more ends = absurd (omega arith)
 shown-turn least (suc k) digits more ends =
-    let front : suc k - 1 ≡ k = omega arith in
-    rw front (grind (arith, nat_tests))
+    let less : suc k - 1 ≡ k = omega arith in
+    rw less (grind (arith, nat_tests))
 
 -- and then all that are left are shown
 pub shown-least : (least places digits : ℕ) → places ≤ least → all_decimals places digits ≡ shown_decimals least places digits
@@ -42,21 +42,21 @@ point_and-nonempty : (ds : List ℕ) → 0 < length ds → point_and ds ≡ 46 �
 point_and-nonempty [] some = absurd (omega arith)
 point_and-nonempty (d ∷ ds) some = refl
 
-length-zero_padded : (places n : ℕ) → n < 2 ^ 64 → 0 < length (zero_padded places n)
-length-zero_padded places n fits = omega (arith, length-append (replicate (places - length (decimal n)) 48) (decimal n), decimal_nonempty n fits)
+zero_padded-nonempty : (places n : ℕ) → n < 2 ^ 64 → 0 < length (zero_padded places n)
+zero_padded-nonempty places n fits = omega (arith, length-append (replicate (places - length (decimal n)) 48) (decimal n), decimal_nonempty n fits)
 
 pub point_and-styled : (places digits : ℕ) → 0 < places → digits < 2 ^ 64 → 46 ∷ styled_decimal (format_spec 32 0 4 places (2 ^ 64 - 1)) digits ≡ point_and (all_decimals places digits)
 point_and-styled zero digits some fits = absurd (omega arith)
 point_and-styled (suc k) digits some fits =
     ap (λ ds. 46 ∷ ds) (styled_by_width (suc k) digits some)
-    ∙ sym (point_and-nonempty (zero_padded (suc k) digits) (length-zero_padded (suc k) digits fits))
+    ∙ sym (point_and-nonempty (zero_padded (suc k) digits) (zero_padded-nonempty (suc k) digits fits))
 
-pub amount_text-positive : (least scale : ℕ) (z : ℤ) (text front : List ℕ) (magnitude : ℕ) → pos 0 ≤ℤ z → magnitude ≡ unsigned_abs z → front ≡ [] → text ≡ front ++ magnitude_text least scale magnitude → text ≡ amount_text least scale z
+pub amount_text-positive : (least scale : ℕ) (z : ℤ) (text prefix : List ℕ) (magnitude : ℕ) → pos 0 ≤ℤ z → magnitude ≡ unsigned_abs z → prefix ≡ [] → text ≡ prefix ++ magnitude_text least scale magnitude → text ≡ amount_text least scale z
 unfolding amount_text
-amount_text-positive least scale (pos n) text front magnitude low is none all = rw (all, none, is)
-amount_text-positive least scale (negsuc n) text front magnitude low is none all = absurd (omega (arith, ints))
+amount_text-positive least scale (pos n) text prefix magnitude low is none all = rw (all, none, is)
+amount_text-positive least scale (negsuc n) text prefix magnitude low is none all = absurd (omega (arith, ints))
 
-pub amount_text-negative : (least scale : ℕ) (z : ℤ) (text front : List ℕ) (magnitude : ℕ) → z <ℤ pos 0 → magnitude ≡ unsigned_abs z → front ≡ 45 ∷ [] → text ≡ front ++ magnitude_text least scale magnitude → text ≡ amount_text least scale z
+pub amount_text-negative : (least scale : ℕ) (z : ℤ) (text prefix : List ℕ) (magnitude : ℕ) → z <ℤ pos 0 → magnitude ≡ unsigned_abs z → prefix ≡ 45 ∷ [] → text ≡ prefix ++ magnitude_text least scale magnitude → text ≡ amount_text least scale z
 unfolding amount_text
-amount_text-negative least scale (pos n) text front magnitude low is minus all = absurd (omega (arith, ints))
-amount_text-negative least scale (negsuc n) text front magnitude low is minus all = rw (all, minus, is)
+amount_text-negative least scale (pos n) text prefix magnitude low is minus all = absurd (omega (arith, ints))
+amount_text-negative least scale (negsuc n) text prefix magnitude low is minus all = rw (all, minus, is)

@@ -1,5 +1,5 @@
 -- Which whole numbers are mantissas (docs/RULES.md, Numbers).
-use Rattle.std.specs.Prelude.{ℕ, ◌^◌, ◌<◌, ◌≤◌, ℤ, unsigned_abs}
+use Rattle.std.specs.Prelude.{◌≡◌, ◌≢◌, ℕ, ◌^◌, ◌*◌, ◌<◌, ◌≤◌, ℤ, pos, ◌*ℤ◌, unsigned_abs}
 
 -- One, as a mantissa at scale 8.
 abbrev pub one : ℕ
@@ -32,3 +32,11 @@ IsRate n = n < rate_limit
 -- A mantissa of a weight: scale 16.
 abbrev pub IsWide : ℤ → Type 0
 IsWide z = unsigned_abs z ≤ greatest_wide
+
+-- ---- A total for all units, as a rate for each.
+
+-- the rate at which the units, sign aside, come to exactly the total; zero units have none
+pub record IsPerUnit (units total : ℤ) (rate : ℕ) : Type 0 where
+  pub some_units : units ≢ pos 0
+  pub in_range : IsRate rate
+  pub exact : pos (unsigned_abs units * rate) ≡ total *ℤ pos one

@@ -3,7 +3,7 @@
 use Rattle.std.specs.Prelude.{ℕ, ◌-◌, ◌/◌, ◌%◌, ◌^◌, ◌==◌, ◌&&◌, nat_lt, if◌then◌else◌, List, [], ◌∷◌, ◌++◌, length, replicate, ℤ, pos, negsuc, zero, suc}
 use Rattle.std.specs.Fmt.{decimal}
 
--- so many digits or more, zeros in front
+-- so many digits or more, with zeros before the number
 abbrev pub zero_padded : ℕ → ℕ → List ℕ
 zero_padded places n = replicate (places - length (decimal n)) 48 ++ decimal n
 

@@ -27,10 +27,10 @@ IsFraction decimals text = (text ≡ 46 ∷ decimals) ⊎ ((text ≡ []) × (dec
 
 -- the text is a number text with that sign, whole part and decimals
 pub record IsNumberText (text : List ℕ) (sign : Sign) (whole decimals : List ℕ) : Type 0 where
-  pub front : List ℕ
+  pub prefix : List ℕ
   pub back : List ℕ
-  pub is_sign : IsSign sign front
+  pub is_sign : IsSign sign prefix
   pub is_whole : IsWhole whole
   pub is_fraction : IsFraction decimals back
   pub are_digits : AreDigits decimals
-  pub spelled : text ≡ front ++ (whole ++ back)
+  pub spelled : text ≡ prefix ++ (whole ++ back)

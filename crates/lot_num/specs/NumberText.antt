@@ -46,7 +46,7 @@ is_number text = is_grouped (whole_part text) && is_digits (decimals text)
 
 -- ---- What a number text says.
 
--- the number that the digits of a whole part write, its commas read over
+-- the number that the digits of a whole part write, its commas skipped
 abbrev pub whole_number : List ℕ → ℕ
 whole_number whole = digits_value 10 (filter is_ascii_digit whole)
 
@@ -92,6 +92,15 @@ with_no_sign (Err fault) = Err fault
 -- units: the absolute mantissa is below the limit of units
 abbrev pub units_of : List ℕ → Result ℤ NumberFault
 units_of text = with_sign (read_below units_limit text)
+
+-- a mantissa that isn't below zero, as units
+abbrev pub as_units : Result ℕ NumberFault → Result ℤ NumberFault
+as_units (Ok n) = Ok (pos n)
+as_units (Err fault) = Err fault
+
+-- a total: the mantissa is below the limit of units, and not below zero
+abbrev pub total_of : List ℕ → Result ℤ NumberFault
+total_of text = as_units (with_no_sign (read_below units_limit text))
 
 -- a rate: the mantissa is below the limit of rates, and not below zero
 abbrev pub rate_of : List ℕ → Result ℕ NumberFault

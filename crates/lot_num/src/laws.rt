@@ -1,10 +1,34 @@
-//! Laws over the definitions alone, each the contract of a function that does nothing.
+//! Laws of the definitions and of the constants, each the contract of a function that does nothing, or that
+//! returns the constant.
 ghost use Rattle.std.specs.Prelude.{◌≡◌, ◌≤◌, ℕ, ℤ, pos, List, length, IsTrue, Ok};
 ghost use Rattle.lot_num.specs.declared.number_text.Sign.{Sign};
-ghost use Rattle.lot_num.specs.Amount.{IsUnits, IsRate};
+ghost use Rattle.lot_num.specs.Amount.{units_limit, rate_limit, greatest_wide, IsUnits, IsRate};
 ghost use Rattle.lot_num.specs.AmountText.{amount_text};
 ghost use Rattle.lot_num.specs.NumberGrammar.{IsNumberText};
 ghost use Rattle.lot_num.specs.NumberText.{is_number, sign_of, whole_part, decimals, units_of, rate_of};
+
+use crate::{Rate, Units, Wide};
+
+/// The constants of the limits are the limits of the definitions.
+pub fn limits_are_those_of_the_definitions()
+    ensures units { Units.LIMIT ≡ units_limit }
+    ensures rate { Rate.LIMIT ≡ rate_limit }
+    ensures wide { Wide.GREATEST ≡ greatest_wide }
+{}
+
+/// Returns `Units::ZERO`, which is zero.
+pub fn zero_units() -> Units
+    ensures { result ≡ pos 0 }
+{
+    Units::ZERO
+}
+
+/// Returns `Wide::ZERO`, which is zero.
+pub fn zero_weight() -> Wide
+    ensures { result ≡ pos 0 }
+{
+    Wide::ZERO
+}
 
 /// The texts that are read as numbers are those of the grammar, and each is cut into the parts that the
 /// grammar gives it: so a number text has one sign, one whole part and one list of decimals.

@@ -5,7 +5,7 @@ ghost use Rattle.lot_num.specs.NumberText.{sign_of, unsigned, is_point, is_digit
 
 use thiserror::Error;
 
-/// Why a text is refused as a number. Of several that hold the first in this order is told.
+/// Why a text is refused as a number. Where several hold, the first in this order is reported.
 #[derive(Clone, Copy, Debug, PartialEq, Eq, Error)]
 pub enum NumberFault {
     /// The text is outside the grammar of numbers.
@@ -14,10 +14,10 @@ pub enum NumberFault {
     /// A decimal past the eighth is not zero.
     #[error("a number has at most eight decimals")]
     TooManyDecimals,
-    /// The absolute mantissa is at or past the limit of its kind.
+    /// The absolute mantissa is at or past the limit of its kind: `Units::LIMIT` or `Rate::LIMIT`.
     #[error("this number is too large")]
     TooLarge,
-    /// Below zero, where the kind has no such number.
+    /// The number is below zero, and is read as a rate.
     #[error("this number may not be negative")]
     Negative,
 }
@@ -32,7 +32,7 @@ pub enum Sign {
 impl Sign {
     ghost use Rattle.lot_num.specs.NumberText.{signed};
 
-    /// The magnitude with this sign.
+    /// Returns the magnitude with this sign.
     pub(crate) fn of_magnitude(self, magnitude: u64) -> i64
         requires { magnitude < 2 ^ 63 }
         ensures { result ≡ signed self magnitude }
@@ -44,7 +44,8 @@ impl Sign {
     }
 }
 
-/// The sign and the absolute mantissa, at scale 8, of a number text with an absolute mantissa below `limit`.
+/// Returns the sign and the absolute mantissa, at scale 8, of a number text, or the first fault that holds:
+/// `TooLarge` where the absolute mantissa is at least `limit`. `Negative` never comes.
 pub(crate) fn read(text: &str, limit: u64) -> Result<(Sign, u64), NumberFault>
     ensures reads { result ≡ read_below limit text.now }
     ensures below { IfOk result (λ x. x.1 < limit) }
@@ -65,7 +66,7 @@ pub(crate) fn read(text: &str, limit: u64) -> Result<(Sign, u64), NumberFault>
     Ok((sign, mantissa as u64))
 }
 
-/// The sign at the front of a text, and the text behind it.
+/// Returns the sign at the start of a text, and the text behind it.
 fn split_sign(text: &str) -> (Sign, &str)
     ensures sign { result.0 ≡ sign_of text.now }
     ensures rest { result.1.now ≡ unsigned text.now }
@@ -79,7 +80,7 @@ fn split_sign(text: &str) -> (Sign, &str)
     (Sign::Plus, text)
 }
 
-/// What stands before the first point of a text, and behind it.
+/// Returns what stands before the first point of a text, and behind it.
 fn split_point(text: &str) -> (&str, &str)
     ensures before { result.0.now ≡ before_first is_point text.now }
     ensures behind { result.1.now ≡ after_first is_point text.now }
@@ -90,35 +91,35 @@ fn split_point(text: &str) -> (&str, &str)
     }
 }
 
-/// Whether a whole part is groups of digits between commas.
+/// Returns whether a whole part is groups of digits between commas.
 fn is_grouped(whole: &str) -> bool
     ensures { result ≡ is_grouped whole.now }
 {
     whole.split(',').all(|group| is_group(group))
 }
 
-/// Whether a text is one digit or more.
+/// Returns whether a text is one digit or more.
 fn is_group(text: &str) -> bool
     ensures { result ≡ is_group text.now }
 {
     !text.is_empty() && is_digits(text)
 }
 
-/// Whether a text is digits, or empty.
+/// Returns whether a text is digits, or empty.
 fn is_digits(text: &str) -> bool
     ensures { result ≡ is_digits text.now }
 {
     text.as_bytes().iter().all(|b| b.is_ascii_digit())
 }
 
-/// Whether a decimal past the eighth is not zero.
+/// Returns whether a decimal past the eighth is not zero.
 fn has_excess(decimals: &str) -> bool
     ensures { result ≡ has_excess decimals.now }
 {
     decimals.as_bytes().iter().skip(8).any(|d| *d != b'0')
 }
 
-/// The number that the digits of a whole part write, or `u64::MAX` where it is larger.
+/// Returns the number that the digits of a whole part write, or `u64::MAX` where it is larger.
 fn whole_number(whole: &str) -> u64
     ensures { result ≡ min (whole_number whole.now) (2 ^ 64 - 1) }
 {
@@ -133,7 +134,7 @@ fn whole_number(whole: &str) -> u64
     value
 }
 
-/// The number that the first eight decimals write, where absent ones are zeros.
+/// Returns the number that the first eight decimals write, where absent ones are zeros.
 fn first_decimals(decimals: &str) -> u64
     requires { IsTrue (is_digits decimals.now) }
     ensures value { result ≡ first_decimals decimals.now }

@@ -24,7 +24,7 @@ impl Decimals {
         least: 2,
     };
 
-    /// One, as a mantissa at this scale.
+    /// Returns one, as a mantissa at this scale.
     fn one(self) -> u128
         requires { self.scale ≤ 16 }
         ensures value { result ≡ 10 ^ self.scale }
@@ -35,7 +35,7 @@ impl Decimals {
     }
 }
 
-/// The shortest text that says a mantissa and has at least the decimals that are asked for.
+/// Returns the shortest text that says a mantissa and has at least the decimals that are asked for.
 pub(crate) fn amount_text(
     alloc: Global,
     mantissa: i128,
@@ -74,7 +74,7 @@ fn push_decimals(text: &mut String, digits: u64, places: usize) -> Result<(), Al
     Ok(())
 }
 
-/// A fraction without the zeros at its end, but with no fewer than the least decimals: its digits, and
+/// Returns a fraction without the zeros at its end, but with no fewer than the least decimals: its digits, and
 /// how many decimals they are.
 fn shown(decimals: Decimals, fraction: u64) -> (u64, usize)
     ensures { all_decimals result.1 result.0 ≡ shown_decimals decimals.least decimals.scale fraction }

@@ -6,7 +6,7 @@ use crate::printed::{Decimals, amount_text};
 use std::alloc::{AllocError, Global};
 use std::marker::Model;
 
-/// A cost or a price of one unit: a whole number of hundred-millionths, from 0 to below 10^16 of them.
+/// A cost or a price of one unit: a whole number of hundred-millionths, from 0 to below `Rate::LIMIT`.
 #[derive(Clone, Copy, Debug, PartialEq, Eq, PartialOrd, Ord, Hash)]
 pub struct Rate {
     mantissa: u64,
@@ -30,10 +30,10 @@ impl Rate {
     ghost use Rattle.lot_num.specs.AmountText.{amount_text};
     ghost use Rattle.lot_num.specs.NumberText.{rate_of};
 
-    /// The mantissas that are too large: 10^16 and all above.
-    const LIMIT: u64 = 10_000_000_000_000_000;
+    /// The least mantissa that is out of range, at scale 8.
+    pub const LIMIT: u64 = 10_000_000_000_000_000;
 
-    /// The rate with a mantissa at scale 8, or `None` where it is 10^16 or more.
+    /// Returns the rate with this mantissa at scale 8, or `None` where it is at least `LIMIT`.
     pub fn from_mantissa(mantissa: u64) -> Option<Rate>
         ensures { SomeIff result (IsRate mantissa) mantissa }
     {
@@ -44,7 +44,7 @@ impl Rate {
         }
     }
 
-    /// The mantissa, at scale 8.
+    /// Returns the mantissa, at scale 8.
     pub fn mantissa(self) -> u64
         ensures value { result ≡ self }
         ensures in_range { IsRate self }
@@ -52,8 +52,8 @@ impl Rate {
         self.mantissa
     }
 
-    /// The rate that a number text says, or the first refusal that holds; `-0` is zero
-    /// (docs/RULES.md, Number text).
+    /// Returns the rate that a number text says, or the first fault of the text in the order of `NumberFault`
+    /// (docs/RULES.md, Number text). `-0` is zero.
     pub fn parse(text: &str) -> Result<Rate, NumberFault>
         ensures { result ≡ rate_of text.now }
     {
@@ -63,8 +63,8 @@ impl Rate {
         }
     }
 
-    /// The shortest number text that says this rate: no zeros at the end of its decimals, and no point where
-    /// it is whole.
+    /// Returns the shortest number text that says this rate: no zeros at the end of its decimals, and no point
+    /// where it is whole. The only error is out of memory.
     pub fn text(self, alloc: Global) -> Result<String, AllocError>
         ensures { IfOk result (λ t. string_bytes t ≡ amount_text 0 8 (pos self)) }
     {

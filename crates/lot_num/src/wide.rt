@@ -8,7 +8,7 @@ use crate::units::Units;
 use std::alloc::{AllocError, Global};
 use std::marker::Model;
 
-/// A weight, or a sum of weights: a whole number at scale 16, at most 10^38 in absolute value.
+/// A weight, or a sum of weights: a whole number at scale 16, in absolute value at most `Wide::GREATEST`.
 #[derive(Clone, Copy, Debug, PartialEq, Eq, PartialOrd, Ord, Hash)]
 pub struct Wide {
     mantissa: i128,
@@ -31,13 +31,13 @@ impl Wide {
     ghost use Rattle.lot_num.specs.Amount.{one, IsUnits, IsWide};
     ghost use Rattle.lot_num.specs.AmountText.{amount_text};
 
-    /// The largest absolute mantissa: 10^38.
-    const GREATEST: u128 = 100_000_000_000_000_000_000_000_000_000_000_000_000;
+    /// The greatest absolute mantissa, at scale 16.
+    pub const GREATEST: u128 = 100_000_000_000_000_000_000_000_000_000_000_000_000;
 
-    /// No weight: what a sum starts from.
+    /// The zero weight, where a sum begins.
     pub const ZERO: Wide = Wide { mantissa: 0 };
 
-    /// The weight with a mantissa at scale 16, or `None` where it is above 10^38 in absolute value.
+    /// Returns the weight with this mantissa at scale 16, or `None` where its absolute value is above `GREATEST`.
     pub fn from_mantissa(mantissa: i128) -> Option<Wide>
         ensures { SomeIff result (IsWide mantissa) mantissa }
     {
@@ -48,7 +48,7 @@ impl Wide {
         }
     }
 
-    /// The weight with a mantissa that is known to be in range.
+    /// Returns the weight with a mantissa that is known to be in range.
     pub(crate) fn exactly(mantissa: i128) -> Wide
         requires { IsWide mantissa }
         ensures { result ≡ mantissa }
@@ -56,7 +56,7 @@ impl Wide {
         Wide { mantissa }
     }
 
-    /// The mantissa, at scale 16.
+    /// Returns the mantissa, at scale 16.
     pub fn mantissa(self) -> i128
         ensures value { result ≡ self }
         ensures in_range { IsWide self }
@@ -64,7 +64,7 @@ impl Wide {
         self.mantissa
     }
 
-    /// The same weight with the other sign.
+    /// Returns the same weight with the other sign.
     pub fn negated(self) -> Wide
         ensures { result ≡ neg_ℤ self }
     {
@@ -73,14 +73,15 @@ impl Wide {
         }
     }
 
-    /// The exact sum, or `None` where it is no weight.
+    /// Returns the exact sum, or `None` where it is out of range.
     pub fn checked_add(self, other: Wide) -> Option<Wide>
         ensures { SomeIff result (IsWide (self +ℤ other)) (self +ℤ other) }
     {
         Wide::from_mantissa(self.mantissa.checked_add(other.mantissa)?)
     }
 
-    /// The units that are this weight, or `None` where it has a decimal past the eighth or is no units.
+    /// Returns the units that equal this weight, or `None` where it has a decimal past the eighth or is out of the
+    /// range of units.
     pub fn to_units(self) -> Option<Units>
         ensures some { IfSome result (λ units. self ≡ units *ℤ pos one) }
         ensures every { (units : ℤ) → IsUnits units → self ≡ units *ℤ pos one → result ≡ Some units }
@@ -91,7 +92,7 @@ impl Wide {
         Units::from_mantissa(i64::try_from(self.mantissa / 100_000_000).ok()?)
     }
 
-    /// The shortest text with at least two decimals that says this weight.
+    /// Returns the shortest text with at least two decimals that says this weight. The only error is out of memory.
     pub fn text_money(self, alloc: Global) -> Result<String, AllocError>
         ensures { IfOk result (λ t. string_bytes t ≡ amount_text 2 16 self) }
     {
@@ -99,7 +100,7 @@ impl Wide {
     }
 }
 
-/// The exact weight of so many units at a rate, which always is a weight: units times rate, at scale 16.
+/// Returns the exact weight of units at a rate, units times rate at scale 16, which is always in range.
 pub fn weight(units: Units, rate: Rate) -> Wide
     ensures value { result ≡ units *ℤ pos rate }
     ensures bound { unsigned_abs result ≤ unsigned_abs units * rate_limit }

@@ -2,11 +2,11 @@
 use Rattle.std.proofs.Common.{◌≡◌, Some, None, sym, ap, ◌∙◌, option_copied}
 use Rattle.std.proofs.Common.{rules}
 use Rattle.std.specs.BTreeMap.{is_at}
-use Rattle.std.specs.Cmp.Lexicographic.{slice_cmp}
 use Rattle.std.specs.Map.{lookup}
 use Rattle.std.specs.Prelude.{cond}
 use Rattle.std.specs.Option.{option_copied_mut, option_cmp}
-use Rattle.std.specs.Ordering.{is_eq, nat_cmp}
+use Rattle.std.specs.Ordering.{is_eq}
+use Rattle.lot_base.specs.Text.{text_cmp}
 use Rattle.lot_inv.specs.Inventory.{non_zero}
 use Rattle.lot_inv.specs.LotKey.{lot_cmp}
 use Rattle.lot_inv.proofs.SetLemmas.{on_err, found_changed, found_alike, changes_inserted, none_empty, set_nothing, something_set}
@@ -26,12 +26,12 @@ returns-in_ok-set-in-Some-clause-ok c =
     let new = (c.get_mut.follows.lender c.set.new.self).entries in
     let at = sym (ap option_copied_mut c.in-Some.is) ∙ c.get_mut.ensures.value in
     let writes = (c.get_mut.follows.holds c.set.new.self).3 cc in
-    λ place. c.forget_if_empty.ensures.alike place
-    ∙ found_changed old new c.args.commodity.now (option_copied c.args.key) c.args.units c.set.new.self (Some c.in-Some.holding.now) at c.in_ok-set-in-Some.ensures.ok writes.0 place
+    λ position. c.forget_if_empty.ensures.alike position
+    ∙ found_changed old new c.args.commodity.now (option_copied c.args.key) c.args.units c.set.new.self (Some c.in-Some.holding.now) at c.in_ok-set-in-Some.ensures.ok writes.0 position
 
 pub returns-then-mantissa-eq0-clause-ok : goal.returns-then-mantissa-eq0-clause-ok
 returns-then-mantissa-eq0-clause-ok c =
-    let at : None ≡ lookup (is_at (slice_cmp nat_cmp c.args.commodity.now)) c.args.held.now.entries = search rules in
+    let at : None ≡ lookup (is_at (text_cmp c.args.commodity.now)) c.args.held.now.entries = search rules in
     set_nothing c.args.held.now.entries c.get_mut.follows.lender-at-none.entries c.args.commodity.now (option_copied c.args.key) c.args.units at
     (ap (λ m. m.entries) c.get_mut.follows.holds-at-none) (search rules)
 
@@ -41,7 +41,7 @@ returns-in_ok-insert-in-None-2-clause-ok c =
     let mid = c.get_mut.follows.lender-at-none.entries in
     let new = c.insert.new.self.entries in
     let key = option_copied c.args.key in
-    let at : None ≡ lookup (is_at (slice_cmp nat_cmp c.args.commodity.now)) c.args.held.now.entries = search rules in
+    let at : None ≡ lookup (is_at (text_cmp c.args.commodity.now)) c.args.held.now.entries = search rules in
     let changes = changes_inserted old mid new c.args.commodity.now c.in_ok-copy-in-None-2.field-0 c.set-in-None-2.new.self c.in_ok-copy-in-None-2.ensures (ap (λ m. m.entries) c.get_mut.follows.holds-at-none) c.in_ok-insert-in-None-2.ensures.updates.0 in
     found_changed old new c.args.commodity.now key c.args.units c.set-in-None-2.new.self None at
     (λ other. c.in_ok-set-in-None-2.ensures.ok other ∙ ap (cond (is_eq (option_cmp lot_cmp key other)) (non_zero c.args.units)) (c.new-holding.ensures.nothing other))

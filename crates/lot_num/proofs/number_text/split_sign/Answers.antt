@@ -1,4 +1,4 @@
--- With neither sign in front the text is unsigned.
+-- A text that begins with neither sign is unsigned.
 use Rattle.std.proofs.Common.{lit<}
 use Rattle.std.proofs.lemmas.Str.Pattern.{strip_prefix_char}
 use Rattle.lot_num.proofs.SignLemmas.{sign_of-none, unsigned-none}

@@ -1,4 +1,4 @@
--- One more digit is added, and any other byte is read over.
+-- One more digit is added, and any other byte is skipped.
 use Rattle.std.proofs.Common.{◌^◌, ◌-◌, min, sym, ◌∙◌, ap}
 use Rattle.lot_num.proofs.DigitLemmas.{number_more_other, whole_turn}
 use Rattle.lot_num.proofs.number_text.whole_number.Goals as goal

@@ -16,10 +16,10 @@ returns c =
       | then-mantissa-lt0+in_ok-push w ↦
           let below : z <ℤ pos 0 = omega (arith, ints, w.if-mantissa-lt0.true) in
           let minus = w.in_ok-push.ensures.ascii (lit< tt) in
-          let front : string_bytes c.if-mantissa-lt0.text ≡ 45 ∷ [] = ap string_bytes w.text-is ∙ w.in_ok-push.ensures.bytes ∙ rw (c.new-text.ensures.bytes, minus) in
-          amount_text-negative _ _ z _ _ _ below magnitude front c.in_ok-push_magnitude.ensures
+          let prefix : string_bytes c.if-mantissa-lt0.text ≡ 45 ∷ [] = ap string_bytes w.text-is ∙ w.in_ok-push.ensures.bytes ∙ rw (c.new-text.ensures.bytes, minus) in
+          amount_text-negative _ _ z _ _ _ below magnitude prefix c.in_ok-push_magnitude.ensures
       | else-mantissa-lt0 w ↦
           let above : pos 0 ≤ℤ z = omega (arith, ints, w.if-mantissa-lt0.false) in
-          let front : string_bytes c.if-mantissa-lt0.text ≡ [] = ap string_bytes w.text-is ∙ c.new-text.ensures.bytes in
-          amount_text-positive _ _ z _ _ _ above magnitude front c.in_ok-push_magnitude.ensures
+          let prefix : string_bytes c.if-mantissa-lt0.text ≡ [] = ap string_bytes w.text-is ∙ c.new-text.ensures.bytes in
+          amount_text-positive _ _ z _ _ _ above magnitude prefix c.in_ok-push_magnitude.ensures
     ]

@@ -1,7 +1,8 @@
 -- The lots of a commodity are those of its holding.
 use Rattle.std.proofs.Common.{◌≡◌, option_copied, sym, ap, ◌∙◌, rules}
 use Rattle.std.specs.Map.{values_of}
-use Rattle.lot_inv.specs.Inventory.{sum, sum_of}
+use Rattle.lot_num.specs.Sum.{sum_of}
+use Rattle.lot_inv.specs.Inventory.{sum}
 use Rattle.lot_inv.proofs.InventoryLemmas.{lots_seen, lots_at}
 use Rattle.lot_inv.proofs.inventory.Inventory.total.Goals as goal
 

@@ -1,4 +1,4 @@
--- What the map has at a place is what the holding of its commodity has.
+-- What the map has at a position is what the holding of its commodity has.
 use Rattle.std.proofs.Common.{option_copied, sym, ap, ◌∙◌, pos}
 use Rattle.std.specs.Prelude.{option_and_then}
 use Rattle.std.specs.Option.{unwrap_or}
