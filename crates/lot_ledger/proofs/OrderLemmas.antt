@@ -10,7 +10,7 @@ use Rattle.std.proofs.Common.{refl, ap}
 use Rattle.std.proofs.lemmas.Cmp.{then_total, on_total, eq_by_cmp_equiv, nat_cmp_total, int_cmp_total, nat_list_cmp_total}
 use Rattle.std.proofs.lemmas.Map.Lookups.{CmpEqualImpliesEq, exact_unsigned, exact_signed, exact_bytes}
 use Rattle.lot_base.specs.Text.{text_cmp}
-use Rattle.lot_base.proofs.OrderLemmas.{both_equal, exact_options}
+use Rattle.lot_base.proofs.OrderLemmas.{equal_parts, exact_options}
 use Rattle.lot_inv.proofs.OrderLemmas.{lots_total, exact_lots}
 use Rattle.lot_inv.specs.declared.lot_key.LotKey.{LotKey}
 use Rattle.lot_ledger.specs.declared.leg.Position.{Position}
@@ -23,8 +23,8 @@ positions_total = then_total (on_total (λ (p : Position). p.account) nat_list_c
 
 pub exact_positions : CmpEqualImpliesEq position_cmp
 exact_positions p q e =
-    let account = both_equal (text_cmp p.account q.account) (ordering_then (text_cmp p.commodity q.commodity) (option_cmp lot_cmp p.lot q.lot)) e in
-    let rest = both_equal (text_cmp p.commodity q.commodity) (option_cmp lot_cmp p.lot q.lot) account.1 in
+    let account = equal_parts (text_cmp p.account q.account) (ordering_then (text_cmp p.commodity q.commodity) (option_cmp lot_cmp p.lot q.lot)) e in
+    let rest = equal_parts (text_cmp p.commodity q.commodity) (option_cmp lot_cmp p.lot q.lot) account.1 in
     λ i. record { account = exact_bytes p.account q.account account.0 i; commodity = exact_bytes p.commodity q.commodity rest.0 i; lot = exact_options lot_cmp exact_lots p.lot q.lot rest.1 i }
 
 pub one_position : (p q : Position) → same_position p q ≡ true → p ≡ q
