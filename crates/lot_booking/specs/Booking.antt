@@ -83,7 +83,7 @@ AreTaken posting legs = Takes (rule_of posting.method) (order_of posting.method)
 abbrev pub FindsNone : Braced → Type 0
 FindsNone posting = HasNoChoice (rule_of posting.method) (candidates posting) (unsigned_abs posting.units)
 
--- the method wants one lot to be named, and there are several
+-- the method takes one lot, or each of several whole, and there are several
 abbrev pub is_ambiguous : Braced → Bool
 is_ambiguous posting = is_strict posting.method && nat_le 2 (length (candidates posting))
 
@@ -94,24 +94,31 @@ pub data Outcome : Type 0 where
   Legs : Bool → List (LotKey × ℤ) → Outcome
   Refused : BookingFault → Outcome
 
-abbrev pub Books : Braced → Outcome → Type 0
-Books posting (Legs false legs) = Augments posting × IsOneLeg (spec_of posting.cost) posting.units posting.day legs
-Books posting (Legs true legs) = Reduces posting × AreTaken posting legs
-Books posting (Refused ZeroUnits) = posting.units ≡ pos 0
-Books posting (Refused IncompleteCost) = Augments posting × (is_incomplete (spec_of posting.cost) ≡ true)
-Books posting (Refused NoMatch) = Reduces posting × (candidates posting ≡ [])
-Books posting (Refused Ambiguous) = Reduces posting × (is_ambiguous posting ≡ true) × FindsNone posting
-Books posting (Refused NotEnough) = Reduces posting × (candidates posting ≢ []) × (is_ambiguous posting ≡ false) × FindsNone posting
-Books posting (Refused Memory) = ⊥
+-- the posting comes to the outcome
+abbrev pub ComesTo : Braced → Outcome → Type 0
+ComesTo posting (Legs false legs) = Augments posting × IsOneLeg (spec_of posting.cost) posting.units posting.day legs
+ComesTo posting (Legs true legs) = Reduces posting × AreTaken posting legs
+ComesTo posting (Refused ZeroUnits) = posting.units ≡ pos 0
+ComesTo posting (Refused IncompleteCost) = Augments posting × (is_incomplete (spec_of posting.cost) ≡ true)
+ComesTo posting (Refused NoMatch) = Reduces posting × (candidates posting ≡ [])
+ComesTo posting (Refused Ambiguous) = Reduces posting × (is_ambiguous posting ≡ true) × FindsNone posting
+ComesTo posting (Refused NotEnough) = Reduces posting × (candidates posting ≢ []) × (is_ambiguous posting ≡ false) × FindsNone posting
+ComesTo posting (Refused Memory) = ⊥
 
--- a booking stops at the refusal of the posting, or for want of memory
+-- booking a posting stores something: the key of the lot that it opens, or those of the lots that its specification fits
+pub record Stores (posting : Braced) : Type 0 where
+  pub some : posting.units ≢ pos 0
+  pub opens : is_reducing posting ≡ false → is_incomplete (spec_of posting.cost) ≡ false
+  pub takes : is_reducing posting ≡ true → matching posting.held posting.commodity (spec_of posting.cost) ≢ []
+
+-- a booking stops at the refusal of the posting, or out of memory where it stores something
 abbrev pub Stops : Braced → BookingFault → Type 0
-Stops posting ZeroUnits = Books posting (Refused ZeroUnits)
-Stops posting IncompleteCost = Books posting (Refused IncompleteCost)
-Stops posting NoMatch = Books posting (Refused NoMatch)
-Stops posting Ambiguous = Books posting (Refused Ambiguous)
-Stops posting NotEnough = Books posting (Refused NotEnough)
-Stops posting Memory = ⊤
+Stops posting ZeroUnits = ComesTo posting (Refused ZeroUnits)
+Stops posting IncompleteCost = ComesTo posting (Refused IncompleteCost)
+Stops posting NoMatch = ComesTo posting (Refused NoMatch)
+Stops posting Ambiguous = ComesTo posting (Refused Ambiguous)
+Stops posting NotEnough = ComesTo posting (Refused NotEnough)
+Stops posting Memory = Stores posting
 
 -- ---- laws
 

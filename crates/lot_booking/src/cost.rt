@@ -11,7 +11,7 @@ pub enum Cost {
 }
 
 impl Cost {
-    /// The same cost once more. The error is want of memory.
+    /// Returns a copy of the cost. The only error is out of memory.
     pub fn copy(&self) -> Result<Cost, AllocError>
         ensures { IfOk result (λ cost. cost ≡ self.now) }
     {
