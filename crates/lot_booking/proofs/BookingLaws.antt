@@ -19,10 +19,10 @@ use Rattle.lot_inv.specs.Inventory.{MatchingLotsAreDistinct, matching, other_sig
 use Rattle.lot_inv.specs.LotKey.{lot_cmp}
 use Rattle.lot_inv.proofs.OrderLemmas.{lots_total}
 use Rattle.lot_booking.specs.declared.fault.BookingFault.{BookingFault}
-use Rattle.lot_booking.specs.declared.fault.BookingFault.TheVariants.{ZeroUnits, IncompleteCost, NoMatch, Ambiguous, NotEnough, Memory}
+use Rattle.lot_booking.specs.declared.fault.BookingFault.TheVariants.{ZeroUnits, InexactCost, IncompleteCost, NoMatch, Ambiguous, NotEnough, Memory}
 use Rattle.lot_booking.specs.declared.method.Method.{Method}
 use Rattle.lot_booking.specs.declared.method.Method.TheVariants.{Strict, Fifo, Lifo, Hifo, Unmatched}
-use Rattle.lot_booking.specs.Booking.{AreTaken, Augments, ComesTo, Braced, FindsNone, IsOneLeg, Legs, Outcome, Reduces, Refused, TakesFrom, candidates, is_ambiguous, opened_key, spec_of, units_in}
+use Rattle.lot_booking.specs.Booking.{AreTaken, Augments, ComesTo, Braced, FindsNone, IsOneLeg, Legs, Outcome, Reduces, Refused, TakesFrom, candidates, is_ambiguous, is_inexact, opened_key, spec_of, units_in}
 use Rattle.lot_booking.specs.Choice.{AreInOrder, Choice, HasNoChoice, HaveDistinctKeys, IsChoice, Rule, Takes, chosen_legs, given, with_sign_of}
 use Rattle.lot_booking.specs.Method.{is_strict, order_of, rule_of}
 use Rattle.lot_booking.specs.Order.{IsOrder, oldest_first, newest_first, highest_first}
@@ -95,8 +95,8 @@ chosen_each P units choice (lot ∷ lots) each =
 
 pub candidates_distinct : MatchingLotsAreDistinct → (posting : Braced) → HaveDistinctKeys (candidates posting)
 candidates_distinct sorted posting =
-    let lots = matching posting.held posting.commodity (spec_of posting.cost) in
-    distinct_among (λ (lot : LotKey × ℤ). other_sign lot.1 posting.units) lots (sorted posting.held posting.commodity (spec_of posting.cost))
+    let lots = matching posting.held posting.commodity (spec_of posting.units posting.cost) in
+    distinct_among (λ (lot : LotKey × ℤ). other_sign lot.1 posting.units) lots (sorted posting.held posting.commodity (spec_of posting.units posting.cost))
 
 pub taken_from : MatchingLotsAreDistinct → (posting : Braced) (legs : List (LotKey × ℤ)) → AreTaken posting legs → AllByRecursion (TakesFrom (candidates posting)) legs
 taken_from sorted posting legs takes =
@@ -104,7 +104,7 @@ taken_from sorted posting legs takes =
     let choice = takes.choice in
     let units = posting.units in
     let signs = recursion_from_All (λ (lot : LotKey × ℤ). other_sign lot.1 units ≡ true) lots
-    (filter_passes (λ (lot : LotKey × ℤ). other_sign lot.1 units) (matching posting.held posting.commodity (spec_of posting.cost))) in
+    (filter_passes (λ (lot : LotKey × ℤ). other_sign lot.1 units) (matching posting.held posting.commodity (spec_of posting.units posting.cost))) in
     subst (AllByRecursion (TakesFrom lots)) (sym takes.chosen)
     (chosen_each (TakesFrom lots) units choice takes.listed
     (each_member (λ (lot : LotKey × ℤ). 1 ≤ choice lot.0 → TakesFrom lots (lot.0, with_sign_of units (choice lot.0))) takes.listed
@@ -245,7 +245,7 @@ opened_with spec units day (Some number) (Some currency) = Legs false ((opened_k
 
 abbrev opened : Braced → Outcome
 opened posting =
-    let spec = spec_of posting.cost in
+    let spec = spec_of posting.units posting.cost in
     opened_with spec posting.units posting.day spec.number spec.currency
 
 -- why there is no choice among these lots
@@ -260,6 +260,7 @@ refusal posting = Refused (why_none (candidates posting) (is_ambiguous posting))
 -- an outcome, by what becomes of the posting
 data CaseOf (posting : Braced) (outcome : Outcome) : Type 0 where
   Idle : posting.units ≡ pos 0 → outcome ≡ Refused ZeroUnits → CaseOf posting outcome
+  Inexact : posting.units ≢ pos 0 → is_inexact posting.units posting.cost ≡ true → outcome ≡ Refused InexactCost → CaseOf posting outcome
   Opens : Augments posting → outcome ≡ opened posting → CaseOf posting outcome
   TakesSome : Reduces posting → (legs : List (LotKey × ℤ)) → AreTaken posting legs → outcome ≡ Legs true legs → CaseOf posting outcome
   TakesNone : Reduces posting → FindsNone posting → outcome ≡ refusal posting → CaseOf posting outcome
@@ -290,11 +291,12 @@ none_of_none : (allows : Rule) (lots : List (LotKey × ℤ)) (units : ℤ) → u
 none_of_none allows lots units some empty choice is = some (no_size units (ap (given choice) (sym empty) ∙ is.sum))
 
 case_of : (posting : Braced) (outcome : Outcome) → ComesTo posting outcome → CaseOf posting outcome
-case_of posting (Legs false legs) h = Opens h.0 (opened-leg (spec_of posting.cost) posting.units posting.day legs h.1)
+case_of posting (Legs false legs) h = Opens h.0 (opened-leg (spec_of posting.units posting.cost) posting.units posting.day legs h.1)
 case_of posting (Legs true legs) h = TakesSome h.0 legs h.1 refl
 case_of posting (Refused ZeroUnits) h = Idle h refl
+case_of posting (Refused InexactCost) h = Inexact h.0 h.1 refl
 case_of posting (Refused IncompleteCost) h =
-    let spec = spec_of posting.cost in
+    let spec = spec_of posting.units posting.cost in
     Opens h.0 (opened-incomplete spec posting.units posting.day spec.number spec.currency h.1)
 case_of posting (Refused NoMatch) h =
     TakesNone h.0 (none_of_none (rule_of posting.method) (candidates posting) posting.units h.0.0 h.1)
@@ -305,10 +307,19 @@ case_of posting (Refused Memory) h = absurd h
 
 -- a posting doesn't both open and take
 not_both : (posting : Braced) → Augments posting → Reduces posting → ⊥
-not_both posting a b = true≢false (sym b.1 ∙ a.1)
+not_both posting a b = true≢false (sym b.2 ∙ a.2)
 
 case_once : (posting : Braced) (one other : Outcome) → CaseOf posting one → CaseOf posting other → one ≡ other
 case_once posting one other (Idle z a) (Idle _ b) = a ∙ sym b
+case_once posting one other (Idle z a) (Inexact s e b) = absurd (s z)
+case_once posting one other (Inexact s e a) (Idle z b) = absurd (s z)
+case_once posting one other (Inexact s e a) (Inexact _ _ b) = a ∙ sym b
+case_once posting one other (Inexact s e a) (Opens h b) = absurd (true≢false (sym e ∙ h.1))
+case_once posting one other (Inexact s e a) (TakesSome h legs t b) = absurd (true≢false (sym e ∙ h.1))
+case_once posting one other (Inexact s e a) (TakesNone h t b) = absurd (true≢false (sym e ∙ h.1))
+case_once posting one other (Opens h a) (Inexact s e b) = absurd (true≢false (sym e ∙ h.1))
+case_once posting one other (TakesSome h legs t a) (Inexact s e b) = absurd (true≢false (sym e ∙ h.1))
+case_once posting one other (TakesNone h t a) (Inexact s e b) = absurd (true≢false (sym e ∙ h.1))
 case_once posting one other (Idle z a) (Opens h b) = absurd (h.0 z)
 case_once posting one other (Idle z a) (TakesSome h legs t b) = absurd (h.0 z)
 case_once posting one other (Idle z a) (TakesNone h t b) = absurd (h.0 z)

@@ -3,7 +3,7 @@ use Rattle.std.specs.Prelude.{◌≡◌, ℕ, ◌≤◌, ◌<◌, ◌-◌, min, 
 use Rattle.lot_inv.specs.declared.cost_spec.CostSpec.{CostSpec}
 use Rattle.lot_inv.specs.declared.lot_key.LotKey.{LotKey}
 use Rattle.lot_booking.specs.declared.fault.BookingFault.{BookingFault}
-use Rattle.lot_booking.specs.declared.fault.BookingFault.TheVariants.{ZeroUnits, IncompleteCost, NoMatch, Ambiguous, NotEnough, Memory}
+use Rattle.lot_booking.specs.declared.fault.BookingFault.TheVariants.{ZeroUnits, InexactCost, IncompleteCost, NoMatch, Ambiguous, NotEnough, Memory}
 use Rattle.lot_booking.specs.Booking.{is_incomplete}
 use Rattle.lot_booking.specs.Choice.{HasNoChoice, OneOrWhole, with_sign_of}
 
@@ -19,6 +19,7 @@ abbrev pub StopsOpening : CostSpec → BookingFault → Type 0
 StopsOpening spec IncompleteCost = is_incomplete spec ≡ true
 StopsOpening spec Memory = is_incomplete spec ≡ false
 StopsOpening spec ZeroUnits = ⊥
+StopsOpening spec InexactCost = ⊥
 StopsOpening spec NoMatch = ⊥
 StopsOpening spec Ambiguous = ⊥
 StopsOpening spec NotEnough = ⊥
@@ -29,5 +30,6 @@ StopsStrict lots units Ambiguous = (2 ≤ length lots) × HasNoChoice OneOrWhole
 StopsStrict lots units NotEnough = (length lots < 2) × HasNoChoice OneOrWhole lots (unsigned_abs units)
 StopsStrict lots units Memory = ⊤
 StopsStrict lots units ZeroUnits = ⊥
+StopsStrict lots units InexactCost = ⊥
 StopsStrict lots units IncompleteCost = ⊥
 StopsStrict lots units NoMatch = ⊥

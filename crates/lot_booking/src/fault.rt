@@ -1,12 +1,15 @@
 use std::alloc::{AllocError, AllocFailed};
 use thiserror::Error;
 
-/// Why a posting with braces has no legs. Where several of the first five hold, the first in this order is reported.
+/// Why a posting with braces has no legs. Where several of the first six hold, the first in this order is reported.
 #[derive(Clone, Copy, Debug, PartialEq, Eq, Error)]
 pub enum BookingFault {
     /// It has zero units.
     #[error("the units are zero")]
     ZeroUnits,
+    /// Its whole cost by its units isn't exactly a rate.
+    #[error("the whole cost by the units is not exactly a rate")]
+    InexactCost,
     /// It opens a lot, and gives no number or no currency.
     #[error("the cost has no number or no currency")]
     IncompleteCost,

@@ -7,10 +7,9 @@ mod newest;
 mod oldest;
 
 pub use highest::Highest;
+use lot_inv::LotKey;
 pub use newest::Newest;
 pub use oldest::Oldest;
-
-use lot_inv::LotKey;
 
 /// In which order lots are taken.
 ///
