@@ -17,7 +17,7 @@ use Rattle.lot_booking.specs.declared.fault.TakeFault.TheVariants.{NotEnough as 
 use Rattle.lot_booking.specs.Choice.{Choice, HasNoChoice, HaveDistinctKeys, InTurn, IsChoice, IsWhole, OneOrWhole, Takes, held_in}
 use Rattle.lot_booking.specs.Fault.{booking_fault}
 use Rattle.lot_booking.specs.Order.{oldest_first}
-use Rattle.lot_booking.specs.Way.{StopsNamed}
+use Rattle.lot_booking.specs.Way.{StopsStrict}
 use Rattle.lot_booking.proofs.ChoiceLemmas.{given-from_whole, whole-from_given}
 use Rattle.lot_booking.proofs.ListLemmas.{all_weaker, each_member}
 
@@ -81,9 +81,9 @@ one_or_whole (lot ∷ next ∷ lots) amount choice exact is =
     inr (whole-from_given choice (lot ∷ next ∷ lots) is.within (is.sum ∙ sym (exact (omega arith))))
 
 -- a choice in turn is one under STRICT where there is one lot, or where the lots hold exactly the amount
-pub taken_by_name : (lots : List (LotKey × ℤ)) (units : ℤ) (legs : List (LotKey × ℤ)) → (2 ≤ length lots → held_in lots ≡ unsigned_abs units)
+pub taken_strictly : (lots : List (LotKey × ℤ)) (units : ℤ) (legs : List (LotKey × ℤ)) → (2 ≤ length lots → held_in lots ≡ unsigned_abs units)
     → Takes (InTurn oldest_first) oldest_first lots units legs → Takes OneOrWhole oldest_first lots units legs
-taken_by_name lots units legs exact takes = record {
+taken_strictly lots units legs exact takes = record {
   choice = takes.choice;
   is = record { within = takes.is.within; sum = takes.is.sum; allowed = one_or_whole lots (unsigned_abs units) takes.choice exact takes.is };
   listed = takes.listed;
@@ -93,12 +93,12 @@ taken_by_name lots units legs exact takes = record {
 }
 
 -- why STRICT takes nothing where nothing is taken in turn
-pub named_stops : (lots : List (LotKey × ℤ)) (units : ℤ) (fault : TakeFault) → HaveDistinctKeys lots → (2 ≤ length lots → held_in lots ≡ unsigned_abs units)
-    → (fault ≡ TooFew → HasNoChoice (InTurn oldest_first) lots (unsigned_abs units)) → StopsNamed lots units (booking_fault fault)
-named_stops lots units NoMemory distinct exact none = tt
-named_stops [] units TooFew distinct exact none = (omega arith, none_of_one [] (unsigned_abs units) (omega arith) (none refl))
-named_stops (lot ∷ []) units TooFew distinct exact none = (omega arith, none_of_one (lot ∷ []) (unsigned_abs units) (omega arith) (none refl))
-named_stops (lot ∷ next ∷ lots) units TooFew distinct exact none =
+pub strict_stops : (lots : List (LotKey × ℤ)) (units : ℤ) (fault : TakeFault) → HaveDistinctKeys lots → (2 ≤ length lots → held_in lots ≡ unsigned_abs units)
+    → (fault ≡ TooFew → HasNoChoice (InTurn oldest_first) lots (unsigned_abs units)) → StopsStrict lots units (booking_fault fault)
+strict_stops lots units NoMemory distinct exact none = tt
+strict_stops [] units TooFew distinct exact none = (omega arith, none_of_one [] (unsigned_abs units) (omega arith) (none refl))
+strict_stops (lot ∷ []) units TooFew distinct exact none = (omega arith, none_of_one (lot ∷ []) (unsigned_abs units) (omega arith) (none refl))
+strict_stops (lot ∷ next ∷ lots) units TooFew distinct exact none =
     absurd (enough_held (lot ∷ next ∷ lots) (unsigned_abs units) distinct (exact (omega arith)) (none refl))
 
 -- ---- the lots that may be taken

@@ -19,15 +19,15 @@ use Rattle.lot_inv.specs.Inventory.{MatchingLotsAreDistinct, matching, other_sig
 use Rattle.lot_inv.specs.LotKey.{lot_cmp}
 use Rattle.lot_inv.proofs.OrderLemmas.{lots_total}
 use Rattle.lot_booking.specs.declared.fault.BookingFault.{BookingFault}
-use Rattle.lot_booking.specs.declared.fault.BookingFault.TheVariants.{ZeroUnits, IncompleteCost, NoMatch, Ambiguous, NotEnough, Memory}
+use Rattle.lot_booking.specs.declared.fault.BookingFault.TheVariants.{ZeroUnits, InexactCost, IncompleteCost, NoMatch, Ambiguous, NotEnough, Memory}
 use Rattle.lot_booking.specs.declared.method.Method.{Method}
 use Rattle.lot_booking.specs.declared.method.Method.TheVariants.{Strict, Fifo, Lifo, Hifo, Unmatched}
-use Rattle.lot_booking.specs.Booking.{AreTaken, Augments, Books, Braced, FindsNone, IsOneLeg, Legs, Outcome, Reduces, Refused, TakesFrom, candidates, is_ambiguous, opened_key, spec_of, units_in}
+use Rattle.lot_booking.specs.Booking.{AreTaken, Augments, ComesTo, Braced, FindsNone, IsOneLeg, Legs, Outcome, Reduces, Refused, TakesFrom, candidates, is_ambiguous, is_inexact, opened_key, spec_of, units_in}
 use Rattle.lot_booking.specs.Choice.{AreInOrder, Choice, HasNoChoice, HaveDistinctKeys, IsChoice, Rule, Takes, chosen_legs, given, with_sign_of}
 use Rattle.lot_booking.specs.Method.{is_strict, order_of, rule_of}
 use Rattle.lot_booking.specs.Order.{IsOrder, oldest_first, newest_first, highest_first}
 use Rattle.lot_booking.specs.OrderLaws.{oldest_is_order, newest_is_order, highest_is_order}
-use Rattle.lot_booking.proofs.ChoiceLaws.{one_in_turn, one_named}
+use Rattle.lot_booking.proofs.ChoiceLaws.{one_in_turn, one_strict}
 use Rattle.lot_booking.proofs.ChoiceLemmas.{distinct_among}
 use Rattle.lot_booking.proofs.ListLemmas.{at_member, each_member}
 
@@ -73,10 +73,10 @@ taken_units allows before lots units legs takes =
     sum_by-IsPermutation (λ (lot : LotKey × ℤ). takes.choice lot.0) lots takes.listed takes.same ∙ takes.is.sum in
     ap units_in takes.chosen ∙ units_in-chosen units takes.choice takes.listed ∙ ap (with_sign_of units) listed ∙ whole_amount units
 
-pub booked_units : (posting : Braced) (reduces : Bool) (legs : List (LotKey × ℤ)) → Books posting (Legs reduces legs) → units_in legs ≡ posting.units
-booked_units posting false legs books = ap units_in books.1.leg ∙ +ℤ_idr posting.units
-booked_units posting true legs books =
-    taken_units (rule_of posting.method) (order_of posting.method) (candidates posting) posting.units legs books.1
+pub units_of_legs : (posting : Braced) (reduces : Bool) (legs : List (LotKey × ℤ)) → ComesTo posting (Legs reduces legs) → units_in legs ≡ posting.units
+units_of_legs posting false legs comes = ap units_in comes.1.leg ∙ +ℤ_idr posting.units
+units_of_legs posting true legs comes =
+    taken_units (rule_of posting.method) (order_of posting.method) (candidates posting) posting.units legs comes.1
 
 -- ---- which lots the legs take from
 
@@ -95,8 +95,8 @@ chosen_each P units choice (lot ∷ lots) each =
 
 pub candidates_distinct : MatchingLotsAreDistinct → (posting : Braced) → HaveDistinctKeys (candidates posting)
 candidates_distinct sorted posting =
-    let lots = matching posting.held posting.commodity (spec_of posting.cost) in
-    distinct_among (λ (lot : LotKey × ℤ). other_sign lot.1 posting.units) lots (sorted posting.held posting.commodity (spec_of posting.cost))
+    let lots = matching posting.held posting.commodity (spec_of posting.units posting.cost) in
+    distinct_among (λ (lot : LotKey × ℤ). other_sign lot.1 posting.units) lots (sorted posting.held posting.commodity (spec_of posting.units posting.cost))
 
 pub taken_from : MatchingLotsAreDistinct → (posting : Braced) (legs : List (LotKey × ℤ)) → AreTaken posting legs → AllByRecursion (TakesFrom (candidates posting)) legs
 taken_from sorted posting legs takes =
@@ -104,7 +104,7 @@ taken_from sorted posting legs takes =
     let choice = takes.choice in
     let units = posting.units in
     let signs = recursion_from_All (λ (lot : LotKey × ℤ). other_sign lot.1 units ≡ true) lots
-    (filter_passes (λ (lot : LotKey × ℤ). other_sign lot.1 units) (matching posting.held posting.commodity (spec_of posting.cost))) in
+    (filter_passes (λ (lot : LotKey × ℤ). other_sign lot.1 units) (matching posting.held posting.commodity (spec_of posting.units posting.cost))) in
     subst (AllByRecursion (TakesFrom lots)) (sym takes.chosen)
     (chosen_each (TakesFrom lots) units choice takes.listed
     (each_member (λ (lot : LotKey × ℤ). 1 ≤ choice lot.0 → TakesFrom lots (lot.0, with_sign_of units (choice lot.0))) takes.listed
@@ -215,7 +215,7 @@ in_order_of Unmatched = oldest_is_order
 
 one_choice : (method : Method) (lots : List (LotKey × ℤ)) (amount : ℕ) (one other : Choice)
     → IsChoice (rule_of method) lots amount one → IsChoice (rule_of method) lots amount other → AllByRecursion (λ (lot : LotKey × ℤ). one lot.0 ≡ other lot.0) lots
-one_choice Strict lots amount one other a b = one_named lots amount one other a b
+one_choice Strict lots amount one other a b = one_strict lots amount one other a b
 one_choice Fifo lots amount one other a b = one_in_turn oldest_first oldest_is_order lots amount one other a b
 one_choice Lifo lots amount one other a b = one_in_turn newest_first newest_is_order lots amount one other a b
 one_choice Hifo lots amount one other a b = one_in_turn highest_first highest_is_order lots amount one other a b
@@ -245,7 +245,7 @@ opened_with spec units day (Some number) (Some currency) = Legs false ((opened_k
 
 abbrev opened : Braced → Outcome
 opened posting =
-    let spec = spec_of posting.cost in
+    let spec = spec_of posting.units posting.cost in
     opened_with spec posting.units posting.day spec.number spec.currency
 
 -- why there is no choice among these lots
@@ -258,11 +258,12 @@ abbrev refusal : Braced → Outcome
 refusal posting = Refused (why_none (candidates posting) (is_ambiguous posting))
 
 -- an outcome, by what becomes of the posting
-data Told (posting : Braced) (outcome : Outcome) : Type 0 where
-  Idle : posting.units ≡ pos 0 → outcome ≡ Refused ZeroUnits → Told posting outcome
-  Opens : Augments posting → outcome ≡ opened posting → Told posting outcome
-  TakesSome : Reduces posting → (legs : List (LotKey × ℤ)) → AreTaken posting legs → outcome ≡ Legs true legs → Told posting outcome
-  TakesNone : Reduces posting → FindsNone posting → outcome ≡ refusal posting → Told posting outcome
+data CaseOf (posting : Braced) (outcome : Outcome) : Type 0 where
+  Idle : posting.units ≡ pos 0 → outcome ≡ Refused ZeroUnits → CaseOf posting outcome
+  Inexact : posting.units ≢ pos 0 → is_inexact posting.units posting.cost ≡ true → outcome ≡ Refused InexactCost → CaseOf posting outcome
+  Opens : Augments posting → outcome ≡ opened posting → CaseOf posting outcome
+  TakesSome : Reduces posting → (legs : List (LotKey × ℤ)) → AreTaken posting legs → outcome ≡ Legs true legs → CaseOf posting outcome
+  TakesNone : Reduces posting → FindsNone posting → outcome ≡ refusal posting → CaseOf posting outcome
 
 opened-leg : (spec : CostSpec) (units day : ℤ) (legs : List (LotKey × ℤ)) → IsOneLeg spec units day legs → Legs false legs ≡ opened_with spec units day spec.number spec.currency
 opened-leg spec units day legs h =
@@ -289,41 +290,51 @@ no_size units e = grind (arith, ints)
 none_of_none : (allows : Rule) (lots : List (LotKey × ℤ)) (units : ℤ) → units ≢ pos 0 → lots ≡ [] → HasNoChoice allows lots (unsigned_abs units)
 none_of_none allows lots units some empty choice is = some (no_size units (ap (given choice) (sym empty) ∙ is.sum))
 
-told : (posting : Braced) (outcome : Outcome) → Books posting outcome → Told posting outcome
-told posting (Legs false legs) h = Opens h.0 (opened-leg (spec_of posting.cost) posting.units posting.day legs h.1)
-told posting (Legs true legs) h = TakesSome h.0 legs h.1 refl
-told posting (Refused ZeroUnits) h = Idle h refl
-told posting (Refused IncompleteCost) h =
-    let spec = spec_of posting.cost in
+case_of : (posting : Braced) (outcome : Outcome) → ComesTo posting outcome → CaseOf posting outcome
+case_of posting (Legs false legs) h = Opens h.0 (opened-leg (spec_of posting.units posting.cost) posting.units posting.day legs h.1)
+case_of posting (Legs true legs) h = TakesSome h.0 legs h.1 refl
+case_of posting (Refused ZeroUnits) h = Idle h refl
+case_of posting (Refused InexactCost) h = Inexact h.0 h.1 refl
+case_of posting (Refused IncompleteCost) h =
+    let spec = spec_of posting.units posting.cost in
     Opens h.0 (opened-incomplete spec posting.units posting.day spec.number spec.currency h.1)
-told posting (Refused NoMatch) h =
+case_of posting (Refused NoMatch) h =
     TakesNone h.0 (none_of_none (rule_of posting.method) (candidates posting) posting.units h.0.0 h.1)
     (ap (λ lots. Refused (why_none lots (is_ambiguous posting))) (sym h.1))
-told posting (Refused Ambiguous) h = TakesNone h.0 h.2 (ap Refused (why_none-ambiguous (is_strict posting.method) (candidates posting) h.1))
-told posting (Refused NotEnough) h = TakesNone h.0 h.3 (ap Refused (why_none-not_enough (candidates posting) (is_ambiguous posting) h.1 h.2))
-told posting (Refused Memory) h = absurd h
+case_of posting (Refused Ambiguous) h = TakesNone h.0 h.2 (ap Refused (why_none-ambiguous (is_strict posting.method) (candidates posting) h.1))
+case_of posting (Refused NotEnough) h = TakesNone h.0 h.3 (ap Refused (why_none-not_enough (candidates posting) (is_ambiguous posting) h.1 h.2))
+case_of posting (Refused Memory) h = absurd h
 
 -- a posting doesn't both open and take
 not_both : (posting : Braced) → Augments posting → Reduces posting → ⊥
-not_both posting a b = true≢false (sym b.1 ∙ a.1)
+not_both posting a b = true≢false (sym b.2 ∙ a.2)
 
-told_once : (posting : Braced) (one other : Outcome) → Told posting one → Told posting other → one ≡ other
-told_once posting one other (Idle z a) (Idle _ b) = a ∙ sym b
-told_once posting one other (Idle z a) (Opens h b) = absurd (h.0 z)
-told_once posting one other (Idle z a) (TakesSome h legs t b) = absurd (h.0 z)
-told_once posting one other (Idle z a) (TakesNone h t b) = absurd (h.0 z)
-told_once posting one other (Opens g a) (Idle z b) = absurd (g.0 z)
-told_once posting one other (Opens g a) (Opens h b) = a ∙ sym b
-told_once posting one other (Opens g a) (TakesSome h legs t b) = absurd (not_both posting g h)
-told_once posting one other (Opens g a) (TakesNone h t b) = absurd (not_both posting g h)
-told_once posting one other (TakesSome g legs s a) (Idle z b) = absurd (g.0 z)
-told_once posting one other (TakesSome g legs s a) (Opens h b) = absurd (not_both posting h g)
-told_once posting one other (TakesSome g legs s a) (TakesSome h others t b) = a ∙ ap (Legs true) (taken_once posting legs others s t) ∙ sym b
-told_once posting one other (TakesSome g legs s a) (TakesNone h t b) = absurd (t s.choice s.is)
-told_once posting one other (TakesNone g s a) (Idle z b) = absurd (g.0 z)
-told_once posting one other (TakesNone g s a) (Opens h b) = absurd (not_both posting h g)
-told_once posting one other (TakesNone g s a) (TakesSome h legs t b) = absurd (s t.choice t.is)
-told_once posting one other (TakesNone g s a) (TakesNone h t b) = a ∙ sym b
+case_once : (posting : Braced) (one other : Outcome) → CaseOf posting one → CaseOf posting other → one ≡ other
+case_once posting one other (Idle z a) (Idle _ b) = a ∙ sym b
+case_once posting one other (Idle z a) (Inexact s e b) = absurd (s z)
+case_once posting one other (Inexact s e a) (Idle z b) = absurd (s z)
+case_once posting one other (Inexact s e a) (Inexact _ _ b) = a ∙ sym b
+case_once posting one other (Inexact s e a) (Opens h b) = absurd (true≢false (sym e ∙ h.1))
+case_once posting one other (Inexact s e a) (TakesSome h legs t b) = absurd (true≢false (sym e ∙ h.1))
+case_once posting one other (Inexact s e a) (TakesNone h t b) = absurd (true≢false (sym e ∙ h.1))
+case_once posting one other (Opens h a) (Inexact s e b) = absurd (true≢false (sym e ∙ h.1))
+case_once posting one other (TakesSome h legs t a) (Inexact s e b) = absurd (true≢false (sym e ∙ h.1))
+case_once posting one other (TakesNone h t a) (Inexact s e b) = absurd (true≢false (sym e ∙ h.1))
+case_once posting one other (Idle z a) (Opens h b) = absurd (h.0 z)
+case_once posting one other (Idle z a) (TakesSome h legs t b) = absurd (h.0 z)
+case_once posting one other (Idle z a) (TakesNone h t b) = absurd (h.0 z)
+case_once posting one other (Opens g a) (Idle z b) = absurd (g.0 z)
+case_once posting one other (Opens g a) (Opens h b) = a ∙ sym b
+case_once posting one other (Opens g a) (TakesSome h legs t b) = absurd (not_both posting g h)
+case_once posting one other (Opens g a) (TakesNone h t b) = absurd (not_both posting g h)
+case_once posting one other (TakesSome g legs s a) (Idle z b) = absurd (g.0 z)
+case_once posting one other (TakesSome g legs s a) (Opens h b) = absurd (not_both posting h g)
+case_once posting one other (TakesSome g legs s a) (TakesSome h others t b) = a ∙ ap (Legs true) (taken_once posting legs others s t) ∙ sym b
+case_once posting one other (TakesSome g legs s a) (TakesNone h t b) = absurd (t s.choice s.is)
+case_once posting one other (TakesNone g s a) (Idle z b) = absurd (g.0 z)
+case_once posting one other (TakesNone g s a) (Opens h b) = absurd (not_both posting h g)
+case_once posting one other (TakesNone g s a) (TakesSome h legs t b) = absurd (s t.choice t.is)
+case_once posting one other (TakesNone g s a) (TakesNone h t b) = a ∙ sym b
 
-pub one_outcome : (posting : Braced) (one other : Outcome) → Books posting one → Books posting other → one ≡ other
-one_outcome posting one other a b = told_once posting one other (told posting one a) (told posting other b)
+pub one_outcome : (posting : Braced) (one other : Outcome) → ComesTo posting one → ComesTo posting other → one ≡ other
+one_outcome posting one other a b = case_once posting one other (case_of posting one a) (case_of posting other b)

@@ -26,9 +26,9 @@ both_whole : (lots : List (LotKey × ℤ)) (one other : Choice) → AllByRecursi
 both_whole [] one other a b = tt
 both_whole (lot ∷ lots) one other a b = (a.0 ∙ sym b.0, both_whole lots one other a.1 b.1)
 
-pub one_named : (lots : List (LotKey × ℤ)) (amount : ℕ) (one other : Choice) → IsChoice OneOrWhole lots amount one → IsChoice OneOrWhole lots amount other
+pub one_strict : (lots : List (LotKey × ℤ)) (amount : ℕ) (one other : Choice) → IsChoice OneOrWhole lots amount one → IsChoice OneOrWhole lots amount other
     → AllByRecursion (λ (lot : LotKey × ℤ). one lot.0 ≡ other lot.0) lots
-one_named lots amount one other a b =
+one_strict lots amount one other a b =
     elim a.allowed [
       | inl single ↦ alone lots amount one other single a.sum b.sum
       | inr whole ↦ elim b.allowed [

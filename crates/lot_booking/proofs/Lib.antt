@@ -4,3 +4,4 @@ pub mod ChoiceLaws
 pub mod ChoiceLemmas
 pub mod ListLemmas
 pub mod TakeLemmas
+pub mod NumberLemmas

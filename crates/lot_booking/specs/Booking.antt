@@ -1,17 +1,18 @@
 -- What becomes of a posting with braces: its legs and whether it reduces, or why it has none (docs/RULES.md, Legs).
-use Rattle.std.specs.Prelude.{◌≡◌, ◌≢◌, ℕ, ◌≤◌, nat_le, Bool, true, false, ◌&&◌, ◌||◌, List, [], ◌∷◌, length, filter, Some, ℤ, pos, unsigned_abs, is_none, ⊤}
+use Rattle.std.specs.Prelude.{◌≡◌, ◌≢◌, ℕ, ◌≤◌, nat_le, Bool, true, false, ◌&&◌, ◌||◌, List, [], ◌∷◌, length, filter, Option, Some, ℤ, pos, unsigned_abs, is_none, ⊤}
 use Rattle.std.specs.BTreeMap.{is_at}
 use Rattle.std.specs.Map.{lookup, values_of}
 use Rattle.std.specs.Option.{unwrap_or}
+use Rattle.lot_num.specs.Amount.{per_unit}
 use Rattle.lot_num.specs.Sum.{sum_of}
 use Rattle.lot_inv.specs.declared.cost_spec.CostSpec.{CostSpec}
 use Rattle.lot_inv.specs.declared.lot_key.LotKey.{LotKey}
 use Rattle.lot_inv.specs.Inventory.{Held, matching, other_sign, reduces}
 use Rattle.lot_inv.specs.LotKey.{lot_cmp}
 use Rattle.lot_booking.specs.declared.cost.Cost.{Cost}
-use Rattle.lot_booking.specs.declared.cost.Cost.TheVariants.{Each}
+use Rattle.lot_booking.specs.declared.cost.Cost.TheVariants.{Each, Whole}
 use Rattle.lot_booking.specs.declared.fault.BookingFault.{BookingFault}
-use Rattle.lot_booking.specs.declared.fault.BookingFault.TheVariants.{ZeroUnits, IncompleteCost, NoMatch, Ambiguous, NotEnough, Memory}
+use Rattle.lot_booking.specs.declared.fault.BookingFault.TheVariants.{ZeroUnits, InexactCost, IncompleteCost, NoMatch, Ambiguous, NotEnough, Memory}
 use Rattle.lot_booking.specs.declared.method.Method.{Method}
 use Rattle.lot_booking.specs.Choice.{HasNoChoice, Takes}
 use Rattle.lot_booking.specs.Method.{is_strict, may_reduce, order_of, rule_of}
@@ -29,9 +30,30 @@ abbrev pub posting_of : Method → Held → List ℕ → ℤ → Cost → ℤ �
 posting_of method held commodity units cost day =
     record { method = method; held = held; commodity = commodity; units = units; cost = cost; day = day }
 
--- the specification of a cost
-abbrev pub spec_of : Cost → CostSpec
-spec_of (Each spec) = spec
+-- ---- what a cost gives of a lot
+
+-- the number for each unit: of a whole cost the total by the units, where that is exactly a rate
+abbrev pub number_of : ℤ → Cost → Option ℕ
+number_of units (Each spec) = spec.number
+number_of units (Whole whole) = per_unit units whole.0
+
+-- what is given beside the total of a whole cost
+abbrev pub given_of : Cost → CostSpec
+given_of (Each spec) = spec
+given_of (Whole whole) = whole.1
+
+-- a specification with that number
+abbrev pub with_number : Option ℕ → CostSpec → CostSpec
+with_number number spec = record { number = number; currency = spec.currency; day = spec.day; label = spec.label }
+
+-- the specification of a cost for so many units
+abbrev pub spec_of : ℤ → Cost → CostSpec
+spec_of units cost = with_number (number_of units cost) (given_of cost)
+
+-- a whole cost that no rate for each unit comes to
+abbrev pub is_inexact : ℤ → Cost → Bool
+is_inexact units (Each spec) = false
+is_inexact units (Whole whole) = is_none (per_unit units whole.0)
 
 -- ---- augmenting
 
@@ -39,9 +61,9 @@ spec_of (Each spec) = spec
 abbrev pub is_reducing : Braced → Bool
 is_reducing posting = may_reduce posting.method && reduces posting.held posting.commodity posting.units
 
--- there are units, and they don't take lots away
+-- there are units, their cost is exact, and they don't take lots away
 abbrev pub Augments : Braced → Type 0
-Augments posting = (posting.units ≢ pos 0) × (is_reducing posting ≡ false)
+Augments posting = (posting.units ≢ pos 0) × (is_inexact posting.units posting.cost ≡ false) × (is_reducing posting ≡ false)
 
 -- the key of the lot that a posting opens, or adds to: the number and the currency, the given day or else that of the
 -- transaction, and the given label or none
@@ -62,9 +84,9 @@ is_incomplete spec = is_none spec.number || is_none spec.currency
 
 -- ---- reducing
 
--- there are units, and they take lots away
+-- there are units, their cost is exact, and they take lots away
 abbrev pub Reduces : Braced → Type 0
-Reduces posting = (posting.units ≢ pos 0) × (is_reducing posting ≡ true)
+Reduces posting = (posting.units ≢ pos 0) × (is_inexact posting.units posting.cost ≡ false) × (is_reducing posting ≡ true)
 
 -- the lots of a commodity that units may take: those of the other sign that the specification fits, in the order of
 -- their keys
@@ -73,7 +95,7 @@ fitting held commodity units spec = filter (λ (lot : LotKey × ℤ). other_sign
 
 -- the lots that a posting may take
 abbrev pub candidates : Braced → List (LotKey × ℤ)
-candidates posting = fitting posting.held posting.commodity posting.units (spec_of posting.cost)
+candidates posting = fitting posting.held posting.commodity posting.units (spec_of posting.units posting.cost)
 
 -- the legs are those of a choice among these lots
 abbrev pub AreTaken : Braced → List (LotKey × ℤ) → Type 0
@@ -83,7 +105,7 @@ AreTaken posting legs = Takes (rule_of posting.method) (order_of posting.method)
 abbrev pub FindsNone : Braced → Type 0
 FindsNone posting = HasNoChoice (rule_of posting.method) (candidates posting) (unsigned_abs posting.units)
 
--- the method wants one lot to be named, and there are several
+-- the method takes one lot, or each of several whole, and there are several
 abbrev pub is_ambiguous : Braced → Bool
 is_ambiguous posting = is_strict posting.method && nat_le 2 (length (candidates posting))
 
@@ -94,24 +116,35 @@ pub data Outcome : Type 0 where
   Legs : Bool → List (LotKey × ℤ) → Outcome
   Refused : BookingFault → Outcome
 
-abbrev pub Books : Braced → Outcome → Type 0
-Books posting (Legs false legs) = Augments posting × IsOneLeg (spec_of posting.cost) posting.units posting.day legs
-Books posting (Legs true legs) = Reduces posting × AreTaken posting legs
-Books posting (Refused ZeroUnits) = posting.units ≡ pos 0
-Books posting (Refused IncompleteCost) = Augments posting × (is_incomplete (spec_of posting.cost) ≡ true)
-Books posting (Refused NoMatch) = Reduces posting × (candidates posting ≡ [])
-Books posting (Refused Ambiguous) = Reduces posting × (is_ambiguous posting ≡ true) × FindsNone posting
-Books posting (Refused NotEnough) = Reduces posting × (candidates posting ≢ []) × (is_ambiguous posting ≡ false) × FindsNone posting
-Books posting (Refused Memory) = ⊥
+-- the posting comes to the outcome
+abbrev pub ComesTo : Braced → Outcome → Type 0
+ComesTo posting (Legs false legs) = Augments posting × IsOneLeg (spec_of posting.units posting.cost) posting.units posting.day legs
+ComesTo posting (Legs true legs) = Reduces posting × AreTaken posting legs
+ComesTo posting (Refused ZeroUnits) = posting.units ≡ pos 0
+ComesTo posting (Refused InexactCost) = (posting.units ≢ pos 0) × (is_inexact posting.units posting.cost ≡ true)
+ComesTo posting (Refused IncompleteCost) = Augments posting × (is_incomplete (spec_of posting.units posting.cost) ≡ true)
+ComesTo posting (Refused NoMatch) = Reduces posting × (candidates posting ≡ [])
+ComesTo posting (Refused Ambiguous) = Reduces posting × (is_ambiguous posting ≡ true) × FindsNone posting
+ComesTo posting (Refused NotEnough) = Reduces posting × (candidates posting ≢ []) × (is_ambiguous posting ≡ false) × FindsNone posting
+ComesTo posting (Refused Memory) = ⊥
 
--- a booking stops at the refusal of the posting, or for want of memory
+-- booking a posting stores something: the key of the lot that it opens, or those of the lots that fit what it gives, the
+-- total of a whole cost aside
+pub record Stores (posting : Braced) : Type 0 where
+  pub some : posting.units ≢ pos 0
+  pub exact : is_inexact posting.units posting.cost ≡ false
+  pub opens : is_reducing posting ≡ false → is_incomplete (spec_of posting.units posting.cost) ≡ false
+  pub takes : is_reducing posting ≡ true → matching posting.held posting.commodity (given_of posting.cost) ≢ []
+
+-- a booking stops at the refusal of the posting, or out of memory where it stores something
 abbrev pub Stops : Braced → BookingFault → Type 0
-Stops posting ZeroUnits = Books posting (Refused ZeroUnits)
-Stops posting IncompleteCost = Books posting (Refused IncompleteCost)
-Stops posting NoMatch = Books posting (Refused NoMatch)
-Stops posting Ambiguous = Books posting (Refused Ambiguous)
-Stops posting NotEnough = Books posting (Refused NotEnough)
-Stops posting Memory = ⊤
+Stops posting ZeroUnits = ComesTo posting (Refused ZeroUnits)
+Stops posting InexactCost = ComesTo posting (Refused InexactCost)
+Stops posting IncompleteCost = ComesTo posting (Refused IncompleteCost)
+Stops posting NoMatch = ComesTo posting (Refused NoMatch)
+Stops posting Ambiguous = ComesTo posting (Refused Ambiguous)
+Stops posting NotEnough = ComesTo posting (Refused NotEnough)
+Stops posting Memory = Stores posting
 
 -- ---- laws
 

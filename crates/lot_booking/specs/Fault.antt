@@ -1,4 +1,4 @@
--- How the faults of taking lots are told of a posting.
+-- The faults of taking lots, as faults of a posting.
 use Rattle.lot_booking.specs.declared.fault.BookingFault.{BookingFault}
 use Rattle.lot_booking.specs.declared.fault.BookingFault.TheVariants.{NotEnough, Memory}
 use Rattle.lot_booking.specs.declared.fault.TakeFault.{TakeFault}

@@ -22,7 +22,7 @@ may_reduce Lifo = true
 may_reduce Hifo = true
 may_reduce Unmatched = false
 
--- whether the method wants to be told which of several lots is meant
+-- whether the method takes one lot, or each of several whole
 abbrev pub is_strict : Method → Bool
 is_strict Strict = true
 is_strict Fifo = false

@@ -1,5 +1,5 @@
--- The three orders of lots are orders: each is a total comparison that tells all keys apart. What implements an order names
--- its law here, beside the definitions.
+-- The three orders of lots are orders: each comparison is total, and only one key ties with a key. What implements an order
+-- names its law here, beside the definitions.
 use Rattle.std.specs.Prelude.{◌≡◌, ◌≢◌, true, ◌||◌}
 use Rattle.std.specs.declared.cmp.Ordering.{Ordering}
 use Rattle.std.specs.declared.cmp.Ordering.TheVariants.{Less, Equal, Greater}
@@ -13,7 +13,7 @@ use Rattle.lot_inv.specs.declared.lot_key.LotKey.{LotKey}
 use Rattle.lot_base.proofs.OrderLemmas.{equal_parts}
 use Rattle.lot_base.specs.Text.{text_cmp}
 use Rattle.lot_inv.proofs.OrderLemmas.{lots_total, exact_lots}
-use Rattle.lot_booking.specs.Order.{IsOrder, label_cmp, oldest_first, newest_first, highest_first}
+use Rattle.lot_booking.specs.Order.{IsOrder, label_cmp, oldest_cmp, oldest_first, newest_cmp, newest_first, highest_cmp, highest_first}
 
 -- ---- an order from a comparison
 
@@ -22,7 +22,7 @@ Less-from_lt Less e = refl
 Less-from_lt Equal e = cc
 Less-from_lt Greater e = cc
 
--- of two keys that aren't told equal one is below the other
+-- of two keys that don't tie one is below the other
 one_is_below : (there back : Ordering) → back ≡ ordering_reverse there → there ≢ Equal → (is_lt there || is_lt back) ≡ true
 one_is_below Less back e apart = refl
 one_is_below Equal back e apart = absurd (apart refl)
@@ -35,7 +35,7 @@ is_order {compare} total exact = record {
   total = λ a b apart. one_is_below (compare a b) (compare b a) (total.antisymm b a) (λ e. apart (exact a b e));
 }
 
--- ---- the three comparisons
+-- ---- the parts of keys
 
 labels_total : IsTotalOrder (λ (a b : LotKey). label_cmp a.label b.label)
 labels_total = on_total (λ (k : LotKey). k.label) (options_total nat_list_cmp_total)
@@ -52,14 +52,18 @@ days_total = on_total (λ (k : LotKey). k.day) int_cmp_total
 then_equal : (a b : Ordering) → a ≡ Equal → b ≡ Equal → ordering_then a b ≡ Equal
 then_equal a b first second = ap (λ o. ordering_then o b) first ∙ second
 
--- keys whose parts are told equal are one
+-- keys whose parts tie are one
 same_key : (a b : LotKey) → int_cmp a.day b.day ≡ Equal → text_cmp a.currency b.currency ≡ Equal → nat_cmp a.number b.number ≡ Equal
     → label_cmp a.label b.label ≡ Equal → a ≡ b
 same_key a b day currency number label = exact_lots a b (then_equal _ _ day (then_equal _ _ currency (then_equal _ _ number label)))
 
-abbrev newest_cmp : LotKey → LotKey → Ordering
-newest_cmp a b = ordering_then (int_cmp b.day a.day) (ordering_then (text_cmp a.currency b.currency)
-    (ordering_then (nat_cmp a.number b.number) (label_cmp a.label b.label)))
+-- ---- the three comparisons
+
+oldest_total : IsTotalOrder oldest_cmp
+oldest_total = lots_total
+
+exact_oldest : CmpEqualImpliesEq oldest_cmp
+exact_oldest = exact_lots
 
 newest_total : IsTotalOrder newest_cmp
 newest_total = then_total (back_total days_total) (then_total currencies_total (then_total numbers_total labels_total))
@@ -70,10 +74,6 @@ exact_newest a b e =
     let currency = equal_parts (text_cmp a.currency b.currency) _ day.1 in
     let number = equal_parts (nat_cmp a.number b.number) _ currency.1 in
     same_key a b (tied_back int_cmp_total b.day a.day day.0) currency.0 number.0 number.1
-
-abbrev highest_cmp : LotKey → LotKey → Ordering
-highest_cmp a b = ordering_then (nat_cmp b.number a.number) (ordering_then (int_cmp a.day b.day)
-    (ordering_then (text_cmp a.currency b.currency) (label_cmp a.label b.label)))
 
 highest_total : IsTotalOrder highest_cmp
 highest_total = then_total (back_total numbers_total) (then_total days_total (then_total currencies_total labels_total))
@@ -88,7 +88,7 @@ exact_highest a b e =
 -- ---- the three orders
 
 pub oldest_is_order : IsOrder oldest_first
-oldest_is_order = is_order lots_total exact_lots
+oldest_is_order = is_order oldest_total exact_oldest
 
 pub newest_is_order : IsOrder newest_first
 newest_is_order = is_order newest_total exact_newest

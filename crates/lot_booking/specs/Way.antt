@@ -1,9 +1,9 @@
 -- The parts on the way to a posting's legs, for the contracts of private functions.
-use Rattle.std.specs.Prelude.{◌≡◌, ℕ, ◌≤◌, ◌<◌, ◌-◌, min, nat_eq, true, if◌then◌else◌, List, [], ◌∷◌, length, ℤ, unsigned_abs, ⊤}
+use Rattle.std.specs.Prelude.{◌≡◌, ℕ, ◌≤◌, ◌<◌, ◌-◌, min, nat_eq, true, false, if◌then◌else◌, List, [], ◌∷◌, length, ℤ, unsigned_abs, ⊤}
 use Rattle.lot_inv.specs.declared.cost_spec.CostSpec.{CostSpec}
 use Rattle.lot_inv.specs.declared.lot_key.LotKey.{LotKey}
 use Rattle.lot_booking.specs.declared.fault.BookingFault.{BookingFault}
-use Rattle.lot_booking.specs.declared.fault.BookingFault.TheVariants.{ZeroUnits, IncompleteCost, NoMatch, Ambiguous, NotEnough, Memory}
+use Rattle.lot_booking.specs.declared.fault.BookingFault.TheVariants.{ZeroUnits, InexactCost, IncompleteCost, NoMatch, Ambiguous, NotEnough, Memory}
 use Rattle.lot_booking.specs.Booking.{is_incomplete}
 use Rattle.lot_booking.specs.Choice.{HasNoChoice, OneOrWhole, with_sign_of}
 
@@ -17,17 +17,19 @@ walked units left (lot ∷ lots) =
 -- why a posting that augments has no leg
 abbrev pub StopsOpening : CostSpec → BookingFault → Type 0
 StopsOpening spec IncompleteCost = is_incomplete spec ≡ true
-StopsOpening spec Memory = ⊤
+StopsOpening spec Memory = is_incomplete spec ≡ false
 StopsOpening spec ZeroUnits = ⊥
+StopsOpening spec InexactCost = ⊥
 StopsOpening spec NoMatch = ⊥
 StopsOpening spec Ambiguous = ⊥
 StopsOpening spec NotEnough = ⊥
 
 -- why a posting under STRICT takes none of the lots that fit
-abbrev pub StopsNamed : List (LotKey × ℤ) → ℤ → BookingFault → Type 0
-StopsNamed lots units Ambiguous = (2 ≤ length lots) × HasNoChoice OneOrWhole lots (unsigned_abs units)
-StopsNamed lots units NotEnough = (length lots < 2) × HasNoChoice OneOrWhole lots (unsigned_abs units)
-StopsNamed lots units Memory = ⊤
-StopsNamed lots units ZeroUnits = ⊥
-StopsNamed lots units IncompleteCost = ⊥
-StopsNamed lots units NoMatch = ⊥
+abbrev pub StopsStrict : List (LotKey × ℤ) → ℤ → BookingFault → Type 0
+StopsStrict lots units Ambiguous = (2 ≤ length lots) × HasNoChoice OneOrWhole lots (unsigned_abs units)
+StopsStrict lots units NotEnough = (length lots < 2) × HasNoChoice OneOrWhole lots (unsigned_abs units)
+StopsStrict lots units Memory = ⊤
+StopsStrict lots units ZeroUnits = ⊥
+StopsStrict lots units InexactCost = ⊥
+StopsStrict lots units IncompleteCost = ⊥
+StopsStrict lots units NoMatch = ⊥

@@ -13,10 +13,11 @@ use lot_num::Units;
 use std::alloc::Global;
 use std::cmp::Ordering;
 
-/// The legs that units take of lots in an order: each lot whole before the next one, until the units are used up. They
-/// have the sign of the units, and stand in the order.
+/// Returns the legs that units take of lots in an order: each lot whole before the next one, until the units are used up.
+/// They have the sign of the units, and stand in the order.
 ///
-/// The lots have distinct keys, and each has the other sign than the units. `NotEnough` exactly where they hold less.
+/// The lots have distinct keys, and each has the other sign than the units. The error is `NotEnough` where the lots hold
+/// less than the units, and `Memory` where there is no memory for the legs.
 pub fn take<O: LotOrder>(
     alloc: Global,
     lots: Vec<(LotKey, Units)>,
@@ -32,7 +33,7 @@ pub fn take<O: LotOrder>(
     in_turn(alloc, lots, units)
 }
 
-/// How an order compares two keys.
+/// Returns how an order compares two keys.
 fn compare<O: LotOrder>(a: &LotKey, b: &LotKey) -> Ordering
     ensures { is_lt result ≡ O.before a.now b.now }
 {
@@ -45,7 +46,7 @@ fn compare<O: LotOrder>(a: &LotKey, b: &LotKey) -> Ordering
     }
 }
 
-/// Takes lots as they stand in the list, each whole before the next one, until the units are used up.
+/// Returns the legs that take lots as they stand in the list, each whole before the next one, until the units are used up.
 fn in_turn(
     alloc: Global,
     lots: Vec<(LotKey, Units)>,
@@ -72,7 +73,7 @@ fn in_turn(
     }
 }
 
-/// So many units, with the sign of other units, which are at least as many.
+/// Returns a part of units, with their sign.
 fn with_sign_of(units: Units, part: u64) -> Units
     requires { part ≤ unsigned_abs units }
     ensures { result ≡ with_sign_of units part }

@@ -21,7 +21,7 @@ mod tests;
 
 pub use booking::{Booked, book, fitting};
 pub use choice::take;
-pub use cost::Cost;
+pub use cost::{Cost, WholeCost};
 pub use fault::{BookingFault, TakeFault};
 pub use method::Method;
 pub use order::{Highest, LotOrder, Newest, Oldest};

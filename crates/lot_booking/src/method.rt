@@ -20,7 +20,7 @@ pub enum Method {
 }
 
 impl Method {
-    /// The method's word, in capitals: STRICT, FIFO, LIFO, HIFO or NONE.
+    /// Returns the method's word, in capitals: STRICT, FIFO, LIFO, HIFO or NONE.
     pub fn name(self) -> &'static str
         ensures { result.now ≡ word_of self }
     {
@@ -33,7 +33,7 @@ impl Method {
         }
     }
 
-    /// The method of that word. None for every other text, also for one in other letters.
+    /// Returns the method of that word, or `None` for every other text, also for a word in small letters.
     pub fn from_name(name: &str) -> Option<Method>
         ensures { (method : Method) → result ≡ Some method ↔ name.now ≡ word_of method }
     {

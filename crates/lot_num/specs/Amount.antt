@@ -1,5 +1,5 @@
 -- Which whole numbers are mantissas (docs/RULES.md, Numbers).
-use Rattle.std.specs.Prelude.{◌≡◌, ◌≢◌, ℕ, ◌^◌, ◌*◌, ◌<◌, ◌≤◌, ℤ, pos, ◌*ℤ◌, unsigned_abs}
+use Rattle.std.specs.Prelude.{◌≡◌, ◌≢◌, ℕ, ◌^◌, ◌*◌, ◌/◌, ◌%◌, ◌<◌, ◌≤◌, nat_eq, nat_lt, Bool, not, ◌&&◌, if◌then◌else◌, Option, None, Some, ℤ, pos, negsuc, ◌*ℤ◌, unsigned_abs}
 
 -- One, as a mantissa at scale 8.
 abbrev pub one : ℕ
@@ -40,3 +40,12 @@ pub record IsPerUnit (units total : ℤ) (rate : ℕ) : Type 0 where
   pub some_units : units ≢ pos 0
   pub in_range : IsRate rate
   pub exact : pos (unsigned_abs units * rate) ≡ total *ℤ pos one
+
+-- whether a total, at scale 16, is a multiple of some units that is a rate
+abbrev pub divides : ℕ → ℕ → Bool
+divides units total = not (nat_eq units 0) && nat_eq (total % units) 0 && nat_lt (total / units) rate_limit
+
+-- the total divided by the units, sign aside, where that is exactly a rate; there is none of a total below zero
+unfoldable pub per_unit : ℤ → ℤ → Option ℕ
+per_unit units (pos total) = if divides (unsigned_abs units) (total * one) then Some (total * one / unsigned_abs units) else None
+per_unit units (negsuc n) = None

@@ -1,8 +1,8 @@
 //! Laws of the definitions and of the constants, each the contract of a function that does nothing, or that
 //! returns the constant.
-ghost use Rattle.std.specs.Prelude.{◌≡◌, ◌≤◌, ℕ, ℤ, pos, List, length, IsTrue, Ok};
+ghost use Rattle.std.specs.Prelude.{◌≡◌, ◌≤◌, ◌↔◌, ℕ, ℤ, pos, List, length, IsTrue, Some, Ok};
 ghost use Rattle.lot_num.specs.declared.number_text.Sign.{Sign};
-ghost use Rattle.lot_num.specs.Amount.{units_limit, rate_limit, greatest_wide, IsUnits, IsRate};
+ghost use Rattle.lot_num.specs.Amount.{units_limit, rate_limit, greatest_wide, IsUnits, IsRate, IsPerUnit, per_unit};
 ghost use Rattle.lot_num.specs.AmountText.{amount_text};
 ghost use Rattle.lot_num.specs.NumberGrammar.{IsNumberText};
 ghost use Rattle.lot_num.specs.NumberText.{is_number, sign_of, whole_part, decimals, units_of, rate_of};
@@ -29,6 +29,11 @@ pub fn zero_weight() -> Wide
 {
     Wide::ZERO
 }
+
+/// A rate for each unit is one at which the units come to exactly the total, and every such rate is.
+pub fn a_rate_for_each_unit_comes_to_the_total()
+    ensures { (units total : ℤ) (rate : ℕ) → (per_unit units total ≡ Some rate) ↔ IsPerUnit units total rate }
+{}
 
 /// The texts that are read as numbers are those of the grammar, and each is cut into the parts that the
 /// grammar gives it: so a number text has one sign, one whole part and one list of decimals.

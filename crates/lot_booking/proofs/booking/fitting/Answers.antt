@@ -19,4 +19,5 @@ returns c =
       all = kept ∙ ap (filter test) c.in_ok-lots.ensures.all;
       distinct = subst HaveDistinctKeys (sym kept) (distinct_among test lots c.in_ok-lots.ensures.distinct);
       signs = subst (AllByRecursion (λ (lot : LotKey × ℤ). test lot ≡ true)) (sym kept) (each_passes test lots);
+      memory = tt;
     }

@@ -1,11 +1,11 @@
 use Rattle.std.proofs.Common.{◌≡◌, ◌*◌, ◌≤◌, take}
-use Rattle.std.specs.Prelude.{◌^◌}
+use Rattle.lot_num.specs.Amount.{units_limit}
 use Rattle.lot_booking.specs.Choice.{held_in}
 use Rattle.lot_booking.proofs.booking.held_in.Given as goal
 
 -- what the lots so far hold, each of them less than the limit of units
 abbrev pub invariant-loop-lot : goal.invariant-loop-lot
 invariant-loop-lot l = record {
-  told : l.held ≡ held_in (take l.lot-index l.lots);
-  room : l.held ≤ l.lot-index * 10 ^ 18;
+  sum : l.held ≡ held_in (take l.lot-index l.lots);
+  room : l.held ≤ l.lot-index * units_limit;
 }

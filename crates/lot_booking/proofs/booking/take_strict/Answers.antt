@@ -3,9 +3,9 @@ use Rattle.std.proofs.Common.{◌≡◌, ◌≢◌, ◌≤◌, Err, length, unsi
 use Rattle.std.proofs.lemmas.Int.{ints, to_z-of_z}
 use Rattle.std.proofs.lemmas.Result.{err_from_is_err_and}
 use Rattle.lot_booking.specs.Choice.{held_in}
-use Rattle.lot_booking.proofs.BookLemmas.{named_stops, none_of_several, taken_by_name}
-use Rattle.lot_booking.proofs.booking.take_named.Goals.{else-len-gt1-via-then-len-gt1+else-held_in-wanted, else-len-gt1-via-else-len-gt1}
-use Rattle.lot_booking.proofs.booking.take_named.Goals as goal
+use Rattle.lot_booking.proofs.BookLemmas.{strict_stops, none_of_several, taken_strictly}
+use Rattle.lot_booking.proofs.booking.take_strict.Goals.{else-len-gt1-via-then-len-gt1+else-held_in-wanted, else-len-gt1-via-else-len-gt1}
+use Rattle.lot_booking.proofs.booking.take_strict.Goals as goal
 
 pub returns-then-held_in-wanted-clause-stops : goal.returns-then-held_in-wanted-clause-stops
 returns-then-held_in-wanted-clause-stops c =
@@ -26,7 +26,7 @@ returns-in_err-take-clause-stops c =
       | else-len-gt1-via-else-len-gt1 w ↦ λ several. absurd (omega arith)
     ] in
     let p = err_from_is_err_and c.from_residual.result c.from_residual.ensures.1 in
-    rw (p.1, p.2) (named_stops lots c.args.units c.in_err-take.field-0.0 c.requires.distinct exact (λ e. c.in_err-take.ensures.not_enough (ap Err e)))
+    rw (p.1, p.2) (strict_stops lots c.args.units c.in_err-take.field-0.0 c.requires.distinct exact (λ e. c.in_err-take.ensures.not_enough (ap Err e)))
 
 pub returns-clause-taken : goal.returns-clause-taken
 returns-clause-taken c =
@@ -38,4 +38,4 @@ returns-clause-taken c =
           omega arith
       | else-len-gt1-via-else-len-gt1 w ↦ λ several. absurd (omega arith)
     ] in
-    taken_by_name lots c.args.units c.in_ok-take.field-0.items exact c.in_ok-take.ensures.taken
+    taken_strictly lots c.args.units c.in_ok-take.field-0.items exact c.in_ok-take.ensures.taken
