@@ -2,6 +2,8 @@ ghost use Rattle.std.specs.Prelude.{◌≡◌, Bool};
 ghost use Rattle.lot_inv.specs.declared.lot_key.LotKey.{LotKey};
 ghost use Rattle.lot_booking.specs.Order.{IsOrder};
 
+use lot_inv::LotKey;
+
 mod highest;
 mod newest;
 mod oldest;
@@ -9,8 +11,6 @@ mod oldest;
 pub use highest::Highest;
 pub use newest::Newest;
 pub use oldest::Oldest;
-
-use lot_inv::LotKey;
 
 /// In which order lots are taken.
 ///

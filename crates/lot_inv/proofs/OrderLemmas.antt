@@ -1,4 +1,4 @@
--- The orders of lot keys and of positions are total, and tell all of them apart.
+-- The orders of lot keys and of positions are total, and only equal ones tie.
 use Rattle.std.specs.Cmp.{IsTotalOrder}
 use Rattle.std.specs.Cmp.Lexicographic.{options_total}
 use Rattle.std.specs.Option.{option_cmp}
