@@ -1,5 +1,5 @@
 -- The dates that the calendar has, as a test and as a fact.
-use Rattle.std.proofs.Common.{◌≡◌, Some, ℕ, ◌≤◌, Bool, true, false, refl, arith, ℤ, pos, neg_ℤ, ◌≤ℤ◌}
+use Rattle.std.proofs.Common.{◌≡◌, Some, ℕ, ◌≤◌, true, arith, ℤ, pos, neg_ℤ, ◌≤ℤ◌}
 use Rattle.std.specs.Prelude.{nat_le, ◌&&◌, OkIff, Result, Ok, Err}
 use Rattle.std.specs.Result.{result_ok}
 use Rattle.std.proofs.lemmas.Bool.{and_parts, false_from_ne_true}

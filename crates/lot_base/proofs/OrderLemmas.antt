@@ -12,7 +12,7 @@ equal_parts Less b e = cc
 equal_parts Equal b e = (refl, e)
 equal_parts Greater b e = cc
 
--- an order that tells values apart tells options of them apart
+-- an order in which only equal values tie has only equal options tie
 pub exact_options : {K : Type 0} (order : K → K → Ordering) → CmpEqualImpliesEq order → CmpEqualImpliesEq (option_cmp order)
 exact_options order exact None None e = refl
 exact_options order exact None (Some b) e = cc

@@ -1,5 +1,5 @@
 -- A list that is cut at the elements that pass a test.
-use Rattle.std.proofs.Common.{◌≡◌, ℕ, ◌+◌, ◌-◌, ◌<◌, ◌≤◌, Bool, true, false, List, [], ◌∷◌, length, take, drop, Option, Some, None, refl, arith}
+use Rattle.std.proofs.Common.{◌≡◌, ℕ, ◌+◌, ◌-◌, ◌<◌, ◌≤◌, Bool, false, List, [], ◌∷◌, length, take, drop, Option, Some, None, arith}
 use Rattle.std.specs.Prelude.{not, cond, nat_lt}
 use Rattle.std.specs.List.{slice_split, position_or_len, prefix_len}
 use Rattle.std.proofs.lemmas.Bool.{not-true}

@@ -11,8 +11,8 @@ one_text a b e = (bytes_decides a b).0 e
 pub same_text-itself : (text : List ℕ) → same_text text text ≡ true
 same_text-itself text = (bytes_decides text text).1 refl
 
-pub same_text-turned : (a b : List ℕ) (answer : Bool) → same_text a b ≡ answer → same_text b a ≡ answer
-same_text-turned a b answer e = nat_list_eq_equiv.symm b a ∙ e
+pub same_text-turned : (a b : List ℕ) (same : Bool) → same_text a b ≡ same → same_text b a ≡ same
+same_text-turned a b same e = nat_list_eq_equiv.symm b a ∙ e
 
 -- the order of texts and the test of them agree
 pub same_text-ordered : (a b : List ℕ) → is_eq (text_cmp a b) ≡ same_text b a

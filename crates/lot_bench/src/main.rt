@@ -26,9 +26,9 @@ fn main(rt: HostRuntime) -> Result<ExitCode> {
             return Ok(ExitCode::from(2));
         };
         let mut sample = Sample::new(rt.alloc(), task.commodities, task.lots)?;
-        let answers = sample.repeat(task.call, task.step, task.calls)?;
+        let sum = sample.repeat(task.call, task.step, task.calls)?;
         let held = sample.held();
-        println!(rt; "{line}: answers {answers}, held {held}")?;
+        println!(rt; "{line}: answers {sum}, held {held}")?;
     }
     Ok(ExitCode::SUCCESS)
 }

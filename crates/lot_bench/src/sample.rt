@@ -28,7 +28,7 @@ pub struct Sample {
 }
 
 impl Sample {
-    /// An inventory with so many commodities, and so many lots of each, of one unit each.
+    /// Returns an inventory with that count of commodities, and that count of lots of each, of one unit each.
     pub fn new(alloc: Global, count: NonZeroU32, lots: NonZeroU32) -> Result<Sample> {
         let mut sample = Sample {
             alloc,
@@ -50,7 +50,7 @@ impl Sample {
         Ok(sample)
     }
 
-    /// How many lots are held.
+    /// Returns how many lots are held.
     pub fn held(&self) -> u64 {
         let mut held = 0u64;
         for commodity in &self.commodities {
@@ -59,17 +59,17 @@ impl Sample {
         held
     }
 
-    /// Makes a call so many times, each so many places on from the last, and adds up the answers.
+    /// Makes a call again and again, each a step of places on from the last, and returns the sum of the results.
     pub fn repeat(&mut self, call: Call, step: u32, calls: u32) -> Result<i128> {
-        let mut answers = 0i128;
+        let mut sum = 0i128;
         for turn in 0..calls {
             let place = u64::from(turn) * u64::from(step);
-            answers = answers.wrapping_add(self.make(call, place)?);
+            sum = sum.wrapping_add(self.make(call, place)?);
         }
-        Ok(answers)
+        Ok(sum)
     }
 
-    /// Makes a call at a place. Its answer is a number, an amount its mantissa.
+    /// Makes a call at a place, and returns its result as a number: that of an amount is its mantissa.
     fn make(&mut self, call: Call, place: u64) -> Result<i128> {
         self.turn_to(place);
         let commodity = commodity_at(self.commodities.as_slice(), self.lots, place);
@@ -108,7 +108,7 @@ impl Sample {
     }
 }
 
-/// The commodity of the lot at a place.
+/// Returns the commodity of the lot at a place.
 fn commodity_at(commodities: &[Commodity], lots: NonZeroU32, place: u64) -> &Commodity
     requires { 0 < length commodities.now }
 {
@@ -116,7 +116,7 @@ fn commodity_at(commodities: &[Commodity], lots: NonZeroU32, place: u64) -> &Com
     &commodities[nth as usize % commodities.len()]
 }
 
-/// How many lots of a commodity match a specification that gives that number, or nothing.
+/// Returns how many lots of a commodity match a specification that gives that number, or nothing.
 fn matching(
     inventory: &Inventory,
     commodity: &Commodity,
@@ -125,14 +125,14 @@ fn matching(
     Ok(inventory.matching(commodity, &with_number(number))?.len() as i128)
 }
 
-/// How many lots of a commodity are sorted.
+/// Sorts the lots of a commodity, and returns how many they are.
 fn sorted(inventory: &Inventory, commodity: &Commodity) -> Result<i128, AllocError> {
     let mut lots = inventory.matching(commodity, &with_number(None))?;
     lots.sort_unstable_by(|a, b| b.0.cmp(&a.0));
     Ok(lots.len() as i128)
 }
 
-/// How many legs units take of the lots of a commodity, the newest first.
+/// Returns how many legs units take of the lots of a commodity, the newest first.
 fn taken(
     alloc: Global,
     inventory: &Inventory,
@@ -143,7 +143,7 @@ fn taken(
     Ok(take::<Newest>(alloc, lots, units)?.len() as i128)
 }
 
-/// How many legs a sale of units has under LIFO.
+/// Returns how many legs a sale of units has under LIFO.
 fn booked(
     alloc: Global,
     inventory: &Inventory,
@@ -163,7 +163,7 @@ fn booked(
     Ok(booked.legs.len() as i128)
 }
 
-/// A specification that gives that number, or nothing.
+/// Returns a specification that gives that number, or nothing.
 fn with_number(number: Option<Rate>) -> CostSpec {
     CostSpec {
         number,
@@ -173,7 +173,7 @@ fn with_number(number: Option<Rate>) -> CostSpec {
     }
 }
 
-/// So many commodities, `C0`, `C1` and so on.
+/// Returns commodities, `C0`, `C1` and so on.
 fn commodities(alloc: Global, count: NonZeroU32) -> Result<Vec<Commodity>>
     ensures { IfOk result (λ commodities. 0 < vec_len commodities) }
 {
@@ -185,12 +185,12 @@ fn commodities(alloc: Global, count: NonZeroU32) -> Result<Vec<Commodity>>
     Ok(commodities)
 }
 
-/// The day of a lot: four are of one day, and all of them of some hundred years.
+/// Returns the day of a lot: four are of one day, and all of them of some hundred years.
 fn day_of(lot: u32) -> Day {
     Day::from_number((lot / 4 % 40_000) as i32).unwrap()
 }
 
-/// The cost of one unit of a lot, as many cents as there are lots before it.
+/// Returns the cost of one unit of a lot, as many cents as there are lots before it.
 fn rate_of(lot: u32) -> Rate {
     Rate::from_mantissa(u64::from(lot) * 1_000_000).unwrap()
 }

@@ -3,7 +3,7 @@ use std::num::NonZeroU32;
 /// A call on an inventory, or on the lots of one commodity.
 #[derive(Clone, Copy)]
 pub enum Call {
-    /// None, for the time that the way to a call takes.
+    /// No call, for the time that the rest of a turn takes.
     Nothing,
     /// Sells a lot whole and buys it back.
     Add,
@@ -25,7 +25,7 @@ pub enum Call {
 }
 
 impl Call {
-    /// The call with that name.
+    /// Returns the call with that name.
     fn named(name: &str) -> Option<Call> {
         match name {
             "nothing" => Some(Call::Nothing),
@@ -59,7 +59,7 @@ pub struct Task {
 }
 
 impl Task {
-    /// The task that a line says in five words, in the order of the fields.
+    /// Returns the task that a line says in five words, in the order of the fields.
     pub fn parse(line: &str) -> Option<Task> {
         let mut words = line.split(' ');
         let task = Task {

@@ -258,12 +258,12 @@ abbrev refusal : Braced → Outcome
 refusal posting = Refused (why_none (candidates posting) (is_ambiguous posting))
 
 -- an outcome, by what becomes of the posting
-data CaseOf (posting : Braced) (outcome : Outcome) : Type 0 where
-  Idle : posting.units ≡ pos 0 → outcome ≡ Refused ZeroUnits → CaseOf posting outcome
-  Inexact : posting.units ≢ pos 0 → is_inexact posting.units posting.cost ≡ true → outcome ≡ Refused InexactCost → CaseOf posting outcome
-  Opens : Augments posting → outcome ≡ opened posting → CaseOf posting outcome
-  TakesSome : Reduces posting → (legs : List (LotKey × ℤ)) → AreTaken posting legs → outcome ≡ Legs true legs → CaseOf posting outcome
-  TakesNone : Reduces posting → FindsNone posting → outcome ≡ refusal posting → CaseOf posting outcome
+data Case (posting : Braced) (outcome : Outcome) : Type 0 where
+  Idle : posting.units ≡ pos 0 → outcome ≡ Refused ZeroUnits → Case posting outcome
+  Inexact : posting.units ≢ pos 0 → is_inexact posting.units posting.cost ≡ true → outcome ≡ Refused InexactCost → Case posting outcome
+  Opens : Augments posting → outcome ≡ opened posting → Case posting outcome
+  TakesSome : Reduces posting → (legs : List (LotKey × ℤ)) → AreTaken posting legs → outcome ≡ Legs true legs → Case posting outcome
+  TakesNone : Reduces posting → FindsNone posting → outcome ≡ refusal posting → Case posting outcome
 
 opened-leg : (spec : CostSpec) (units day : ℤ) (legs : List (LotKey × ℤ)) → IsOneLeg spec units day legs → Legs false legs ≡ opened_with spec units day spec.number spec.currency
 opened-leg spec units day legs h =
@@ -290,7 +290,7 @@ no_size units e = grind (arith, ints)
 none_of_none : (allows : Rule) (lots : List (LotKey × ℤ)) (units : ℤ) → units ≢ pos 0 → lots ≡ [] → HasNoChoice allows lots (unsigned_abs units)
 none_of_none allows lots units some empty choice is = some (no_size units (ap (given choice) (sym empty) ∙ is.sum))
 
-case_of : (posting : Braced) (outcome : Outcome) → ComesTo posting outcome → CaseOf posting outcome
+case_of : (posting : Braced) (outcome : Outcome) → ComesTo posting outcome → Case posting outcome
 case_of posting (Legs false legs) h = Opens h.0 (opened-leg (spec_of posting.units posting.cost) posting.units posting.day legs h.1)
 case_of posting (Legs true legs) h = TakesSome h.0 legs h.1 refl
 case_of posting (Refused ZeroUnits) h = Idle h refl
@@ -309,7 +309,7 @@ case_of posting (Refused Memory) h = absurd h
 not_both : (posting : Braced) → Augments posting → Reduces posting → ⊥
 not_both posting a b = true≢false (sym b.2 ∙ a.2)
 
-case_once : (posting : Braced) (one other : Outcome) → CaseOf posting one → CaseOf posting other → one ≡ other
+case_once : (posting : Braced) (one other : Outcome) → Case posting one → Case posting other → one ≡ other
 case_once posting one other (Idle z a) (Idle _ b) = a ∙ sym b
 case_once posting one other (Idle z a) (Inexact s e b) = absurd (s z)
 case_once posting one other (Inexact s e a) (Idle z b) = absurd (s z)

@@ -61,18 +61,18 @@ module _ (before : LotKey → LotKey → Bool) (order : IsOrder before) (lots : 
 
   -- where a choice gives less to a lot than the other does, it gives no lot more
   nowhere_more : (one other : Choice) → IsChoice (InTurn before) lots amount one → IsChoice (InTurn before) lots amount other
-      → (lot : LotKey × ℤ) → Contains lots lot → one lot.0 < other lot.0 → (place : LotKey × ℤ) → Contains lots place → one place.0 ≤ other place.0
-  nowhere_more one other a b lot member less place member' =
-      elim (keys_in_order before order place.0 lot.0) [
+      → (lot : LotKey × ℤ) → Contains lots lot → one lot.0 < other lot.0 → (another : LotKey × ℤ) → Contains lots another → one another.0 ≤ other another.0
+  nowhere_more one other a b lot member less another member' =
+      elim (keys_in_order before order another.0 lot.0) [
         | inl same ↦ rw same (omega (arith, less))
         | inr (inl earlier) ↦
-            let whole = whole_before other b lot member place member' earlier (omega (arith, less)) in
-            omega (arith, whole, within_lot one a place member')
-        | inr (inr later) ↦ elim (cases_order (one place.0) 0) [
+            let whole = whole_before other b lot member another member' earlier (omega (arith, less)) in
+            omega (arith, whole, within_lot one a another member')
+        | inr (inr later) ↦ elim (cases_order (one another.0) 0) [
           | inl none ↦ omega (arith, none)
           | inr (inl below) ↦ absurd (omega (arith, below))
           | inr (inr some) ↦
-              let whole = whole_before one a place member' lot member later (omega (arith, some)) in
+              let whole = whole_before one a another member' lot member later (omega (arith, some)) in
               absurd (omega (arith, whole, within_lot other b lot member, less))
         ]
       ]
@@ -80,9 +80,9 @@ module _ (before : LotKey → LotKey → Bool) (order : IsOrder before) (lots : 
   nowhere_less : (one other : Choice) → IsChoice (InTurn before) lots amount one → IsChoice (InTurn before) lots amount other
       → (lot : LotKey × ℤ) → Contains lots lot → one lot.0 < other lot.0 → ⊥
   nowhere_less one other a b lot member less =
-      let no_more = each_member (λ (place : LotKey × ℤ). one place.0 ≤ other place.0) lots (nowhere_more one other a b lot member less) in
-      let same = at_member (λ (place : LotKey × ℤ). one place.0 ≡ other place.0) lots lot
-      (same_terms (λ (place : LotKey × ℤ). one place.0) (λ (place : LotKey × ℤ). other place.0) lots no_more (a.sum ∙ sym b.sum)) member in
+      let no_more = each_member (λ (another : LotKey × ℤ). one another.0 ≤ other another.0) lots (nowhere_more one other a b lot member less) in
+      let same = at_member (λ (another : LotKey × ℤ). one another.0 ≡ other another.0) lots lot
+      (same_terms (λ (another : LotKey × ℤ). one another.0) (λ (another : LotKey × ℤ). other another.0) lots no_more (a.sum ∙ sym b.sum)) member in
       omega (arith, same, less)
 
   pub one_in_turn : (one other : Choice) → IsChoice (InTurn before) lots amount one → IsChoice (InTurn before) lots amount other

@@ -6,6 +6,7 @@ use Rattle.std.specs.List.Sorted.{IsSortedBy}
 use Rattle.std.specs.Map.{keys_of}
 use Rattle.std.specs.Ordering.{is_eq}
 use Rattle.std.proofs.Common.{arith, refl, sym, ap, ◌∙◌, add-one, append_assoc, get_or, subst}
+use Rattle.std.proofs.lemmas.Bool.{false_from_ne_true}
 use Rattle.std.proofs.lemmas.Bool.Decides.{nat_tests}
 use Rattle.std.proofs.lemmas.Cmp.{tied_itself}
 use Rattle.std.proofs.lemmas.List.Elements.{recursion_from_All}
@@ -151,19 +152,15 @@ walk-legs units choice left (lot ∷ lots) walk =
 
 -- ---- lots in an order
 
-not_true : (answer : Bool) → (answer ≡ true → ⊥) → answer ≡ false
-not_true true never = absurd (never refl)
-not_true false never = refl
-
 -- of two keys the one that isn't first is second
 other_first : (one other : Bool) → one ≡ false → (one || other) ≡ true → other ≡ true
 other_first one other not_one either = rw not_one at either
 
 pub orders_lots : (before : LotKey → LotKey → Bool) → IsOrder before → IsStrictWeakOrder (λ (a b : LotKey × ℤ). before a.0 b.0)
 orders_lots before order = record {
-  one_way = λ a b first. not_true (before b.0 a.0)
+  one_way = λ a b first. false_from_ne_true (before b.0 a.0)
       (λ back. let itself = order.transitive a.0 b.0 a.0 first back in let never = order.never_itself a.0 in cc);
-  chain = λ a b c not_first not_second. not_true (before a.0 c.0) (λ first.
+  chain = λ a b c not_first not_second. false_from_ne_true (before a.0 c.0) (λ first.
       let apart : a.0 ≢ b.0 = λ same. let second = subst (λ (key : LotKey). before key c.0 ≡ true) same first in cc in
       let back = other_first (before a.0 b.0) (before b.0 a.0) not_first (order.total a.0 b.0 apart) in
       let second = order.transitive b.0 a.0 c.0 back first in

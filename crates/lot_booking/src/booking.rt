@@ -1,7 +1,7 @@
-ghost use Rattle.std.specs.Prelude.{◌≡◌, ◌≢◌, ◌⊎◌, None, IfOk, IfErr, OnErr, ℤ, ℕ, ◌<◌, ◌*◌, ◌^◌, ◌≤◌, List, [], length, pos, true, false, unsigned_abs};
+ghost use Rattle.std.specs.Prelude.{◌≡◌, ◌≢◌, ◌⊎◌, None, IfOk, IfErr, OnErr, ℤ, ◌<◌, [], true, unsigned_abs};
 ghost use Rattle.std.specs.List.{AllByRecursion};
 ghost use Rattle.lot_inv.specs.declared.lot_key.LotKey.{LotKey};
-ghost use Rattle.lot_inv.specs.Inventory.{Held, matching, other_sign};
+ghost use Rattle.lot_inv.specs.Inventory.{matching, other_sign};
 ghost use Rattle.lot_booking.specs.declared.method.Method.{Method};
 ghost use Rattle.lot_booking.specs.declared.cost.Cost.{Cost};
 ghost use Rattle.lot_booking.specs.Booking.{ComesTo, IsOneLeg, Legs, Stops, fitting, posting_of, with_number};

@@ -1,6 +1,6 @@
 //! What holds of the definitions that the contracts of this crate cite, and of the orders. Each law is a function that does
 //! nothing, or that returns what the law is about.
-ghost use Rattle.std.specs.Prelude.{◌≡◌, Bool, true, false, ℕ, ℤ, List, unsigned_abs};
+ghost use Rattle.std.specs.Prelude.{◌≡◌, Bool, true, ℕ, ℤ, List};
 ghost use Rattle.std.specs.List.{AllByRecursion};
 ghost use Rattle.lot_inv.specs.declared.lot_key.LotKey.{LotKey};
 ghost use Rattle.lot_booking.specs.Booking.{ComesTo, Braced, Legs, Outcome, TakesFrom, candidates, units_in};

@@ -1,5 +1,5 @@
 -- Which lots a cost specification fits.
-use Rattle.std.specs.Prelude.{ℕ, ◌==◌, Bool, true, ◌&&◌, ◌||◌, List, Option, None, Some, is_none}
+use Rattle.std.specs.Prelude.{◌==◌, Bool, true, ◌&&◌, ◌||◌, Option, None, Some, is_none}
 use Rattle.std.specs.Option.{option_eq}
 use Rattle.std.specs.Ordering.{int_eq}
 use Rattle.lot_base.specs.Text.{same_text}

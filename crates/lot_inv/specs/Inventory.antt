@@ -37,15 +37,15 @@ Held = finite.FinMap position_cmp ℤ
 abbrev pub units_at : Held → Position → ℤ
 units_at held position = unwrap_or (finite.get held position) (pos 0)
 
--- what a position has of so many units: nothing where they are zero
+-- what is kept of units at a position: nothing where they are zero
 abbrev pub non_zero : ℤ → Option ℤ
 non_zero units = if int_eq units (pos 0) then None else Some units
 
--- the inventory with so many units at a position, which leaves it where they are zero
+-- the inventory with these units at a position, which is held no more where they are zero
 abbrev pub with_units : Held → Position → ℤ → Held
 with_units held position units = if int_eq units (pos 0) then finite.remove held position else finite.insert held position units
 
--- the inventory with so many more units at a position
+-- the inventory with these units added at a position
 abbrev pub added : Held → Position → ℤ → Held
 added held position units = with_units held position (units_at held position +ℤ units)
 

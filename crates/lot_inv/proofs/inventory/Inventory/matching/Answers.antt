@@ -16,8 +16,11 @@ returns-in-Some c =
     let lots = lots_seen c.self.inside.held.entries c.args.self.now c.args.commodity.now (option_copied c.get.result) c.self.invariant.0 c.self.view_is c.get.ensures.value in
     let all = lots ∙ ap (λ o. lots_at (option_copied o)) c.in-Some.is in
     let found = subst (λ (ls : List (LotKey × ℤ)). IfOk c.matching.result (λ found. found.items ≡ filter (λ (lot : LotKey × ℤ). fits c.args.spec.now lot.0) ls)) (sym all) c.matching.ensures.all in
-    record { all = found; distinct = IfOk-weaker c.matching.result _ _ (λ lots e. subst (λ (ls : List (LotKey × ℤ)). IsStrictlySortedBy lot_cmp (keys_of ls)) (sym e) (sorted_matching c.args.self.now c.args.commodity.now c.args.spec.now)) found;
-      memory = subst (λ (ls : List (LotKey × ℤ)). OnErr c.matching.result (filter (λ (lot : LotKey × ℤ). fits c.args.spec.now lot.0) ls ≢ [])) (sym all) c.matching.ensures.memory }
+    record {
+      all = found;
+      distinct = IfOk-weaker c.matching.result _ _ (λ lots e. subst (λ (ls : List (LotKey × ℤ)). IsStrictlySortedBy lot_cmp (keys_of ls)) (sym e) (sorted_matching c.args.self.now c.args.commodity.now c.args.spec.now)) found;
+      memory = subst (λ (ls : List (LotKey × ℤ)). OnErr c.matching.result (filter (λ (lot : LotKey × ℤ). fits c.args.spec.now lot.0) ls ≢ [])) (sym all) c.matching.ensures.memory;
+    }
 
 pub returns-in-None : goal.returns-in-None
 returns-in-None c =
