@@ -11,8 +11,6 @@ mod fault;
 mod grammars;
 pub mod laws;
 mod name;
-#[cfg(test)]
-mod tests;
 
 pub use day::{Day, DayFault};
 pub use fault::NameFault;

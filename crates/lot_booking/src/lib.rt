@@ -16,8 +16,6 @@ mod fault;
 pub mod laws;
 mod method;
 mod order;
-#[cfg(test)]
-mod tests;
 
 pub use booking::{Booked, book, fitting};
 pub use choice::take;

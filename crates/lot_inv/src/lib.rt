@@ -12,8 +12,6 @@ mod fault;
 mod inventory;
 pub mod laws;
 mod lot_key;
-#[cfg(test)]
-mod tests;
 
 pub use cost_spec::CostSpec;
 pub use fault::InventoryFault;

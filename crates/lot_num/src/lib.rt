@@ -15,8 +15,6 @@ pub mod laws;
 mod number_text;
 mod printed;
 mod rate;
-#[cfg(test)]
-mod tests;
 mod units;
 mod wide;
 

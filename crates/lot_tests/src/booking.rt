@@ -1,0 +1,74 @@
+//! Postings with braces on small inventories, with what becomes of each.
+
+mod choices;
+mod fifo;
+mod orders;
+mod strict;
+
+use crate::assertions::assert_text;
+use crate::make::{commodity, day, inventory, lots_text, spec, units};
+use lot_booking::{Booked, BookingFault, Cost, Method, book};
+use lot_inv::{CostSpec, Inventory};
+use lot_num::Units;
+use std::process::Abort;
+
+/// A posting under a method: its units, the parts of its cost, and what is told of it.
+type Case<'a> = (Method, &'a str, &'a str, &'a str);
+
+/// Three purchases of ten, the last of them with a label.
+const PURCHASES: &[(&str, &str)] = &[
+    ("10", "100 USD 2020-01-01"),
+    ("10", "120 USD 2020-02-01"),
+    ("10", "110 USD 2020-03-01 =x"),
+];
+
+/// The first two of the three purchases.
+const TWO_PURCHASES: &[(&str, &str)] = &[
+    ("10", "100 USD 2020-01-01"),
+    ("10", "120 USD 2020-02-01"),
+];
+
+/// Books units of HOOL in a transaction of 2020-03-15.
+fn booked(
+    rt: &(impl Abort + AllocGlobal),
+    held: &Inventory,
+    method: Method,
+    units: Units,
+    spec: CostSpec,
+) -> Result<Booked, BookingFault> {
+    let (cost, day) = (Cost::Each(spec), day(rt, "2020-03-15"));
+    book(
+        rt.alloc(),
+        method,
+        held,
+        &commodity(rt, "HOOL"),
+        units,
+        &cost,
+        day,
+    )
+}
+
+/// What became of a posting: whether it takes or opens, and its legs as the holdings print them, or the refusal's name.
+fn told(rt: &(impl Abort + AllocGlobal), outcome: &Result<Booked, BookingFault>) -> String {
+    match outcome {
+        Ok(booked) => {
+            let legs = lots_text(rt, booked.legs.as_slice());
+            let what = if booked.reduces { "takes" } else { "opens" };
+            format!(in rt.alloc(); "{what}{legs}").expect(rt, what)
+        }
+        Err(fault) => format!(in rt.alloc(); "{fault:?}").expect(rt, "fault"),
+    }
+}
+
+/// Asserts what becomes of postings on an inventory.
+fn assert_booked(rt: &(impl Abort + AllocGlobal), held: &Inventory, cases: &[Case<'_>]) {
+    for (method, number, parts, want) in cases {
+        let outcome = booked(rt, held, *method, units(rt, number), spec(rt, parts));
+        assert_text(rt, told(rt, &outcome).as_str(), want);
+    }
+}
+
+/// Asserts what becomes of postings on an inventory of some lots.
+fn assert_on(rt: &(impl Abort + AllocGlobal), lots: &[(&str, &str)], cases: &[Case<'_>]) {
+    assert_booked(rt, &inventory(rt, lots), cases);
+}
