@@ -9,7 +9,6 @@ mod newest;
 mod oldest;
 
 pub use highest::Highest;
-use lot_inv::LotKey;
 pub use newest::Newest;
 pub use oldest::Oldest;
 
