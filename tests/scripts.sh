@@ -66,7 +66,7 @@ wrapped "a build that fails" 4 1
 messages "a build that fails: its last lines" -3
 rm "$repo/crates/lotbook/broken"
 wrapped "the first call builds" 7 2 a "b c"
-messages "the first call tells what it does" -2
+messages "the first call reports what it does" -2
 sleep 0.1
 wrapped "the second call builds nothing" 7 2 a
 messages "the second call says nothing" 0
@@ -90,7 +90,8 @@ wrapped "a program that the gate built" 7 7 y
 touch "$repo/crates/lotbook/src/main.rt" && path=$scratch/tools
 wrapped "newer sources and no kit" 4 7 y
 
-# tested NAME STATUS LASTLINE: the test command, with what the stand-in's gate says and its status in the files `ci`.
+# tested NAME STATUS LASTLINE: the test command, with the output of the stand-in's gate in the file `ci`, and its status
+# beside it.
 tested() {
     PATH=$path "$repo/test" >"$scratch/out" 2>"$scratch/err"
     status=$?
