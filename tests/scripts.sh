@@ -1,6 +1,6 @@
 #!/usr/bin/env bash
-# The scripts `lotbook` and `test` themselves, on a repository of their own whose kit is a stand-in: it notes each call,
-# builds a program that tells its words and its input, and fails where the file `broken` is there.
+# The scripts `lotbook`, `test` and `bench/gate.sh` themselves, the first two on a repository of their own whose kit is a stand-in: it notes each call,
+# builds a program that prints its words and its input, and fails where there is a file `broken`.
 source "$(dirname "$(readlink -f "${BASH_SOURCE[0]}")")/lib/cases.sh"
 
 repo=$scratch/repo
@@ -121,5 +121,33 @@ printf '#!/bin/sh\nexit 0\n' >"$repo/tests/one.sh"
 tested "test: a script without a count" 1 "4 passed, 1 failed"
 rm "$repo/tests/one.sh"
 tested "test: no script" 1 "4 passed, 1 failed"
+
+# The script of the gate's cost, on a log.
+cat >"$scratch/log" <<'END'
+== low
+rt: low proved
+rt: must-fail low/one.edit: refused, as it must be: x
+rt: must-fail low/two.edit: refused, as it must be: x
+5 passed, 0 failed
+cost low edits 60.0
+cost low proofs 90.0
+cost lotbook tests 30.0
+total 120.0 240.0
+END
+cat >"$scratch/expected" <<'END'
+processor minutes
+crate            proofs    tests    edits      all    tried    s an edit
+low                 1.5      0.0      1.0      2.5        2         30.0
+lotbook             0.0      0.5      0.0      0.5        0            -
+all                 1.5      0.5      1.0      3.0        2         30.0
+rest                                           1.0                      
+total                                          4.0                      
+2.0 minutes by the clock; 5 passed, 0 failed
+END
+"$root/bench/gate.sh" "$scratch/log" >"$scratch/out" 2>"$scratch/err" && status=0 || status=$?
+expect "gate: the table of a log" 0 "$scratch/expected"
+echo "5 passed, 0 failed" >"$scratch/log"
+"$root/bench/gate.sh" "$scratch/log" >"$scratch/out" 2>"$scratch/err" && status=0 || status=$?
+if ((status == 1)); then pass "gate: a log without costs"; else fail "gate: a log without costs" "status $status"; fi
 
 finish
