@@ -30,8 +30,7 @@ fi
 
 # within LIMIT FILE: as `run`, with so many KiB of address space and FILE as input.
 within() {
-    (ulimit -v "$1" && exec "$program" <"$2") >"$scratch/out" 2>"$scratch/err"
-    status=$?
+    (ulimit -v "$1" && exec "$program" <"$2") >"$scratch/out" 2>"$scratch/err" && status=0 || status=$?
 }
 
 # judged LIMIT: what `within` kept is the full answer, or a prefix of its lines and the line of the fault. Sets `where`.
@@ -64,12 +63,18 @@ judged() {
     fi
 }
 
-# The least limit, in steps of 20 KiB, with which the program answers at all; below it the system can't load it.
-least=1000
-while within "$least" /dev/null && ((status != 0 && status != 4)) && ((least < 1000000)); do least=$((least + 20)); done
+# The least limit, in steps of 20 KiB, with which the program runs at all. Below it the system can't load it: the kernel kills
+# it, and with a bit more the loader ends with 127. After that each end is the program's own.
+least=1000 loader=
+while within "$least" /dev/null && ((status >= 127 && least < 1000000)); do
+    if ((status == 127)); then loader=yes; elif [[ -n $loader ]]; then break; fi
+    least=$((least + 20))
+done
+if ((status == 0 || status == 4)); then pass "just enough to be loaded"; else fail "just enough to be loaded" "status $status"; fi
 
 declare -A met=()
-for ((limit = least; limit < least + 1000000; limit += 250)); do
+# What is loaded varies by some pages from run to run, so the limits begin a little higher.
+for ((limit = least + 60; limit < least + 1000000; limit += 250)); do
     within "$limit" "$scratch/ledger"
     judged "$limit"
     met[$where]=yes
