@@ -5,44 +5,70 @@ need_program
 
 # Stored examples, byte for byte.
 run <"$examples/first-purchase.ledger"
-told "the first purchase" 0 "$examples/first-purchase.expected"
+expect "the first purchase" 0 "$examples/first-purchase.expected"
 run <"$examples/small-year.ledger"
-told "a small year" 0 "$examples/small-year.expected"
+expect "a small year" 0 "$examples/small-year.expected"
 
 # Input from elsewhere than a file.
-answers "no input at all" 0 "nothing held" </dev/null
-printf '2020-01-01 open Assets:A' | answers "no line end at all" 0 $'1 accepted\nnothing held'
-head -c -1 "$examples/first-purchase.ledger" | run
-told "a missing last line end" 0 "$examples/first-purchase.expected"
+prints "no input at all" 0 "nothing held" </dev/null
 while IFS= read -r -N 1 byte; do
     printf %s "$byte" && sleep 0.002
 done <"$examples/first-purchase.ledger" | run
-told "one byte at a time" 0 "$examples/first-purchase.expected"
-answers "a folder as input" 3 "fault K1 Read" <"$root"
-answers "standard input closed" 3 "fault K1 Read" <&-
+expect "one byte at a time" 0 "$examples/first-purchase.expected"
+prints "a folder as input" 3 "fault K1 Read" <"$root"
+prints "standard input closed" 3 "fault K1 Read" <&-
 
 # Limits of the input: 16,777,216 bytes are read to the end, and one more is refused.
-head -c 16777217 /dev/zero | answers "a byte too many" 3 "fault K2 TooLong"
-head -c 20000000 /dev/zero | answers "more bytes than are looked at" 3 "fault K2 TooLong"
+head -c 16777217 /dev/zero | prints "a byte too many" 3 "fault K2 TooLong"
+head -c 20000000 /dev/zero | prints "more bytes than are looked at" 3 "fault K2 TooLong"
+yes | prints "an input without an end" 3 "fault K2 TooLong"
 {
     yes '2020-01-01 *' | head -n 1290554
     echo '2020-01-01 xx'
-} | answers "a fault in the last line of a full input" 3 "fault line 1290555 X2 Syntax"
+} | prints "a fault in the last line of a full input" 3 "fault line 1290555 X2 Syntax"
 {
     printf '2020-01-01 open Assets:A\n2020-01-01 *\n  Assets:A '
     head -c 16777080 /dev/zero | tr '\0' 0
     printf '5 USD\n  Assets:A -5. USD\n'
-} | answers "a number of 16 million digits" 0 $'1 accepted\n2 accepted\nnothing held'
+} | prints "a number of 16 million digits" 0 $'1 accepted\n2 accepted\nnothing held'
+
+# stops NAME: `run` ended with status 4, and wrote nothing to standard error.
+stops() {
+    if ((status != 4)); then
+        fail "$1" "status $status instead of 4"
+    elif [[ -s $scratch/err ]]; then
+        fail "$1" "standard error isn't empty: $(head -n 1 "$scratch/err")"
+    else
+        pass "$1"
+    fi
+}
+
+# into FILE: the program with the first purchase as input and FILE as output.
+into() { "$program" <"$examples/first-purchase.ledger" 2>"$scratch/err" >"$1" && status=0 || status=$?; }
 
 # Output that can't be written.
-"$root/lotbook" <"$examples/first-purchase.ledger" 2>"$scratch/err" >/dev/full
-if (($? == 4)); then pass "a full disk"; else fail "a full disk" "status isn't 4"; fi
-"$root/lotbook" <"$examples/first-purchase.ledger" 2>"$scratch/err" >&-
-if (($? == 4)); then pass "standard output closed"; else fail "standard output closed" "status isn't 4"; fi
-"$root/lotbook" </dev/null 2>"$scratch/err" >/dev/full
-if (($? == 4)); then pass "a full disk and no input"; else fail "a full disk and no input" "status isn't 4"; fi
+into /dev/full
+stops "a full disk"
+"$program" </dev/null 2>"$scratch/err" >/dev/full && status=0 || status=$?
+stops "a full disk and no input"
+"$program" <"$examples/first-purchase.ledger" 2>"$scratch/err" >&- && status=0 || status=$?
+stops "standard output closed"
 
-# Words come later: status 2, a message, nothing on standard output, and the input isn't waited for.
+# A reader of the output that ends early: what it took is a prefix of the answer.
+yes '2020-01-01 *' | head -n 100000 >"$scratch/many"
+{ "$program" <"$scratch/many" 2>"$scratch/err" && echo 0 >"$scratch/status" || echo $? >"$scratch/status"; } |
+    head -c 10 >"$scratch/taken"
+status=$(<"$scratch/status")
+stops "a pipe that is closed after 10 bytes"
+printf '1 accepted' | cmp -s - "$scratch/taken" && pass "the 10 bytes" || fail "the 10 bytes" "$(<"$scratch/taken")"
+mkfifo "$scratch/pipe"
+{ exec 8<"$scratch/pipe" && exec 8<&- && : >"$scratch/closed"; } &
+{ while [[ ! -e $scratch/closed ]]; do sleep 0.01; done && cat "$examples/first-purchase.ledger"; } |
+    { "$program" 2>"$scratch/err" >"$scratch/pipe" && status=0 || status=$?; }
+wait
+stops "a pipe that is closed before the first line"
+
+# Words aren't built yet: status 2, a message, nothing on standard output, and the input isn't waited for.
 for words in "post" "--help" "init --book f" "''"; do
     eval "run $words" <"$examples/first-purchase.ledger"
     if ((status == 2)) && [[ -s $scratch/err && ! -s $scratch/out ]]; then
@@ -52,17 +78,20 @@ for words in "post" "--help" "init --book f" "''"; do
     fi
 done
 
-# Called from elsewhere.
+# The script `lotbook`, from elsewhere and by links; it hands on words, streams and status.
+program=$root/lotbook
 cd "$scratch" || exit 1
 run <"$examples/first-purchase.ledger"
-told "called from another folder" 0 "$examples/first-purchase.expected"
-ln -s "$root/lotbook" by-link
-timeout 120 ./by-link <"$examples/first-purchase.ledger" >out 2>err
-status=$?
-told "called through a symbolic link" 0 "$examples/first-purchase.expected"
-mkdir "a folder" && ln -s ../by-link "a folder/again"
-timeout 120 "a folder/again" <"$examples/first-purchase.ledger" >out 2>err
-status=$?
-told "called through a link to a link" 0 "$examples/first-purchase.expected"
+expect "called from another folder" 0 "$examples/first-purchase.expected"
+ln -s "$root/lotbook" by-link && program=./by-link
+run <"$examples/first-purchase.ledger"
+expect "called through a symbolic link" 0 "$examples/first-purchase.expected"
+mkdir "a folder" && ln -s ../by-link "a folder/again" && program="a folder/again"
+run <"$examples/first-purchase.ledger"
+expect "called through a link to a link" 0 "$examples/first-purchase.expected"
+program=$root/lotbook
+printf x | prints "called with a faulty text" 3 "fault line 1 X2 Syntax"
+"$program" <"$examples/first-purchase.ledger" 2>"$scratch/err" >/dev/full && status=0 || status=$?
+stops "called with a full disk"
 
 finish

@@ -1,6 +1,6 @@
 #!/usr/bin/env bash
-# The scripts `lotbook` and `test` themselves, on a repository of their own whose kit is a stand-in: it notes each call,
-# builds a program that tells its words and its input, and fails where the file `broken` is there.
+# The scripts `lotbook`, `test` and `bench/gate.sh` themselves, the first two on a repository of their own whose kit is a stand-in: it notes each call,
+# builds a program that prints its words and its input, and fails where there is a file `broken`.
 source "$(dirname "$(readlink -f "${BASH_SOURCE[0]}")")/lib/cases.sh"
 
 repo=$scratch/repo
@@ -66,7 +66,7 @@ wrapped "a build that fails" 4 1
 messages "a build that fails: its last lines" -3
 rm "$repo/crates/lotbook/broken"
 wrapped "the first call builds" 7 2 a "b c"
-messages "the first call tells what it does" -2
+messages "the first call reports what it does" -2
 sleep 0.1
 wrapped "the second call builds nothing" 7 2 a
 messages "the second call says nothing" 0
@@ -90,7 +90,8 @@ wrapped "a program that the gate built" 7 7 y
 touch "$repo/crates/lotbook/src/main.rt" && path=$scratch/tools
 wrapped "newer sources and no kit" 4 7 y
 
-# tested NAME STATUS LASTLINE: the test command, with what the stand-in's gate says and its status in the files `ci`.
+# tested NAME STATUS LASTLINE: the test command, with the output of the stand-in's gate in the file `ci`, and its status
+# beside it.
 tested() {
     PATH=$path "$repo/test" >"$scratch/out" 2>"$scratch/err"
     status=$?
@@ -120,5 +121,33 @@ printf '#!/bin/sh\nexit 0\n' >"$repo/tests/one.sh"
 tested "test: a script without a count" 1 "4 passed, 1 failed"
 rm "$repo/tests/one.sh"
 tested "test: no script" 1 "4 passed, 1 failed"
+
+# The script of the gate's cost, on a log.
+cat >"$scratch/log" <<'END'
+== low
+rt: low proved
+rt: must-fail low/one.edit: refused, as it must be: x
+rt: must-fail low/two.edit: refused, as it must be: x
+5 passed, 0 failed
+cost low edits 60.0
+cost low proofs 90.0
+cost lotbook tests 30.0
+total 120.0 240.0
+END
+cat >"$scratch/expected" <<'END'
+processor minutes
+crate            proofs    tests    edits      all    tried    s an edit
+low                 1.5      0.0      1.0      2.5        2         30.0
+lotbook             0.0      0.5      0.0      0.5        0            -
+all                 1.5      0.5      1.0      3.0        2         30.0
+rest                                           1.0                      
+total                                          4.0                      
+2.0 minutes by the clock; 5 passed, 0 failed
+END
+"$root/bench/gate.sh" "$scratch/log" >"$scratch/out" 2>"$scratch/err" && status=0 || status=$?
+expect "gate: the table of a log" 0 "$scratch/expected"
+echo "5 passed, 0 failed" >"$scratch/log"
+"$root/bench/gate.sh" "$scratch/log" >"$scratch/out" 2>"$scratch/err" && status=0 || status=$?
+if ((status == 1)); then pass "gate: a log without costs"; else fail "gate: a log without costs" "status $status"; fi
 
 finish

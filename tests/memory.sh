@@ -1,0 +1,87 @@
+#!/usr/bin/env bash
+# The program with memory up to a limit and none beyond it. The limits go from the least one with which the program starts
+# up to one with which it ends as usual, so memory runs out while the text is read, while commands are judged, and while the
+# report is written. Whatever the limit is: the whole lines before the fault are lines of the full answer, in their order; the
+# last line names the fault, and the command where one was being judged; the status is 4; nothing goes to standard error.
+source "$(dirname "$(readlink -f "${BASH_SOURCE[0]}")")/lib/cases.sh"
+need_program
+
+# 200 transactions of 63 lots, each lot in a currency of its own, so that the totals of the report take memory, too.
+awk 'function code(n,   text, k) {
+    for (k = 0; k < 4; k++) { text = sprintf("%c", 65 + n % 26) text; n = int(n / 26) }
+    return "LONGEST.CURRENCY.OF." text
+}
+BEGIN {
+    print "2020-01-01 open Assets:A"
+    for (n = 0; n < 12600; n++) {
+        if (n % 63 == 0) print "2020-01-02 *\n  Assets:A"
+        print "  Assets:A 1 HOOL {1 " code(n) "}"
+    }
+}' >"$scratch/ledger"
+replies=201
+run <"$scratch/ledger"
+cp "$scratch/out" "$scratch/full"
+if ((status == 0)) && (($(wc -l <"$scratch/full") == replies + 3 * 12600)); then
+    pass "without a limit"
+else
+    fail "without a limit" "status $status, $(wc -l <"$scratch/full") lines"
+    finish
+fi
+
+# within LIMIT FILE: as `run`, with so many KiB of address space and FILE as input.
+within() {
+    (ulimit -v "$1" && exec "$program" <"$2") >"$scratch/out" 2>"$scratch/err" && status=0 || status=$?
+}
+
+# judged LIMIT: what `within` kept is the full answer, or a prefix of its lines and the line of the fault. Sets `where`.
+judged() {
+    local name="with $1 KiB" lines last whole
+    lines=$(wc -l <"$scratch/out")
+    last=$(tail -n 1 "$scratch/out")
+    head -n $((lines - 1)) "$scratch/out" >"$scratch/before"
+    whole=$(wc -c <"$scratch/before")
+    where=nowhere
+    if ((status == 0)); then
+        where=complete
+        cmp -s "$scratch/out" "$scratch/full" && pass "$name: complete" || fail "$name" "status 0 and other output"
+    elif ((status != 4)); then
+        fail "$name" "status $status instead of 4"
+    elif [[ -s $scratch/err ]]; then
+        fail "$name" "standard error isn't empty: $(head -n 1 "$scratch/err")"
+    elif ! cmp -s -n "$whole" "$scratch/before" "$scratch/full"; then
+        fail "$name" "the lines before the fault aren't those of the answer"
+    elif [[ $(tail -c 1 "$scratch/out" | od -An -tx1) != " 0a" ]]; then
+        fail "$name" "the last line has no end: $last"
+    elif ((lines == 1)) && [[ $last == "fault Memory" ]]; then
+        where=reading && pass "$name: while reading"
+    elif ((lines <= replies)) && [[ $last == "$lines fault Memory" ]]; then
+        where=judging && pass "$name: command $lines"
+    elif ((lines > replies)) && [[ $last == "fault Memory" ]]; then
+        where=report && pass "$name: row $((lines - replies))"
+    else
+        fail "$name" "$lines lines, the last of which is '$last'"
+    fi
+}
+
+# The least limit, in steps of 20 KiB, with which the program runs at all. Below it the system can't load it: the kernel kills
+# it, and with a bit more the loader ends with 127. After that each end is the program's own.
+least=1000 loader=
+while within "$least" /dev/null && ((status >= 127 && least < 1000000)); do
+    if ((status == 127)); then loader=yes; elif [[ -n $loader ]]; then break; fi
+    least=$((least + 20))
+done
+if ((status == 0 || status == 4)); then pass "just enough to be loaded"; else fail "just enough to be loaded" "status $status"; fi
+
+declare -A met=()
+# What is loaded varies by some pages from run to run, so the limits begin a little higher.
+for ((limit = least + 60; limit < least + 1000000; limit += 250)); do
+    within "$limit" "$scratch/ledger"
+    judged "$limit"
+    met[$where]=yes
+    if [[ $where == complete || $where == nowhere ]]; then break; fi
+done
+for where in reading judging report complete; do
+    if [[ -n ${met[$where]:-} ]]; then pass "met: $where"; else fail "met: $where" "no limit led there"; fi
+done
+
+finish

@@ -1,0 +1,55 @@
+#!/usr/bin/env bash
+# The pages: their links lead somewhere, the README's example is the stored one, and the names that PROVED.md and the map of
+# RULES.md cite are those of the crates and of tests/.
+source "$(dirname "$(readlink -f "${BASH_SOURCE[0]}")")/lib/cases.sh"
+cd "$root" || exit 1
+
+# none NAME: fails where this call's standard input has lines, and says which.
+none() {
+    local found
+    found=$(head -n 20 | tr '\n' ' ')
+    if [[ -z $found ]]; then pass "$1"; else fail "$1" "$found"; fi
+}
+
+# The anchors of a page's headings.
+anchors() { sed -n 's/^##* //p' "$1" | tr 'A-Z' 'a-z' | sed 's/[^a-z0-9_ -]//g; s/ /-/g'; }
+
+for page in README.md docs/*.md; do
+    grep -o '](\([^)]*\))' "$page" | sed 's/^](\(.*\))$/\1/' | while IFS= read -r link; do
+        file=$page
+        if [[ ${link%%#*} ]]; then file=$(dirname "$page")/${link%%#*}; fi
+        if [[ ! -e $file ]]; then
+            echo "$link"
+        elif [[ $link == *'#'* ]]; then
+            anchors "$file" | grep -qxF -- "${link#*#}" || echo "$link"
+        fi
+    done | none "links of $page"
+done
+
+# example HEADING FILE: the block of code below the line that begins with HEADING is FILE.
+example() {
+    awk -v heading="$1" 'index($0, heading) == 1 { on = 1; next } on && /^    / { print substr($0, 5); seen = 1; next } seen { exit }' README.md |
+        diff - "$2" | none "the README's ${2##*/}"
+}
+example '`examples/first-purchase.ledger`:' "$examples/first-purchase.ledger"
+example 'The output:' "$examples/first-purchase.expected"
+
+# Words of the code and of the definitions, of names of their modules, and of tests/.
+{
+    find crates -path '*/out' -prune -o \( -path '*/src/*' -o -path '*/specs/*' \) -type f -print | while IFS= read -r file; do
+        echo "$file"
+        cat "$file"
+    done
+    ls crates crates/*/must-fail tests tests/cases
+} | grep -oE '[A-Za-z_][A-Za-z_0-9-]*' | sort -u >"$scratch/known"
+{ cat "$scratch/known" && tr '-' '\n' <"$scratch/known"; } | sort -u >"$scratch/words"
+
+# cited FILE FROM TO: the words in quotes of code in the tables from a line that begins with FROM to one that begins with TO.
+cited() {
+    awk -v from="$2" -v to="$3" 'index($0, from) == 1 { on = 1 } on && index($0, to) == 1 { exit } on && /^\|/' "$1" |
+        grep -oE '`[^`]+`' | grep -oE '[A-Za-z_][A-Za-z_0-9-]*' | grep -vE '^[A-Z]$' | sort -u
+}
+cited docs/PROVED.md "## Promises and what" "## What is only tested" | comm -23 - "$scratch/words" | none "names in docs/PROVED.md"
+cited docs/RULES.md "## Map" "## The end" | comm -23 - "$scratch/words" | none "names in the map of docs/RULES.md"
+
+finish
