@@ -4,6 +4,7 @@ mod choices;
 mod fifo;
 mod orders;
 mod strict;
+mod whole_costs;
 
 use crate::assertions::assert_text;
 use crate::make::{commodity, day, inventory, lots_text, spec, units};

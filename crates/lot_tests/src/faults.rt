@@ -58,6 +58,11 @@ const OF_INVENTORIES: &[(InventoryFault, &str, &str)] = &[
 const OF_BOOKING: &[(BookingFault, &str, &str)] = &[
     (BookingFault::ZeroUnits, "ZeroUnits", "the units are zero"),
     (
+        BookingFault::InexactCost,
+        "InexactCost",
+        "the whole cost by the units is not exactly a rate",
+    ),
+    (
         BookingFault::IncompleteCost,
         "IncompleteCost",
         "the cost has no number or no currency",

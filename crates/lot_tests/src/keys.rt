@@ -82,7 +82,9 @@ fn each_given_part_has_to_fit(rt: HostRuntime) {
         let spec = spec(&rt, text);
         assert_fits(&rt, &spec, want, text);
         assert_fits(&rt, &spec.copy().expect(&rt, text), want, text);
-        let Cost::Each(copy) = Cost::Each(spec).copy().expect(&rt, text);
-        assert_fits(&rt, &copy, want, text);
+        match Cost::Each(spec).copy().expect(&rt, text) {
+            Cost::Each(copy) => assert_fits(&rt, &copy, want, text),
+            Cost::Whole(_) => assert!(rt; false, "{text}"),
+        }
     }
 }

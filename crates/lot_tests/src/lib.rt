@@ -3,6 +3,7 @@
 //!
 //! - `make`: values made of texts.
 //! - `amounts`: numbers read, added and printed.
+//! - `totals`: totals, and the rate for each unit that they come to.
 //! - `names`, `days`: which texts are names and days, and what those print.
 //! - `faults`: the texts of enums, a table for each library.
 //! - `keys`, `inventories`: lot keys and specifications, and what an inventory holds after each step.
@@ -32,3 +33,5 @@ mod make;
 mod names;
 #[cfg(test)]
 mod random;
+#[cfg(test)]
+mod totals;
