@@ -16,8 +16,8 @@ use std::cmp::Ordering;
 /// Returns the legs that units take of lots in an order: each lot whole before the next one, until the units are used up.
 /// They have the sign of the units, and stand in the order.
 ///
-/// The lots have distinct keys, and each has the other sign than the units. The error is `NotEnough` where the lots hold
-/// less than the units, and `Memory` where there is no memory for the legs.
+/// The lots have distinct keys, and each has the other sign than the units. The error is `NotEnough` only where the lots hold
+/// less than the units, and else `Memory`, where there is no memory for the legs.
 pub fn take<O: LotOrder>(
     alloc: Global,
     lots: Vec<(LotKey, Units)>,
@@ -26,6 +26,8 @@ pub fn take<O: LotOrder>(
     requires distinct { HaveDistinctKeys lots.items }
     requires signs { AllByRecursion (λ (lot : LotKey × ℤ). other_sign lot.1 units ≡ true) lots.items }
     ensures taken { IfOk result (λ legs. Takes (InTurn O.before) O.before lots.items units legs.items) }
+    ensures enough { IsOk result → unsigned_abs units ≤ held_in lots.items }
+    ensures less { IsErrOf result NotEnough → held_in lots.items < unsigned_abs units }
     ensures not_enough { IsErrOf result NotEnough → HasNoChoice (InTurn O.before) lots.items (unsigned_abs units) }
 {
     let mut lots = lots;

@@ -23,6 +23,22 @@ returns-clause-taken g c =
     (λ enough legs walk. takes-walked before order lots listed units legs.items c.requires.distinct c.sort_unstable_by.ensures.permutation sorted enough walk)
     c.in_turn.ensures.legs
 
+pub returns-clause-enough : goal.returns-clause-enough
+returns-clause-enough g c = λ taken.
+    let lots = c.args.lots.items in
+    let listed = c.sort_unstable_by.new.self.items in
+    let enough : unsigned_abs c.args.units ≤ held_in listed = c.in_turn.ensures.enough taken in
+    let same = held_in-permuted lots listed c.sort_unstable_by.ensures.permutation in
+    omega arith
+
+pub returns-clause-less : goal.returns-clause-less
+returns-clause-less g c = λ fault.
+    let lots = c.args.lots.items in
+    let listed = c.sort_unstable_by.new.self.items in
+    let less : held_in listed < unsigned_abs c.args.units = c.in_turn.ensures.not_enough fault in
+    let same = held_in-permuted lots listed c.sort_unstable_by.ensures.permutation in
+    omega arith
+
 pub returns-clause-not_enough : goal.returns-clause-not_enough
 returns-clause-not_enough g c = λ fault.
     let lots = c.args.lots.items in
