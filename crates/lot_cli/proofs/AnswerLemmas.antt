@@ -9,7 +9,7 @@ use Rattle.lot_ledger.specs.declared.leg.Entry.{Entry}
 use Rattle.lot_ledger.specs.declared.leg.Position.{Position}
 use Rattle.lot_ledger.specs.declared.verdict.Verdict.{Verdict}
 use Rattle.lot_report.specs.declared.holdings.ReportFault.{ReportFault}
-use Rattle.lot_ledger.specs.declared.command.Command.{Command}
+use Rattle.lot_command.specs.declared.command.Command.{Command}
 use Rattle.lot_text.specs.Text.{Reads}
 use Rattle.lot_ledger.specs.Leg.{IsInventory, legs_of}
 use Rattle.lot_ledger.specs.Book.{JudgesAll}

@@ -5,7 +5,7 @@ use Rattle.lot_cli.specs.declared.batch.fault.Fault.{Fault}
 use Rattle.lot_ledger.specs.declared.leg.Entry.{Entry}
 use Rattle.lot_ledger.specs.declared.leg.Position.{Position}
 use Rattle.lot_ledger.specs.declared.verdict.Verdict.{Verdict}
-use Rattle.lot_ledger.specs.declared.command.Command.{Command}
+use Rattle.lot_command.specs.declared.command.Command.{Command}
 use Rattle.lot_cli.specs.Answer.{IsJudged, IsTooLong, IsNoText, IsWhole, IsBroken, IsAnswer, AreReplies, AreLines, IsJudgedBefore, RunsOut, status_of_replies}
 use Rattle.lot_cli.specs.Input.{longest_input}
 use Rattle.lot_ledger.specs.Book.{JudgesAll}

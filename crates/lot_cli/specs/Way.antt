@@ -6,7 +6,7 @@ use Rattle.lot_cli.specs.declared.batch.status.Status.{Status}
 use Rattle.lot_ledger.specs.declared.leg.Position.{Position}
 use Rattle.lot_ledger.specs.declared.leg.Entry.{Entry}
 use Rattle.lot_ledger.specs.declared.verdict.Verdict.{Verdict}
-use Rattle.lot_ledger.specs.declared.command.Command.{Command}
+use Rattle.lot_command.specs.declared.command.Command.{Command}
 use Rattle.lot_text.specs.Text.{IsFaultAt}
 use Rattle.lot_ledger.specs.Book.{Judges, JudgesAll}
 use Rattle.lot_report.specs.Printed.{reply, replies}

@@ -9,8 +9,8 @@ use Rattle.std.specs.Option.{unwrap_or}
 use Rattle.lot_base.specs.Text.{same_text, text_cmp}
 use Rattle.lot_report.specs.Printed.{position_row}
 use Rattle.lot_report.specs.Written.{WritesLine}
-use Rattle.lot_ledger.specs.Sum.{sum_in}
-use Rattle.lot_ledger.specs.declared.leg.LotKey.{LotKey}
+use Rattle.lot_ledger.specs.Currencies.{sum_in}
+use Rattle.lot_inv.specs.declared.lot_key.LotKey.{LotKey}
 use Rattle.lot_ledger.specs.declared.leg.Position.{Position}
 use Rattle.lot_report.specs.declared.line.PrintFault.{PrintFault}
 use Rattle.lot_report.specs.declared.holdings.Holdings.{Holdings}

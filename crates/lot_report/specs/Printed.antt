@@ -7,7 +7,7 @@ use Rattle.lot_ledger.specs.declared.refusal.Refusal.{Refusal}
 use Rattle.lot_ledger.specs.declared.refusal.Refusal.TheVariants.{AlreadyOpen, UnknownAccount, NotOpenYet, TooManyPostings, TwoElided, Range, InexactFill, NotBalanced}
 use Rattle.lot_ledger.specs.declared.verdict.Verdict.{Verdict}
 use Rattle.lot_ledger.specs.declared.verdict.Verdict.TheVariants.{Accepted, Refused}
-use Rattle.lot_ledger.specs.declared.leg.LotKey.{LotKey}
+use Rattle.lot_inv.specs.declared.lot_key.LotKey.{LotKey}
 use Rattle.lot_ledger.specs.declared.leg.Position.{Position}
 
 abbrev pub line : List ℕ → List ℕ

@@ -4,7 +4,7 @@ use Rattle.std.specs.Ordering.{is_eq}
 use Rattle.std.specs.List.{list_all, list_any}
 use Rattle.std.specs.List.Sorted.{IsStrictlySortedBy}
 use Rattle.std.specs.Map.{keys_of, lookup}
-use Rattle.lot_ledger.specs.declared.leg.LotKey.{LotKey}
+use Rattle.lot_inv.specs.declared.lot_key.LotKey.{LotKey}
 use Rattle.lot_ledger.specs.declared.leg.Position.{Position}
 use Rattle.std.specs.Io.KnownBytes.{Appends}
 use Rattle.lot_report.specs.declared.line.PrintFault.{PrintFault}
@@ -13,7 +13,7 @@ use Rattle.lot_report.specs.declared.holdings.ReportFault.{ReportFault}
 use Rattle.lot_report.specs.declared.holdings.ReportFault.TheVariants.{Range, Write, Memory}
 use Rattle.lot_num.specs.Amount.{greatest_wide}
 use Rattle.lot_base.specs.Text.{same_text, text_cmp}
-use Rattle.lot_ledger.specs.Sum.{sum_in}
+use Rattle.lot_ledger.specs.Currencies.{sum_in}
 use Rattle.lot_report.specs.Printed.{position_row, totals, total_lines}
 use Rattle.lot_report.specs.Written.{AppendsPrefix}
 

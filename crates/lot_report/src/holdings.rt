@@ -1,6 +1,6 @@
 ghost use Rattle.std.specs.Prelude.{◌≡◌, ◌≢◌, ℕ, List, [], ◌∷◌, ◌++◌, ℤ, pos, ◌+ℤ◌, ◌*ℤ◌, SomeIff, OnOk, IfErr, IsErrOf};
 ghost use Rattle.lot_num.specs.Amount.{IsWide};
-ghost use Rattle.lot_ledger.specs.Sum.{sum_in};
+ghost use Rattle.lot_ledger.specs.Currencies.{sum_in};
 ghost use Rattle.lot_ledger.specs.declared.leg.Position.{Position as PositionValue};
 ghost use Rattle.lot_report.specs.Report.{AreSums, HasTaken, TakesCost, TakesRow, WritesReport, WritesTotals};
 ghost use Rattle.lot_report.specs.Printed.{plain_row, lot_row, position_row, total_line};
