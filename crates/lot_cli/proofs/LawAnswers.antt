@@ -1,36 +1,36 @@
--- An input has one answer, and what is written of it where the rest is wanting is a front of that one.
+-- An input has one answer, and what is written of it where memory ends or the writer fails is a prefix of that one.
 use Rattle.std.specs.Prelude.{◌≡◌, ◌⊎◌, ℕ, suc, ◌<◌, ◌≤◌, List, [], ◌∷◌, ◌++◌, length, ℤ}
 use Rattle.std.proofs.Common.{refl, sym, ap, subst, ◌∙◌, inl, inr, append_assoc, not-le_of_lt}
-use Rattle.std.proofs.lemmas.List.{append-nil}
 use Rattle.lot_cli.specs.declared.batch.fault.Fault.{Fault}
 use Rattle.lot_ledger.specs.declared.leg.Entry.{Entry}
 use Rattle.lot_ledger.specs.declared.leg.Position.{Position}
 use Rattle.lot_ledger.specs.declared.verdict.Verdict.{Verdict}
-use Rattle.lot_ledger.specs.declared.command.Command.{Command}
-use Rattle.lot_cli.specs.Answer.{IsJudged, IsTooLong, IsNoText, IsWhole, IsBroken, IsAnswer, AreReplies, AreRows, IsFront, limit, status_of_replies}
+use Rattle.lot_command.specs.declared.command.Command.{Command}
+use Rattle.lot_cli.specs.Answer.{IsJudged, IsTooLong, IsNoText, IsWhole, IsBroken, IsAnswer, AreReplies, AreLines, IsJudgedBefore, RunsOut, status_of_replies}
+use Rattle.lot_cli.specs.Input.{longest_input}
 use Rattle.lot_ledger.specs.Book.{JudgesAll}
 use Rattle.lot_ledger.specs.Leg.{IsInventory, legs_of}
 use Rattle.lot_report.specs.Printed.{replies, reply}
 use Rattle.lot_cli.specs.FaultLine.{fault_line}
-use Rattle.lot_report.specs.Report.{IsReport, IsReportToFault, rows_text}
+use Rattle.lot_report.specs.Report.{IsReport, IsReportToFault, AreFirstLines}
 use Rattle.lot_cli.specs.Status.{code_of}
 use Rattle.lot_text.specs.Text.{IsFaultAt}
 use Rattle.lot_report.specs.Written.{IsPrefixOf}
-use Rattle.lot_cli.proofs.LawAnswersReports.{one_report, one_report_to_fault, whole_or_to_fault, front_of_report, front_of_report_to_fault}
+use Rattle.lot_cli.proofs.LawAnswersReports.{one_report, one_report_to_fault, whole_or_to_fault, lines_of_report, lines_of_report_to_fault}
 use Rattle.lot_ledger.proofs.LawBooks.{judged_alike}
 use Rattle.lot_ledger.proofs.LawInventory.{one_inventory}
 use Rattle.lot_text.proofs.TextLaws.{reads_one, fault_one, not_both}
 
--- ---- Fronts of texts.
+-- ---- Prefixes of texts.
 
-front_of_front : (a b c : List ℕ) → IsPrefixOf a b → IsPrefixOf b c → IsPrefixOf a c
-front_of_front a b c h k = (h.0 ++ k.0, k.1 ∙ ap (λ text. text ++ k.0) h.1 ∙ append_assoc a h.0 k.0)
+prefix_of_prefix : (a b c : List ℕ) → IsPrefixOf a b → IsPrefixOf b c → IsPrefixOf a c
+prefix_of_prefix a b c h k = (h.0 ++ k.0, k.1 ∙ ap (λ text. text ++ k.0) h.1 ∙ append_assoc a h.0 k.0)
 
-front_of_more : (a b more : List ℕ) → IsPrefixOf a b → IsPrefixOf a (b ++ more)
-front_of_more a b more h = front_of_front a b (b ++ more) h (more, refl)
+prefix_of_more : (a b more : List ℕ) → IsPrefixOf a b → IsPrefixOf a (b ++ more)
+prefix_of_more a b more h = prefix_of_prefix a b (b ++ more) h (more, refl)
 
-front_behind : (start a b : List ℕ) → IsPrefixOf a b → IsPrefixOf (start ++ a) (start ++ b)
-front_behind start a b h = (h.0, ap (λ text. start ++ text) h.1 ∙ sym (append_assoc start a h.0))
+prefix_behind : (start a b : List ℕ) → IsPrefixOf a b → IsPrefixOf (start ++ a) (start ++ b)
+prefix_behind start a b h = (h.0, ap (λ text. start ++ text) h.1 ∙ sym (append_assoc start a h.0))
 
 -- ---- Inputs that are judged.
 
@@ -41,29 +41,29 @@ one_judgement input vs ws rows others h k =
     let same = judged_alike [] h.commands vs ws h.book k.book h.judged (subst (λ cs. JudgesAll [] cs ws k.book) (sym commands) k.judged) in
     (same.0, one_inventory (legs_of h.book) rows others h.inventory (subst (λ book. IsInventory (legs_of book) others) (sym same.1) k.inventory))
 
-judged_in_front : (before : List Entry) (done rest : List Command) (verdicts : List Verdict) (after : List Entry)
+judged_first : (before : List Entry) (done rest : List Command) (verdicts : List Verdict) (after : List Entry)
     → JudgesAll before (done ++ rest) verdicts after
-    → (front : List Verdict) × (more : List Verdict) × (mid : List Entry) × JudgesAll before done front mid × (verdicts ≡ front ++ more)
-judged_in_front before [] rest verdicts after h = ([], verdicts, before, refl, refl)
-judged_in_front before (command ∷ done) rest [] after h = absurd h
-judged_in_front before (command ∷ done) rest (verdict ∷ verdicts) after h =
-    let parts = judged_in_front h.0 done rest verdicts after h.2 in
+    → (first : List Verdict) × (more : List Verdict) × (mid : List Entry) × JudgesAll before done first mid × (verdicts ≡ first ++ more)
+judged_first before [] rest verdicts after h = ([], verdicts, before, refl, refl)
+judged_first before (command ∷ done) rest [] after h = absurd h
+judged_first before (command ∷ done) rest (verdict ∷ verdicts) after h =
+    let parts = judged_first h.0 done rest verdicts after h.2 in
     (verdict ∷ parts.0, parts.1, parts.2, (h.0, h.1, parts.3), ap (λ vs. verdict ∷ vs) parts.4)
 
-replies_in_front : (number : ℕ) (verdicts more : List Verdict) → IsPrefixOf (replies number verdicts) (replies number (verdicts ++ more))
-replies_in_front number [] more = (replies number more, refl)
-replies_in_front number (verdict ∷ verdicts) more =
-    front_behind (reply number verdict) (replies (suc number) verdicts) (replies (suc number) (verdicts ++ more)) (replies_in_front (suc number) verdicts more)
+replies_first : (number : ℕ) (verdicts more : List Verdict) → IsPrefixOf (replies number verdicts) (replies number (verdicts ++ more))
+replies_first number [] more = (replies number more, refl)
+replies_first number (verdict ∷ verdicts) more =
+    prefix_behind (reply number verdict) (replies (suc number) verdicts) (replies (suc number) (verdicts ++ more)) (replies_first (suc number) verdicts more)
 
--- the replies to a front of the commands are a front of the replies to all
-front_of_replies : (input text : List ℕ) (verdicts : List Verdict) (rows : List (Position × ℤ))
+-- the replies to the first commands are a prefix of the replies to all
+prefix_of_replies : (input text : List ℕ) (verdicts : List Verdict) (rows : List (Position × ℤ))
     → AreReplies input text → IsJudged input verdicts rows → IsPrefixOf text (replies 1 verdicts)
-front_of_replies input text verdicts rows h k =
+prefix_of_replies input text verdicts rows h k =
     let commands = reads_one input k.commands (h.0 ++ h.1) k.reads h.5 in
-    let parts = judged_in_front [] h.0 h.1 verdicts k.book (subst (λ cs. JudgesAll [] cs verdicts k.book) commands k.judged) in
+    let parts = judged_first [] h.0 h.1 verdicts k.book (subst (λ cs. JudgesAll [] cs verdicts k.book) commands k.judged) in
     let same = (judged_alike [] h.0 parts.0 h.2 parts.2 h.3 parts.3 h.6).0 in
-    let front = replies_in_front 1 parts.0 parts.1 in
-    (front.0, ap (replies 1) parts.4 ∙ front.1 ∙ ap (λ vs. replies 1 vs ++ front.0) same ∙ ap (λ t. t ++ front.0) (sym h.7))
+    let first = replies_first 1 parts.0 parts.1 in
+    (first.0, ap (replies 1) parts.4 ∙ first.1 ∙ ap (λ vs. replies 1 vs ++ first.0) same ∙ ap (λ t. t ++ first.0) (sym h.7))
 
 -- ---- One answer.
 
@@ -72,9 +72,9 @@ apart n m h k = absurd (not-le_of_lt h k)
 
 too_long : (input a b : List ℕ) (s t : ℕ) → IsTooLong input a s → IsAnswer input b t → (a ≡ b) × (s ≡ t)
 too_long input a b s t h (inl k) = (h.1 ∙ sym k.1, h.2 ∙ sym k.2)
-too_long input a b s t h (inr (inl k)) = apart (length input) limit h.0 k.0
-too_long input a b s t h (inr (inr (inl k))) = apart (length input) limit h.0 k.3.short
-too_long input a b s t h (inr (inr (inr k))) = apart (length input) limit h.0 k.3.short
+too_long input a b s t h (inr (inl k)) = apart (length input) longest_input h.0 k.0
+too_long input a b s t h (inr (inr (inl k))) = apart (length input) longest_input h.0 k.3.short
+too_long input a b s t h (inr (inr (inr k))) = apart (length input) longest_input h.0 k.3.short
 
 -- no input has a faulty line and is judged
 no_verdicts : {P : Type 0} → (input : List ℕ) (number : ℕ) (verdicts : List Verdict) (rows : List (Position × ℤ))
@@ -82,7 +82,7 @@ no_verdicts : {P : Type 0} → (input : List ℕ) (number : ℕ) (verdicts : Lis
 no_verdicts input number verdicts rows h k = absurd (not_both input k.commands number k.reads h)
 
 no_text : (input a b : List ℕ) (s t : ℕ) → IsNoText input a s → IsAnswer input b t → (a ≡ b) × (s ≡ t)
-no_text input a b s t h (inl k) = apart (length input) limit k.0 h.0
+no_text input a b s t h (inl k) = apart (length input) longest_input k.0 h.0
 no_text input a b s t h (inr (inl k)) =
     (h.3 ∙ ap (λ number. fault_line (Fault.Syntax number)) (fault_one input h.1 k.1 h.2 k.2) ∙ sym k.3, h.4 ∙ sym k.4)
 no_text input a b s t h (inr (inr (inl k))) = no_verdicts input h.1 k.0 k.1 h.2 k.3
@@ -111,13 +111,13 @@ whole_or_broken input a b s t h k =
     absurd (whole_or_to_fault k.1 h.2 k.2 (subst (λ rows. IsReport rows h.2) same.1 h.4) k.4)
 
 whole : (input a b : List ℕ) (s t : ℕ) → IsWhole input a s → IsAnswer input b t → (a ≡ b) × (s ≡ t)
-whole input a b s t h (inl k) = apart (length input) limit k.0 h.3.short
+whole input a b s t h (inl k) = apart (length input) longest_input k.0 h.3.short
 whole input a b s t h (inr (inl k)) = no_verdicts input k.1 h.0 h.1 k.2 h.3
 whole input a b s t h (inr (inr (inl k))) = whole_alike input a b s t h k
 whole input a b s t h (inr (inr (inr k))) = whole_or_broken input a b s t h k
 
 broken : (input a b : List ℕ) (s t : ℕ) → IsBroken input a s → IsAnswer input b t → (a ≡ b) × (s ≡ t)
-broken input a b s t h (inl k) = apart (length input) limit k.0 h.3.short
+broken input a b s t h (inl k) = apart (length input) longest_input k.0 h.3.short
 broken input a b s t h (inr (inl k)) = no_verdicts input k.1 h.0 h.1 k.2 h.3
 broken input a b s t h (inr (inr (inl k))) = whole_or_broken input b a t s k h
 broken input a b s t h (inr (inr (inr k))) = broken_alike input a b s t h k
@@ -128,47 +128,46 @@ one_answer input a b s t (inr (inl h)) k = no_text input a b s t h k
 one_answer input a b s t (inr (inr (inl h))) k = whole input a b s t h k
 one_answer input a b s t (inr (inr (inr h))) k = broken input a b s t h k
 
--- ---- Fronts of the answer.
+-- ---- Prefixes of the answer.
 
 no_replies : {P : Type 0} → (input text : List ℕ) (number : ℕ) → AreReplies input text → IsFaultAt input number → P
 no_replies input text number h k = absurd (not_both input (h.0 ++ h.1) number h.5 k)
 
-replies_are_front : (input part text : List ℕ) (status : ℕ) → AreReplies input part → IsAnswer input text status → IsPrefixOf part text
-replies_are_front input part text status h (inl k) = apart (length input) limit k.0 h.4
-replies_are_front input part text status h (inr (inl k)) = no_replies input part k.1 h k.2
-replies_are_front input part text status h (inr (inr (inl k))) =
-    subst (IsPrefixOf part) (sym k.5) (front_of_more part (replies 1 k.0) k.2 (front_of_replies input part k.0 k.1 h k.3))
-replies_are_front input part text status h (inr (inr (inr k))) =
-    subst (IsPrefixOf part) (sym k.5) (front_of_more part (replies 1 k.0) (k.2 ++ fault_line Fault.Range) (front_of_replies input part k.0 k.1 h k.3))
+pub replies_begin : (input part text : List ℕ) (status : ℕ) → AreReplies input part → IsAnswer input text status → IsPrefixOf part text
+replies_begin input part text status h (inl k) = apart (length input) longest_input k.0 h.4
+replies_begin input part text status h (inr (inl k)) = no_replies input part k.1 h k.2
+replies_begin input part text status h (inr (inr (inl k))) =
+    subst (IsPrefixOf part) (sym k.5) (prefix_of_more part (replies 1 k.0) k.2 (prefix_of_replies input part k.0 k.1 h k.3))
+replies_begin input part text status h (inr (inr (inr k))) =
+    subst (IsPrefixOf part) (sym k.5) (prefix_of_more part (replies 1 k.0) (k.2 ++ fault_line Fault.Range) (prefix_of_replies input part k.0 k.1 h k.3))
 
--- the same replies, and behind them a front of what the answer has there
-front_behind_replies : (verdicts others : List Verdict) (rows part report text : List ℕ) → verdicts ≡ others
-    → part ≡ replies 1 verdicts ++ rows → text ≡ replies 1 others ++ report → IsPrefixOf rows report → IsPrefixOf part text
-front_behind_replies verdicts others rows part report text same is told front =
-    subst (λ a. IsPrefixOf a text) (ap (λ vs. replies 1 vs ++ rows) (sym same) ∙ sym is)
-    (subst (IsPrefixOf (replies 1 others ++ rows)) (sym told) (front_behind (replies 1 others) rows report front))
+-- the same replies, and behind them a prefix of what the answer has there
+prefix_behind_replies : (verdicts others : List Verdict) (lines part report text : List ℕ) → verdicts ≡ others
+    → part ≡ replies 1 verdicts ++ lines → text ≡ replies 1 others ++ report → IsPrefixOf lines report → IsPrefixOf part text
+prefix_behind_replies verdicts others lines part report text same is answered first =
+    subst (λ a. IsPrefixOf a text) (ap (λ vs. replies 1 vs ++ lines) (sym same) ∙ sym is)
+    (subst (IsPrefixOf (replies 1 others ++ lines)) (sym answered) (prefix_behind (replies 1 others) lines report first))
 
-rows_are_front : (input part text : List ℕ) (status : ℕ) → AreRows input part → IsAnswer input text status → IsPrefixOf part text
-rows_are_front input part text status h (inl k) = apart (length input) limit k.0 h.3.short
-rows_are_front input part text status h (inr (inl k)) = no_verdicts input k.1 h.0 (h.1 ++ h.2) k.2 h.3
-rows_are_front input part text status h (inr (inr (inl k))) =
-    let same = one_judgement input h.0 k.0 (h.1 ++ h.2) k.1 h.3 k.3 in
-    front_behind_replies h.0 k.0 (rows_text h.1) part k.2 text same.0 h.5 k.5
-    (front_of_report h.1 h.2 k.2 (subst (λ rows. IsReport rows k.2) (sym same.1) k.4))
-rows_are_front input part text status h (inr (inr (inr k))) =
-    let same = one_judgement input h.0 k.0 (h.1 ++ h.2) k.1 h.3 k.3 in
-    front_behind_replies h.0 k.0 (rows_text h.1) part (k.2 ++ fault_line Fault.Range) text same.0 h.5 k.5
-    (front_of_more (rows_text h.1) k.2 (fault_line Fault.Range)
-    (front_of_report_to_fault h.1 h.2 k.2 h.4 (subst (λ rows. IsReportToFault rows k.2) (sym same.1) k.4)))
+pub lines_begin : (input part text : List ℕ) (status : ℕ) → AreLines input part → IsAnswer input text status → IsPrefixOf part text
+lines_begin input part text status h (inl k) = apart (length input) longest_input k.0 h.3.short
+lines_begin input part text status h (inr (inl k)) = no_verdicts input k.1 h.0 h.1 k.2 h.3
+lines_begin input part text status h (inr (inr (inl k))) =
+    let same = one_judgement input h.0 k.0 h.1 k.1 h.3 k.3 in
+    prefix_behind_replies h.0 k.0 h.2 part k.2 text same.0 h.5 k.5
+    (lines_of_report k.1 h.2 k.2 (subst (λ rows. AreFirstLines rows h.2) same.1 h.4) k.4)
+lines_begin input part text status h (inr (inr (inr k))) =
+    let same = one_judgement input h.0 k.0 h.1 k.1 h.3 k.3 in
+    prefix_behind_replies h.0 k.0 h.2 part (k.2 ++ fault_line Fault.Range) text same.0 h.5 k.5
+    (prefix_of_more h.2 k.2 (fault_line Fault.Range)
+    (lines_of_report_to_fault k.1 h.2 k.2 (subst (λ rows. AreFirstLines rows h.2) same.1 h.4) k.4))
 
-part_is_front : (input part text : List ℕ) (status : ℕ)
-    → (part ≡ []) ⊎ AreReplies input part ⊎ AreRows input part ⊎ ((s : ℕ) × IsAnswer input part s)
-    → IsAnswer input text status → IsPrefixOf part text
-part_is_front input part text status (inl e) k = (text, ap (λ start. start ++ text) (sym e))
-part_is_front input part text status (inr (inl h)) k = replies_are_front input part text status h k
-part_is_front input part text status (inr (inr (inl h))) k = rows_are_front input part text status h k
-part_is_front input part text status (inr (inr (inr h))) k =
-    ([], sym (one_answer input part text h.0 status h.1 k).0 ∙ sym (append-nil part))
+-- the replies to the commands before one are those to the first commands
+replies_before : (input text : List ℕ) (number : ℕ) (verdicts : List Verdict) → IsJudgedBefore input number verdicts → text ≡ replies 1 verdicts
+    → AreReplies input text
+replies_before input text number verdicts h is = (h.done, h.command ∷ h.rest, verdicts, h.book, h.short, h.reads, h.judged, is)
 
-pub front_of_answer : (input front text : List ℕ) (status : ℕ) → IsFront input front → IsAnswer input text status → IsPrefixOf front text
-front_of_answer input front text status h k = front_of_front front h.0 text h.1 (part_is_front input h.0 text status h.2 k)
+pub kept_begins : (input kept last text : List ℕ) (status : ℕ) → RunsOut input kept last → IsAnswer input text status → IsPrefixOf kept text
+kept_begins input kept last text status (inl h) k = (text, ap (λ start. start ++ text) (sym h.0))
+kept_begins input kept last text status (inr (inl h)) k =
+    replies_begin input kept text status (replies_before input kept h.0 h.1 h.2 h.3) k
+kept_begins input kept last text status (inr (inr h)) k = lines_begin input kept text status h.0 k

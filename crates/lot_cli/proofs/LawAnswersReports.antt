@@ -1,16 +1,15 @@
 -- Rows have one report: the whole one where all of them fit, and the one up to the first that doesn't.
-use Rattle.std.specs.Prelude.{◌≡◌, ℕ, Bool, not, IsTrue, List, [], ◌∷◌, ◌++◌, ℤ}
-use Rattle.std.specs.Cmp.Lexicographic.{slice_cmp}
-use Rattle.std.specs.Ordering.{nat_cmp}
-use Rattle.std.proofs.Common.{refl, sym, ap, subst, ◌∙◌, append_assoc}
+use Rattle.std.specs.Prelude.{◌≡◌, ℕ, Bool, true, false, not, IsTrue, List, [], ◌∷◌, ◌++◌, ℤ}
+use Rattle.lot_base.specs.Text.{text_cmp}
+use Rattle.std.proofs.Common.{refl, sym, ap, subst, ◌∙◌, append_assoc, inl, inr}
 use Rattle.std.proofs.lemmas.Bool.{true≢false}
 use Rattle.std.proofs.lemmas.Cmp.{nat_list_cmp_total}
 use Rattle.std.proofs.lemmas.Grind.{flat_map-append}
 use Rattle.std.proofs.lemmas.List.{append-nil}
 use Rattle.std.proofs.lemmas.Map.Lookups.{exact_bytes}
 use Rattle.lot_ledger.specs.declared.leg.Position.{Position}
-use Rattle.lot_report.specs.Printed.{position_row, totals}
-use Rattle.lot_report.specs.Report.{AreSums, AllFit, IsReport, IsReportToFault, costs_of, fits, is_nil, rows_text}
+use Rattle.lot_report.specs.Printed.{position_row, total_line, total_lines, totals}
+use Rattle.lot_report.specs.Report.{AreSums, AllFit, AreFirstLines, AreFirstTotals, IsReport, IsReportToFault, costs_of, fits, is_nil, rows_text}
 use Rattle.lot_report.specs.Written.{IsPrefixOf}
 use Rattle.lot_base.proofs.MapLemmas.{one_map}
 
@@ -18,7 +17,7 @@ use Rattle.lot_base.proofs.MapLemmas.{one_map}
 
 one_sums : (costs sums others : List (List ℕ × ℤ)) → AreSums costs sums → AreSums costs others → sums ≡ others
 one_sums costs sums others h k =
-    one_map (slice_cmp nat_cmp) nat_list_cmp_total exact_bytes sums others h.in_order k.in_order (λ name. h.each name ∙ sym (k.each name))
+    one_map text_cmp nat_list_cmp_total exact_bytes sums others h.in_order k.in_order (λ name. h.each name ∙ sym (k.each name))
 
 -- ---- Lists.
 
@@ -46,18 +45,18 @@ fits_behind start [] row after h = subst (λ rows. IsTrue (fits rows row)) (sym 
 fits_behind start (first ∷ before) row after h =
     subst (λ rows. IsTrue (fits rows row)) (append_assoc start (first ∷ []) before) (fits_behind (start ++ first ∷ []) before row after h.1)
 
--- of one list of rows, a front in which all fit is no longer than the one before a row that doesn't
-fitting_is_front : (start fitting more before : List (Position × ℤ)) (row : Position × ℤ) (after : List (Position × ℤ))
+-- of one list of rows, first ones that all fit are no more than those before a row that doesn't
+fitting_come_first : (start fitting more before : List (Position × ℤ)) (row : Position × ℤ) (after : List (Position × ℤ))
     → AllFit start fitting → IsTrue (not (fits (start ++ before) row)) → fitting ++ more ≡ before ++ row ∷ after
     → (between : List (Position × ℤ)) × (before ≡ fitting ++ between)
-fitting_is_front start [] more before row after h fault e = (before, refl)
-fitting_is_front start (first ∷ fitting) more [] row after h fault e =
+fitting_come_first start [] more before row after h fault e = (before, refl)
+fitting_come_first start (first ∷ fitting) more [] row after h fault e =
     absurd (holds_or_not (fits start row)
     (subst (λ other. IsTrue (fits start other)) (first_alike first row (fitting ++ more) after e) h.0)
     (subst (λ rows. IsTrue (not (fits rows row))) (append-nil start) fault))
-fitting_is_front start (first ∷ fitting) more (other ∷ before) row after h fault e =
+fitting_come_first start (first ∷ fitting) more (other ∷ before) row after h fault e =
     let one = first_alike first other (fitting ++ more) (before ++ row ∷ after) e in
-    let rest = fitting_is_front (start ++ first ∷ []) fitting more before row after h.1
+    let rest = fitting_come_first (start ++ first ∷ []) fitting more before row after h.1
     (subst (λ rows. IsTrue (not (fits rows row))) (ap (λ x. start ++ x ∷ before) (sym one) ∙ sym (append_assoc start (first ∷ []) before)) fault)
     (rest_alike first other (fitting ++ more) (before ++ row ∷ after) e) in
     (rest.0, ap (λ x. x ∷ before) (sym one) ∙ ap (λ rows. first ∷ rows) rest.1)
@@ -70,25 +69,58 @@ one_report rows text other h k =
 
 pub one_report_to_fault : (rows : List (Position × ℤ)) (text other : List ℕ) → IsReportToFault rows text → IsReportToFault rows other → text ≡ other
 one_report_to_fault rows text other h k =
-    let more = fitting_is_front [] h.0 (h.1 ∷ h.2) k.0 k.1 k.2 h.3 k.4 (sym h.5 ∙ k.5) in
-    let back = fitting_is_front [] k.0 (k.1 ∷ k.2) h.0 h.1 h.2 k.3 h.4 (sym k.5 ∙ h.5) in
+    let more = fitting_come_first [] h.0 (h.1 ∷ h.2) k.0 k.1 k.2 h.3 k.4 (sym h.5 ∙ k.5) in
+    let back = fitting_come_first [] k.0 (k.1 ∷ k.2) h.0 h.1 h.2 k.3 h.4 (sym k.5 ∙ h.5) in
     let none = nothing_more h.0 more.0 back.0 (back.1 ∙ ap (λ rows. rows ++ back.0) more.1) in
     h.6 ∙ ap rows_text (sym (append-nil h.0) ∙ ap (λ rows. h.0 ++ rows) (sym none) ∙ sym more.1) ∙ sym k.6
 
+fit_or_fault : (rows : List (Position × ℤ)) (other : List ℕ) → AllFit [] rows → IsReportToFault rows other → ⊥
+fit_or_fault rows other fitting k = holds_or_not (fits k.0 k.1) (fits_behind [] k.0 k.1 k.2 (subst (AllFit []) k.5 fitting)) k.4
+
 pub whole_or_to_fault : (rows : List (Position × ℤ)) (text other : List ℕ) → IsReport rows text → IsReportToFault rows other → ⊥
-whole_or_to_fault rows text other h k = holds_or_not (fits k.0 k.1) (fits_behind [] k.0 k.1 k.2 (subst (AllFit []) k.5 h.0)) k.4
+whole_or_to_fault rows text other h k = fit_or_fault rows other h.0 k
+
+-- ---- First lines of a report.
 
 row_text : Position × ℤ → List ℕ
 row_text row = position_row row.0 row.1
 
-pub front_of_report : (before after : List (Position × ℤ)) (text : List ℕ) → IsReport (before ++ after) text → IsPrefixOf (rows_text before) text
+total_text : List ℕ × ℤ → List ℕ
+total_text cost = total_line cost.0 cost.1
+
+rows_of_report : (before after : List (Position × ℤ)) (text : List ℕ) → IsReport (before ++ after) text → IsPrefixOf (rows_text before) text
 unfolding row_text
-front_of_report before after text h =
+rows_of_report before after text h =
     let last = totals (is_nil (before ++ after)) h.1 in
     (rows_text after ++ last, h.3 ∙ ap (λ rows. rows ++ last) (flat_map-append row_text before after) ∙ append_assoc (rows_text before) (rows_text after) last)
 
-pub front_of_report_to_fault : (before after : List (Position × ℤ)) (text : List ℕ) → AllFit [] before → IsReportToFault (before ++ after) text → IsPrefixOf (rows_text before) text
+rows_of_report_to_fault : (before after : List (Position × ℤ)) (text : List ℕ) → AllFit [] before → IsReportToFault (before ++ after) text → IsPrefixOf (rows_text before) text
 unfolding row_text
-front_of_report_to_fault before after text fitting h =
-    let between = fitting_is_front [] before after h.0 h.1 h.2 fitting h.4 h.5 in
+rows_of_report_to_fault before after text fitting h =
+    let between = fitting_come_first [] before after h.0 h.1 h.2 fitting h.4 h.5 in
     (rows_text between.0, h.6 ∙ ap rows_text between.1 ∙ flat_map-append row_text before between.0)
+
+-- the first lines of totals are a prefix of them
+first_totals : (empty : Bool) (costs : List (List ℕ × ℤ)) (part : List ℕ) → AreFirstTotals empty costs part → IsPrefixOf part (totals empty costs)
+unfolding total_text
+first_totals true costs part h = (totals true costs, ap (λ start. start ++ totals true costs) (sym h))
+first_totals false costs part h =
+    (total_lines h.1, ap total_lines h.2 ∙ flat_map-append total_text h.0 h.1 ∙ ap (λ start. start ++ total_lines h.1) (sym h.3))
+
+pub lines_of_report : (rows : List (Position × ℤ)) (lines text : List ℕ) → AreFirstLines rows lines → IsReport rows text → IsPrefixOf lines text
+lines_of_report rows lines text (inl h) k =
+    subst (λ start. IsPrefixOf start text) (sym h.4) (rows_of_report h.0 h.1 text (subst (λ all. IsReport all text) h.3 k))
+lines_of_report rows lines text (inr h) k =
+    let costs = one_sums (costs_of rows) h.1 k.1 h.2 k.2 in
+    let first = first_totals (is_nil rows) h.1 h.3 h.4 in (
+      first.0,
+      k.3 ∙ ap (λ sums. rows_text rows ++ totals (is_nil rows) sums) (sym costs)
+          ∙ ap (λ last. rows_text rows ++ last) first.1
+          ∙ sym (append_assoc (rows_text rows) h.3 first.0)
+          ∙ ap (λ start. start ++ first.0) (sym h.5),
+    )
+
+pub lines_of_report_to_fault : (rows : List (Position × ℤ)) (lines text : List ℕ) → AreFirstLines rows lines → IsReportToFault rows text → IsPrefixOf lines text
+lines_of_report_to_fault rows lines text (inl h) k =
+    subst (λ start. IsPrefixOf start text) (sym h.4) (rows_of_report_to_fault h.0 h.1 text h.2 (subst (λ all. IsReportToFault all text) h.3 k))
+lines_of_report_to_fault rows lines text (inr h) k = absurd (fit_or_fault rows text h.0 k)

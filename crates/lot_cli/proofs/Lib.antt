@@ -1,4 +1,6 @@
+pub mod InputLemmas
 pub mod RunLemmas
+pub mod FaultLemmas
 pub mod LawAnswersReports
 pub mod LawAnswers
 pub mod AnswerLemmas

@@ -1,5 +1,5 @@
 -- Runs of commands.
-use Rattle.std.proofs.Common.{inl, inr, ◌≡◌, ℕ, List, [], ◌∷◌, ◌++◌, length, refl, sym, ap, ◌∙◌, subst, append_assoc, append-nil, length-append}
+use Rattle.std.proofs.Common.{◌≡◌, ℕ, List, [], ◌∷◌, ◌++◌, length, refl, sym, ap, ◌∙◌, subst, append_assoc, append-nil, length-append}
 use Rattle.std.specs.Prelude.{suc, ◌+◌, Option, Ok, Err}
 use native.Mathlib.Omega.{arith}
 use Rattle.std.specs.Io.KnownBytes.{Appends}
@@ -9,18 +9,21 @@ use Rattle.lot_cli.specs.declared.batch.fault.Fault.{Fault}
 use Rattle.lot_cli.specs.declared.batch.status.Status.{Status}
 use Rattle.lot_ledger.specs.declared.leg.Entry.{Entry}
 use Rattle.lot_ledger.specs.declared.verdict.Verdict.{Verdict}
-use Rattle.lot_ledger.specs.declared.command.Command.{Command}
+use Rattle.lot_command.specs.declared.command.Command.{Command}
 use Rattle.lot_cli.specs.Status.{fault_at, status_after, status_of_verdict}
+use Rattle.lot_report.specs.Written.{AppendsPrefix, WritesLine}
 use Rattle.lot_report.specs.Printed.{reply, replies}
 use Rattle.lot_ledger.specs.Book.{Judges, JudgesAll}
 use Rattle.lot_cli.specs.Answer.{status_of_replies}
-use Rattle.lot_cli.specs.Way.{EndsRun, Replies, Runs}
-use Rattle.lot_report.proofs.PrintLemmas.{front_step}
+use Rattle.lot_cli.specs.Way.{Replies, Runs}
+use Rattle.lot_report.proofs.PrintLemmas.{prefix_behind}
 
--- a fault of a reply ends a run
-pub ends_at : (number : ℕ) (fault : PrintFault) (e : Fault) → e ≡ fault_at number fault → EndsRun e
-ends_at number PrintFault.Write e is = inl is
-ends_at number PrintFault.Memory e is = inr (number, is)
+-- a reply that isn't written whole
+pub reply_stops : (before after : List Entry) (command : Command) (verdict : Verdict) (number : ℕ) (old new : Option (List ℕ)) (fault : PrintFault) (e : Fault)
+    → Judges before command verdict after → WritesLine old new (Err fault) (reply number verdict) → e ≡ fault_at number fault
+    → Replies before command number old new (Err e)
+reply_stops before after command verdict number old new PrintFault.Write e judged part is = rw (is) (verdict, after, judged, part)
+reply_stops before after command verdict number old new PrintFault.Memory e judged nothing is = rw (is) (refl, nothing)
 
 -- ---- One command more.
 
@@ -95,32 +98,31 @@ pub run_stops : (commands left rest : List Command) (command : Command) (count n
     → RanSoFar commands left count book status old mid → left ≡ command ∷ rest → number ≡ count + 1
     → Replies book command number mid new (Err fault)
     → Runs commands old new (Err fault)
-run_stops commands left rest command count number book status fault old mid new so_far is numbered (text, inl nothing, front, ends) =
+run_stops commands left rest command count number book status Fault.Write old mid new so_far is numbered (verdict, after, judged, part) =
     let (done, verdicts, split, counted, all, before, status_is) = so_far in (
-      (
-        done,
-        left,
-        verdicts,
-        book,
-        split,
-        all,
-        front_step old mid new (replies 1 verdicts) text [] (replies 1 verdicts) before front
-            (ap (λ xs. replies 1 verdicts ++ (xs ++ [])) nothing ∙ append-nil (replies 1 verdicts)),
-      ),
-      ends,
+      done ++ command ∷ [],
+      rest,
+      verdicts ++ verdict ∷ [],
+      after,
+      split ∙ ap (λ cs. done ++ cs) is ∙ sym (append_assoc done (command ∷ []) rest),
+      judges_more [] done verdicts book after command verdict all judged,
+      subst (AppendsPrefix old new) (sym (replies_more 1 verdicts verdict ∙ ap (λ n. replies 1 verdicts ++ reply n verdict) (sym (next_number number count verdicts counted numbered))))
+          (prefix_behind old mid new (replies 1 verdicts) (reply number verdict) before part),
     )
-run_stops commands left rest command count number book status fault old mid new so_far is numbered (text, inr (verdict, after, judged, replied), front, ends) =
+run_stops commands left rest command count number book status (Fault.MemoryAt stopped) old mid new so_far is numbered (same, nothing) =
     let (done, verdicts, split, counted, all, before, status_is) = so_far in (
-      (
-        done ++ command ∷ [],
-        rest,
-        verdicts ++ verdict ∷ [],
-        after,
-        split ∙ ap (λ cs. done ++ cs) is ∙ sym (append_assoc done (command ∷ []) rest),
-        judges_more [] done verdicts book after command verdict all judged,
-        front_step old mid new (replies 1 verdicts) text [] (replies 1 (verdicts ++ verdict ∷ [])) before front
-            (ap (λ xs. replies 1 verdicts ++ xs) (append-nil text ∙ replied ∙ ap (λ n. reply n verdict) (next_number number count verdicts counted numbered))
-            ∙ sym (replies_more 1 verdicts verdict)),
-      ),
-      ends,
+      done,
+      command,
+      rest,
+      verdicts,
+      book,
+      split ∙ ap (λ cs. done ++ cs) is,
+      all,
+      same ∙ next_number number count verdicts counted numbered,
+      subst (Appends old new) (append-nil (replies 1 verdicts)) (Appends-trans old mid new _ _ before nothing),
     )
+run_stops commands left rest command count number book status Fault.Memory old mid new so_far is numbered none = none
+run_stops commands left rest command count number book status Fault.Range old mid new so_far is numbered none = none
+run_stops commands left rest command count number book status (Fault.Syntax line) old mid new so_far is numbered none = none
+run_stops commands left rest command count number book status Fault.TooLong old mid new so_far is numbered none = none
+run_stops commands left rest command count number book status Fault.Read old mid new so_far is numbered none = none

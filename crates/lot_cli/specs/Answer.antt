@@ -1,18 +1,19 @@
 -- What `check` writes for an input, and with which status it ends.
-use Rattle.std.specs.Prelude.{◌≡◌, ◌⊎◌, ℕ, ◌<◌, ◌≤◌, List, [], ◌∷◌, ◌++◌, length, ℤ}
+use Rattle.std.specs.Prelude.{◌≡◌, ◌⊎◌, ℕ, ◌+◌, ◌<◌, ◌≤◌, List, [], ◌∷◌, ◌++◌, length, ℤ}
 use Rattle.lot_cli.specs.declared.batch.fault.Fault.{Fault}
 use Rattle.lot_cli.specs.declared.batch.status.Status.{Status}
 use Rattle.lot_ledger.specs.declared.leg.Position.{Position}
 use Rattle.lot_ledger.specs.declared.leg.Entry.{Entry}
 use Rattle.lot_ledger.specs.declared.verdict.Verdict.{Verdict}
-use Rattle.lot_ledger.specs.declared.command.Command.{Command}
+use Rattle.lot_command.specs.declared.command.Command.{Command}
 use Rattle.lot_text.specs.Text.{Reads, IsFaultAt}
 use Rattle.lot_ledger.specs.Leg.{IsInventory, legs_of}
 use Rattle.lot_ledger.specs.Book.{JudgesAll}
 use Rattle.lot_report.specs.Printed.{replies}
 use Rattle.lot_cli.specs.FaultLine.{fault_line}
-use Rattle.lot_report.specs.Report.{IsReport, IsReportToFault, AllFit, rows_text}
-use Rattle.lot_report.specs.Written.{IsPrefixOf}
+use Rattle.lot_report.specs.Report.{IsReport, IsReportToFault, AreFirstLines}
+use Rattle.lot_report.specs.Written.{IsProperPrefixOf}
+use Rattle.lot_cli.specs.Input.{longest_input}
 use Rattle.lot_cli.specs.Status.{code_of, status_of_verdict, status_after}
 
 -- ---- The status of replies.
@@ -24,26 +25,23 @@ status_of_replies (verdict ∷ verdicts) = status_after (status_of_verdict verdi
 
 -- ---- The whole answer.
 
--- an input of more than 16 MiB is told as such, and not read
-abbrev pub limit : ℕ
-limit = 16777216
-
 -- the commands of the input, judged in order on an empty book, come to these verdicts, and the book holds these rows
 pub record IsJudged (input : List ℕ) (verdicts : List Verdict) (rows : List (Position × ℤ)) : Type 0 where
-  pub short : length input ≤ limit
+  pub short : length input ≤ longest_input
   pub commands : List Command
   pub book : List Entry
   pub reads : Reads input commands
   pub judged : JudgesAll [] commands verdicts book
   pub inventory : IsInventory (legs_of book) rows
 
+-- the one line that the input is too long
 abbrev pub IsTooLong : List ℕ → List ℕ → ℕ → Type 0
-IsTooLong input text status = (limit < length input) × (text ≡ fault_line Fault.TooLong) × (status ≡ 3)
+IsTooLong input text status = (longest_input < length input) × (text ≡ fault_line Fault.TooLong) × (status ≡ 3)
 
--- an input that no commands fit: one line tells the first faulty line
+-- an input that no commands fit: one line reports the first faulty line
 abbrev pub IsNoText : List ℕ → List ℕ → ℕ → Type 0
 IsNoText input text status =
-    (length input ≤ limit) × (number : ℕ) × IsFaultAt input number × (text ≡ fault_line (Fault.Syntax number)) × (status ≡ 3)
+    (length input ≤ longest_input) × (number : ℕ) × IsFaultAt input number × (text ≡ fault_line (Fault.Syntax number)) × (status ≡ 3)
 
 -- the replies and the holdings
 abbrev pub IsWhole : List ℕ → List ℕ → ℕ → Type 0
@@ -51,7 +49,7 @@ IsWhole input text status =
     (verdicts : List Verdict) × (rows : List (Position × ℤ)) × (report : List ℕ) × IsJudged input verdicts rows
     × IsReport rows report × (text ≡ replies 1 verdicts ++ report) × (status ≡ code_of (status_of_replies verdicts))
 
--- the replies, the rows before the one with which a total leaves the range, and the line that tells it
+-- the replies, the rows before the one with which a total leaves the range, and the line that reports it
 abbrev pub IsBroken : List ℕ → List ℕ → ℕ → Type 0
 IsBroken input text status =
     (verdicts : List Verdict) × (rows : List (Position × ℤ)) × (report : List ℕ) × IsJudged input verdicts rows
@@ -62,44 +60,85 @@ abbrev pub IsAnswer : List ℕ → List ℕ → ℕ → Type 0
 IsAnswer input text status =
     IsTooLong input text status ⊎ IsNoText input text status ⊎ IsWhole input text status ⊎ IsBroken input text status
 
--- ---- What is written where memory is wanting, or the reader or the writer fails.
+-- ---- Parts of the answer.
 
--- the replies to a front of the commands
+-- the replies to the first commands
 abbrev pub AreReplies : List ℕ → List ℕ → Type 0
 AreReplies input text =
     (done : List Command) × (rest : List Command) × (verdicts : List Verdict) × (book : List Entry)
-    × (length input ≤ limit) × Reads input (done ++ rest) × JudgesAll [] done verdicts book × (text ≡ replies 1 verdicts)
+    × (length input ≤ longest_input) × Reads input (done ++ rest) × JudgesAll [] done verdicts book × (text ≡ replies 1 verdicts)
 
--- all replies, and a front of the rows
-abbrev pub AreRows : List ℕ → List ℕ → Type 0
-AreRows input text =
-    (verdicts : List Verdict) × (before : List (Position × ℤ)) × (after : List (Position × ℤ))
-    × IsJudged input verdicts (before ++ after) × AllFit [] before × (text ≡ replies 1 verdicts ++ rows_text before)
+-- all replies, and the first lines of the report, each of them whole
+abbrev pub AreLines : List ℕ → List ℕ → Type 0
+AreLines input text =
+    (verdicts : List Verdict) × (rows : List (Position × ℤ)) × (lines : List ℕ)
+    × IsJudged input verdicts rows × AreFirstLines rows lines × (text ≡ replies 1 verdicts ++ lines)
 
--- a front of the answer: nothing, replies, rows or all of it, the last line perhaps in part
-abbrev pub IsFront : List ℕ → List ℕ → Type 0
-IsFront input front =
-    (text : List ℕ) × IsPrefixOf front text
-    × ((text ≡ []) ⊎ AreReplies input text ⊎ AreRows input text ⊎ ((status : ℕ) × IsAnswer input text status))
+-- ---- Out of memory: whole lines of the answer, and then the line that reports it.
 
--- the lines that tell that the reader failed, or that memory is wanting
-abbrev pub IsStopLine : List ℕ → Type 0
-IsStopLine text =
-    (text ≡ fault_line Fault.Read) ⊎ (text ≡ fault_line Fault.Memory)
-    ⊎ ((number : ℕ) × (text ≡ fault_line (Fault.MemoryAt number)))
+-- while the input is read: nothing, and the line without a number
+abbrev pub RunsOutInReading : List ℕ → List ℕ → List ℕ → Type 0
+RunsOutInReading input kept last = (kept ≡ []) × (last ≡ fault_line Fault.Memory)
 
--- a front of the answer, and perhaps a line that tells why it ends, or a part of that line
-abbrev pub IsStopped : List ℕ → List ℕ → ℕ → Type 0
-IsStopped input written status =
-    (front : List ℕ) × (told : List ℕ) × (text : List ℕ) × IsFront input front × IsStopLine text × IsPrefixOf told text
-    × (written ≡ front ++ told) × (status ≡ 4)
+-- the commands before the one of that number come to these verdicts, each on the book after those before it
+pub record IsJudgedBefore (input : List ℕ) (number : ℕ) (verdicts : List Verdict) : Type 0 where
+  pub short : length input ≤ longest_input
+  pub done : List Command
+  pub command : Command
+  pub rest : List Command
+  pub book : List Entry
+  pub reads : Reads input (done ++ command ∷ rest)
+  pub judged : JudgesAll [] done verdicts book
+  pub numbered : number ≡ length verdicts + 1
+
+-- at a command: the replies to those before it, and the line with its number
+abbrev pub RunsOutAtCommand : List ℕ → List ℕ → List ℕ → Type 0
+RunsOutAtCommand input kept last =
+    (number : ℕ) × (verdicts : List Verdict) × IsJudgedBefore input number verdicts
+    × (kept ≡ replies 1 verdicts) × (last ≡ fault_line (Fault.MemoryAt number))
+
+-- in the report: all replies and the first lines of the report, and the line without a number
+abbrev pub RunsOutInReport : List ℕ → List ℕ → List ℕ → Type 0
+RunsOutInReport input kept last = AreLines input kept × (last ≡ fault_line Fault.Memory)
+
+abbrev pub RunsOut : List ℕ → List ℕ → List ℕ → Type 0
+RunsOut input kept last = RunsOutInReading input kept last ⊎ RunsOutAtCommand input kept last ⊎ RunsOutInReport input kept last
+
+-- ---- What is written where the writer takes all of it.
+
+-- the reader failed: the one line that reports it
+abbrev pub IsUnread : List ℕ → ℕ → Type 0
+IsUnread text status = (text ≡ fault_line Fault.Read) × (status ≡ 3)
+
+-- memory ended before the answer was whole
+abbrev pub IsOutOfMemory : List ℕ → List ℕ → ℕ → Type 0
+IsOutOfMemory input text status = (kept : List ℕ) × (last : List ℕ) × RunsOut input kept last × (text ≡ kept ++ last) × (status ≡ 4)
+
+-- the answer, or what stands for it where the reader failed or memory ended, and the status that goes with it
+abbrev pub IsOutput : List ℕ → List ℕ → ℕ → Type 0
+IsOutput input text status = IsAnswer input text status ⊎ IsUnread text status ⊎ IsOutOfMemory input text status
+
+-- ---- What is written where the writer fails.
+
+-- what was being written when the writer failed: the replies to the first commands, all replies and the first rows, or
+-- an output
+abbrev pub IsBegun : List ℕ → List ℕ → Type 0
+IsBegun input text = AreReplies input text ⊎ AreLines input text ⊎ ((status : ℕ) × IsOutput input text status)
+
+-- a prefix of that, but not all of it; nothing more
+abbrev pub IsCut : List ℕ → List ℕ → ℕ → Type 0
+IsCut input written status = (text : List ℕ) × IsBegun input text × IsProperPrefixOf written text × (status ≡ 4)
+
+-- all was written, and the writer failed to flush it
+abbrev pub IsUnflushed : List ℕ → List ℕ → ℕ → Type 0
+IsUnflushed input written status = ((before : ℕ) × IsOutput input written before) × (status ≡ 4)
 
 -- ---- The theorem.
 
--- What is written is the answer to the input, with its status; or the one line that the reader failed, with status 3;
--- or, with status 4, a front of the answer where memory was wanting or the writer failed.
-abbrev pub Tells : List ℕ → List ℕ → ℕ → Type 0
-Tells input written status =
-    IsAnswer input written status
-    ⊎ ((written ≡ fault_line Fault.Read) × (status ≡ 3))
-    ⊎ IsStopped input written status
+-- What is written for an input, and the status. The answer with its status; or the one line that the reader failed,
+-- with status 3; or, out of memory, with status 4, whole lines of the answer and the line that says at which command.
+-- Or, with status 4: the writer failed, and a prefix of that is written but not all of it; or all of it is written, and
+-- it failed to flush.
+abbrev pub IsOutcome : List ℕ → List ℕ → ℕ → Type 0
+IsOutcome input written status =
+    IsOutput input written status ⊎ IsCut input written status ⊎ IsUnflushed input written status

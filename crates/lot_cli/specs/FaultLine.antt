@@ -1,9 +1,9 @@
--- The line that tells a fault (docs/FORMATS.md, Printed texts).
+-- The line that reports a fault (docs/FORMATS.md, Printed texts).
 use Rattle.std.specs.Prelude.{ℕ, List, [], ◌++◌, codes, decimal}
 use Rattle.lot_report.specs.Printed.{line}
 use Rattle.lot_cli.specs.declared.batch.fault.Fault.{Fault}
 
--- one of the writer isn't told
+-- a fault of the writer has none
 abbrev pub fault_line : Fault → List ℕ
 fault_line Fault.Read = line (codes "fault K1 Read")
 fault_line Fault.TooLong = line (codes "fault K2 TooLong")

@@ -1,4 +1,5 @@
 pub mod Status
+pub mod Input
 pub mod FaultLine
 pub mod Answer
 pub mod Way

@@ -1,5 +1,6 @@
 -- How a run ends (docs/RULES.md, The program).
-use Rattle.std.specs.Prelude.{◌≡◌, ◌⊎◌, ℕ}
+use Rattle.std.specs.Prelude.{◌≡◌, ◌⊎◌, ℕ, Result, Ok, Err}
+use Rattle.std.specs.declared.io.Error.{Error}
 use Rattle.lot_cli.specs.declared.batch.fault.Fault.{Fault}
 use Rattle.lot_cli.specs.declared.batch.fault.Fault.TheVariants.{Read, TooLong, Syntax, Range, Write, Memory, MemoryAt}
 use Rattle.lot_ledger.specs.declared.verdict.Verdict.{Verdict}
@@ -17,7 +18,7 @@ code_of Refused = 1
 code_of BadInput = 3
 code_of Stopped = 4
 
--- a number with which a run without words ends
+-- a number with which a run without arguments ends
 abbrev pub IsStatus : ℕ → Type 0
 IsStatus n = (n ≡ 0) ⊎ (n ≡ 1) ⊎ (n ≡ 3) ⊎ (n ≡ 4)
 
@@ -32,6 +33,11 @@ status_after Accepted next = next
 status_after Refused next = Refused
 status_after BadInput next = BadInput
 status_after Stopped next = Stopped
+
+-- the status after the call of `flush`, of a run that ends with that status: one that fails stops the run
+abbrev pub after_flush : Status → Result (Unit {0}) Error → Status
+after_flush status (Ok done) = status
+after_flush status (Err error) = Stopped
 
 -- what a fault of the reply to the command of that number is for a run
 abbrev pub fault_at : ℕ → PrintFault → Fault

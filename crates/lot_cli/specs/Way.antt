@@ -1,75 +1,102 @@
 -- The parts of the way from an input to its answer, each as the contract of a call that `check` makes.
 use Rattle.std.specs.Io.KnownBytes.{Appends}
-use Rattle.std.specs.Prelude.{◌≡◌, ◌⊎◌, Option, Result, Ok, Err, ℕ, ◌<◌, ◌≤◌, List, [], ◌++◌, length, ℤ}
+use Rattle.std.specs.Prelude.{◌≡◌, ◌⊎◌, Option, Result, Ok, Err, ℕ, ◌+◌, ◌<◌, ◌≤◌, List, [], ◌∷◌, ◌++◌, length, ℤ}
 use Rattle.lot_cli.specs.declared.batch.fault.Fault.{Fault}
 use Rattle.lot_cli.specs.declared.batch.status.Status.{Status}
 use Rattle.lot_ledger.specs.declared.leg.Position.{Position}
 use Rattle.lot_ledger.specs.declared.leg.Entry.{Entry}
 use Rattle.lot_ledger.specs.declared.verdict.Verdict.{Verdict}
-use Rattle.lot_ledger.specs.declared.command.Command.{Command}
+use Rattle.lot_command.specs.declared.command.Command.{Command}
 use Rattle.lot_text.specs.Text.{IsFaultAt}
 use Rattle.lot_ledger.specs.Book.{Judges, JudgesAll}
 use Rattle.lot_report.specs.Printed.{reply, replies}
-use Rattle.lot_cli.specs.FaultLine.{fault_line}
 use Rattle.lot_report.specs.Report.{IsReportToFault}
-use Rattle.lot_report.specs.Written.{AppendsFront}
+use Rattle.lot_report.specs.Written.{AppendsPrefix}
+use Rattle.lot_cli.specs.FaultLine.{fault_line}
+use Rattle.lot_cli.specs.Input.{longest_input}
 use Rattle.lot_cli.specs.Status.{code_of, status_of, status_of_verdict}
-use Rattle.lot_cli.specs.Answer.{limit, status_of_replies, IsFront, IsWhole, IsJudged}
+use Rattle.lot_cli.specs.Answer.{status_of_replies, IsBegun, IsWhole, IsJudged, RunsOut}
 
 -- ---- Runs: commands judged on a fresh book, with a reply to each.
 
--- why a run ends before its end: the writer fails, or memory is wanting at the command of some number
-abbrev pub EndsRun : Fault → Type 0
-EndsRun fault = (fault ≡ Fault.Write) ⊎ ((number : ℕ) × (fault ≡ Fault.MemoryAt number))
-
--- nothing, or the reply to a command
-abbrev pub IsReplyOrNone : List Entry → Command → ℕ → List ℕ → Type 0
-IsReplyOrNone before command number text =
-    (text ≡ []) ⊎ ((verdict : Verdict) × (after : List Entry) × Judges before command verdict after × (text ≡ reply number verdict))
-
--- a command of that number is judged on a book, and its reply is written
+-- a command of that number is judged on a book, and its reply is written; or the writer fails within the reply; or,
+-- out of memory at that number, nothing is written
 abbrev pub Replies : List Entry → Command → ℕ → Option (List ℕ) → Option (List ℕ) → Result (List Entry × Status) Fault → Type 0
 Replies before command number old new (Ok replied) =
     (verdict : Verdict) × Judges before command verdict replied.0 × Appends old new (reply number verdict)
     × (replied.1 ≡ status_of_verdict verdict)
-Replies before command number old new (Err fault) =
-    (text : List ℕ) × IsReplyOrNone before command number text × AppendsFront old new text × EndsRun fault
+Replies before command number old new (Err Fault.Write) =
+    (verdict : Verdict) × (after : List Entry) × Judges before command verdict after × AppendsPrefix old new (reply number verdict)
+Replies before command number old new (Err (Fault.MemoryAt stopped)) = (stopped ≡ number) × Appends old new []
+Replies before command number old new (Err Fault.Memory) = ⊥
+Replies before command number old new (Err Fault.Range) = ⊥
+Replies before command number old new (Err (Fault.Syntax line)) = ⊥
+Replies before command number old new (Err Fault.TooLong) = ⊥
+Replies before command number old new (Err Fault.Read) = ⊥
 
--- the replies to some commands at the front are written, the last of them perhaps in part
-abbrev pub StopsInRun : List Command → Option (List ℕ) → Option (List ℕ) → Type 0
-StopsInRun commands old new =
+-- the writer fails within the replies to the first commands
+abbrev pub IsCutInRun : List Command → Option (List ℕ) → Option (List ℕ) → Type 0
+IsCutInRun commands old new =
     (done : List Command) × (rest : List Command) × (verdicts : List Verdict) × (book : List Entry)
-    × (commands ≡ done ++ rest) × JudgesAll [] done verdicts book × AppendsFront old new (replies 1 verdicts)
+    × (commands ≡ done ++ rest) × JudgesAll [] done verdicts book × AppendsPrefix old new (replies 1 verdicts)
 
--- what a run of commands on a fresh book writes and answers: the replies to all, and the book after them
+-- out of memory at the command of that number: the replies to those before it are written
+abbrev pub RunsOutInRun : List Command → ℕ → Option (List ℕ) → Option (List ℕ) → Type 0
+RunsOutInRun commands number old new =
+    (done : List Command) × (command : Command) × (rest : List Command) × (verdicts : List Verdict) × (book : List Entry)
+    × (commands ≡ done ++ command ∷ rest) × JudgesAll [] done verdicts book × (number ≡ length verdicts + 1)
+    × Appends old new (replies 1 verdicts)
+
+-- what a run of commands on a fresh book writes and returns: the replies to all, and the book after them; or it stops
+-- at one of them
 abbrev pub Runs : List Command → Option (List ℕ) → Option (List ℕ) → Result (List Entry × Status) Fault → Type 0
 Runs commands old new (Ok ran) =
     (verdicts : List Verdict) × JudgesAll [] commands verdicts ran.0 × Appends old new (replies 1 verdicts)
     × (ran.1 ≡ status_of_replies verdicts)
-Runs commands old new (Err fault) = StopsInRun commands old new × EndsRun fault
+Runs commands old new (Err Fault.Write) = IsCutInRun commands old new
+Runs commands old new (Err (Fault.MemoryAt number)) = RunsOutInRun commands number old new
+Runs commands old new (Err Fault.Memory) = ⊥
+Runs commands old new (Err Fault.Range) = ⊥
+Runs commands old new (Err (Fault.Syntax line)) = ⊥
+Runs commands old new (Err Fault.TooLong) = ⊥
+Runs commands old new (Err Fault.Read) = ⊥
 
 -- ---- The way from the input to its end, and the line of a fault.
 
--- a front of the answer is written
-abbrev pub StopsAtFront : List ℕ → Option (List ℕ) → Option (List ℕ) → Type 0
-StopsAtFront input old new = (front : List ℕ) × IsFront input front × Appends old new front
+-- whole lines of the answer are written, behind which the line of a fault of memory belongs
+abbrev pub StopsForMemory : List ℕ → Fault → Option (List ℕ) → Option (List ℕ) → Type 0
+StopsForMemory input fault old new = (kept : List ℕ) × RunsOut input kept (fault_line fault) × Appends old new kept
 
--- what is written of an input before its fault is told, if it comes to one
+-- what is written of an input before its fault is reported, if it comes to one
 abbrev pub Reaches : List ℕ → Option (List ℕ) → Option (List ℕ) → Result Status Fault → Type 0
 Reaches input old new (Ok status) = (text : List ℕ) × IsWhole input text (code_of status) × Appends old new text
 Reaches input old new (Err Fault.Read) = Appends old new []
-Reaches input old new (Err Fault.TooLong) = (limit < length input) × Appends old new []
-Reaches input old new (Err (Fault.Syntax number)) = (length input ≤ limit) × IsFaultAt input number × Appends old new []
+Reaches input old new (Err Fault.TooLong) = (longest_input < length input) × Appends old new []
+Reaches input old new (Err (Fault.Syntax number)) = (length input ≤ longest_input) × IsFaultAt input number × Appends old new []
 Reaches input old new (Err Fault.Range) =
     (verdicts : List Verdict) × (rows : List (Position × ℤ)) × (report : List ℕ) × IsJudged input verdicts rows
     × IsReportToFault rows report × Appends old new (replies 1 verdicts ++ report)
-Reaches input old new (Err Fault.Write) = StopsAtFront input old new
-Reaches input old new (Err Fault.Memory) = StopsAtFront input old new
-Reaches input old new (Err (Fault.MemoryAt number)) = StopsAtFront input old new
+Reaches input old new (Err Fault.Write) = (text : List ℕ) × IsBegun input text × AppendsPrefix old new text
+Reaches input old new (Err Fault.Memory) = StopsForMemory input Fault.Memory old new
+Reaches input old new (Err (Fault.MemoryAt number)) = StopsForMemory input (Fault.MemoryAt number) old new
 
--- the line of a fault is written, and the status is that of the fault; or a front of it, and the run is stopped
+-- the status with which a run ends that all is written of: its own, or that of a flush that failed
+abbrev pub IsFlushed : Status → Status → Type 0
+IsFlushed status end = (end ≡ status) ⊎ (end ≡ Status.Stopped)
+
+-- the line of a fault is written; or the writer fails within it
+abbrev pub Reports : Fault → Option (List ℕ) → Option (List ℕ) → Status → Type 0
+Reports fault old new end =
+    (Appends old new (fault_line fault) × IsFlushed (status_of fault) end)
+    ⊎ (AppendsPrefix old new (fault_line fault) × (end ≡ Status.Stopped))
+
+-- what is written behind that, and how the run ends: after a fault of the writer nothing is written
 abbrev pub Concludes : Option (List ℕ) → Option (List ℕ) → Result Status Fault → Status → Type 0
-Concludes old new (Ok status) end = Appends old new [] × ((end ≡ status) ⊎ (end ≡ Status.Stopped))
-Concludes old new (Err fault) end =
-    (Appends old new (fault_line fault) × (end ≡ status_of fault))
-    ⊎ (AppendsFront old new (fault_line fault) × (end ≡ Status.Stopped))
+Concludes old new (Ok status) end = Appends old new [] × IsFlushed status end
+Concludes old new (Err Fault.Write) end = Appends old new [] × (end ≡ Status.Stopped)
+Concludes old new (Err Fault.Read) end = Reports Fault.Read old new end
+Concludes old new (Err Fault.TooLong) end = Reports Fault.TooLong old new end
+Concludes old new (Err (Fault.Syntax number)) end = Reports (Fault.Syntax number) old new end
+Concludes old new (Err Fault.Range) end = Reports Fault.Range old new end
+Concludes old new (Err Fault.Memory) end = Reports Fault.Memory old new end
+Concludes old new (Err (Fault.MemoryAt number)) end = Reports (Fault.MemoryAt number) old new end

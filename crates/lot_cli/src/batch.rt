@@ -1,14 +1,14 @@
-//! The whole way: a text is read, judged on a fresh book, and answered.
+//! The whole way: a text is read, its commands are judged on a fresh book, and the replies and the report are written.
 //!
-//! - `fault`: why the way ends before its end.
+//! - `fault`: why a run ends before its end.
 //! - `status`: how it ended.
 
-ghost use Rattle.std.specs.Prelude.{◌≡◌, ◌⊎◌, ◌≤◌, ℕ, List, length, IfSome};
+ghost use Rattle.std.specs.Prelude.{◌≡◌, ◌≤◌, ℕ, List, length, IfSome};
 ghost use Rattle.std.specs.Io.KnownBytes.{Appends, Keeps};
-ghost use Rattle.lot_cli.specs.Status.{IsStatus};
-ghost use Rattle.lot_cli.specs.declared.batch.status.Status as Status;
-ghost use Rattle.lot_cli.specs.Answer.{Tells, limit};
-ghost use Rattle.lot_cli.specs.Way.{Concludes, Reaches, Replies, Runs};
+ghost use Rattle.lot_cli.specs.Status.{IsStatus, after_flush};
+ghost use Rattle.lot_cli.specs.Answer.{IsOutcome};
+ghost use Rattle.lot_cli.specs.Input.{longest_input};
+ghost use Rattle.lot_cli.specs.Way.{Concludes, IsFlushed, Reaches, Replies, Runs};
 
 mod fault;
 mod status;
@@ -22,25 +22,31 @@ use lot_report::{print_holdings, print_reply};
 use lot_text::read;
 use status::Status;
 use std::alloc::Global;
-use std::io::{Read, Write};
+use std::io::{self, Read, Write};
 
 /// Judges a ledger text on a fresh book: writes a reply to each of its commands, and then what the book holds.
 ///
-/// The text is read to its end before the first command is judged, and where it can't be read or isn't ledger
-/// text, one line says so (docs/FORMATS.md, Printed texts). Answers the status of the program: 0 where all
-/// commands were accepted, 1 where some were refused, 3 for a fault of the input, 4 for a fault of the report,
-/// of the output or of memory. After a fault of the output nothing more is written.
+/// The text is read to its end before the first command is judged, and where it can't be read or isn't ledger text, one
+/// line says so (docs/FORMATS.md, Printed texts). Returns the status of the program:
+///
+/// - 0 where all commands were accepted, 1 where some were refused;
+/// - 3 for a fault of the input: it can't be read, it is longer than 16 MiB, or isn't ledger text;
+/// - 4 where a total leaves its range, memory ends, or the writer fails.
+///
+/// Out of memory, whole lines are written and one more: without a number while the input is read and in the report, and
+/// with the number of the command at which it stopped in between. After a fault of the writer nothing more is written.
+/// When the reader or the writer fails, or memory ends, is shown by the tests alone.
 pub fn check<R: Read, W: Write>(alloc: Global, reader: &mut R, writer: &mut W) -> u8
     ensures status { IsStatus result }
-    // Where the reader tells its bytes: what is written, where the writer tells what it holds.
+    // Where the bytes of the reader are known: what is written, where it is known what the writer holds.
     ensures answer { IfSome (R.remaining reader.old) (λ input. (written : List ℕ)
-        × Appends (W.contents writer.old) (W.contents writer.new) written × Tells input written result) }
+        × Appends (W.contents writer.old) (W.contents writer.new) written × IsOutcome input written result) }
 {
     let outcome = answer(alloc, reader, writer);
     conclude(writer, outcome).code()
 }
 
-/// Reads, judges and writes, up to the end or the first fault, which isn't told yet.
+/// Reads, judges and writes, up to the end or the first fault, which isn't reported yet.
 fn answer<R: Read, W: Write>(alloc: Global, reader: &mut R, writer: &mut W) -> Result<Status, Fault>
     ensures { IfSome (R.remaining reader.old) (λ input.
         Reaches input (W.contents writer.old) (W.contents writer.new) result) }
@@ -51,7 +57,7 @@ fn answer<R: Read, W: Write>(alloc: Global, reader: &mut R, writer: &mut W) -> R
 
 /// The same for a text that was read.
 fn answer_text<W: Write>(alloc: Global, text: &[u8], writer: &mut W) -> Result<Status, Fault>
-    requires { length text.now ≤ limit }
+    requires { length text.now ≤ longest_input }
     ensures { Reaches text.now (W.contents writer.old) (W.contents writer.new) result }
 {
     let commands = read(alloc, text)?;
@@ -97,26 +103,33 @@ fn reply<W: Write>(
     }
 }
 
-/// Tells a fault, if there was one, and flushes what was written.
+/// Reports a fault, if there was one, and flushes what was written. After a fault of the writer it isn't called.
 fn conclude<W: Write>(writer: &mut W, outcome: Result<Status, Fault>) -> Status
     ensures { Concludes (W.contents writer.old) (W.contents writer.new) outcome result }
 {
     match outcome {
-        Ok(status) => flushed(writer, status),
+        Ok(status) => flush(writer, status),
         Err(Fault::Write) => Status::Stopped,
         Err(fault) => match print_fault(writer, fault) {
-            Ok(()) => flushed(writer, fault.status()),
+            Ok(()) => flush(writer, fault.status()),
             Err(_) => Status::Stopped,
         },
     }
 }
 
-/// The status, where the writer can be flushed.
-fn flushed<W: Write>(writer: &mut W, status: Status) -> Status
+/// Flushes what was written by a run that ends with that status.
+fn flush<W: Write>(writer: &mut W, status: Status) -> Status
     ensures kept { Keeps (W.contents writer.old) (W.contents writer.new) }
-    ensures end { (result ≡ status) ⊎ (result ≡ Status.Stopped) }
+    ensures end { IsFlushed status result }
 {
-    match writer.flush() {
+    after_flush(status, writer.flush())
+}
+
+/// Returns the status of a run that ends with that one, after the call of `flush`: one that fails stops the run.
+fn after_flush(status: Status, outcome: io::Result<()>) -> Status
+    ensures { result ≡ after_flush status outcome }
+{
+    match outcome {
         Ok(()) => status,
         Err(_) => Status::Stopped,
     }

@@ -1,59 +1,76 @@
-//! Readers and writers for tests, which fail where they are told to.
+//! Readers and writers for tests, whose calls meet trouble by a script.
 
 use std::io::{Error, ErrorKind, Read, Result, Write};
 
-/// A reader that gives a few bytes a call. One call may fail in its stead, or all from one on.
-#[derive(Drop)]
-pub(crate) struct Script<'a> {
-    pub rest: &'a [u8],
-    /// How many bytes it gives a call at most.
-    pub step: usize,
-    /// How many calls there were.
-    pub calls: usize,
-    /// The calls that fail, from 0, and how they do.
-    pub failing: Failing,
-    pub kind: ErrorKind,
+/// What a call does in place of its work.
+#[derive(Clone, Copy, Debug, PartialEq, Eq)]
+pub(crate) enum Trouble {
+    Interrupted,
+    Broken,
+    /// It takes or gives nothing.
+    Nothing,
 }
 
-/// Which calls fail.
+/// Which calls meet trouble, counted from 0.
 #[derive(Clone, Copy, Debug, PartialEq, Eq)]
-pub(crate) enum Failing {
+pub(crate) enum When {
     Never,
     Once(usize),
     From(usize),
 }
 
-impl Failing {
-    fn hits(self, call: usize) -> bool {
-        match self {
-            Failing::Never => false,
-            Failing::Once(at) => call == at,
-            Failing::From(first) => call >= first,
-        }
-    }
+/// How many bytes a call takes or gives at most, and which calls meet trouble.
+#[derive(Clone, Copy, Debug, PartialEq, Eq)]
+pub(crate) struct Script {
+    pub step: usize,
+    pub when: When,
+    pub trouble: Trouble,
+    /// How many calls there were.
+    pub calls: usize,
 }
 
-impl<'a> Script<'a> {
-    /// A reader of these bytes that was not called yet.
-    pub fn new(bytes: &'a [u8], step: usize, failing: Failing, kind: ErrorKind) -> Script<'a> {
+impl Script {
+    /// A script of which no call was made yet.
+    pub fn new(step: usize, when: When, trouble: Trouble) -> Script {
         Script {
-            rest: bytes,
             step,
+            when,
+            trouble,
             calls: 0,
-            failing,
-            kind,
         }
     }
-}
 
-impl Read for Script<'_> {
-    fn read(&mut self, buf: &mut [u8]) -> Result<usize> {
+    /// Counts one more call: how many bytes it may take or give at most, or how it fails.
+    fn call(&mut self) -> Result<usize> {
         let call = self.calls;
         self.calls = call.saturating_add(1);
-        if self.failing.hits(call) {
-            return Err(Error::from(self.kind));
+        let meets = match self.when {
+            When::Never => false,
+            When::Once(at) => call == at,
+            When::From(first) => call >= first,
+        };
+        if !meets {
+            return Ok(self.step);
         }
-        let count = self.step.min(self.rest.len()).min(buf.len());
+        match self.trouble {
+            Trouble::Interrupted => Err(Error::from(ErrorKind::Interrupted)),
+            Trouble::Broken => Err(Error::from(ErrorKind::BrokenPipe)),
+            Trouble::Nothing => Ok(0),
+        }
+    }
+}
+
+/// A reader of these bytes by a script.
+#[derive(Drop)]
+pub(crate) struct ScriptedReader<'a> {
+    pub rest: &'a [u8],
+    pub script: Script,
+}
+
+impl Read for ScriptedReader<'_> {
+    fn read(&mut self, buf: &mut [u8]) -> Result<usize> {
+        let most = self.script.call()?;
+        let count = most.min(self.rest.len()).min(buf.len());
         let (given, rest) = self.rest.split_at(count);
         buf[..count].copy_from_slice(given);
         self.rest = rest;
@@ -61,51 +78,52 @@ impl Read for Script<'_> {
     }
 }
 
-/// A reader of so many zero bytes.
+/// A reader of so many zero bytes, so many a call at most.
 #[derive(Drop)]
-pub(crate) struct Zeros(pub usize);
+pub(crate) struct Zeros {
+    pub left: usize,
+    pub step: usize,
+}
 
 impl Read for Zeros {
     fn read(&mut self, buf: &mut [u8]) -> Result<usize> {
-        let count = self.0.min(buf.len());
+        let count = self.step.min(self.left).min(buf.len());
         buf[..count].fill(0);
-        self.0 -= count;
+        self.left -= count;
         Ok(count)
     }
 }
 
-/// A writer that takes a few bytes a call, and of which one call of `write`, or all of `flush`, may fail.
-#[derive(Drop)]
-pub(crate) struct Sheet {
-    pub written: Vec<u8>,
-    /// How many bytes it takes a call at most.
-    pub step: usize,
-    /// How many calls of `write` there were.
-    pub calls: usize,
-    /// How many calls of `flush` there were.
-    pub flushes: usize,
-    pub failing: Failing,
-    pub can_flush: bool,
+/// What a flush comes to.
+#[derive(Clone, Copy, Debug, PartialEq, Eq)]
+pub(crate) enum Flush {
+    Works,
+    Fails,
 }
 
-impl Write for Sheet {
+/// A writer by a script.
+#[derive(Drop)]
+pub(crate) struct ScriptedWriter {
+    pub written: Vec<u8>,
+    pub script: Script,
+    pub flush: Flush,
+    /// How many calls of `flush` there were.
+    pub flushes: usize,
+}
+
+impl Write for ScriptedWriter {
     fn write(&mut self, buf: &[u8]) -> Result<usize> {
-        let call = self.calls;
-        self.calls = call.saturating_add(1);
-        if self.failing.hits(call) {
-            return Err(Error::from(ErrorKind::BrokenPipe));
-        }
-        let count = self.step.min(buf.len());
+        let most = self.script.call()?;
+        let count = most.min(buf.len());
         self.written.extend_from_slice(&buf[..count])?;
         Ok(count)
     }
 
     fn flush(&mut self) -> Result<()> {
         self.flushes = self.flushes.saturating_add(1);
-        if self.can_flush {
-            Ok(())
-        } else {
-            Err(Error::from(ErrorKind::BrokenPipe))
+        match self.flush {
+            Flush::Works => Ok(()),
+            Flush::Fails => Err(Error::from(ErrorKind::BrokenPipe)),
         }
     }
 }

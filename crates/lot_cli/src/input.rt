@@ -1,18 +1,20 @@
-ghost use Rattle.std.specs.Prelude.{◌≡◌, ◌<◌, ◌≤◌, ◌+◌, ◌++◌, ◌↔◌, ℕ, List, length, take, vec_len, IfOk, IfErr, IfSome, OnOk, OnErr, IsErrOf, MatchOption};
-ghost use Rattle.std.specs.Io.KnownBytes.{Consumes, Keeps, IsAtEnd};
+ghost use Rattle.std.specs.Prelude.{◌≡◌, ◌≢◌, ◌<◌, ◌≤◌, ◌+◌, ◌++◌, ◌↔◌, ℕ, List, length, vec_len, IfOk, IfErr, IfSome, OnOk, IsErrOf};
+ghost use Rattle.std.specs.Io.{ReadsAtMost};
+ghost use Rattle.std.specs.Io.KnownBytes.{Consumes, IsAtEnd};
+ghost use Rattle.lot_cli.specs.Input.{TakesIn, TookBefore, chunk_size, longest_input};
 
 #[cfg(test)]
 mod tests;
 
 use std::alloc::{AllocError, Global};
-use std::io::{ErrorKind, Read};
+use std::io::{self, ErrorKind, Read};
 use thiserror::Error;
 
 /// The most bytes that an input may have: 16 MiB.
-pub(crate) const LIMIT: usize = 16_777_216;
+const LONGEST: usize = 16_777_216;
 
 /// The most calls of `read` that are made on a reader, the interrupted ones included.
-pub(crate) const CALLS: usize = 20_000_000;
+const CALLS: usize = 20_000_000;
 
 /// How many bytes a reader is asked for at a time.
 const CHUNK: usize = 65_536;
@@ -42,70 +44,82 @@ impl From<AllocError> for SlurpFault {
     }
 }
 
-/// All bytes of a reader up to its end, at most 16 MiB of them.
+/// Returns all bytes of a reader up to its end, at most 16 MiB of them.
 ///
-/// A read that was interrupted is tried again. Refused with `Read` where the reader fails, or isn't at its end
-/// after 20,000,000 calls; with `TooLong` past the limit, where up to 64 KiB past it may have been taken from
-/// the reader; and for want of memory.
+/// A read that was interrupted is tried again. Returns `TooLong` where there are more bytes, of which up to 64 KiB past
+/// the limit are taken from the reader; `Memory` where there is no memory for them; and `Read` where the reader fails,
+/// or isn't at its end after 20,000,000 calls. What is made of each call is proved; that the reader is called so, and so
+/// often, is shown by the tests alone.
 pub fn slurp<R: Read>(alloc: Global, reader: &mut R) -> Result<Vec<u8>, SlurpFault>
-    // Where the reader tells which bytes it has left, these are they, and it is at its end.
-    ensures every_byte { IfOk result (λ bytes. IfSome (R.remaining reader.old) (λ told. bytes.items ≡ told)) }
+    // Where the reader's bytes are known, these are all of them, and it is at its end.
+    ensures every_byte { IfOk result (λ bytes. IfSome (R.remaining reader.old) (λ known. bytes.items ≡ known)) }
     ensures end { OnOk result (IsAtEnd (R.remaining reader.new)) }
-    ensures limit { IfOk result (λ bytes. vec_len bytes ≤ LIMIT) }
+    ensures limit { IfOk result (λ bytes. vec_len bytes ≤ longest_input) }
 
-    // An input of at most the limit is never too long. After a fault the reader has lost bytes at its front alone.
+    // An input of at most the limit is never too long. Before a fault the reader has lost bytes at its front alone,
+    // more than the limit where they are too many, and at most the limit where not.
     ensures too_long { IsErrOf result SlurpFault.TooLong
-        → IfSome (R.remaining reader.old) (λ told. LIMIT < length told) }
-    ensures none_lost { OnErr result ((taken : List ℕ)
-        × Consumes (R.remaining reader.old) (R.remaining reader.new) taken) }
+        → IfSome (R.remaining reader.old) (λ known. longest_input < length known) }
+    ensures taken { IfErr result (λ fault. (taken : List ℕ)
+        × Consumes (R.remaining reader.old) (R.remaining reader.new) taken × TookBefore fault (length taken)) }
 {
     let mut bytes = Vec::new(alloc);
     let mut chunk = zeros(alloc, CHUNK)?;
     for _ in 0..CALLS {
-        match read_some(reader, &mut chunk)? {
-            Some(0) => return Ok(bytes),
-            Some(count) => append(&mut bytes, &chunk[..count])?,
-            None => {}
+        let outcome = reader.read(chunk.as_mut_slice());
+        match take_in(&mut bytes, &chunk, outcome)? {
+            Progress::Ended => return Ok(bytes),
+            Progress::Goes => {}
         }
     }
     Err(SlurpFault::Read)
 }
 
-/// So many zero bytes.
+/// Returns so many zero bytes.
 fn zeros(alloc: Global, count: usize) -> Result<Vec<u8>, AllocError>
     ensures { IfOk result (λ bytes. vec_len bytes ≡ count) }
 {
     vec![in alloc; 0; count]
 }
 
-/// One call of `read`: how many bytes it put at the front of the chunk, none at the reader's end; `None` where
-/// it was interrupted.
-fn read_some<R: Read>(reader: &mut R, chunk: &mut Vec<u8>) -> Result<Option<usize>, SlurpFault>
-    ensures len { vec_len chunk.new ≡ vec_len chunk.old }
-    ensures count { IfOk result (λ step. IfSome step (λ count. count ≤ vec_len chunk.new)) }
-    ensures taken { IfOk result (λ step. MatchOption step
-        (Keeps (R.remaining reader.old) (R.remaining reader.new))
-        (λ count. Consumes (R.remaining reader.old) (R.remaining reader.new) (take count chunk.new.items))) }
-    ensures end { IfOk result (λ step. IfSome step (λ count. count ≡ 0 → 0 < vec_len chunk.old
-        → IsAtEnd (R.remaining reader.new))) }
-    ensures err { OnErr result (Keeps (R.remaining reader.old) (R.remaining reader.new)) }
-    ensures fault { IfErr result (λ fault. fault ≡ SlurpFault.Read) }
+/// Whether a reader is at its end.
+enum Progress {
+    Ended,
+    Goes,
+}
+
+/// Puts the bytes that a call of `read` gave, at the front of the chunk, behind those that were read.
+///
+/// A call that gave none ends the input, one that was interrupted changes nothing. Returns `TooLong` past the limit,
+/// `Memory` where there is no memory for the bytes, and `Read` where the call failed otherwise.
+fn take_in(
+    bytes: &mut Vec<u8>,
+    chunk: &[u8],
+    outcome: io::Result<usize>,
+) -> Result<Progress, SlurpFault>
+    requires count { ReadsAtMost outcome chunk.now }
+    requires small { vec_len bytes.old ≤ longest_input }
+    ensures { TakesIn bytes.old.items chunk.now outcome bytes.new.items result }
 {
-    match reader.read(chunk.as_mut_slice()) {
-        Ok(count) => Ok(Some(count)),
-        Err(error) if error.kind() == ErrorKind::Interrupted => Ok(None),
+    match outcome {
+        Ok(0) => Ok(Progress::Ended),
+        Ok(count) => {
+            append(bytes, &chunk[..count])?;
+            Ok(Progress::Goes)
+        }
+        Err(error) if error.kind() == ErrorKind::Interrupted => Ok(Progress::Goes),
         Err(_) => Err(SlurpFault::Read),
     }
 }
 
 /// Puts more bytes behind those that were read, where that is no more than the limit.
 fn append(bytes: &mut Vec<u8>, more: &[u8]) -> Result<(), SlurpFault>
-    requires { vec_len bytes.old ≤ LIMIT }
+    requires { vec_len bytes.old ≤ longest_input }
     ensures ok { OnOk result (bytes.new.items ≡ bytes.old.items ++ more.now) }
-    ensures limit { OnOk result (vec_len bytes.new ≤ LIMIT) }
-    ensures too_long { IsErrOf result SlurpFault.TooLong ↔ (LIMIT < vec_len bytes.old + length more.now) }
+    ensures too_long { IsErrOf result SlurpFault.TooLong ↔ (longest_input < vec_len bytes.old + length more.now) }
+    ensures cause { IfErr result (λ fault. fault ≢ SlurpFault.Read) }
 {
-    if more.len() > LIMIT - bytes.len() {
+    if more.len() > LONGEST - bytes.len() {
         return Err(SlurpFault::TooLong);
     }
     bytes.extend_from_slice(more)?;

@@ -1,3 +1,4 @@
 pub mod PrintLemmas
 pub mod CostLemmas
 pub mod RowLemmas
+pub mod TotalLemmas

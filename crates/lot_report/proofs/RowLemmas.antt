@@ -9,10 +9,10 @@ use Rattle.lot_report.specs.declared.holdings.Holdings.{Holdings}
 use Rattle.lot_report.specs.declared.holdings.ReportFault.{ReportFault}
 use Rattle.lot_report.specs.declared.holdings.ReportFault.TheVariants.{Range, Write, Memory}
 use Rattle.lot_report.specs.Printed.{position_row, totals}
-use Rattle.lot_report.specs.Written.{AppendsFront}
-use Rattle.lot_report.specs.Report.{AllFit, HasTaken, StopsAtRow, TakesRow, WritesReport, IsReport, IsReportFront, fits, rows_text, report_fault}
+use Rattle.lot_report.specs.Written.{AppendsPrefix}
+use Rattle.lot_report.specs.Report.{AllFit, HasTaken, TakesRow, WritesReport, WritesTotals, IsReport, AreFirstLines, AreFirstTotals, fits, rows_text, report_fault}
 use Rattle.std.proofs.lemmas.Grind.{flat_map-append}
-use Rattle.lot_report.proofs.PrintLemmas.{front_step}
+use Rattle.lot_report.proofs.PrintLemmas.{prefix_behind}
 
 -- some rows were taken and written, and these are left
 abbrev pub SoFar : List (Position × ℤ) → List (Position × ℤ) → Holdings → Option (List ℕ) → Option (List ℕ) → Type 0
@@ -49,26 +49,9 @@ row_taken rows left rest row report next old mid new done so_far is takes =
       taken_now,
     )
 
--- a row that isn't written, or not whole, where memory is wanting or the writer fails
-stopped : (rows left rest : List (Position × ℤ)) (row : Position × ℤ) (before : List (Position × ℤ)) (old mid new : Option (List ℕ))
-    → rows ≡ before ++ left → AllFit [] before → Appends old mid (rows_text before) → left ≡ row ∷ rest
-    → StopsAtRow before row mid new
-    → (text : List ℕ) × IsReportFront rows text × AppendsFront old new text
-stopped rows left rest row before old mid new split fit written is (inl nothing) = (
-  rows_text before,
-  inl (before, left, fit, split, refl),
-  (
-    rows_text before,
-    ([], sym (append-nil (rows_text before))),
-    subst (Appends old new) (append-nil (rows_text before)) (Appends-trans old mid new _ _ written nothing),
-  ),
-)
-stopped rows left rest row before old mid new split fit written is (inr (fits_now, front)) = (
-  rows_text (before ++ row ∷ []),
-  inl (before ++ row ∷ [], rest, fit_more [] before row fit fits_now, split ∙ ap (λ xs. before ++ xs) is ∙ one_more before row rest, refl),
-  front_step old mid new (rows_text before) (position_row row.0 row.1) [] (rows_text (before ++ row ∷ [])) written front
-      (ap (λ text. rows_text before ++ text) (append-nil (position_row row.0 row.1)) ∙ sym (text_more before row)),
-)
+-- nothing is written of a row
+nothing_more : (old mid new : Option (List ℕ)) (text : List ℕ) → Appends old mid text → Appends mid new [] → Appends old new text
+nothing_more old mid new text before nothing = subst (Appends old new) (append-nil text) (Appends-trans old mid new text [] before nothing)
 
 pub row_stops : (rows left rest : List (Position × ℤ)) (row : Position × ℤ) (report next : Holdings) (old mid new : Option (List ℕ)) (fault : ReportFault)
     → SoFar rows left report old mid → left ≡ row ∷ rest
@@ -79,14 +62,22 @@ row_stops rows left rest row report next old mid new Range so_far is takes =
     let (breaks, nothing) = takes before taken in (
       rows_text before,
       (before, row, rest, fit, breaks, split ∙ ap (λ xs. before ++ xs) is, refl),
-      subst (Appends old new) (append-nil (rows_text before)) (Appends-trans old mid new _ _ written nothing),
+      nothing_more old mid new (rows_text before) written nothing,
     )
 row_stops rows left rest row report next old mid new Write so_far is takes =
     let (before, split, fit, written, taken) = so_far in
-    stopped rows left rest row before old mid new split fit written is (takes before taken)
+    let (fits_now, part) = takes before taken in (
+      rows_text (before ++ row ∷ []),
+      inl (before ++ row ∷ [], rest, fit_more [] before row fit fits_now, split ∙ ap (λ xs. before ++ xs) is ∙ one_more before row rest, refl),
+      subst (AppendsPrefix old new) (sym (text_more before row))
+          (prefix_behind old mid new (rows_text before) (position_row row.0 row.1) written part),
+    )
 row_stops rows left rest row report next old mid new Memory so_far is takes =
-    let (before, split, fit, written, taken) = so_far in
-    stopped rows left rest row before old mid new split fit written is (takes before taken)
+    let (before, split, fit, written, taken) = so_far in (
+      rows_text before,
+      inl (before, left, fit, split, refl),
+      nothing_more old mid new (rows_text before) written (takes before taken),
+    )
 
 -- ---- The end of the report.
 
@@ -108,21 +99,23 @@ report_ends rows left report old mid new done so_far is ends =
 
 pub report_stops : (rows left : List (Position × ℤ)) (report : Holdings) (old mid new : Option (List ℕ)) (fault : PrintFault) (result : Result (Unit {0}) ReportFault)
     → SoFar rows left report old mid → left ≡ []
-    → AppendsFront mid new (totals report.is_empty report.costs.entries)
+    → WritesTotals report.is_empty report.costs.entries mid new (Err fault)
     → IsErrAnd result (λ e. e ≡ report_fault fault) → WritesReport rows old new result
-report_stops rows left report old mid new fault (Ok done) so_far is ends fails = absurd fails
-report_stops rows left report old mid new fault (Err e) so_far is ends fails = rw (fails) (at fault)
-  where
-    front : (text : List ℕ) × IsReportFront rows text × AppendsFront old new text
-    front =
-        let (before, split, fit, written, taken) = so_far in
-        let whole = totals report.is_empty report.costs.entries in (
-          rows_text before ++ whole,
-          inr (whole_report rows before report (split ∙ ap (λ xs. before ++ xs) is) fit taken),
-          front_step old mid new (rows_text before) whole [] (rows_text before ++ whole) written ends
-              (ap (λ text. rows_text before ++ text) (append-nil whole)),
-        )
-
-    at : (f : PrintFault) → WritesReport rows old new (Err (report_fault f))
-    at PrintFault.Write = front
-    at PrintFault.Memory = front
+report_stops rows left report old mid new fault (Ok done) so_far is stops fails = absurd fails
+report_stops rows left report old mid new PrintFault.Write (Err e) so_far is part fails =
+    let (before, split, fit, written, taken) = so_far in
+    let whole = totals report.is_empty report.costs.entries in
+    rw (fails) (
+      rows_text before ++ whole,
+      inr (whole_report rows before report (split ∙ ap (λ xs. before ++ xs) is) fit taken),
+      prefix_behind old mid new (rows_text before) whole written part,
+    )
+report_stops rows left report old mid new PrintFault.Memory (Err e) so_far is (part, first, now) fails =
+    let (before, split, fit, written, taken) = so_far in
+    let all : rows ≡ before = split ∙ ap (λ xs. before ++ xs) is ∙ append-nil before in
+    rw (fails) (
+      rows_text before ++ part,
+      subst (λ xs. AreFirstLines xs (rows_text before ++ part)) (sym all)
+          (inr (fit, report.costs.entries, taken.1, part, subst (λ empty. AreFirstTotals empty report.costs.entries part) taken.0 first, refl)),
+      Appends-trans old mid new (rows_text before) part written now,
+    )

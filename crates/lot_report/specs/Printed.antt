@@ -1,4 +1,4 @@
--- The lines that are printed (docs/FORMATS.md, Printed texts), each as a function of what it tells.
+-- The lines that are printed (docs/FORMATS.md, Printed texts), each as a function of what it reports.
 use Rattle.std.specs.Prelude.{ℕ, suc, List, [], ◌∷◌, ◌++◌, ℤ, pos, codes, decimal, Bool, true, false, Option, Some, None}
 use Rattle.std.specs.List.{flat_map}
 use Rattle.lot_num.specs.AmountText.{amount_text}
@@ -7,7 +7,7 @@ use Rattle.lot_ledger.specs.declared.refusal.Refusal.{Refusal}
 use Rattle.lot_ledger.specs.declared.refusal.Refusal.TheVariants.{AlreadyOpen, UnknownAccount, NotOpenYet, TooManyPostings, TwoElided, Range, InexactFill, NotBalanced}
 use Rattle.lot_ledger.specs.declared.verdict.Verdict.{Verdict}
 use Rattle.lot_ledger.specs.declared.verdict.Verdict.TheVariants.{Accepted, Refused}
-use Rattle.lot_ledger.specs.declared.leg.LotKey.{LotKey}
+use Rattle.lot_inv.specs.declared.lot_key.LotKey.{LotKey}
 use Rattle.lot_ledger.specs.declared.leg.Position.{Position}
 
 abbrev pub line : List ℕ → List ℕ
@@ -32,7 +32,7 @@ accepted_line number = line (decimal number ++ codes " accepted")
 abbrev pub refused_line : ℕ → Refusal → List ℕ
 refused_line number refusal = line (decimal number ++ codes " refused " ++ cause_text refusal)
 
--- the line of what is said of the command of that number
+-- the reply to the command of that number
 abbrev pub reply : ℕ → Verdict → List ℕ
 reply number Accepted = accepted_line number
 reply number (Refused refusal) = refused_line number refusal
@@ -66,7 +66,10 @@ position_row position units = row_of position.account position.commodity positio
 abbrev pub total_line : List ℕ → ℤ → List ℕ
 total_line currency total = line (codes "total cost " ++ amount_text 2 16 total ++ codes " " ++ currency)
 
+abbrev pub total_lines : List (List ℕ × ℤ) → List ℕ
+total_lines costs = flat_map (λ (cost : List ℕ × ℤ). total_line cost.0 cost.1) costs
+
 -- what stands behind the rows: that there were none, or what the lots cost in each currency
 abbrev pub totals : Bool → List (List ℕ × ℤ) → List ℕ
 totals true costs = line (codes "nothing held")
-totals false costs = flat_map (λ (cost : List ℕ × ℤ). total_line cost.0 cost.1) costs
+totals false costs = total_lines costs

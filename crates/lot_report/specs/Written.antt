@@ -1,14 +1,43 @@
 -- What a call puts behind what a writer holds, and how far it comes where it fails.
-use Rattle.std.specs.Prelude.{◌≡◌, ℕ, List, ◌++◌, Option, Result, MatchResult}
+use Rattle.std.specs.Prelude.{◌≡◌, ◌≢◌, ℕ, ◌<◌, List, [], ◌∷◌, ◌++◌, Option, Result, Ok, Err}
 use Rattle.std.specs.Io.KnownBytes.{Appends}
+use Rattle.std.specs.IoError.{error_kind}
+use Rattle.std.specs.declared.io.Error.{Error}
+use Rattle.std.specs.declared.io.ErrorKind.{ErrorKind}
+use Rattle.lot_report.specs.declared.line.PrintFault.{PrintFault}
+use Rattle.lot_report.specs.declared.line.PrintFault.TheVariants.{Write, Memory}
 
+-- the most bytes that a line may have, its line end included
+abbrev pub longest_line : ℕ
+longest_line = 512
+
+-- ---- Prefixes.
+
+-- the text begins with the prefix
 abbrev pub IsPrefixOf : List ℕ → List ℕ → Type 0
-IsPrefixOf front text = (rest : List ℕ) × (text ≡ front ++ rest)
+IsPrefixOf prefix text = (rest : List ℕ) × (text ≡ prefix ++ rest)
 
--- a front of the text is put behind what the writer held
-abbrev pub AppendsFront : Option (List ℕ) → Option (List ℕ) → List ℕ → Type 0
-AppendsFront old new text = (front : List ℕ) × IsPrefixOf front text × Appends old new front
+-- the text begins with the prefix, and goes on behind it
+abbrev pub IsProperPrefixOf : List ℕ → List ℕ → Type 0
+IsProperPrefixOf prefix text = (next : ℕ) × (rest : List ℕ) × (text ≡ prefix ++ next ∷ rest)
 
--- the text is put behind what the writer held, and after a fault a front of it
-abbrev pub Writes : {A E : Type 0} → Option (List ℕ) → Option (List ℕ) → Result A E → List ℕ → Type 0
-Writes old new result text = MatchResult result (λ _. Appends old new text) (λ _. AppendsFront old new text)
+-- a prefix of the text, but not all of it, is put behind what the writer held
+abbrev pub AppendsPrefix : Option (List ℕ) → Option (List ℕ) → List ℕ → Type 0
+AppendsPrefix old new text = (prefix : List ℕ) × IsProperPrefixOf prefix text × Appends old new prefix
+
+-- ---- Lines.
+
+-- the line is put behind what the writer held; out of memory, nothing is; where the writer fails, a prefix of the
+-- line, but not all of it
+abbrev pub WritesLine : Option (List ℕ) → Option (List ℕ) → Result (Unit {0}) PrintFault → List ℕ → Type 0
+WritesLine old new (Ok done) line = Appends old new line
+WritesLine old new (Err Memory) line = Appends old new []
+WritesLine old new (Err Write) line = AppendsPrefix old new line
+
+-- what one call of `write` comes to: how many bytes it took, none where it was interrupted, after which it is tried
+-- again; a call that took nothing, and one that failed otherwise, are a fault of the writer
+abbrev pub IsTaken : Result ℕ Error → Result ℕ PrintFault → Type 0
+IsTaken (Ok taken) (Ok count) = (0 < taken) × (count ≡ taken)
+IsTaken (Ok taken) (Err fault) = (taken ≡ 0) × (fault ≡ Write)
+IsTaken (Err error) (Ok count) = (error_kind error ≡ ErrorKind.Interrupted) × (count ≡ 0)
+IsTaken (Err error) (Err fault) = (error_kind error ≢ ErrorKind.Interrupted) × (fault ≡ Write)

@@ -1,10 +1,10 @@
-ghost use Rattle.std.specs.Prelude.{◌≡◌, ℕ, List, [], ◌∷◌, ◌++◌, ℤ, pos, ◌+ℤ◌, ◌*ℤ◌, SomeIff, OnOk, IsErrOf};
+ghost use Rattle.std.specs.Prelude.{◌≡◌, ◌≢◌, ℕ, List, [], ◌∷◌, ◌++◌, ℤ, pos, ◌+ℤ◌, ◌*ℤ◌, SomeIff, OnOk, IfErr, IsErrOf};
 ghost use Rattle.lot_num.specs.Amount.{IsWide};
-ghost use Rattle.lot_ledger.specs.Sum.{sum_in};
+ghost use Rattle.lot_ledger.specs.Currencies.{sum_in};
 ghost use Rattle.lot_ledger.specs.declared.leg.Position.{Position as PositionValue};
-ghost use Rattle.lot_report.specs.Report.{AreSums, HasTaken, TakesCost, TakesRow, WritesReport};
-ghost use Rattle.lot_report.specs.Printed.{plain_row, lot_row, position_row, total_line, totals};
-ghost use Rattle.lot_report.specs.Written.{Writes};
+ghost use Rattle.lot_report.specs.Report.{AreSums, HasTaken, TakesCost, TakesRow, WritesReport, WritesTotals};
+ghost use Rattle.lot_report.specs.Printed.{plain_row, lot_row, position_row, total_line};
+ghost use Rattle.lot_report.specs.Written.{WritesLine};
 
 #[cfg(test)]
 mod tests;
@@ -71,8 +71,9 @@ impl<T: Drop> From<AllocFailed<T>> for ReportFault {
 /// Writes the report of what is held: a row for each position, in their order, and then what the lots cost in each
 /// currency.
 ///
-/// Refused with `Range` at the first row with which a total leaves the range of weights: that row isn't written, and
-/// no total is. After another fault a front of the report is written.
+/// Returns `Range` at the first row with which a total leaves the range of weights: the rows before it are written, and
+/// no total is. Returns `Memory` where there is no memory for a line or a total: whole lines of the report are written.
+/// Returns `Write` where the writer fails: a prefix of the report is written, but not all of it.
 pub fn print_holdings<W: Write>(
     alloc: Global,
     held: &BTreeMap<Position, Units>,
@@ -112,7 +113,8 @@ impl Holdings {
 
     /// Writes the row of one position.
     ///
-    /// Refused with `Range` where it takes a total out of the range of weights: nothing of the row is written.
+    /// Returns `Range` where it takes a total out of the range of weights: nothing of the row is written, nor is it
+    /// out of memory.
     fn row<W: Write>(
         &mut self,
         position: &Position,
@@ -129,7 +131,7 @@ impl Holdings {
 
     /// Writes the totals, by the bytes of their currencies, or that nothing is held.
     fn end<W: Write>(self, writer: &mut W) -> Result<(), PrintFault>
-        ensures { Writes (W.contents writer.old) (W.contents writer.new) result (totals self.is_empty self.costs.entries) }
+        ensures { WritesTotals self.is_empty self.costs.entries (W.contents writer.old) (W.contents writer.new) result }
     {
         if self.is_empty {
             return print_line(writer, "nothing held");
@@ -160,6 +162,7 @@ impl Holdings {
             → OnOk result (IsWide (sum_in costs lot.now.currency +ℤ units *ℤ pos lot.now.number)) }
         ensures range { (costs : List (List ℕ × ℤ)) → AreSums costs self.old.costs.entries
             → IsErrOf result ReportFault.Range → IsWide (sum_in costs lot.now.currency +ℤ units *ℤ pos lot.now.number) → ⊥ }
+        ensures cause { IfErr result (λ fault. fault ≢ ReportFault.Write) }
         ensures rest { self.new.is_empty ≡ self.old.is_empty }
     {
         match self.total_with(&lot.currency, weight(units, lot.number)) {
@@ -171,7 +174,7 @@ impl Holdings {
         }
     }
 
-    /// The total in a currency with one more cost, where it is in range.
+    /// Returns the total in a currency with one more cost, where it is in range.
     fn total_with(&self, currency: &Commodity, cost: Wide) -> Option<Wide>
         ensures { (costs : List (List ℕ × ℤ)) → AreSums costs self.now.costs.entries
             → SomeIff result (IsWide (sum_in costs currency.now +ℤ cost)) (sum_in costs currency.now +ℤ cost) }
@@ -187,7 +190,7 @@ fn print_row<W: Write>(
     position: &Position,
     units: Units,
 ) -> Result<(), PrintFault>
-    ensures { Writes (W.contents writer.old) (W.contents writer.new) result (position_row position.now units) }
+    ensures { WritesLine (W.contents writer.old) (W.contents writer.new) result (position_row position.now units) }
 {
     match &position.lot {
         Some(lot) => print_lot(alloc, writer, position, lot, units),
@@ -201,7 +204,7 @@ fn print_plain<W: Write>(
     position: &Position,
     units: Units,
 ) -> Result<(), PrintFault>
-    ensures { Writes (W.contents writer.old) (W.contents writer.new) result
+    ensures { WritesLine (W.contents writer.old) (W.contents writer.new) result
         (plain_row position.now.account position.now.commodity units) }
 {
     let account = &position.account;
@@ -218,7 +221,7 @@ fn print_lot<W: Write>(
     lot: &LotKey,
     units: Units,
 ) -> Result<(), PrintFault>
-    ensures { Writes (W.contents writer.old) (W.contents writer.new) result
+    ensures { WritesLine (W.contents writer.old) (W.contents writer.new) result
         (lot_row position.now.account position.now.commodity lot.now units) }
 {
     let account = &position.account;
@@ -239,7 +242,7 @@ fn print_total<W: Write>(
     currency: &Commodity,
     total: Wide,
 ) -> Result<(), PrintFault>
-    ensures { Writes (W.contents writer.old) (W.contents writer.new) result (total_line currency.now total) }
+    ensures { WritesLine (W.contents writer.old) (W.contents writer.new) result (total_line currency.now total) }
 {
     let total = total.text_money(alloc)?;
     print_line(writer, format_args!("total cost {total} {currency}"))

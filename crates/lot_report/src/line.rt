@@ -1,12 +1,11 @@
 ghost use Rattle.std.specs.Prelude.{◌≡◌, ◌≤◌, length, IfOk, IfErr, IsErrOf, IfSome};
 ghost use Rattle.std.specs.Fmt.{with_newline};
-ghost use Rattle.std.specs.Io.KnownBytes.{WriteAppends};
-ghost use Rattle.lot_report.specs.Written.{Writes};
+ghost use Rattle.lot_report.specs.Written.{IsTaken, WritesLine, longest_line};
 
 use arrayvec::ArrayString;
 use std::alloc::AllocError;
 use std::fmt::{Display, Write as _};
-use std::io::{ErrorKind, Write};
+use std::io::{self, ErrorKind, Write};
 use thiserror::Error;
 
 /// Why a line wasn't written, or not all of it.
@@ -31,26 +30,31 @@ impl From<AllocError> for PrintFault {
     }
 }
 
-/// The most bytes that a line may have, its line end included. The longest line there is, a lot's row, has some 250.
+/// The most bytes that a line may have, its line end included. The longest line there is, a lot's row, has some 230.
 const LONGEST: usize = 512;
 
-/// Writes a text and a line end. It takes no memory. After a fault a front of the line is written, or nothing.
+/// Writes a text and a line end. It takes no memory.
+///
+/// Returns `Memory` where the line has more than 512 bytes: the writer is as it was. Returns `Write` where the writer
+/// fails, or takes nothing: a prefix of the line is written, but not all of it. A write that was interrupted is tried
+/// again. That the writer is called so is shown by the tests of `lot_cli`.
 pub fn print_line<W: Write, T: Display + Drop>(writer: &mut W, text: T) -> Result<(), PrintFault>
     ensures bytes { IfSome (with_newline (T.output text))
-        (Writes (W.contents writer.old) (W.contents writer.new) result) }
-    // After want of memory the writer is as it was.
+        (WritesLine (W.contents writer.old) (W.contents writer.new) result) }
+    // Out of memory, the writer is as it was.
     ensures memory { IsErrOf result PrintFault.Memory → writer.new ≡ writer.old }
     // A fault of the writer comes only with a line that there was room for.
     ensures write { IsErrOf result PrintFault.Write
-        → IfSome (with_newline (T.output text)) (λ line. length line ≤ LONGEST) }
+        → IfSome (with_newline (T.output text)) (λ line. length line ≤ longest_line) }
 {
     let line = line_of(text)?;
     put(writer, line.as_str().as_bytes())
 }
 
-/// A text and a line end. There is room for every line; a longer one would count as want of memory.
+/// Returns a text and a line end, or `Memory` where there is no room for them.
 fn line_of<T: Display + Drop>(text: T) -> Result<ArrayString<LONGEST>, PrintFault>
     ensures bytes { IfSome (with_newline (T.output text)) (λ bytes. IfOk result (λ line. line.bytes ≡ bytes)) }
+    ensures room { LONGEST ≡ longest_line }
     ensures fault { IfErr result (λ fault. fault ≡ PrintFault.Memory) }
 {
     let mut line = ArrayString::new();
@@ -60,29 +64,32 @@ fn line_of<T: Display + Drop>(text: T) -> Result<ArrayString<LONGEST>, PrintFaul
     }
 }
 
-/// Writes bytes. After a fault a front of them is written, or nothing.
+/// Writes bytes. After a fault a prefix of them is written, but not all.
 fn put<W: Write>(writer: &mut W, bytes: &[u8]) -> Result<(), PrintFault>
-    ensures bytes { Writes (W.contents writer.old) (W.contents writer.new) result bytes.now }
+    ensures bytes { WritesLine (W.contents writer.old) (W.contents writer.new) result bytes.now }
     ensures fault { IfErr result (λ fault. fault ≡ PrintFault.Write) }
 {
     let mut rest = bytes;
     for _ in 0..u64::MAX {
         if rest.is_empty() {
-            return Ok(());
+            break;
         }
-        let count = put_some(writer, rest)?;
+        let count = taken(writer.write(rest))?;
         rest = &rest[count..];
     }
-    Err(PrintFault::Write)
+    if rest.is_empty() {
+        Ok(())
+    } else {
+        Err(PrintFault::Write)
+    }
 }
 
-/// One call of `write`: how many bytes it took, none where it was interrupted.
-fn put_some<W: Write>(writer: &mut W, bytes: &[u8]) -> Result<usize, PrintFault>
-    ensures bound { IfOk result (λ count. count ≤ length bytes.now) }
-    ensures bytes { WriteAppends (W.contents writer.old) (W.contents writer.new) result bytes.now }
-    ensures fault { IfErr result (λ fault. fault ≡ PrintFault.Write) }
+/// Returns how many bytes a call of `write` took, of those that it was given: none where it was interrupted, so that
+/// it is tried again. A call that took nothing, or failed otherwise, is a fault of the writer.
+fn taken(outcome: io::Result<usize>) -> Result<usize, PrintFault>
+    ensures { IsTaken outcome result }
 {
-    match writer.write(bytes) {
+    match outcome {
         Ok(0) => Err(PrintFault::Write),
         Ok(count) => Ok(count),
         Err(error) if error.kind() == ErrorKind::Interrupted => Ok(0),

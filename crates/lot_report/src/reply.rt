@@ -1,18 +1,24 @@
+ghost use Rattle.std.specs.Prelude.{◌≡◌, ◌≤◌, length, IsErrOf};
 ghost use Rattle.lot_report.specs.Printed.{reply, cause_text};
-ghost use Rattle.lot_report.specs.Written.{Writes};
+ghost use Rattle.lot_report.specs.Written.{WritesLine, longest_line};
 
 use crate::line::{PrintFault, print_line};
 use lot_ledger::{Refusal, Verdict};
 use std::fmt;
 use std::io::Write;
 
-/// Tells what is said of the command of that number.
+/// Writes the reply to the command of that number: what became of it.
+///
+/// Returns what `print_line` returned: after `Memory` the writer is as it was, after `Write` a prefix of the line is
+/// written, but not all of it.
 pub fn print_reply<W: Write>(
     writer: &mut W,
     number: usize,
     verdict: &Verdict,
 ) -> Result<(), PrintFault>
-    ensures { Writes (W.contents writer.old) (W.contents writer.new) result (reply number verdict.now) }
+    ensures bytes { WritesLine (W.contents writer.old) (W.contents writer.new) result (reply number verdict.now) }
+    ensures memory { IsErrOf result PrintFault.Memory → writer.new ≡ writer.old }
+    ensures write { IsErrOf result PrintFault.Write → length (reply number verdict.now) ≤ longest_line }
 {
     match verdict {
         Verdict::Accepted => print_line(writer, format_args!("{number} accepted")),

@@ -1,7 +1,7 @@
 ghost use Rattle.std.specs.Prelude.{◌≡◌};
 ghost use Rattle.lot_cli.specs.FaultLine.{fault_line};
 ghost use Rattle.lot_cli.specs.Status.{fault_at, status_of};
-ghost use Rattle.lot_report.specs.Written.{Writes};
+ghost use Rattle.lot_report.specs.Written.{WritesLine};
 
 use super::status::Status;
 use crate::input::SlurpFault;
@@ -28,10 +28,10 @@ pub(super) enum Fault {
     /// The writer failed.
     #[error("the output can't be written")]
     Write,
-    /// Memory was wanting before the first command or after the last.
+    /// Out of memory before the first command or after the last.
     #[error("out of memory")]
     Memory,
-    /// Memory was wanting while the command of that number was judged.
+    /// Out of memory while the command of that number was judged or replied to.
     #[error("out of memory at command {number}")]
     MemoryAt { number: usize },
 }
@@ -81,7 +81,7 @@ impl From<ReportFault> for Fault {
 }
 
 impl Fault {
-    /// What a fault of the reply to the command of that number is for the run.
+    /// Returns what a fault of the reply to the command of that number is for the run.
     pub fn at(number: usize, fault: PrintFault) -> Fault
         ensures { result ≡ fault_at number fault }
     {
@@ -91,7 +91,7 @@ impl Fault {
         }
     }
 
-    /// How a run with this fault ends.
+    /// Returns how a run with this fault ends.
     pub fn status(self) -> Status
         ensures { result ≡ status_of self }
     {
@@ -102,10 +102,9 @@ impl Fault {
     }
 }
 
-/// Writes the line that tells a fault. It takes no memory, which may be what is wanting. A fault of the writer
-/// isn't told.
+/// Writes the line that reports a fault. It takes no memory, which may have ended. A fault of the writer has no line.
 pub(super) fn print_fault<W: Write>(writer: &mut W, fault: Fault) -> Result<(), PrintFault>
-    ensures { Writes (W.contents writer.old) (W.contents writer.new) result (fault_line fault) }
+    ensures { WritesLine (W.contents writer.old) (W.contents writer.new) result (fault_line fault) }
 {
     match fault {
         Fault::Read => print_line(writer, "fault K1 Read"),

@@ -17,7 +17,7 @@ pub(super) enum Status {
 }
 
 impl Status {
-    /// The status of a run of one command.
+    /// Returns the status of a run of one command.
     pub fn of_verdict(verdict: &Verdict) -> Status
         ensures { result ≡ status_of_verdict verdict.now }
     {
@@ -27,14 +27,14 @@ impl Status {
         }
     }
 
-    /// The status of two runs, one after the other, neither of which met a fault.
+    /// Returns the status of two runs, one after the other, neither of which met a fault.
     pub fn and(self, next: Status) -> Status
         ensures { result ≡ status_after self next }
     {
         if self == Status::Accepted { next } else { self }
     }
 
-    /// The number with which the program ends.
+    /// Returns the number with which the program ends.
     pub fn code(self) -> u8
         ensures value { result ≡ code_of self }
         ensures status { IsStatus result }

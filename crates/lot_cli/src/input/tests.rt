@@ -1,65 +1,86 @@
-use super::{CALLS, LIMIT, SlurpFault, slurp};
-use crate::fakes::{Failing, Script, Zeros};
-use std::io::ErrorKind;
+use super::{SlurpFault, slurp};
+use crate::fakes::{Script, ScriptedReader, Trouble, When, Zeros};
+use std::alloc::Global;
 use std::test::Fail;
 
 const TEXT: &[u8] = b"not a ledger\nbut some bytes";
 
-#[test]
-fn gives_all_bytes(rt: HostRuntime) -> Result<(), Fail> {
-    for step in [1, 2, 7, 27, 100_000] {
-        let mut reader = Script::new(TEXT, step, Failing::Never, ErrorKind::Other);
-        let bytes = slurp(rt.alloc(), &mut reader)?;
-        assert_eq!(rt; bytes.as_slice(), TEXT, "{step} a call");
-        assert_eq!(rt; reader.rest.len(), 0);
-    }
-    let mut empty = Zeros(0);
-    assert_eq!(rt; slurp(rt.alloc(), &mut empty)?.len(), 0);
-    let mut memory = TEXT;
-    assert_eq!(rt; slurp(rt.alloc(), &mut memory)?.as_slice(), TEXT);
-    Ok(())
+/// What a reader of the text by a script comes to, how often it was called, and how much it has left.
+fn slurped(alloc: Global, script: Script) -> (Result<Vec<u8>, SlurpFault>, usize, usize) {
+    let mut reader = ScriptedReader { rest: TEXT, script };
+    let result = slurp(alloc, &mut reader);
+    (result, reader.script.calls, reader.rest.len())
+}
+
+/// How many zero bytes are had of a reader of so many.
+fn zeros_slurped(alloc: Global, left: usize, step: usize) -> Result<usize, SlurpFault> {
+    let bytes = slurp(alloc, &mut Zeros { left, step })?;
+    Ok(bytes.iter().filter(|byte| **byte == 0).count())
 }
 
 #[test]
-fn fails_where_the_reader_fails(rt: HostRuntime) {
+fn each_call_of_read_may_meet_trouble(rt: HostRuntime) {
     for at in 0..28 {
-        let mut reader = Script::new(TEXT, 1, Failing::Once(at), ErrorKind::TimedOut);
-        assert_eq!(rt;
-            slurp(rt.alloc(), &mut reader),
-            Err(SlurpFault::Read),
+        let interrupted = slurped(
+            rt.alloc(),
+            Script::new(1, When::Once(at), Trouble::Interrupted),
+        );
+        assert!(rt;
+            interrupted.0.is_ok_and(|bytes| bytes.as_slice() == TEXT),
             "call {at}"
         );
-        assert_eq!(rt; reader.calls, at + 1);
+        let (result, calls, left) = slurped(
+            rt.alloc(),
+            Script::new(1, When::Once(at), Trouble::Broken),
+        );
+        assert_eq!(rt; result, Err(SlurpFault::Read), "call {at}");
+        assert_eq!(rt; (calls, left), (at + 1, 27 - at));
+        let ended = slurped(rt.alloc(), Script::new(1, When::Once(at), Trouble::Nothing));
+        assert!(rt;
+            ended.0.is_ok_and(|bytes| bytes.as_slice() == &TEXT[..at]),
+            "call {at}"
+        );
     }
 }
 
 #[test]
-fn goes_on_where_the_reader_is_interrupted(rt: HostRuntime) -> Result<(), Fail> {
-    for at in 0..28 {
-        let mut reader = Script::new(TEXT, 1, Failing::Once(at), ErrorKind::Interrupted);
-        let bytes = slurp(rt.alloc(), &mut reader)?;
-        assert_eq!(rt; bytes.as_slice(), TEXT, "call {at}");
+fn reading_ends_after_twenty_million_calls(rt: HostRuntime) {
+    let (result, calls, left) = slurped(
+        rt.alloc(),
+        Script::new(1, When::From(3), Trouble::Interrupted),
+    );
+    assert_eq!(rt; result, Err(SlurpFault::Read));
+    assert_eq!(rt; (calls, left), (20_000_000, 24));
+}
+
+#[test]
+fn sixteen_mebibytes_are_the_most(rt: HostRuntime) {
+    let cases = [
+        (0, 1, Ok(0)),
+        (16_777_216, usize::MAX, Ok(16_777_216)),
+        (16_777_216, 1, Ok(16_777_216)),
+        (16_777_217, usize::MAX, Err(SlurpFault::TooLong)),
+        (16_777_217, 1, Err(SlurpFault::TooLong)),
+        (usize::MAX, usize::MAX, Err(SlurpFault::TooLong)),
+    ];
+    for (left, step, expected) in cases {
+        assert_eq!(rt; zeros_slurped(rt.alloc(), left, step), expected);
     }
-    Ok(())
 }
 
 #[test]
-fn gives_up_on_a_reader_that_is_interrupted_for_ever(rt: HostRuntime) {
-    let mut reader = Script::new(TEXT, 1, Failing::From(3), ErrorKind::Interrupted);
-    assert_eq!(rt; slurp(rt.alloc(), &mut reader), Err(SlurpFault::Read));
-    assert_eq!(rt; reader.calls, CALLS);
-    assert_eq!(rt; reader.rest, &TEXT[3..]);
-}
-
-#[test]
-fn takes_sixteen_mebibytes_and_no_more(rt: HostRuntime) -> Result<(), Fail> {
-    let mut good = Zeros(LIMIT);
-    let bytes = slurp(rt.alloc(), &mut good)?;
-    assert_eq!(rt; bytes.len(), 16_777_216);
-    assert!(rt; bytes.iter().all(|b| *b == 0));
-    let mut long = Zeros(LIMIT + 1);
-    assert_eq!(rt; slurp(rt.alloc(), &mut long), Err(SlurpFault::TooLong));
-    let mut huge = Zeros(usize::MAX);
-    assert_eq!(rt; slurp(rt.alloc(), &mut huge), Err(SlurpFault::TooLong));
+fn texts_of_faults(rt: HostRuntime) -> Result<(), Fail> {
+    let cases = [
+        (SlurpFault::Read, "Read: the input can't be read"),
+        (
+            SlurpFault::TooLong,
+            "TooLong: the input is longer than 16 MiB",
+        ),
+        (SlurpFault::Memory, "Memory: out of memory"),
+    ];
+    for (fault, text) in cases {
+        let printed = format!(in rt.alloc(); "{fault:?}: {fault}")?;
+        assert_eq!(rt; printed.as_str(), text);
+    }
     Ok(())
 }

@@ -1,5 +1,6 @@
 use super::{Holdings, ReportFault};
-use lot_base::{Account, Commodity, Day, NameFault};
+use crate::line::PrintFault;
+use lot_base::{Account, Commodity, Day};
 use lot_ledger::{LotKey, Position};
 use lot_num::{Rate, Units};
 use std::alloc::Global;
@@ -7,11 +8,11 @@ use std::io;
 use std::test::Fail;
 
 /// A lot at that number.
-fn lot_at(alloc: Global, number: Rate) -> Result<Position, NameFault> {
+fn lot_at(alloc: Global, number: &str) -> Result<Position, Fail> {
     let lot = LotKey {
-        day: Day::parse("2020-01-02").map_err(|_| NameFault::BadNote)?,
+        day: Day::parse("2020-01-02")?,
         currency: Commodity::new(alloc, "USD")?,
-        number,
+        number: Rate::parse(number)?,
     };
     Ok(Position {
         account: Account::new(alloc, "Assets:Broker")?,
@@ -20,14 +21,24 @@ fn lot_at(alloc: Global, number: Rate) -> Result<Position, NameFault> {
     })
 }
 
+/// A report that has taken so many rows of the lot.
+fn report_of(
+    alloc: Global,
+    lot: &Position,
+    units: Units,
+    count: usize,
+) -> Result<Holdings, ReportFault> {
+    let mut holdings = Holdings::new(alloc);
+    for _ in 0..count {
+        holdings.row(lot, units, &mut io::sink())?;
+    }
+    Ok(holdings)
+}
+
 #[test]
 fn a_total_of_exactly_ten_to_the_thirty_eighth_is_good(rt: HostRuntime) -> Result<(), Fail> {
-    let units = Units::parse("8000000000")?;
-    let large = lot_at(rt.alloc(), Rate::parse("50000000")?)?;
-    let mut holdings = Holdings::new(rt.alloc());
-    for _ in 0..25_000 {
-        holdings.row(&large, units, &mut io::sink())?;
-    }
+    let lot = lot_at(rt.alloc(), "50000000")?;
+    let holdings = report_of(rt.alloc(), &lot, Units::parse("8000000000")?, 25_000)?;
     let mut written = Vec::new(rt.alloc());
     holdings.end(&mut written)?;
     assert_eq!(rt;
@@ -40,14 +51,33 @@ fn a_total_of_exactly_ten_to_the_thirty_eighth_is_good(rt: HostRuntime) -> Resul
 #[test]
 fn nothing_of_a_row_past_the_largest_total_is_written(rt: HostRuntime) -> Result<(), Fail> {
     let units = Units::parse("9999999999.99999999")?;
-    let large = lot_at(rt.alloc(), Rate::parse("99999999.99999999")?)?;
-    let mut holdings = Holdings::new(rt.alloc());
-    for _ in 0..10_000 {
-        holdings.row(&large, units, &mut io::sink())?;
-    }
+    let lot = lot_at(rt.alloc(), "99999999.99999999")?;
+    let mut holdings = report_of(rt.alloc(), &lot, units, 10_000)?;
     let mut written = Vec::new(rt.alloc());
-    let refused = holdings.row(&large, units, &mut written);
+    let refused = holdings.row(&lot, units, &mut written);
     assert_eq!(rt; refused, Err(ReportFault::Range));
     assert_eq!(rt; written.len(), 0);
+    Ok(())
+}
+
+#[test]
+fn texts_of_faults(rt: HostRuntime) -> Result<(), Fail> {
+    let cases = [
+        (ReportFault::Range, "Range: a total is too large"),
+        (ReportFault::Write, "Write: the output can't be written"),
+        (ReportFault::Memory, "Memory: out of memory"),
+    ];
+    for (fault, text) in cases {
+        let printed = format!(in rt.alloc(); "{fault:?}: {fault}")?;
+        assert_eq!(rt; printed.as_str(), text);
+    }
+    let cases = [
+        (PrintFault::Write, "Write: the output can't be written"),
+        (PrintFault::Memory, "Memory: out of memory"),
+    ];
+    for (fault, text) in cases {
+        let printed = format!(in rt.alloc(); "{fault:?}: {fault}")?;
+        assert_eq!(rt; printed.as_str(), text);
+    }
     Ok(())
 }

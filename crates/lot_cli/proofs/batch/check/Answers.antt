@@ -1,6 +1,6 @@
-use Rattle.lot_cli.proofs.AnswerLemmas.{tells_of_input}
+use Rattle.lot_cli.proofs.AnswerLemmas.{outcome_of_input}
 use Rattle.lot_cli.proofs.batch.check.Goals as goal
 
 pub returns-clause-answer : goal.returns-clause-answer
 returns-clause-answer g c =
-    tells_of_input _ _ _ _ c.answer-outcome.result c.conclude.result c.code.result c.answer-outcome.ensures c.conclude.ensures c.code.ensures.value
+    outcome_of_input _ _ _ _ c.answer-outcome.result c.conclude.result c.code.result c.answer-outcome.ensures c.conclude.ensures c.code.ensures.value

@@ -1,21 +1,12 @@
--- What a reader lost at a fault: what was read before, and at the last call.
-use Rattle.std.proofs.Common.{◌++◌, ℕ, List, Option, Result, Ok, Err, OnErr, take}
-use Rattle.std.specs.Io.KnownBytes.{Consumes}
-use Rattle.std.proofs.KnownBytes.{Consumes-kept, Consumes-trans}
+use Rattle.std.proofs.Common.{◌∙◌}
+use native.Mathlib.Omega.{arith}
+use Rattle.lot_cli.proofs.InputLemmas.{at_fault, fault_taken, written_back}
 use Rattle.lot_cli.proofs.input.slurp.Goals as goal
 
--- bytes that were consumed are some that were lost
-none_lost : {T E : Type 0} (r : Result T E) (old new : Option (List ℕ)) (taken : List ℕ) → Consumes old new taken → OnErr r ((lost : List ℕ) × Consumes old new lost)
-none_lost (Ok x) old new taken h = tt
-none_lost (Err e) old new taken h = (taken, h)
-
-pub returns-in_err-read_some-clause-none_lost : goal.returns-in_err-read_some-clause-none_lost
-returns-in_err-read_some-clause-none_lost g c =
-    none_lost _ _ _ c.loop.bytes.items (Consumes-kept _ _ _ _ c.loop.invariant.taken c.in_err-read_some.ensures.err)
-
-pub returns-in_err-append-in-Some-clause-none_lost :
-    goal.returns-in_err-append-in-Some-clause-none_lost
-returns-in_err-append-in-Some-clause-none_lost g c =
-    let last = rw c.in-Some.is at c.in_ok-read_some.ensures.taken in
-    let last_chunk = take c.in-Some.count c.read_some.new.chunk.items in
-    none_lost _ _ _ (c.loop.bytes.items ++ last_chunk) (Consumes-trans _ _ _ _ _ c.loop.invariant.taken last)
+pub returns-in_err-take_in-clause-taken : goal.returns-in_err-take_in-clause-taken
+returns-in_err-take_in-clause-taken g c =
+    let full = c.read-outcome.auto.buf ∙ c.as_mut_slice.ensures.len in
+    at_fault _ _ c.in_err-take_in.field-0.0 c.from_residual-in_err-take_in.result c.from_residual-in_err-take_in.ensures.1
+    (fault_taken _ _ _ c.loop.bytes.items c.deref.result.now c.read-outcome.new.buf c.read-outcome.result c.take_in.new.bytes.items c.in_err-take_in.field-0.0
+    c.loop.invariant.taken (omega (arith, c.loop.bytes.ok.0, c.loop.invariant.small)) (full ∙ c.loop.invariant.room)
+    (c.deref.ensures.value ∙ written_back c.loop.chunk.len c.read-outcome.new.buf _ full) c.read-outcome.ensures.bound c.read-outcome.ensures.bytes c.in_err-take_in.ensures)

@@ -1,22 +1,18 @@
-use Rattle.std.proofs.lemmas.Result.{err_from_is_err_and}
 -- One more total stands behind those so far, and is the first of those that were left.
-use Rattle.lot_report.proofs.PrintLemmas.{front_step}
-use Rattle.std.proofs.Common.{◌++◌, false, sym, ap, ◌∙◌, append_assoc}
-use Rattle.std.proofs.KnownBytes.{Appends-trans}
-use Rattle.lot_report.specs.Printed.{totals, total_line}
+use Rattle.std.proofs.Common.{Err, subst, sym}
+use Rattle.std.proofs.lemmas.Result.{err_from_is_err_and}
+use Rattle.lot_report.specs.Report.{WritesTotals}
+use Rattle.lot_report.proofs.TotalLemmas.{total_written, total_stops}
 use Rattle.lot_report.proofs.holdings.Holdings.end.Goals as goal
 
 pub loop-currency-preserved : goal.loop-currency-preserved
 loop-currency-preserved g c =
-    let (written, appended, all) = c.loop-currency.invariant in
-    let next = total_line c.in-Some.currency.now c.in-Some.total.now in
-    (written ++ next, Appends-trans _ _ _ _ _ appended c.in_ok-print_total.ensures, append_assoc written next (totals false c.next.new.self) ∙ ap (λ costs. written ++ totals false costs) (sym c.in-Some.ensures.steps) ∙ all)
+    total_written _ _ _ _ _ _ _ _ c.loop-currency.invariant c.in-Some.ensures.steps c.in_ok-print_total.ensures
 
 pub returns-in_err-print_total : goal.returns-in_err-print_total
 returns-in_err-print_total g c =
-    let (written, appended, all) = c.loop-currency.invariant in
-    let next = total_line c.in-Some.currency.now c.in-Some.total.now in
     let fault = err_from_is_err_and c.from_residual.result c.from_residual.ensures.1 in
-    rw (fault.1, c.if-self.false)
-    (front_step _ _ _ written next (totals false c.next.new.self) _ appended c.in_err-print_total.ensures
-    (ap (λ costs. written ++ totals false costs) (sym c.in-Some.ensures.steps) ∙ all))
+    rw (fault.1, fault.2)
+    (subst (λ empty. WritesTotals empty c.args.self.costs.entries (g.W.Write.contents c.args.writer.now) (g.W.Write.contents c.print_total.new.writer) (Err c.in_err-print_total.field-0.0))
+    (sym c.if-self.false)
+    (total_stops _ _ _ _ _ _ _ _ _ c.loop-currency.invariant c.in-Some.ensures.steps c.in_err-print_total.ensures))
