@@ -48,9 +48,18 @@ replies number (verdict ∷ verdicts) = reply number verdict ++ replies (suc num
 abbrev pub plain_row : List ℕ → List ℕ → ℤ → List ℕ
 plain_row account commodity units = line (account ++ codes " " ++ amount_text 2 8 units ++ codes " " ++ commodity)
 
--- the cost of one unit of a lot, and its day
+-- the label of a lot, in quotes, or nothing where it has none
+abbrev pub label_text : Option (List ℕ) → List ℕ
+label_text None = []
+label_text (Some label) = codes ", \"" ++ label ++ codes "\""
+
+-- a lot in braces, with the text of its number: the cost of one unit, its day, and its label
+abbrev pub in_braces : List ℕ → LotKey → List ℕ
+in_braces number lot =
+    codes "{" ++ number ++ codes " " ++ lot.currency ++ codes ", " ++ day_text lot.day ++ label_text lot.label ++ codes "}"
+
 abbrev pub lot_text : LotKey → List ℕ
-lot_text lot = codes "{" ++ amount_text 0 8 (pos lot.number) ++ codes " " ++ lot.currency ++ codes ", " ++ day_text lot.day ++ codes "}"
+lot_text lot = in_braces (amount_text 0 8 (pos lot.number)) lot
 
 abbrev pub lot_row : List ℕ → List ℕ → LotKey → ℤ → List ℕ
 lot_row account commodity lot units = line (account ++ codes " " ++ amount_text 0 8 units ++ codes " " ++ commodity ++ codes " " ++ lot_text lot)

@@ -10,11 +10,12 @@ ghost use Rattle.lot_report.specs.Written.{WritesLine};
 mod tests;
 
 use crate::line::{PrintFault, print_line};
-use lot_base::Commodity;
+use lot_base::{Commodity, Label};
 use lot_ledger::{LotKey, Position};
 use lot_num::{Units, Wide, weight};
 use std::alloc::{AllocError, AllocFailed, Global};
 use std::collections::BTreeMap;
+use std::fmt;
 use std::io::Write;
 use thiserror::Error;
 
@@ -228,12 +229,51 @@ fn print_lot<W: Write>(
     let units = units.text(alloc)?;
     let commodity = &position.commodity;
     let number = lot.number.text(alloc)?;
-    let currency = &lot.currency;
-    let day = lot.day;
-    print_line(
-        writer,
-        format_args!("{account} {units} {commodity} {{{number} {currency}, {day}}}"),
-    )
+    let lot = PrintedLot {
+        number: number.as_str(),
+        lot,
+    };
+    print_line(writer, format_args!("{account} {units} {commodity} {lot}"))
+}
+
+/// A lot as it is printed behind its units, in braces, with the text of its number.
+#[derive(Clone, Copy)]
+struct PrintedLot<'a> {
+    number: &'a str,
+    lot: &'a LotKey,
+}
+
+impl fmt::Display for PrintedLot<'_> {
+    ghost use Rattle.std.specs.Prelude.{Some};
+    ghost use Rattle.lot_report.specs.Printed.{in_braces};
+
+    ghost output = { λ printed. Some (in_braces printed.number.now printed.lot.now) };
+
+    fn fmt<W: fmt::Write>(&self, f: &mut fmt::Formatter<W>) -> fmt::Result {
+        let number = self.number;
+        let currency = &self.lot.currency;
+        let day = self.lot.day;
+        let label = PrintedLabel(&self.lot.label);
+        write!(f, "{{{number} {currency}, {day}{label}}}")
+    }
+}
+
+/// The label of a lot as it is printed behind its day: in quotes, or nothing where the lot has none.
+#[derive(Clone, Copy)]
+struct PrintedLabel<'a>(&'a Option<Label>);
+
+impl fmt::Display for PrintedLabel<'_> {
+    ghost use Rattle.std.specs.Prelude.{Some};
+    ghost use Rattle.lot_report.specs.Printed.{label_text};
+
+    ghost output = { λ label. Some (label_text label.0.now) };
+
+    fn fmt<W: fmt::Write>(&self, f: &mut fmt::Formatter<W>) -> fmt::Result {
+        let Some(label) = self.0 else {
+            return Ok(());
+        };
+        write!(f, ", \"{label}\"")
+    }
 }
 
 fn print_total<W: Write>(

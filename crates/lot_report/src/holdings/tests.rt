@@ -13,6 +13,7 @@ fn lot_at(alloc: Global, number: &str) -> Result<Position, Fail> {
         day: Day::parse("2020-01-02")?,
         currency: Commodity::new(alloc, "USD")?,
         number: Rate::parse(number)?,
+        label: None,
     };
     Ok(Position {
         account: Account::new(alloc, "Assets:Broker")?,
