@@ -69,7 +69,8 @@ impl Day {
     /// Returns the day that a text names: four digits, one or two digits, and one or two digits, with `-` or `/`
     /// between them, which may differ.
     ///
-    /// The error is `BadDay`, exactly where the text isn't of this form, or the calendar of the years 1 to 9999 hasn't that day.
+    /// The error is `BadDay`, exactly where the text isn't of this form, or the calendar of the years 1 to 9999 hasn't that
+    /// day.
     pub fn parse(text: &str) -> Result<Day, DayFault>
         ensures { result_ok result ≡ named_day text.now }
     {

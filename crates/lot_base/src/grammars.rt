@@ -157,8 +157,8 @@ fn is_commodity_byte(b: u8) -> bool
     b.is_ascii_uppercase() || b.is_ascii_digit() || matches!(b, b'\'' | b'.' | b'_' | b'-')
 }
 
-/// The grammar of labels: one byte of UTF-8 or more, at most `MAX_LABEL`, none of them a control byte (below 32, or 127), a quote or a
-/// backslash.
+/// The grammar of labels: one byte of UTF-8 or more, at most `MAX_LABEL`, none of them a control byte (below 32, or 127),
+/// a quote or a backslash.
 ///
 /// This project's own.
 pub struct LabelGrammar;

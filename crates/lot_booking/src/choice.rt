@@ -16,8 +16,8 @@ use std::cmp::Ordering;
 /// Returns the legs that units take of lots in an order: each lot whole before the next one, until the units are used up.
 /// They have the sign of the units, and stand in the order.
 ///
-/// The lots have distinct keys, and each has the other sign than the units. The error is `NotEnough` only where the lots hold
-/// less than the units, and else `Memory`, where there is no memory for the legs.
+/// The lots have distinct keys, and each has the other sign than the units. The error is `NotEnough` only where the lots
+/// hold less than the units, and else `Memory`, where there is no memory for the legs.
 pub fn take<O: LotOrder>(
     alloc: Global,
     lots: Vec<(LotKey, Units)>,
