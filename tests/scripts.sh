@@ -1,6 +1,7 @@
 #!/usr/bin/env bash
-# The scripts `lotbook`, `test` and `bench/gate.sh` themselves, the first two on a repository of their own whose kit is a stand-in: it notes each call,
-# builds a program that prints its words and its input, and fails where there is a file `broken`.
+# The scripts `lotbook`, `test` and `bench/gate.sh` themselves. The first two run on a repository of their own whose kit is a
+# stand-in: it notes each call, builds a program that prints its words and its input, and fails where there is a file
+# `broken`.
 source "$(dirname "$(readlink -f "${BASH_SOURCE[0]}")")/lib/cases.sh"
 
 repo=$scratch/repo
