@@ -8,17 +8,17 @@ use std::process::ExitCode;
 fn main(rt: HostRuntime) -> ExitCode {
     if env::args(&rt).is_ok_and(|words| words.count() > 1) {
         let _ = eprintln!(rt;
-            "lotbook: init, post, import, holdings, gains and journal come with a later edition."
+            "lotbook: the commands init, post, import, holdings, gains and journal are not built yet."
         );
         let _ = eprintln!(rt;
-            "Call it without words, with ledger text on standard input: lotbook < FILE"
+            "Call it without arguments, with ledger text on standard input: lotbook < FILE"
         );
         return ExitCode::from(2);
     }
     let status = match BufWriter::new(rt.alloc(), io::writer(&rt)) {
         Ok(mut output) => {
             let status = lot_cli::check(rt.alloc(), &mut rt.reader(), &mut output);
-            // What could not be written is let go, where dropping the buffer would try once more.
+            // What could not be written is discarded; dropping the buffer would try once more.
             let _unwritten = output.into_parts();
             status
         }
