@@ -18,7 +18,7 @@ fn main(rt: HostRuntime) -> ExitCode {
     let status = match BufWriter::new(rt.alloc(), io::writer(&rt)) {
         Ok(mut output) => {
             let status = lot_cli::check(rt.alloc(), &mut rt.reader(), &mut output);
-            // What could not be written is let go, where dropping the buffer would try once more.
+            // What could not be written is given up: to drop the buffer itself would try once more.
             let _unwritten = output.into_parts();
             status
         }
