@@ -120,8 +120,8 @@ IsOutput input text status = IsAnswer input text status ⊎ IsUnread text status
 
 -- ---- What is written where the writer fails.
 
--- what was being written when the writer failed: the replies to the first commands, all replies and the first rows, or
--- an output
+-- what was being written when the writer failed: the replies to the first commands, all replies and the first lines of
+-- the report, or an output
 abbrev pub IsBegun : List ℕ → List ℕ → Type 0
 IsBegun input text = AreReplies input text ⊎ AreLines input text ⊎ ((status : ℕ) × IsOutput input text status)
 
