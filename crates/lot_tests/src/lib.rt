@@ -11,7 +11,7 @@
 //! - `booking`: postings with braces, with what becomes of each.
 //!
 //! What keeps the proofs of tests short: no `?`, which adds a path on which all that lives is dropped; tables that are
-//! slices, and not arrays that a loop takes by value; assertions, and calls with long contracts, in functions of their own.
+//! slices, and not arrays that a loop takes by value; assertions in functions of their own.
 #![tactic(auto)]
 
 #[cfg(test)]
