@@ -234,24 +234,58 @@ fn sums_are_exact(rt: HostRuntime) {
 }
 
 #[test]
-fn limits_and_zeros(rt: HostRuntime) {
+fn zeros(rt: HostRuntime) {
     assert_is(&rt, &Units::ZERO.mantissa(), &0, "no units");
     assert_is(&rt, &Wide::ZERO.mantissa(), &0, "no weight");
     assert_is(&rt, &Units::ZERO.wide(), &Wide::ZERO, "no weight");
     assert_wide(&rt, Units::ZERO, "no units");
-    for mantissa in &[1_000_000_000_000_000_000, i64::MAX, i64::MIN] {
-        assert_is(&rt, &Units::from_mantissa(*mantissa), &None, "units");
+}
+
+/// Mantissas, with whether each is that of units, of a rate and of a weight.
+const LIMITS: &[(i128, [bool; 3])] = &[
+    (999_999_999_999_999_999, [true, false, true]),
+    (1_000_000_000_000_000_000, [false, false, true]),
+    (-999_999_999_999_999_999, [true, false, true]),
+    (-1_000_000_000_000_000_000, [false, false, true]),
+    (9_999_999_999_999_999, [true, true, true]),
+    (10_000_000_000_000_000, [true, false, true]),
+    (0, [true, true, true]),
+    (-1, [true, false, true]),
+    (GREATEST, [false, false, true]),
+    (GREATEST + 1, [false, false, false]),
+    (-GREATEST, [false, false, true]),
+    (-GREATEST - 1, [false, false, false]),
+    (i128::MAX, [false, false, false]),
+    (i128::MIN, [false, false, false]),
+];
+
+/// Whether there are units, a rate and a weight of a mantissa.
+fn amounts_of(mantissa: i128) -> [bool; 3] {
+    [
+        i64::try_from(mantissa).is_ok_and(|mantissa| Units::from_mantissa(mantissa).is_some()),
+        u64::try_from(mantissa).is_ok_and(|mantissa| Rate::from_mantissa(mantissa).is_some()),
+        Wide::from_mantissa(mantissa).is_some(),
+    ]
+}
+
+/// The sum of two weights of those mantissas.
+fn wide_sum(rt: &impl Abort, mantissa: i128, other: i128) -> Option<i128> {
+    let wide = Wide::from_mantissa(mantissa).expect(rt, "a weight");
+    let other = Wide::from_mantissa(other).expect(rt, "a weight");
+    wide.checked_add(other).map(Wide::mantissa)
+}
+
+#[test]
+fn limits(rt: HostRuntime) {
+    for (mantissa, want) in LIMITS {
+        assert_is(&rt, &amounts_of(*mantissa), want, "a limit");
     }
-    for mantissa in &[10_000_000_000_000_000, u64::MAX] {
-        assert_is(&rt, &Rate::from_mantissa(*mantissa), &None, "rate");
-    }
-    for mantissa in &[GREATEST + 1, -GREATEST - 1, i128::MAX, i128::MIN] {
-        assert_is(&rt, &Wide::from_mantissa(*mantissa), &None, "weight");
-    }
-    let greatest = Wide::from_mantissa(GREATEST).expect(&rt, "greatest");
-    let least = Wide::from_mantissa(1).expect(&rt, "least");
-    assert_is(&rt, &greatest.to_units(), &None, "greatest");
-    assert_is(&rt, &greatest.checked_add(least), &None, "greatest");
-    let sum = greatest.negated().checked_add(least.negated());
-    assert_is(&rt, &sum, &None, "greatest");
+    assert_is(&rt, &wide_sum(&rt, GREATEST, 1), &None, "a sum");
+    assert_is(&rt, &wide_sum(&rt, -GREATEST, -1), &None, "a sum");
+    assert_is(
+        &rt,
+        &wide_sum(&rt, GREATEST, -1),
+        &Some(GREATEST - 1),
+        "a sum",
+    );
 }

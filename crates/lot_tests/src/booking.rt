@@ -1,6 +1,6 @@
 //! Postings with braces on small inventories, with what becomes of each.
 
-mod choices;
+mod drawn;
 mod fifo;
 mod orders;
 mod strict;
@@ -15,6 +15,9 @@ use std::process::Abort;
 
 /// A posting under a method: its units, the parts of its cost, and what is told of it.
 type Case<'a> = (Method, &'a str, &'a str, &'a str);
+
+/// Lots, and postings on an inventory that holds them.
+type Group<'a> = (&'a [(&'a str, &'a str)], &'a [Case<'a>]);
 
 /// Three purchases of ten, the last of them with a label.
 const PURCHASES: &[(&str, &str)] = &[
@@ -69,7 +72,9 @@ fn assert_booked(rt: &(impl Abort + AllocGlobal), held: &Inventory, cases: &[Cas
     }
 }
 
-/// Asserts what becomes of postings on an inventory of some lots.
-fn assert_on(rt: &(impl Abort + AllocGlobal), lots: &[(&str, &str)], cases: &[Case<'_>]) {
-    assert_booked(rt, &inventory(rt, lots), cases);
+/// Asserts what becomes of postings, each group on an inventory of its own.
+fn assert_groups(rt: &(impl Abort + AllocGlobal), groups: &[Group<'_>]) {
+    for (lots, cases) in groups {
+        assert_booked(rt, &inventory(rt, lots), cases);
+    }
 }

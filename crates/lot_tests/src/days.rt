@@ -4,6 +4,7 @@ use crate::assertions::{assert_is, assert_shown, assert_written};
 use crate::make::day;
 use lot_base::{Day, DayFault};
 use std::cmp::Ordering;
+use std::process::Abort;
 
 /// Texts, with the number of their day and the text that it prints.
 const TEXTS: &[(&str, i32, &str)] = &[
@@ -60,15 +61,19 @@ const NO_DAYS: &[&str] = &[
     "2020-01-01\n",
 ];
 
+/// Asserts the number of a day, and its text.
+fn assert_day(rt: &(impl Abort + AllocGlobal), day: Day, number: i32, text: &str) {
+    assert_is(rt, &day.number(), &number, text);
+    assert_is(rt, &Day::from_number(number), &Some(day), text);
+    assert_is(rt, &Day::parse(text), &Ok(day), text);
+    assert_written(rt, day.text(rt.alloc()), text);
+    assert_shown(rt, &day, text);
+}
+
 #[test]
 fn texts_name_days(rt: HostRuntime) {
     for (text, number, printed) in TEXTS {
-        let day = day(&rt, text);
-        assert_is(&rt, &day.number(), number, text);
-        assert_is(&rt, &Day::from_number(*number), &Some(day), text);
-        assert_is(&rt, &Day::parse(printed), &Ok(day), text);
-        assert_written(&rt, day.text(rt.alloc()), printed);
-        assert_shown(&rt, &day, printed);
+        assert_day(&rt, day(&rt, text), *number, printed);
     }
     for text in NO_DAYS {
         assert_is(&rt, &Day::parse(text), &Err(DayFault::BadDay), text);

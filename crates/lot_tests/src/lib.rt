@@ -2,15 +2,17 @@
 //! can run out of memory with ample memory. They stand here, above the libraries, so that none of those is proved twice.
 //!
 //! - `make`: values made of texts.
+//! - `assertions`: the assertions that tests call.
 //! - `amounts`: numbers read, added and printed.
 //! - `totals`: totals, and the rate for each unit that they come to.
 //! - `names`, `days`: which texts are names and days, and what those print.
 //! - `faults`: the texts of enums, a table for each library.
-//! - `keys`, `inventories`: lot keys and specifications, and what an inventory holds after each step.
+//! - `keys`: how lot keys compare, and which key fits which specification.
+//! - `steps`, `inventories`: what an inventory holds after each step, and its lots in order.
 //! - `booking`: postings with braces, with what becomes of each.
 //!
-//! A test has no `?` and its tables are slices: each `?` adds a path on which all that lives is dropped, and an array
-//! that a loop takes by value costs a proof that grows with its rows.
+//! What keeps the proofs of tests short: no `?`, which adds a path on which all that lives is dropped; tables that are
+//! slices, and not arrays that a loop takes by value; assertions in functions of their own.
 #![tactic(auto)]
 
 #[cfg(test)]
@@ -32,6 +34,6 @@ mod make;
 #[cfg(test)]
 mod names;
 #[cfg(test)]
-mod random;
+mod steps;
 #[cfg(test)]
 mod totals;

@@ -3,6 +3,7 @@
 use lot_base::{Commodity, Day, Label};
 use lot_inv::{CostSpec, Inventory, LotKey};
 use lot_num::{Rate, Units};
+use std::alloc::Global;
 use std::process::Abort;
 
 /// Lengths of texts and lists around each power of two from 32 to 4,096.
@@ -41,28 +42,48 @@ pub(crate) fn filled(
     text
 }
 
+/// The first day among the parts of a text.
+fn day_in(parts: &str) -> Option<Day> {
+    for part in parts.split_whitespace() {
+        if let Ok(day) = Day::parse(part) {
+            return Some(day);
+        }
+    }
+    None
+}
+
+/// The first number among the parts of a text.
+fn number_in(parts: &str) -> Option<Rate> {
+    for part in parts.split_whitespace() {
+        if let Ok(number) = Rate::parse(part) {
+            return Some(number);
+        }
+    }
+    None
+}
+
+/// The first currency among the parts of a text.
+fn currency_in(alloc: Global, parts: &str) -> Option<Commodity> {
+    for part in parts.split_whitespace() {
+        if let Ok(currency) = Commodity::new(alloc, part) {
+            return Some(currency);
+        }
+    }
+    None
+}
+
 /// The specification of the parts in a text: a day, a number and a currency in any order, and a label behind `=`.
 pub(crate) fn spec(rt: &(impl Abort + AllocGlobal), text: &str) -> CostSpec {
     let (parts, label) = match text.split_once('=') {
         Some((parts, label)) => (parts, Some(Label::new(rt.alloc(), label).expect(rt, text))),
         None => (text, None),
     };
-    let mut spec = CostSpec {
-        number: None,
-        currency: None,
-        day: None,
+    CostSpec {
+        number: number_in(parts),
+        currency: currency_in(rt.alloc(), parts),
+        day: day_in(parts),
         label,
-    };
-    for part in parts.split_whitespace() {
-        if let Ok(day) = Day::parse(part) {
-            spec.day = Some(day);
-        } else if let Ok(number) = Rate::parse(part) {
-            spec.number = Some(number);
-        } else {
-            spec.currency = Some(commodity(rt, part));
-        }
     }
-    spec
 }
 
 /// The key of the parts in a text, as `100 USD 2020-01-01 =label`.
@@ -87,6 +108,16 @@ pub(crate) fn add(
     held.add(commodity, key, units).expect(rt, "added");
 }
 
+/// The lots of a commodity that fit the specification in a text.
+pub(crate) fn matched(
+    rt: &(impl Abort + AllocGlobal),
+    held: &Inventory,
+    commodity: &Commodity,
+    parts: &str,
+) -> Vec<(LotKey, Units)> {
+    held.matching(commodity, &spec(rt, parts)).expect(rt, parts)
+}
+
 /// The key of the parts in a text, or none where it is empty: the place of plain units.
 pub(crate) fn place(rt: &(impl Abort + AllocGlobal), text: &str) -> Option<LotKey> {
     if text.is_empty() {
@@ -107,11 +138,6 @@ pub(crate) fn inventory(rt: &(impl Abort + AllocGlobal), rows: &[(&str, &str)]) 
     held
 }
 
-pub(crate) fn push<T: Drop>(rt: &impl Abort, items: &mut Vec<T>, item: T) {
-    let pushed: Result<_, _> = items.push(item);
-    assert!(rt; pushed.is_ok());
-}
-
 /// Some lots as the holdings print them, each behind a blank.
 pub(crate) fn lots_text(rt: &(impl Abort + AllocGlobal), lots: &[(LotKey, Units)]) -> String {
     let mut text = String::new(rt.alloc());
@@ -124,9 +150,17 @@ pub(crate) fn lots_text(rt: &(impl Abort + AllocGlobal), lots: &[(LotKey, Units)
 fn push_lot(rt: &(impl Abort + AllocGlobal), text: &mut String, key: &LotKey, units: Units) {
     let units = units.text(rt.alloc()).expect(rt, "units");
     let number = key.number.text(rt.alloc()).expect(rt, "number");
-    write!(text, " {units} {{{number} {}, {}", key.currency, key.day).expect(rt, "lot");
+    let day = key.day.text(rt.alloc()).expect(rt, "day");
+    push_texts(rt, text, &[" ", units.as_str(), " {", number.as_str(), " "]);
+    push_texts(rt, text, &[key.currency.as_str(), ", ", day.as_str()]);
     if let Some(label) = &key.label {
-        write!(text, ", \"{label}\"").expect(rt, "label");
+        push_texts(rt, text, &[", \"", label.as_str(), "\""]);
     }
-    text.push('}').expect(rt, "brace");
+    push_texts(rt, text, &["}"]);
+}
+
+fn push_texts(rt: &impl Abort, text: &mut String, texts: &[&str]) {
+    for further in texts {
+        text.push_str(further).expect(rt, further);
+    }
 }

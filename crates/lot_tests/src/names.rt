@@ -3,7 +3,6 @@
 use crate::assertions::{assert_is, assert_shown, assert_text};
 use crate::make::{SIZES, commodity, filled};
 use lot_base::{Account, Commodity, Label, NameFault, Note};
-use std::collections::{BTreeMap, HashMap};
 use std::fmt::Display;
 use std::process::Abort;
 
@@ -194,34 +193,23 @@ fn names_have_a_longest(rt: HostRuntime) {
 }
 
 /// Commodities in order.
-const RISING: &[&str] = &["HOOL", "HOOL.B", "USD"];
+const RISING: &[&str] = &["A", "A.A", "AA", "HOOL", "HOOL.B", "USD", "USDX"];
 
-/// The commodities with their places, as a map that is ordered. They come the other way round.
-fn sorted(rt: &(impl Abort + AllocGlobal)) -> BTreeMap<Commodity, usize> {
-    let mut map: BTreeMap<Commodity, usize> = BTreeMap::new(rt.alloc());
-    for (place, text) in RISING.iter().enumerate().rev() {
-        let added: Result<_, _> = map.insert(commodity(rt, text), place);
-        assert_is(rt, &added.is_ok(), &true, text);
+/// Asserts how the commodity at a place compares with each of them.
+fn assert_place(rt: &(impl Abort + AllocGlobal), place: usize, name: &Commodity) {
+    for (other, text) in RISING.iter().enumerate() {
+        assert_is(
+            rt,
+            &name.cmp(&commodity(rt, text)),
+            &place.cmp(&other),
+            text,
+        );
     }
-    map
-}
-
-/// The commodities with their places, as a map by hash.
-fn hashed(rt: &(impl Abort + AllocGlobal)) -> HashMap<Commodity, usize> {
-    let mut map: HashMap<Commodity, usize> = HashMap::new(rt.alloc());
-    for (place, text) in RISING.iter().enumerate() {
-        let added: Result<_, _> = map.insert(commodity(rt, text), place);
-        assert_is(rt, &added.is_ok(), &true, text);
-    }
-    map
 }
 
 #[test]
-fn names_are_keys(rt: HostRuntime) {
-    let (sorted, hashed) = (sorted(&rt), hashed(&rt));
-    assert_is(&rt, &sorted.len(), &RISING.len(), "names");
-    for (place, (name, found)) in sorted.iter().enumerate() {
-        assert_is(&rt, found, &place, name.as_str());
-        assert_is(&rt, &hashed.get(name).copied(), &Some(place), name.as_str());
+fn names_are_in_order(rt: HostRuntime) {
+    for (place, text) in RISING.iter().enumerate() {
+        assert_place(&rt, place, &commodity(&rt, text));
     }
 }

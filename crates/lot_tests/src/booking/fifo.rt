@@ -1,10 +1,9 @@
 //! FIFO, LIFO, HIFO and NONE: lots in an order, or none.
 
-use super::{Case, PURCHASES, TWO_PURCHASES, assert_on, booked};
+use super::{Case, Group, PURCHASES, TWO_PURCHASES, assert_groups, booked};
 use crate::assertions::assert_is;
 use crate::inventories::{daily, daily_lots};
 use crate::make::{SIZES, spec, units};
-use crate::random::hundred_millionths;
 use lot_booking::Method;
 use lot_booking::Method::{Fifo, Hifo, Lifo, Strict, Unmatched};
 use lot_inv::LotKey;
@@ -113,16 +112,7 @@ const UNMATCHED: &[Case<'_>] = &[
     (Unmatched, "0", "60 USD", "ZeroUnits"),
 ];
 
-#[test]
-fn lots_are_taken_in_turn(rt: HostRuntime) {
-    assert_on(&rt, TWO_PURCHASES, TWO_LOTS);
-    assert_on(&rt, PURCHASES, THREE_LOTS);
-    assert_on(&rt, &[], NO_LOTS);
-    assert_on(&rt, OWED, OF_OWED);
-    assert_on(&rt, &[], UNMATCHED);
-    assert_on(&rt, &[("5", "50 USD 2020-01-01")], UNMATCHED);
-}
-
+/// Lots of which one part alone decides, and the others are alike.
 const CURRENCIES: &[(&str, &str)] = &[("1", "100 USD 2020-01-01"), ("1", "100 EUR 2020-01-01")];
 
 const BY_CURRENCY: &[Case<'_>] = &[
@@ -177,19 +167,34 @@ const TWO_LABELS: &[(&str, &str)] = &[
 
 const BY_TWO_LABELS: &[Case<'_>] = &[(Fifo, "-1", "", "takes -1 {100 USD, 2020-01-02, \"a\"}")];
 
+const ALL: &[Group<'_>] = &[
+    (TWO_PURCHASES, TWO_LOTS),
+    (PURCHASES, THREE_LOTS),
+    (&[], NO_LOTS),
+    (OWED, OF_OWED),
+    (&[], UNMATCHED),
+    (&[("5", "50 USD 2020-01-01")], UNMATCHED),
+    (CURRENCIES, BY_CURRENCY),
+    (NUMBERS, BY_NUMBER),
+    (DAYS, BY_DAY),
+    (LABELS, BY_LABEL),
+    (TWO_LABELS, BY_TWO_LABELS),
+];
+
 #[test]
-fn ties_go_by_the_other_parts(rt: HostRuntime) {
-    assert_on(&rt, CURRENCIES, BY_CURRENCY);
-    assert_on(&rt, NUMBERS, BY_NUMBER);
-    assert_on(&rt, DAYS, BY_DAY);
-    assert_on(&rt, LABELS, BY_LABEL);
-    assert_on(&rt, TWO_LABELS, BY_TWO_LABELS);
+fn lots_are_taken_in_turn(rt: HostRuntime) {
+    assert_groups(&rt, ALL);
 }
 
 /// What one sale takes of so many daily lots, all of them.
 fn sold(rt: &(impl Abort + AllocGlobal), method: Method, size: usize) -> Vec<(LotKey, Units)> {
     let held = daily_lots(rt, size);
-    let all = hundred_millionths(rt, (size as u64).wrapping_mul(100_000_000)).negated();
+    let all = units(
+        rt,
+        format!(in rt.alloc(); "-{size}")
+            .expect(rt, "units")
+            .as_str(),
+    );
     booked(rt, &held, method, all, spec(rt, ""))
         .expect(rt, "booked")
         .legs

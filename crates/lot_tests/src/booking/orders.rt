@@ -119,20 +119,35 @@ fn orders_take_lots_in_their_turn(rt: HostRuntime) {
     assert_taken(&rt, &[], "-1", &["NotEnough", "NotEnough", "NotEnough"]);
 }
 
+/// The lots at 100 that units of HOOL may take of two of both signs.
+fn fitting_text(rt: &(impl Abort + AllocGlobal), number: &str) -> String {
+    let held = inventory(rt, BOTH_SIGNS);
+    let lots = fitting(
+        &held,
+        &commodity(rt, "HOOL"),
+        units(rt, number),
+        &spec(rt, "100"),
+    );
+    lots_text(rt, lots.expect(rt, number).as_slice())
+}
+
+const BOTH_SIGNS: &[(&str, &str)] = &[
+    ("2", "100 USD 2020-01-01"),
+    ("-3", "100 USD 1969-12-31"),
+    ("4", "110 USD 2020-01-01"),
+];
+
 #[test]
 fn fitting_lots_are_of_the_other_sign(rt: HostRuntime) {
-    let held = inventory(
+    assert_text(
         &rt,
-        &[("2", "100 USD 2020-01-01"), ("-3", "100 USD 1969-12-31")],
+        fitting_text(&rt, "-9").as_str(),
+        " 2 {100 USD, 2020-01-01}",
     );
-    for (number, want) in &[
-        ("-9", " 2 {100 USD, 2020-01-01}"),
-        ("9", " -3 {100 USD, 1969-12-31}"),
-        ("0", ""),
-    ] {
-        let hool = commodity(&rt, "HOOL");
-        let lots = fitting(&held, &hool, units(&rt, number), &spec(&rt, "100"));
-        let lots = lots.expect(&rt, number);
-        assert_text(&rt, lots_text(&rt, lots.as_slice()).as_str(), want);
-    }
+    assert_text(
+        &rt,
+        fitting_text(&rt, "9").as_str(),
+        " -3 {100 USD, 1969-12-31}",
+    );
+    assert_text(&rt, fitting_text(&rt, "0").as_str(), "");
 }

@@ -1,6 +1,6 @@
 //! STRICT: the one lot that fits, or all that fit, each whole.
 
-use super::{Case, PURCHASES, TWO_PURCHASES, assert_booked, assert_on};
+use super::{Case, Group, PURCHASES, TWO_PURCHASES, assert_booked, assert_groups};
 use crate::make::{add, commodity, key, units};
 use lot_booking::Method::Strict;
 use lot_inv::Inventory;
@@ -149,20 +149,23 @@ const BESIDE_ANOTHER: &[Case<'_>] = &[
     ),
 ];
 
-#[test]
-fn strict_takes_one_lot_or_all_of_several(rt: HostRuntime) {
-    assert_on(&rt, PURCHASES, ONE_LOT);
-    assert_on(&rt, PURCHASES, SEVERAL_LOTS);
-    assert_on(&rt, TWO_PURCHASES, TWO_LOTS);
-    assert_on(&rt, PURCHASES, OPENED);
-    assert_on(&rt, &[("-5", "50 USD 2020-01-02")], BELOW_ZERO);
-    assert_on(&rt, BOTH_SIGNS, OF_THE_OTHER_SIGN);
-    assert_on(&rt, &[("10", "")], ON_PLAIN_UNITS);
-    assert_on(
-        &rt,
+const ALL: &[Group<'_>] = &[
+    (PURCHASES, ONE_LOT),
+    (PURCHASES, SEVERAL_LOTS),
+    (TWO_PURCHASES, TWO_LOTS),
+    (PURCHASES, OPENED),
+    (&[("-5", "50 USD 2020-01-02")], BELOW_ZERO),
+    (BOTH_SIGNS, OF_THE_OTHER_SIGN),
+    (&[("10", "")], ON_PLAIN_UNITS),
+    (
         &[("10", ""), ("10", "100 USD 2020-01-01")],
         BESIDE_PLAIN_UNITS,
-    );
+    ),
+];
+
+#[test]
+fn strict_takes_one_lot_or_all_of_several(rt: HostRuntime) {
+    assert_groups(&rt, ALL);
 }
 
 #[test]
