@@ -9,12 +9,8 @@ use Rattle.lot_ledger.specs.declared.leg.Entry.{Entry}
 use Rattle.lot_ledger.specs.declared.leg.Position.{Position}
 use Rattle.lot_ledger.specs.declared.verdict.Verdict.{Verdict}
 use Rattle.lot_report.specs.declared.holdings.ReportFault.{ReportFault}
-<<<<<<< HEAD
-use Rattle.lot_command.specs.declared.command.Command.{Command}
-=======
 use Rattle.lot_report.specs.declared.line.PrintFault.{PrintFault}
 use Rattle.lot_command.specs.declared.command.Command.{Command}
->>>>>>> 3257359c6b8a621d2b1ecd426354b42da9e6135f
 use Rattle.lot_text.specs.Text.{Reads}
 use Rattle.lot_ledger.specs.Leg.{IsInventory, legs_of}
 use Rattle.lot_ledger.specs.Book.{JudgesAll}
