@@ -1,14 +1,15 @@
 -- From the parts of the way to the answer.
-use Rattle.std.proofs.Common.{inl, inr, ◌≡◌, ℕ, List, [], ◌∷◌, ◌++◌, length, refl, sym, ap, ◌∙◌, subst, append_assoc, append-nil}
+use Rattle.std.proofs.Common.{inl, inr, ◌≡◌, ℕ, List, [], ◌++◌, length, refl, sym, ap, subst, append_assoc, append-nil}
 use Rattle.std.specs.Prelude.{IfSome, None, Some, ◌≤◌, ℤ, Option, Result, Ok, Err, IsErrAnd}
-use Rattle.std.specs.Io.KnownBytes.{Appends}
-use Rattle.std.proofs.KnownBytes.{Appends-nil, Appends-trans}
+use Rattle.std.specs.Io.KnownBytes.{Appends, Keeps}
+use Rattle.std.proofs.KnownBytes.{Appends-kept, Appends-nil, Appends-trans}
 use Rattle.lot_cli.specs.declared.batch.fault.Fault.{Fault}
 use Rattle.lot_cli.specs.declared.batch.status.Status.{Status}
 use Rattle.lot_ledger.specs.declared.leg.Entry.{Entry}
 use Rattle.lot_ledger.specs.declared.leg.Position.{Position}
 use Rattle.lot_ledger.specs.declared.verdict.Verdict.{Verdict}
 use Rattle.lot_report.specs.declared.holdings.ReportFault.{ReportFault}
+use Rattle.lot_report.specs.declared.line.PrintFault.{PrintFault}
 use Rattle.lot_command.specs.declared.command.Command.{Command}
 use Rattle.lot_text.specs.Text.{Reads}
 use Rattle.lot_ledger.specs.Leg.{IsInventory, legs_of}
@@ -19,8 +20,8 @@ use Rattle.lot_report.specs.Report.{WritesReport}
 use Rattle.lot_cli.specs.FaultLine.{fault_line}
 use Rattle.lot_cli.specs.Input.{longest_input}
 use Rattle.lot_cli.specs.Status.{code_of, status_of, fault_of_report}
-use Rattle.lot_cli.specs.Answer.{IsOutcome, IsOutput, IsBegun, IsAnswer, IsJudged, IsWhole, RunsOut, status_of_replies}
-use Rattle.lot_cli.specs.Way.{Runs, IsFlushed, Reaches, Reports, Concludes, StopsForMemory}
+use Rattle.lot_cli.specs.Answer.{IsOutcome, IsOutput, IsBegun, IsJudged, status_of_replies}
+use Rattle.lot_cli.specs.Way.{Runs, Reaches, Reports, Concludes, Ends}
 use Rattle.lot_report.proofs.PrintLemmas.{prefix_behind}
 
 -- ---- A text that was read.
@@ -102,7 +103,7 @@ report_stopped input commands book rows status old mid new fault (Err e) short r
     )
     at ReportFault.Memory (lines, first, written) = (
       replies 1 verdicts ++ lines,
-      inr (inr ((verdicts, rows, lines, whole, first, refl), refl)),
+      inr (inr (verdicts, rows, lines, whole, first, refl, refl)),
       Appends-trans old mid new (replies 1 verdicts) lines replied written,
     )
 
@@ -110,7 +111,7 @@ report_stopped input commands book rows status old mid new fault (Err e) short r
 
 -- all of an output stands there
 written_whole : (input text : List ℕ) (status end : Status) (old new : Option (List ℕ))
-    → IsOutput input text (code_of status) → IsFlushed status end → Appends old new text
+    → IsOutput input text (code_of status) → Ends (Ok status) end → Appends old new text
     → (written : List ℕ) × Appends old new written × IsOutcome input written (code_of end)
 written_whole input text status end old new output (inl is) before =
     (text, before, inl (subst (λ s. IsOutput input text (code_of s)) (sym is) output))
@@ -128,44 +129,51 @@ nothing_behind : (old mid new : Option (List ℕ)) (text : List ℕ) → Appends
 nothing_behind old mid new text before nothing = subst (Appends old new) (append-nil text) (Appends-trans old mid new text [] before nothing)
 
 -- the line of a fault behind what was written of the answer, or a prefix of it
-with_line : (input kept : List ℕ) (fault : Fault) (old mid new : Option (List ℕ)) (end : Status)
-    → IsOutput input (kept ++ fault_line fault) (code_of (status_of fault)) → Appends old mid kept → Reports fault mid new end
+with_line : (input kept : List ℕ) (fault : Fault) (old mid new : Option (List ℕ)) (concluded : Result Status PrintFault) (end : Status)
+    → IsOutput input (kept ++ fault_line fault) (code_of (status_of fault)) → Appends old mid kept
+    → Reports fault mid new concluded → Ends concluded end
     → (written : List ℕ) × Appends old new written × IsOutcome input written (code_of end)
-with_line input kept fault old mid new end output before (inl (line, flushed)) =
-    written_whole input (kept ++ fault_line fault) (status_of fault) end old new output flushed
+with_line input kept fault old mid new (Ok status) end output before (line, is) ends =
+    written_whole input (kept ++ fault_line fault) (status_of fault) end old new output (subst (λ s. Ends (Ok s) end) is ends)
     (Appends-trans old mid new kept (fault_line fault) before line)
-with_line input kept fault old mid new end output before (inr (line, is)) =
+with_line input kept fault old mid new (Err cut) end output before line ends =
     written_in_part input (kept ++ fault_line fault) end old new (inr (inr (code_of (status_of fault), output)))
-    (prefix_behind old mid new kept (fault_line fault) before line) is
+    (prefix_behind old mid new kept (fault_line fault) before line) ends
 
-pub outcome : (input : List ℕ) (old mid new : Option (List ℕ)) (reached : Result Status Fault) (end : Status)
-    → Reaches input old mid reached → Concludes mid new reached end
+pub outcome : (input : List ℕ) (old mid new : Option (List ℕ)) (reached : Result Status Fault) (concluded : Result Status PrintFault) (end : Status)
+    → Reaches input old mid reached → Concludes mid new reached concluded → Ends concluded end
     → (written : List ℕ) × Appends old new written × IsOutcome input written (code_of end)
-outcome input old mid new (Ok status) end (text, whole, before) (nothing, flushed) =
-    written_whole input text status end old new (inl (inr (inr (inl whole)))) flushed (nothing_behind old mid new text before nothing)
-outcome input old mid new (Err Fault.Read) end nothing reported =
-    with_line input [] Fault.Read old mid new end (inr (inl (refl, refl))) nothing reported
-outcome input old mid new (Err Fault.TooLong) end (long, nothing) reported =
-    with_line input [] Fault.TooLong old mid new end (inl (inl (long, refl, refl))) nothing reported
-outcome input old mid new (Err (Fault.Syntax number)) end (short, fault, nothing) reported =
-    with_line input [] (Fault.Syntax number) old mid new end (inl (inr (inl (short, number, fault, refl, refl)))) nothing reported
-outcome input old mid new (Err Fault.Range) end (verdicts, rows, report, judged, broken, before) reported =
-    with_line input (replies 1 verdicts ++ report) Fault.Range old mid new end
+outcome input old mid new (Ok status) (Ok final) end (text, whole, before) (nothing, is) ends =
+    written_whole input text status end old new (inl (inr (inr (inl whole)))) (subst (λ s. Ends (Ok s) end) is ends)
+    (nothing_behind old mid new text before nothing)
+outcome input old mid new (Ok status) (Err cut) end reached none ends = absurd none
+outcome input old mid new (Err Fault.Read) concluded end nothing reported ends =
+    with_line input [] Fault.Read old mid new concluded end (inr (inl (refl, refl))) nothing reported ends
+outcome input old mid new (Err Fault.TooLong) concluded end (long, nothing) reported ends =
+    with_line input [] Fault.TooLong old mid new concluded end (inl (inl (long, refl, refl))) nothing reported ends
+outcome input old mid new (Err (Fault.Syntax number)) concluded end (short, fault, nothing) reported ends =
+    with_line input [] (Fault.Syntax number) old mid new concluded end (inl (inr (inl (short, number, fault, refl, refl)))) nothing reported ends
+outcome input old mid new (Err Fault.Range) concluded end (verdicts, rows, report, judged, broken, before) reported ends =
+    with_line input (replies 1 verdicts ++ report) Fault.Range old mid new concluded end
     (inl (inr (inr (inr (verdicts, rows, report, judged, broken, append_assoc (replies 1 verdicts) report (fault_line Fault.Range), refl)))))
-    before reported
-outcome input old mid new (Err Fault.Write) end (text, begun, (prefix, proper, before)) (nothing, is) =
-    written_in_part input text end old new begun (prefix, proper, nothing_behind old mid new prefix before nothing) is
-outcome input old mid new (Err Fault.Memory) end (kept, stops, before) reported =
-    with_line input kept Fault.Memory old mid new end (inr (inr (kept, fault_line Fault.Memory, stops, refl, refl))) before reported
-outcome input old mid new (Err (Fault.MemoryAt number)) end (kept, stops, before) reported =
-    with_line input kept (Fault.MemoryAt number) old mid new end
-    (inr (inr (kept, fault_line (Fault.MemoryAt number), stops, refl, refl))) before reported
+    before reported ends
+outcome input old mid new (Err Fault.Write) (Ok final) end reached none ends = absurd none
+outcome input old mid new (Err Fault.Write) (Err cut) end (text, begun, (prefix, proper, before)) nothing ends =
+    written_in_part input text end old new begun (prefix, proper, nothing_behind old mid new prefix before nothing) ends
+outcome input old mid new (Err Fault.Memory) concluded end (kept, stops, before) reported ends =
+    with_line input kept Fault.Memory old mid new concluded end
+    (inr (inr (kept, fault_line Fault.Memory, stops, refl, refl))) before reported ends
+outcome input old mid new (Err (Fault.MemoryAt number)) concluded end (kept, stops, before) reported ends =
+    with_line input kept (Fault.MemoryAt number) old mid new concluded end
+    (inr (inr (kept, fault_line (Fault.MemoryAt number), stops, refl, refl))) before reported ends
 
 -- where the bytes of the reader are known
-pub outcome_of_input : (known : Option (List ℕ)) (old mid new : Option (List ℕ)) (reached : Result Status Fault) (end : Status) (code : ℕ)
-    → IfSome known (λ input. Reaches input old mid reached) → Concludes mid new reached end → code ≡ code_of end
-    → IfSome known (λ input. (written : List ℕ) × Appends old new written × IsOutcome input written code)
-outcome_of_input None old mid new reached end code reaches concludes is = tt
-outcome_of_input (Some input) old mid new reached end code reaches concludes is =
-    subst (λ n. (written : List ℕ) × Appends old new written × IsOutcome input written n) (sym is)
-    (outcome input old mid new reached end reaches concludes)
+pub outcome_of_input : (known : Option (List ℕ)) (old mid new last : Option (List ℕ)) (reached : Result Status Fault)
+    (concluded : Result Status PrintFault) (end : Status) (code : ℕ)
+    → IfSome known (λ input. Reaches input old mid reached) → Concludes mid new reached concluded
+    → Keeps new last → Ends concluded end → code ≡ code_of end
+    → IfSome known (λ input. (written : List ℕ) × Appends old last written × IsOutcome input written code)
+outcome_of_input None old mid new last reached concluded end code reaches concludes keeps ends is = tt
+outcome_of_input (Some input) old mid new last reached concluded end code reaches concludes keeps ends is =
+    let (written, before, so) = outcome input old mid new reached concluded end reaches concludes ends in
+    (written, Appends-kept old new last written before keeps, subst (IsOutcome input written) (sym is) so)

@@ -1,9 +1,7 @@
 -- Lines of faults that aren't written whole.
-use Rattle.std.proofs.Common.{inr, ◌≡◌, ℕ, List, [], ◌∷◌, ◌++◌, refl}
+use Rattle.std.proofs.Common.{◌≡◌, ℕ, List, [], ◌∷◌, ◌++◌, refl}
 use Rattle.std.specs.Prelude.{Option, Err, codes, decimal}
-use Rattle.std.specs.Io.KnownBytes.{Appends}
 use Rattle.lot_cli.specs.declared.batch.fault.Fault.{Fault}
-use Rattle.lot_cli.specs.declared.batch.status.Status.{Status}
 use Rattle.lot_report.specs.declared.line.PrintFault.{PrintFault}
 use Rattle.lot_report.specs.Printed.{line}
 use Rattle.lot_report.specs.Written.{AppendsPrefix, IsProperPrefixOf, WritesLine}
@@ -33,13 +31,13 @@ less_than old new fault PrintFault.Write begins part = part
 less_than old new fault PrintFault.Memory begins nothing = ([], begins, nothing)
 
 pub unreported : (old new : Option (List ℕ)) (fault : Fault) (e : PrintFault) → WritesLine old new (Err e) (fault_line fault)
-    → Concludes old new (Err fault) Status.Stopped
+    → Concludes old new (Err fault) (Err e)
 unreported old new Fault.Write PrintFault.Write part = absurd (no_part old new part)
-unreported old new Fault.Write PrintFault.Memory nothing = (nothing, refl)
-unreported old new Fault.Read e part = inr (less_than old new Fault.Read e (_, _, refl) part, refl)
-unreported old new Fault.TooLong e part = inr (less_than old new Fault.TooLong e (_, _, refl) part, refl)
-unreported old new (Fault.Syntax number) e part = inr (less_than old new (Fault.Syntax number) e (_, _, refl) part, refl)
-unreported old new Fault.Range e part = inr (less_than old new Fault.Range e (_, _, refl) part, refl)
-unreported old new Fault.Memory e part = inr (less_than old new Fault.Memory e (_, _, refl) part, refl)
+unreported old new Fault.Write PrintFault.Memory nothing = nothing
+unreported old new Fault.Read e part = less_than old new Fault.Read e (_, _, refl) part
+unreported old new Fault.TooLong e part = less_than old new Fault.TooLong e (_, _, refl) part
+unreported old new (Fault.Syntax number) e part = less_than old new (Fault.Syntax number) e (_, _, refl) part
+unreported old new Fault.Range e part = less_than old new Fault.Range e (_, _, refl) part
+unreported old new Fault.Memory e part = less_than old new Fault.Memory e (_, _, refl) part
 unreported old new (Fault.MemoryAt number) e part =
-    inr (less_than old new (Fault.MemoryAt number) e (line_begins (decimal number ++ codes " fault Memory")) part, refl)
+    less_than old new (Fault.MemoryAt number) e (line_begins (decimal number ++ codes " fault Memory")) part

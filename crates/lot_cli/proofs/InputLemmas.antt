@@ -2,7 +2,7 @@
 use Rattle.std.proofs.Common.{◌≡◌, ℕ, List, ◌++◌, length, take, sym, ap, subst, ◌∙◌, length-append}
 use Rattle.std.proofs.Math.Seq.{take-append_seam}
 use native.Mathlib.Omega.{arith}
-use Rattle.std.specs.Prelude.{◌≤◌, ◌<◌, ◌+◌, Option, Result, Ok, Err, IfErr, IsErrAnd}
+use Rattle.std.specs.Prelude.{◌≤◌, ◌+◌, Option, Result, Ok, Err, IfErr, IsErrAnd}
 use Rattle.std.specs.Io.{ReadsAtMost}
 use Rattle.std.specs.Io.KnownBytes.{Consumes, ReadConsumes}
 use Rattle.std.proofs.KnownBytes.{Consumes-kept, Consumes-trans}

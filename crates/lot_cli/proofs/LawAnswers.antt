@@ -1,5 +1,5 @@
 -- An input has one answer, and what is written of it where memory ends or the writer fails is a prefix of that one.
-use Rattle.std.specs.Prelude.{◌≡◌, ◌⊎◌, ℕ, suc, ◌<◌, ◌≤◌, List, [], ◌∷◌, ◌++◌, length, ℤ}
+use Rattle.std.specs.Prelude.{◌≡◌, ℕ, suc, ◌<◌, ◌≤◌, List, [], ◌∷◌, ◌++◌, length, ℤ}
 use Rattle.std.proofs.Common.{refl, sym, ap, subst, ◌∙◌, inl, inr, append_assoc, not-le_of_lt}
 use Rattle.lot_cli.specs.declared.batch.fault.Fault.{Fault}
 use Rattle.lot_ledger.specs.declared.leg.Entry.{Entry}
@@ -16,7 +16,7 @@ use Rattle.lot_report.specs.Report.{IsReport, IsReportToFault, AreFirstLines}
 use Rattle.lot_cli.specs.Status.{code_of}
 use Rattle.lot_text.specs.Text.{IsFaultAt}
 use Rattle.lot_report.specs.Written.{IsPrefixOf}
-use Rattle.lot_cli.proofs.LawAnswersReports.{one_report, one_report_to_fault, whole_or_to_fault, lines_of_report, lines_of_report_to_fault}
+use Rattle.lot_cli.proofs.LawAnswersReports.{one_report, one_report_to_fault, whole_or_to_fault, lines_of_report, lines_of_report_to_fault, kept_are_first}
 use Rattle.lot_ledger.proofs.LawBooks.{judged_alike}
 use Rattle.lot_ledger.proofs.LawInventory.{one_inventory}
 use Rattle.lot_text.proofs.TextLaws.{reads_one, fault_one, not_both}
@@ -170,4 +170,5 @@ pub kept_begins : (input kept last text : List ℕ) (status : ℕ) → RunsOut i
 kept_begins input kept last text status (inl h) k = (text, ap (λ start. start ++ text) (sym h.0))
 kept_begins input kept last text status (inr (inl h)) k =
     replies_begin input kept text status (replies_before input kept h.0 h.1 h.2 h.3) k
-kept_begins input kept last text status (inr (inr h)) k = lines_begin input kept text status h.0 k
+kept_begins input kept last text status (inr (inr h)) k =
+    lines_begin input kept text status (h.0, h.1, h.2, h.3, kept_are_first h.1 h.2 h.4, h.5) k

@@ -9,7 +9,7 @@ use Rattle.std.proofs.lemmas.List.{append-nil}
 use Rattle.std.proofs.lemmas.Map.Lookups.{exact_bytes}
 use Rattle.lot_ledger.specs.declared.leg.Position.{Position}
 use Rattle.lot_report.specs.Printed.{position_row, total_line, total_lines, totals}
-use Rattle.lot_report.specs.Report.{AreSums, AllFit, AreFirstLines, AreFirstTotals, IsReport, IsReportToFault, costs_of, fits, is_nil, rows_text}
+use Rattle.lot_report.specs.Report.{AreSums, AllFit, AreKeptLines, AreFirstLines, AreFirstTotals, IsReport, IsReportToFault, costs_of, fits, is_nil, rows_text}
 use Rattle.lot_report.specs.Written.{IsPrefixOf}
 use Rattle.lot_base.proofs.MapLemmas.{one_map}
 
@@ -124,3 +124,8 @@ pub lines_of_report_to_fault : (rows : List (Position × ℤ)) (lines text : Lis
 lines_of_report_to_fault rows lines text (inl h) k =
     subst (λ start. IsPrefixOf start text) (sym h.4) (rows_of_report_to_fault h.0 h.1 text h.2 (subst (λ all. IsReportToFault all text) h.3 k))
 lines_of_report_to_fault rows lines text (inr h) k = absurd (fit_or_fault rows text h.0 k)
+
+-- the lines that are kept where memory ends are first lines
+pub kept_are_first : (rows : List (Position × ℤ)) (lines : List ℕ) → AreKeptLines rows lines → AreFirstLines rows lines
+kept_are_first rows lines (inl h) = inl (h.0, h.1 ∷ h.2, h.3, h.5, h.6)
+kept_are_first rows lines (inr h) = inr h

@@ -11,7 +11,7 @@ use Rattle.lot_ledger.specs.Leg.{IsInventory, legs_of}
 use Rattle.lot_ledger.specs.Book.{JudgesAll}
 use Rattle.lot_report.specs.Printed.{replies}
 use Rattle.lot_cli.specs.FaultLine.{fault_line}
-use Rattle.lot_report.specs.Report.{IsReport, IsReportToFault, AreFirstLines}
+use Rattle.lot_report.specs.Report.{IsReport, IsReportToFault, AreFirstLines, AreKeptLines}
 use Rattle.lot_report.specs.Written.{IsProperPrefixOf}
 use Rattle.lot_cli.specs.Input.{longest_input}
 use Rattle.lot_cli.specs.Status.{code_of, status_of_verdict, status_after}
@@ -97,9 +97,11 @@ RunsOutAtCommand input kept last =
     (number : ℕ) × (verdicts : List Verdict) × IsJudgedBefore input number verdicts
     × (kept ≡ replies 1 verdicts) × (last ≡ fault_line (Fault.MemoryAt number))
 
--- in the report: all replies and the first lines of the report, and the line without a number
+-- in the report: all replies and the lines of the report before, and the line without a number
 abbrev pub RunsOutInReport : List ℕ → List ℕ → List ℕ → Type 0
-RunsOutInReport input kept last = AreLines input kept × (last ≡ fault_line Fault.Memory)
+RunsOutInReport input kept last =
+    (verdicts : List Verdict) × (rows : List (Position × ℤ)) × (lines : List ℕ) × IsJudged input verdicts rows
+    × AreKeptLines rows lines × (kept ≡ replies 1 verdicts ++ lines) × (last ≡ fault_line Fault.Memory)
 
 abbrev pub RunsOut : List ℕ → List ℕ → List ℕ → Type 0
 RunsOut input kept last = RunsOutInReading input kept last ⊎ RunsOutAtCommand input kept last ⊎ RunsOutInReport input kept last

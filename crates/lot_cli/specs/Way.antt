@@ -3,6 +3,7 @@ use Rattle.std.specs.Io.KnownBytes.{Appends}
 use Rattle.std.specs.Prelude.{◌≡◌, ◌⊎◌, Option, Result, Ok, Err, ℕ, ◌+◌, ◌<◌, ◌≤◌, List, [], ◌∷◌, ◌++◌, length, ℤ}
 use Rattle.lot_cli.specs.declared.batch.fault.Fault.{Fault}
 use Rattle.lot_cli.specs.declared.batch.status.Status.{Status}
+use Rattle.lot_report.specs.declared.line.PrintFault.{PrintFault}
 use Rattle.lot_ledger.specs.declared.leg.Position.{Position}
 use Rattle.lot_ledger.specs.declared.leg.Entry.{Entry}
 use Rattle.lot_ledger.specs.declared.verdict.Verdict.{Verdict}
@@ -80,23 +81,25 @@ Reaches input old new (Err Fault.Write) = (text : List ℕ) × IsBegun input tex
 Reaches input old new (Err Fault.Memory) = StopsForMemory input Fault.Memory old new
 Reaches input old new (Err (Fault.MemoryAt number)) = StopsForMemory input (Fault.MemoryAt number) old new
 
--- the status with which a run ends that all is written of: its own, or that of a flush that failed
-abbrev pub IsFlushed : Status → Status → Type 0
-IsFlushed status end = (end ≡ status) ⊎ (end ≡ Status.Stopped)
+-- the line of a fault is written, with its status; or the writer fails within it
+abbrev pub Reports : Fault → Option (List ℕ) → Option (List ℕ) → Result Status PrintFault → Type 0
+Reports fault old new (Ok status) = Appends old new (fault_line fault) × (status ≡ status_of fault)
+Reports fault old new (Err cut) = AppendsPrefix old new (fault_line fault)
 
--- the line of a fault is written; or the writer fails within it
-abbrev pub Reports : Fault → Option (List ℕ) → Option (List ℕ) → Status → Type 0
-Reports fault old new end =
-    (Appends old new (fault_line fault) × IsFlushed (status_of fault) end)
-    ⊎ (AppendsPrefix old new (fault_line fault) × (end ≡ Status.Stopped))
+-- what is written behind that, and the status of a run that all is written of: after a fault of the writer nothing is
+abbrev pub Concludes : Option (List ℕ) → Option (List ℕ) → Result Status Fault → Result Status PrintFault → Type 0
+Concludes old new (Ok status) (Ok end) = Appends old new [] × (end ≡ status)
+Concludes old new (Ok status) (Err cut) = ⊥
+Concludes old new (Err Fault.Write) (Ok end) = ⊥
+Concludes old new (Err Fault.Write) (Err cut) = Appends old new []
+Concludes old new (Err Fault.Read) concluded = Reports Fault.Read old new concluded
+Concludes old new (Err Fault.TooLong) concluded = Reports Fault.TooLong old new concluded
+Concludes old new (Err (Fault.Syntax number)) concluded = Reports (Fault.Syntax number) old new concluded
+Concludes old new (Err Fault.Range) concluded = Reports Fault.Range old new concluded
+Concludes old new (Err Fault.Memory) concluded = Reports Fault.Memory old new concluded
+Concludes old new (Err (Fault.MemoryAt number)) concluded = Reports (Fault.MemoryAt number) old new concluded
 
--- what is written behind that, and how the run ends: after a fault of the writer nothing is written
-abbrev pub Concludes : Option (List ℕ) → Option (List ℕ) → Result Status Fault → Status → Type 0
-Concludes old new (Ok status) end = Appends old new [] × IsFlushed status end
-Concludes old new (Err Fault.Write) end = Appends old new [] × (end ≡ Status.Stopped)
-Concludes old new (Err Fault.Read) end = Reports Fault.Read old new end
-Concludes old new (Err Fault.TooLong) end = Reports Fault.TooLong old new end
-Concludes old new (Err (Fault.Syntax number)) end = Reports (Fault.Syntax number) old new end
-Concludes old new (Err Fault.Range) end = Reports Fault.Range old new end
-Concludes old new (Err Fault.Memory) end = Reports Fault.Memory old new end
-Concludes old new (Err (Fault.MemoryAt number)) end = Reports (Fault.MemoryAt number) old new end
+-- how a run ends: with its status where all is written, unless the flush fails; and where it isn't, as stopped
+abbrev pub Ends : Result Status PrintFault → Status → Type 0
+Ends (Ok status) end = (end ≡ status) ⊎ (end ≡ Status.Stopped)
+Ends (Err cut) end = end ≡ Status.Stopped

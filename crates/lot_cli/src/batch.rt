@@ -8,7 +8,7 @@ ghost use Rattle.std.specs.Io.KnownBytes.{Appends, Keeps};
 ghost use Rattle.lot_cli.specs.Status.{IsStatus, after_flush};
 ghost use Rattle.lot_cli.specs.Answer.{IsOutcome};
 ghost use Rattle.lot_cli.specs.Input.{longest_input};
-ghost use Rattle.lot_cli.specs.Way.{Concludes, IsFlushed, Reaches, Replies, Runs};
+ghost use Rattle.lot_cli.specs.Way.{Concludes, Ends, Reaches, Replies, Runs};
 
 mod fault;
 mod status;
@@ -18,7 +18,7 @@ mod tests;
 use crate::input::slurp;
 use fault::{Fault, print_fault};
 use lot_ledger::{Book, Command};
-use lot_report::{print_holdings, print_reply};
+use lot_report::{PrintFault, print_holdings, print_reply};
 use lot_text::read;
 use status::Status;
 use std::alloc::Global;
@@ -43,7 +43,8 @@ pub fn check<R: Read, W: Write>(alloc: Global, reader: &mut R, writer: &mut W) -
         × Appends (W.contents writer.old) (W.contents writer.new) written × IsOutcome input written result) }
 {
     let outcome = answer(alloc, reader, writer);
-    conclude(writer, outcome).code()
+    let concluded = conclude(writer, outcome);
+    finish(writer, concluded).code()
 }
 
 /// Reads, judges and writes, up to the end or the first fault, which isn't reported yet.
@@ -103,26 +104,29 @@ fn reply<W: Write>(
     }
 }
 
-/// Reports a fault, if there was one, and flushes what was written. After a fault of the writer it isn't called.
-fn conclude<W: Write>(writer: &mut W, outcome: Result<Status, Fault>) -> Status
+/// Reports a fault, if there was one: returns the status of a run that all is written of, or the fault of the writer.
+fn conclude<W: Write>(writer: &mut W, outcome: Result<Status, Fault>) -> Result<Status, PrintFault>
     ensures { Concludes (W.contents writer.old) (W.contents writer.new) outcome result }
 {
     match outcome {
-        Ok(status) => flush(writer, status),
-        Err(Fault::Write) => Status::Stopped,
+        Ok(status) => Ok(status),
+        Err(Fault::Write) => Err(PrintFault::Write),
         Err(fault) => match print_fault(writer, fault) {
-            Ok(()) => flush(writer, fault.status()),
-            Err(_) => Status::Stopped,
+            Ok(()) => Ok(fault.status()),
+            Err(cut) => Err(cut),
         },
     }
 }
 
-/// Flushes what was written by a run that ends with that status.
-fn flush<W: Write>(writer: &mut W, status: Status) -> Status
+/// Flushes what was written, where that is all.
+fn finish<W: Write>(writer: &mut W, concluded: Result<Status, PrintFault>) -> Status
     ensures kept { Keeps (W.contents writer.old) (W.contents writer.new) }
-    ensures end { IsFlushed status result }
+    ensures end { Ends concluded result }
 {
-    after_flush(status, writer.flush())
+    match concluded {
+        Ok(status) => after_flush(status, writer.flush()),
+        Err(_) => Status::Stopped,
+    }
 }
 
 /// Returns the status of a run that ends with that one, after the call of `flush`: one that fails stops the run.

@@ -114,19 +114,21 @@ pub takes_lot : (rows : List (Position × ℤ)) (row : Position × ℤ) (lot : L
     → OnOk result (AreSums (costs_of rows ++ (lot.currency, row.1 *ℤ pos lot.number) ∷ []) report.costs.entries)
     → OnOk result (IsWide (sum_in (costs_of rows) lot.currency +ℤ row.1 *ℤ pos lot.number))
     → (IsErrOf result Range → IsWide (sum_in (costs_of rows) lot.currency +ℤ row.1 *ℤ pos lot.number) → ⊥)
+    → (IsErrOf result Memory → IsWide (sum_in (costs_of rows) lot.currency +ℤ row.1 *ℤ pos lot.number))
     → IfErr result (λ fault. fault ≢ Write)
     → report.is_empty ≡ false → TakesCost rows row report result
-takes_lot rows row lot report (Ok done) in_lot taken wide range cause some = (
+takes_lot rows row lot report (Ok done) in_lot taken wide range room cause some = (
   fits_is_wide rows row lot in_lot ∙ wide_is (sum_in (costs_of rows) lot.currency +ℤ row.1 *ℤ pos lot.number) wide,
   (
     some ∙ snoc_is_some rows row,
     subst (λ costs. AreSums costs report.costs.entries) (sym (costs_with_lot rows row lot in_lot)) taken,
   ),
 )
-takes_lot rows row lot report (Err Range) in_lot taken wide range cause some =
+takes_lot rows row lot report (Err Range) in_lot taken wide range room cause some =
     ap not (fits_is_wide rows row lot in_lot) ∙ not_wide_is (sum_in (costs_of rows) lot.currency +ℤ row.1 *ℤ pos lot.number) (range refl)
-takes_lot rows row lot report (Err Write) in_lot taken wide range cause some = cause refl
-takes_lot rows row lot report (Err Memory) in_lot taken wide range cause some = tt
+takes_lot rows row lot report (Err Write) in_lot taken wide range room cause some = cause refl
+takes_lot rows row lot report (Err Memory) in_lot taken wide range room cause some =
+    fits_is_wide rows row lot in_lot ∙ wide_is (sum_in (costs_of rows) lot.currency +ℤ row.1 *ℤ pos lot.number) (room refl)
 
 -- a row that was taken, and isn't written whole
 pub stops_at_row : (rows : List (Position × ℤ)) (row : Position × ℤ) (report : Holdings) (old new : Option (List ℕ))
@@ -135,4 +137,4 @@ pub stops_at_row : (rows : List (Position × ℤ)) (row : Position × ℤ) (repo
     → IsErrAnd result (λ e. e ≡ report_fault fault) → TakesRow rows row report old new result
 stops_at_row rows row report old new fault (Ok done) taken stops fails = absurd fails
 stops_at_row rows row report old new PrintFault.Write (Err e) taken stops fails = rw (fails) (taken, stops)
-stops_at_row rows row report old new PrintFault.Memory (Err e) taken stops fails = rw (fails) stops
+stops_at_row rows row report old new PrintFault.Memory (Err e) taken stops fails = rw (fails) (taken, stops)

@@ -1,5 +1,5 @@
 -- Lines one behind another.
-use Rattle.std.proofs.Common.{◌≡◌, ℕ, List, ◌++◌, take, drop, length, refl, sym, ap, subst, ◌∙◌, append_assoc, append-nil, take-append-drop}
+use Rattle.std.proofs.Common.{◌≡◌, ℕ, List, ◌++◌, take, drop, length, sym, ap, subst, ◌∙◌, append_assoc, append-nil, take-append-drop}
 use Rattle.std.specs.Prelude.{Result, Ok, Err, IsErrAnd, Option, None, Some, IfSome, [], ◌∷◌, ◌-◌, ◌==◌, false}
 use Rattle.std.proofs.lemmas.List.{take_rest}
 use Rattle.std.specs.Fmt.{WritesText}
@@ -9,7 +9,7 @@ use Rattle.std.specs.declared.io.Error.{Error}
 use Rattle.std.specs.Io.KnownBytes.{Appends, WriteAppends}
 use Rattle.std.proofs.KnownBytes.{Appends-nil, Appends-trans, Appends-kept}
 use Rattle.lot_report.specs.declared.line.PrintFault.{PrintFault}
-use Rattle.lot_report.specs.declared.line.PrintFault.TheVariants.{Write, Memory}
+use Rattle.lot_report.specs.declared.line.PrintFault.TheVariants.{Memory}
 use Rattle.lot_report.specs.Written.{AppendsPrefix, IsTaken, WritesLine}
 
 -- how far a text is written, and what is left of it

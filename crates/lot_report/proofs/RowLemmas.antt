@@ -10,7 +10,7 @@ use Rattle.lot_report.specs.declared.holdings.ReportFault.{ReportFault}
 use Rattle.lot_report.specs.declared.holdings.ReportFault.TheVariants.{Range, Write, Memory}
 use Rattle.lot_report.specs.Printed.{position_row, totals}
 use Rattle.lot_report.specs.Written.{AppendsPrefix}
-use Rattle.lot_report.specs.Report.{AllFit, HasTaken, TakesRow, WritesReport, WritesTotals, IsReport, AreFirstLines, AreFirstTotals, fits, rows_text, report_fault}
+use Rattle.lot_report.specs.Report.{AllFit, HasTaken, TakesRow, WritesReport, WritesTotals, IsReport, AreKeptLines, AreFirstTotals, fits, rows_text, report_fault}
 use Rattle.std.proofs.lemmas.Grind.{flat_map-append}
 use Rattle.lot_report.proofs.PrintLemmas.{prefix_behind}
 
@@ -73,10 +73,11 @@ row_stops rows left rest row report next old mid new Write so_far is takes =
           (prefix_behind old mid new (rows_text before) (position_row row.0 row.1) written part),
     )
 row_stops rows left rest row report next old mid new Memory so_far is takes =
-    let (before, split, fit, written, taken) = so_far in (
+    let (before, split, fit, written, taken) = so_far in
+    let (fits_now, nothing) = takes before taken in (
       rows_text before,
-      inl (before, left, fit, split, refl),
-      nothing_more old mid new (rows_text before) written (takes before taken),
+      inl (before, row, rest, fit, fits_now, split ∙ ap (λ xs. before ++ xs) is, refl),
+      nothing_more old mid new (rows_text before) written nothing,
     )
 
 -- ---- The end of the report.
@@ -115,7 +116,7 @@ report_stops rows left report old mid new PrintFault.Memory (Err e) so_far is (p
     let all : rows ≡ before = split ∙ ap (λ xs. before ++ xs) is ∙ append-nil before in
     rw (fails) (
       rows_text before ++ part,
-      subst (λ xs. AreFirstLines xs (rows_text before ++ part)) (sym all)
+      subst (λ xs. AreKeptLines xs (rows_text before ++ part)) (sym all)
           (inr (fit, report.costs.entries, taken.1, part, subst (λ empty. AreFirstTotals empty report.costs.entries part) taken.0 first, refl)),
       Appends-trans old mid new (rows_text before) part written now,
     )

@@ -63,27 +63,27 @@ is_nil (row ∷ rows) = false
 abbrev pub HasTaken : List (Position × ℤ) → Holdings → Type 0
 HasTaken rows report = (report.is_empty ≡ is_nil rows) × AreTotals rows report.costs.entries
 
--- what becomes of a report that takes one more row: it fits, or it doesn't, or there is no memory for its cost
+-- what becomes of a report that takes one more row: it fits, or it doesn't, or it fits and there is no memory for its cost
 abbrev pub TakesCost : List (Position × ℤ) → Position × ℤ → Holdings → Result (Unit {0}) ReportFault → Type 0
 TakesCost rows row report (Ok done) = IsTrue (fits rows row) × HasTaken (rows ++ row ∷ []) report
 TakesCost rows row report (Err Range) = IsTrue (not (fits rows row))
 TakesCost rows row report (Err Write) = ⊥
-TakesCost rows row report (Err Memory) = ⊤
+TakesCost rows row report (Err Memory) = IsTrue (fits rows row)
 
 -- what a fault of a line is for the report
 abbrev pub report_fault : PrintFault → ReportFault
 report_fault PrintFault.Write = Write
 report_fault PrintFault.Memory = Memory
 
--- the same, and what is written of the row: all of it; nothing where it doesn't fit, or out of memory; and where the
--- writer fails, a prefix of a row that fits, but not all of it
+-- the same, and what is written of the row: all of it; nothing where it doesn't fit; of a row that fits, nothing out of
+-- memory, and where the writer fails, a prefix but not all of it
 abbrev pub TakesRow : List (Position × ℤ) → Position × ℤ → Holdings → Option (List ℕ) → Option (List ℕ)
     → Result (Unit {0}) ReportFault → Type 0
 TakesRow rows row report old new (Ok done) =
     IsTrue (fits rows row) × HasTaken (rows ++ row ∷ []) report × Appends old new (position_row row.0 row.1)
 TakesRow rows row report old new (Err Range) = IsTrue (not (fits rows row)) × Appends old new []
 TakesRow rows row report old new (Err Write) = IsTrue (fits rows row) × AppendsPrefix old new (position_row row.0 row.1)
-TakesRow rows row report old new (Err Memory) = Appends old new []
+TakesRow rows row report old new (Err Memory) = IsTrue (fits rows row) × Appends old new []
 
 -- ---- Texts.
 
@@ -122,6 +122,16 @@ AreRowsAndFirstTotals rows text =
 abbrev pub AreFirstLines : List (Position × ℤ) → List ℕ → Type 0
 AreFirstLines rows text = AreFirstRows rows text ⊎ AreRowsAndFirstTotals rows text
 
+-- the rows before one that fits
+abbrev pub AreRowsBefore : List (Position × ℤ) → List ℕ → Type 0
+AreRowsBefore rows text =
+    (before : List (Position × ℤ)) × (row : Position × ℤ) × (after : List (Position × ℤ))
+    × AllFit [] before × IsTrue (fits before row) × (rows ≡ before ++ row ∷ after) × (text ≡ rows_text before)
+
+-- what is kept of the report where memory ends: the rows before the one that it ended at, or all and the first totals
+abbrev pub AreKeptLines : List (Position × ℤ) → List ℕ → Type 0
+AreKeptLines rows text = AreRowsBefore rows text ⊎ AreRowsAndFirstTotals rows text
+
 -- the first rows, or the whole report: what the writer failed to take all of
 abbrev pub AreRowsOrReport : List (Position × ℤ) → List ℕ → Type 0
 AreRowsOrReport rows text = AreFirstRows rows text ⊎ IsReport rows text
@@ -138,4 +148,4 @@ abbrev pub WritesReport : List (Position × ℤ) → Option (List ℕ) → Optio
 WritesReport rows old new (Ok done) = (text : List ℕ) × IsReport rows text × Appends old new text
 WritesReport rows old new (Err Range) = (text : List ℕ) × IsReportToFault rows text × Appends old new text
 WritesReport rows old new (Err Write) = (text : List ℕ) × AreRowsOrReport rows text × AppendsPrefix old new text
-WritesReport rows old new (Err Memory) = (text : List ℕ) × AreFirstLines rows text × Appends old new text
+WritesReport rows old new (Err Memory) = (text : List ℕ) × AreKeptLines rows text × Appends old new text

@@ -163,6 +163,8 @@ impl Holdings {
             → OnOk result (IsWide (sum_in costs lot.now.currency +ℤ units *ℤ pos lot.now.number)) }
         ensures range { (costs : List (List ℕ × ℤ)) → AreSums costs self.old.costs.entries
             → IsErrOf result ReportFault.Range → IsWide (sum_in costs lot.now.currency +ℤ units *ℤ pos lot.now.number) → ⊥ }
+        ensures memory { (costs : List (List ℕ × ℤ)) → AreSums costs self.old.costs.entries
+            → IsErrOf result ReportFault.Memory → IsWide (sum_in costs lot.now.currency +ℤ units *ℤ pos lot.now.number) }
         ensures cause { IfErr result (λ fault. fault ≢ ReportFault.Write) }
         ensures rest { self.new.is_empty ≡ self.old.is_empty }
     {

@@ -2,7 +2,6 @@
 //! the repository's `tests`.
 
 use super::fault::Fault;
-use super::status::Status;
 use super::{check, conclude};
 use crate::fakes::{Flush, Script, ScriptedReader, ScriptedWriter, Trouble, When};
 use std::alloc::{AllocError, Global};
@@ -135,11 +134,11 @@ fn a_flush_that_fails_ends_with_4(rt: HostRuntime) {
 }
 
 /// What is printed for a fault, and how it is called.
-fn reported(alloc: Global, fault: Fault) -> Result<(Vec<u8>, Status, String), AllocError> {
+fn reported(alloc: Global, fault: Fault) -> Result<(Vec<u8>, String), AllocError> {
     let mut written = Vec::new(alloc);
-    let status = conclude(&mut written, Err(fault));
-    let text = format!(in alloc; "{fault:?}: {fault}: {status:?}")?;
-    Ok((written, status, text))
+    let concluded = conclude(&mut written, Err(fault));
+    let text = format!(in alloc; "{fault:?}: {fault}: {concluded:?}")?;
+    Ok((written, text))
 }
 
 #[test]
@@ -148,51 +147,51 @@ fn lines_and_texts_of_faults(rt: HostRuntime) -> Result<(), Fail> {
         (
             Fault::Read,
             "fault K1 Read\n",
-            "Read: the input can't be read: BadInput",
+            "Read: the input can't be read: Ok(BadInput)",
             3,
         ),
         (
             Fault::TooLong,
             "fault K2 TooLong\n",
-            "TooLong: the input is longer than 16 MiB: BadInput",
+            "TooLong: the input is longer than 16 MiB: Ok(BadInput)",
             3,
         ),
         (
             Fault::Syntax { line: 1_000 },
             "fault line 1000 X2 Syntax\n",
-            "Syntax { line: 1000 }: line 1000 is not understood: BadInput",
+            "Syntax { line: 1000 }: line 1000 is not understood: Ok(BadInput)",
             3,
         ),
         (
             Fault::Range,
             "fault P1 Range\n",
-            "Range: a total is too large: Stopped",
+            "Range: a total is too large: Ok(Stopped)",
             4,
         ),
         (
             Fault::Write,
             "",
-            "Write: the output can't be written: Stopped",
+            "Write: the output can't be written: Err(Write)",
             4,
         ),
         (
             Fault::Memory,
             "fault Memory\n",
-            "Memory: out of memory: Stopped",
+            "Memory: out of memory: Ok(Stopped)",
             4,
         ),
         (
             Fault::MemoryAt { number: 27 },
             "27 fault Memory\n",
-            "MemoryAt { number: 27 }: out of memory at command 27: Stopped",
+            "MemoryAt { number: 27 }: out of memory at command 27: Ok(Stopped)",
             4,
         ),
     ];
     for (fault, line, text, code) in cases {
-        let (written, status, called) = reported(rt.alloc(), fault)?;
+        let (written, called) = reported(rt.alloc(), fault)?;
         assert_eq!(rt; written.as_slice(), line.as_bytes());
         assert_eq!(rt; called.as_str(), text);
-        assert_eq!(rt; status.code(), code);
+        assert_eq!(rt; fault.status().code(), code);
     }
     Ok(())
 }
