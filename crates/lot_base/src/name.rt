@@ -56,6 +56,7 @@ impl<G: Grammar> Name<G> {
         ensures good { IsOk result → IsTrue (G.is_name text.now) }
         ensures bad { IsErrOf result G.bad ↔ (G.is_name text.now ≡ false) }
         ensures fault { IfErr result (λ e. (e ≡ G.bad) ⊎ (e ≡ NameFault.Memory)) }
+        ensures memory { IsErrOf result NameFault.Memory → IsTrue (G.is_name text.now) }
     {
         if !G::accepts(text) {
             return Err(G::fault());
@@ -64,6 +65,13 @@ impl<G: Grammar> Name<G> {
             text: String::from_str(alloc, text)?,
             grammar: PhantomData,
         })
+    }
+
+    /// Returns whether there is a name with that text, that is whether the text is of the grammar.
+    pub fn is_name(text: &str) -> bool
+        ensures { result ≡ G.is_name text.now }
+    {
+        G::accepts(text)
     }
 
     /// Returns the text of the name, which is of the grammar.

@@ -62,7 +62,7 @@ fault_of_input SlurpFault.Memory = Memory
 
 abbrev pub fault_of_text : TextFault → Fault
 fault_of_text (TextFault.Syntax number) = Syntax number
-fault_of_text TextFault.Memory = Memory
+fault_of_text (TextFault.Memory number) = Memory
 
 abbrev pub fault_of_report : ReportFault → Fault
 fault_of_report ReportFault.Range = Range

@@ -1,3 +1,4 @@
+pub mod FaultLemmas
 pub mod TextCuts
 pub mod TextForms
 pub mod TextLemmas

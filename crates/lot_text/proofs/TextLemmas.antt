@@ -1,9 +1,9 @@
 -- What lines say together, as they are read one after another, and the lines of a text.
 use Rattle.std.proofs.Common.{◌≡◌, ◌≢◌, inl, inr, ℕ, ◌+◌, ◌<◌, ◌≤◌, Bool, true, false, cond, List, [], ◌∷◌, ◌++◌, length, Option, Some, None, refl, ap, ◌∙◌, sym, subst, arith, eqb, append_assoc, ◌-◌, take, drop, get_or}
-use Rattle.std.specs.Prelude.{nat_lt}
+use Rattle.std.specs.Prelude.{nat_lt, IsSome}
 use Rattle.std.specs.List.{AllZip, onto_first, position, position_or_len}
 use Rattle.std.proofs.lemmas.Bool.{and_from, not_from_false, eqb-true}
-use Rattle.std.proofs.lemmas.List.{append-nil, take-append-drop, drop_more, take_all, get_or-take, length-take, length-drop}
+use Rattle.std.proofs.lemmas.List.{append-nil, take-append-drop, drop_more, take_all, get_or-take, length-take, length-drop, length_push}
 use Rattle.std.proofs.lemmas.List.Elements.{All-from_get_or}
 use Rattle.std.proofs.lemmas.List.Sums.{list_all-from_AllPass, fails_before_first, passes_at_first}
 use Rattle.std.proofs.lemmas.Bool.Decides.{nat_tests}
@@ -14,7 +14,7 @@ use Rattle.lot_command.specs.declared.command.Command.{Command}
 use Rattle.lot_command.specs.declared.command.Command.TheVariants.{Opening, Transaction}
 use Rattle.lot_text.specs.declared.line.Line.{Line}
 use Rattle.lot_text.specs.declared.line.Line.TheVariants.{Opening as SaysOpening, Transaction as SaysHead, Posting as SaysPosting}
-use Rattle.lot_text.specs.Text.{IsPosting, Says, IsLine, IsTextOf, Reads, IsFaultAt, IsFaultOf, is_within_line}
+use Rattle.lot_text.specs.Text.{IsPosting, Says, IsLine, IsTextOf, Reads, IsFaultAt, IsFaultOf, RunsOutAt, is_within_line}
 use Rattle.lot_text.specs.declared.line.LineFault.{LineFault}
 use Rattle.lot_text.specs.declared.line.LineFault.TheVariants.{Syntax, Memory}
 use Rattle.lot_text.specs.declared.reader.TextFault.{TextFault}
@@ -271,6 +271,37 @@ fault-at lines text rest line behind number commands pending prefix takes place 
   },
 )
 
+-- memory ends at a line that fits behind those before it
+pub runs_out-at : (lines : List (List ℕ)) (text rest line behind : List ℕ) (number : ℕ) (commands : List Command) (pending : Option TransactionOf)
+    → IsPrefix lines text rest → TakesLine rest line behind → number ≡ length lines + 1
+    → take_lines [] None lines ≡ Some (commands, pending) → IsSome (take_line commands pending line)
+    → RunsOutAt text number
+runs_out-at lines text rest line behind number commands pending prefix takes place read some = by (take_line commands pending line) refl some
+  where
+    by : (o : Option (List Command × Option TransactionOf)) → take_line commands pending line ≡ o → IsSome o → RunsOutAt text number
+    by None e some = absurd cc
+    by (Some after) e some = record {
+      before = lines ++ line ∷ [];
+      after = lines_of behind;
+      whole = subst (λ (zs : List (List ℕ)). IsTextOf zs text) (sym (append_assoc lines (line ∷ []) (lines_of behind)))
+          (prefix (line ∷ lines_of behind) (text-cons rest line behind (lines_of behind) takes (text-lines behind)));
+      place = place ∙ sym (length_push lines line);
+      commands = closed after.0 after.1;
+      says = read_says (lines ++ line ∷ []) after.0 after.1 (take-push lines line commands pending (Some after) read e);
+    }
+
+-- memory ends once all lines are read
+pub runs_out-whole : (lines : List (List ℕ)) (text : List ℕ) (number : ℕ) (commands : List Command) (pending : Option TransactionOf)
+    → IsPrefix lines text [] → number ≡ length lines → take_lines [] None lines ≡ Some (commands, pending) → RunsOutAt text number
+runs_out-whole lines text number commands pending prefix place read = record {
+  before = lines;
+  after = [];
+  whole = prefix [] refl;
+  place = place;
+  commands = closed commands pending;
+  says = read_says lines commands pending read;
+}
+
 pub reads-at : (lines : List (List ℕ)) (text : List ℕ) (commands : List Command) (pending : Option TransactionOf)
     → IsPrefix lines text [] → take_lines [] None lines ≡ Some (commands, pending) → Reads text (closed commands pending)
 reads-at lines text commands pending prefix read = (lines, prefix-whole lines text prefix, read_says lines commands pending read)
@@ -310,6 +341,6 @@ line-last text e some =
 -- ---- What the reader returns.
 
 pub fault-of : (text : List ℕ) (result : TextFault) (fault : LineFault) (number : ℕ) → (fault ≡ Syntax → IsFaultAt text number)
-    → result ≡ of_line fault number → IsFaultOf text result
-fault-of text result Syntax number h e = rw e (h refl)
-fault-of text result Memory number h e = rw e tt
+    → (fault ≡ Memory → RunsOutAt text number) → result ≡ of_line fault number → IsFaultOf text result
+fault-of text result Syntax number faulty stops e = rw e (faulty refl)
+fault-of text result Memory number faulty stops e = rw e (stops refl)

@@ -1,7 +1,7 @@
 -- Ledger text as it is read, from its beginning on: what each part of a line comes to, and what a line does to the
 -- commands so far. That this is what the forms of a line say is proved, both ways, in proofs/TextForms.antt and
 -- proofs/TextLemmas.antt.
-use Rattle.std.specs.Prelude.{◌≡◌, ◌≢◌, ◌⊎◌, ℕ, ◌==◌, ◌&&◌, Bool, if◌then◌else◌, List, [], ◌∷◌, ◌++◌, codes, Option, Some, None, option_and_then, option_map, Result, Ok, Err, ℤ, pos, int_lt, ⊤}
+use Rattle.std.specs.Prelude.{◌≡◌, ◌≢◌, ◌⊎◌, ℕ, ◌==◌, ◌&&◌, Bool, if◌then◌else◌, List, [], ◌∷◌, ◌++◌, codes, Option, Some, None, IsSome, option_and_then, option_map, Result, Ok, Err, ℤ, pos, int_lt, ⊤}
 use Rattle.std.specs.List.{list_all}
 use Rattle.std.specs.Cmp.Lexicographic.{pointwise}
 use Rattle.std.specs.Result.{result_ok}
@@ -30,12 +30,13 @@ infixl 10 ◌>>=◌
 abbrev pub ◌>>=◌ : {A B : Type 0} → Option A → (A → Option B) → Option B
 o >>= f = option_and_then f o
 
--- ---- What a parser may return: what the text says, `Syntax` where it says nothing, and out of memory.
+-- ---- What a parser may return: what the text says, and `Syntax` where it says nothing; out of memory only where it says
+-- something.
 
 abbrev pub Gives : {X : Type 0} → Option X → Result X LineFault → Type 0
 Gives said (Ok x) = said ≡ Some x
 Gives said (Err Syntax) = said ≡ None
-Gives said (Err Memory) = ⊤
+Gives said (Err Memory) = IsSome said
 
 -- what the fault of a name is for its line
 abbrev pub of_name : NameFault → LineFault
@@ -190,4 +191,4 @@ GivesLine text (Some line) rest = TakesLine text line.now rest
 -- what the fault of a line is for the text
 abbrev pub of_line : LineFault → ℕ → TextFault
 of_line Syntax number = SyntaxAt number
-of_line Memory number = NoRoom
+of_line Memory number = NoRoom number

@@ -105,7 +105,16 @@ Reads text commands = (lines : List (List ℕ)) × IsTextOf lines text × Says l
 abbrev pub IsFaultAt : List ℕ → ℕ → Type 0
 IsFaultAt text number = (lines : List (List ℕ)) × IsTextOf lines text × IsFirstFault lines number
 
--- the fault of a text is at its first faulty line; out of memory may always be reported
+-- memory ends at the line of that number: the lines up to it and with it say commands
+pub record RunsOutAt (text : List ℕ) (number : ℕ) : Type 0 where
+  pub before : List (List ℕ)
+  pub after : List (List ℕ)
+  pub whole : IsTextOf (before ++ after) text
+  pub place : number ≡ length before
+  pub commands : List Command
+  pub says : Says before commands
+
+-- the fault of a text is at its first faulty line, or memory ends at a line before that
 abbrev pub IsFaultOf : List ℕ → TextFault → Type 0
 IsFaultOf text (Syntax number) = IsFaultAt text number
-IsFaultOf text Memory = ⊤
+IsFaultOf text (Memory number) = RunsOutAt text number

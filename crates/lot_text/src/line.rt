@@ -172,6 +172,9 @@ fn parse_posting(alloc: Global, text: &str) -> Result<Posting, LineFault>
 {
     match cut(text) {
         Some((account, amount)) => {
+            if !Account::is_name(account) {
+                return Err(LineFault::Syntax);
+            }
             let amount = parse_amount(alloc, amount)?;
             let account = Account::new(alloc, account)?;
             Ok(Posting {
@@ -207,7 +210,7 @@ fn parse_held(alloc: Global, units: Units, text: &str) -> Result<Amount, LineFau
 {
     match cut(text) {
         Some((commodity, cost)) => {
-            if units.mantissa() <= 0 {
+            if units.mantissa() <= 0 || !Commodity::is_name(commodity) {
                 return Err(LineFault::Syntax);
             }
             let cost = parse_cost(alloc, cost)?;

@@ -1,8 +1,9 @@
-ghost use Rattle.std.specs.Prelude.{◌≡◌, Some, None, [], ◌∷◌, ◌++◌, length, IfOk, IfErr, OnOk, OnErr};
+ghost use Rattle.std.specs.Prelude.{◌≡◌, Some, None, [], ◌∷◌, ◌++◌, length, IsSome, IfOk, IfErr, OnOk, OnErr};
 ghost use Rattle.std.specs.Iterator.{at_most};
+ghost use Rattle.std.specs.Option.{is_some};
 ghost use Rattle.lot_text.specs.Text.{Reads, IsFaultOf};
-ghost use Rattle.lot_text.specs.Reading.{closed, put, take_line, GivesLine, of_line};
-ghost use Rattle.lot_text.specs.declared.line.LineFault.TheVariants.{Syntax};
+ghost use Rattle.lot_text.specs.Reading.{closed, indented, put, take_line, GivesLine, of_line};
+ghost use Rattle.lot_text.specs.declared.line.LineFault.TheVariants.{Memory, Syntax};
 
 use crate::line::{Line, LineFault, parse};
 use lot_command::{Command, Opening, Posting, Transaction};
@@ -15,9 +16,10 @@ pub enum TextFault {
     /// The first line, counted from 1, that fits no form or is a posting without a transaction.
     #[error("line {line} is not understood")]
     Syntax { line: u64 },
-    /// Out of memory.
-    #[error("out of memory")]
-    Memory,
+    /// Out of memory at that line, counted from 1: up to it and with it the lines say commands. It is 0 only for a text
+    /// without lines.
+    #[error("out of memory at line {line}")]
+    Memory { line: u64 },
 }
 
 impl TextFault {
@@ -27,19 +29,8 @@ impl TextFault {
     {
         match fault {
             LineFault::Syntax => TextFault::Syntax { line },
-            LineFault::Memory => TextFault::Memory,
+            LineFault::Memory => TextFault::Memory { line },
         }
-    }
-}
-
-impl From<AllocError> for TextFault {
-    ghost use Rattle.std.specs.Prelude.{◌≡◌};
-    ghost use Rattle.lot_text.specs.declared.reader.TextFault.TheVariants.{Memory};
-
-    ghost from_gives = { λ _ e. e ≡ Memory };
-
-    fn from(_error: AllocError) -> TextFault {
-        TextFault::Memory
     }
 }
 
@@ -57,7 +48,17 @@ pub fn read(alloc: Global, text: &[u8]) -> Result<Vec<Command>, TextFault>
             return Err(TextFault::of_line(fault, number));
         }
     }
-    Ok(reading.finish()?)
+    match reading.finish() {
+        Ok(commands) => Ok(commands),
+        Err(_) => Err(TextFault::Memory { line: number }),
+    }
+}
+
+/// Returns whether a line begins with two spaces, as a posting does.
+fn is_indented(line: &[u8]) -> bool
+    ensures { result ≡ is_some (indented line.now) }
+{
+    matches!(line, [b' ', b' ', ..])
 }
 
 /// The lines of a text, without their line ends. The last one may have none.
@@ -117,7 +118,12 @@ impl Reading {
             ≡ Some (self.new.commands.items, self.new.pending)) }
         ensures fault { IfErr result (λ fault. fault ≡ Syntax
             → take_line self.old.commands.items self.old.pending line.now ≡ None) }
+        ensures memory { IfErr result (λ fault. fault ≡ Memory
+            → IsSome (take_line self.old.commands.items self.old.pending line.now)) }
     {
+        if self.pending.is_none() && is_indented(line) {
+            return Err(LineFault::Syntax);
+        }
         match parse(alloc, line)? {
             Line::Posting(posting) => self.post(posting),
             Line::Transaction(transaction) => Ok(self.begin(transaction)?),
@@ -131,6 +137,8 @@ impl Reading {
             ≡ Some (self.new.commands.items, self.new.pending)) }
         ensures fault { IfErr result (λ fault. fault ≡ Syntax
             → put self.old.commands.items self.old.pending (Line.Posting posting) ≡ None) }
+        ensures memory { IfErr result (λ fault. fault ≡ Memory
+            → IsSome (put self.old.commands.items self.old.pending (Line.Posting posting))) }
     {
         let transaction = self.pending.as_mut().ok_or(LineFault::Syntax)?;
         transaction.postings.push(posting)?;

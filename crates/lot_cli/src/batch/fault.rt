@@ -60,7 +60,7 @@ impl From<TextFault> for Fault {
     fn from(fault: TextFault) -> Fault {
         match fault {
             TextFault::Syntax { line } => Fault::Syntax { line },
-            TextFault::Memory => Fault::Memory,
+            TextFault::Memory { .. } => Fault::Memory,
         }
     }
 }

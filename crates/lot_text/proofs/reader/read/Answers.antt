@@ -3,7 +3,7 @@ use Rattle.std.proofs.Common.{rules, List, ℕ, [], ◌∷◌, ◌++◌, ◌+◌
 use Rattle.std.proofs.lemmas.List.{length_push}
 use Rattle.lot_text.specs.Text.{Reads}
 use Rattle.lot_command.specs.declared.command.Command.{Command}
-use Rattle.lot_text.proofs.TextLemmas.{IsPrefix, prefix-push, take-push, fault-at, fault-of, reads-at}
+use Rattle.lot_text.proofs.TextLemmas.{IsPrefix, prefix-push, take-push, fault-at, fault-of, reads-at, runs_out-at, runs_out-whole}
 use Rattle.lot_text.proofs.reader.read.Goals as goal
 
 pub returns-in-Err-clause-fault : goal.returns-in-Err-clause-fault
@@ -12,6 +12,8 @@ returns-in-Err-clause-fault c =
     fault-of c.args.text.now c.of_line.result c.in-Err.fault (c.loop-line.number + 1)
     (λ syntax. fault-at lines c.args.text.now c.loop-line.line-iterator.rest.now c.in-Some.line.now c.next.new.self.rest.now (c.loop-line.number + 1)
     c.loop-line.reading.commands.items c.loop-line.reading.pending prefix c.in-Some.ensures.steps (ap (λ n. n + 1) count) read (c.in-Err.ensures.fault syntax))
+    (λ memory. runs_out-at lines c.args.text.now c.loop-line.line-iterator.rest.now c.in-Some.line.now c.next.new.self.rest.now (c.loop-line.number + 1)
+    c.loop-line.reading.commands.items c.loop-line.reading.pending prefix c.in-Some.ensures.steps (ap (λ n. n + 1) count) read (c.in-Err.ensures.memory memory))
     c.of_line.ensures
 
 pub loop-line-preserved : goal.loop-line-preserved
@@ -28,9 +30,15 @@ loop-line-preserved c =
       );
     }
 
-pub returns-clause-commands : goal.returns-clause-commands
-returns-clause-commands c =
+pub returns-in-Ok-clause-commands : goal.returns-in-Ok-clause-commands
+returns-in-Ok-clause-commands c =
     let (lines, count, prefix, read) = c.loop-line.invariant.lines in
     let whole = subst (λ (rest : List ℕ). IsPrefix lines c.args.text.now rest) c.in-None.ensures.steps.0 prefix in
-    subst (λ (commands : List Command). Reads c.args.text.now commands) (sym c.in_ok-finish.ensures)
+    subst (λ (commands : List Command). Reads c.args.text.now commands) (sym c.in-Ok.ensures)
     (reads-at lines c.args.text.now c.loop-line.reading.commands.items c.loop-line.reading.pending whole read)
+
+pub returns-in-Err-finish-clause-fault : goal.returns-in-Err-finish-clause-fault
+returns-in-Err-finish-clause-fault c =
+    let (lines, count, prefix, read) = c.loop-line.invariant.lines in
+    let whole = subst (λ (rest : List ℕ). IsPrefix lines c.args.text.now rest) c.in-None.ensures.steps.0 prefix in
+    runs_out-whole lines c.args.text.now c.loop-line.number c.loop-line.reading.commands.items c.loop-line.reading.pending whole count read
