@@ -34,11 +34,11 @@ pub struct Booked {
 /// the given day or else on that of the transaction. Under NONE it never takes lots away.
 ///
 /// The error is the first of these that holds: `ZeroUnits`; `InexactCost` where a whole cost by the units isn't exactly a
-/// rate; `IncompleteCost` where the posting takes no lots away and gives
-/// no number or no currency; `NoMatch` where no lot of the other sign fits; `Ambiguous` under STRICT where several fit and
-/// they don't hold exactly its units; `NotEnough` where they hold less. It is `Memory` where there is no memory for the
-/// legs or for the lots that fit, which is never where the error is `ZeroUnits`, `InexactCost` or `IncompleteCost`, or no
-/// lot of either sign fits what is given beside the total of a whole cost.
+/// rate; `IncompleteCost` where the posting takes no lots away and gives no number or no currency; `NoMatch` where no lot of
+/// the other sign fits; `Ambiguous` under STRICT where several fit and they don't hold exactly its units; `NotEnough` where
+/// they hold less. It is `Memory` where there is no memory for the legs or for the lots that fit. That is never where the
+/// error is `ZeroUnits`, `InexactCost` or `IncompleteCost`, nor where the posting takes lots away and no lot of either sign
+/// fits what is given beside the total of a whole cost.
 pub fn book(
     alloc: Global,
     method: Method,

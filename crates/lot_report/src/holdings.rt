@@ -114,7 +114,7 @@ impl Holdings {
 
     /// Writes the row of one position.
     ///
-    /// Returns `Range` where it takes a total out of the range of weights: nothing of the row is written, nor is it
+    /// Returns `Range` where it takes a total out of the range of weights. Nothing of the row is written then, nor when
     /// out of memory.
     fn row<W: Write>(
         &mut self,
