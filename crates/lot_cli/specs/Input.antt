@@ -16,7 +16,7 @@ longest_input = 16777216
 abbrev pub chunk_size : ℕ
 chunk_size = 65536
 
--- What one call of `read` comes to, which gave its bytes at the front of the chunk: the bytes so far, those after it,
+-- What one call of `read` comes to, which gave its bytes at the start of the chunk: the bytes so far, those after it,
 -- and whether the reader is at its end.
 -- A call that gave nothing ends the input. One that was interrupted is tried again, and one that failed otherwise is a
 -- fault of the reader. The bytes that it gave are kept, where there is memory for them; they are too many if that is

@@ -56,7 +56,7 @@ pub fn slurp<R: Read>(alloc: Global, reader: &mut R) -> Result<Vec<u8>, SlurpFau
     ensures end { OnOk result (IsAtEnd (R.remaining reader.new)) }
     ensures limit { IfOk result (λ bytes. vec_len bytes ≤ longest_input) }
 
-    // An input of at most the limit is never too long. Before a fault the reader has lost bytes at its front alone,
+    // An input of at most the limit is never too long. Before a fault the reader has lost bytes at its start alone,
     // more than the limit where they are too many, and at most the limit where not.
     ensures too_long { IsErrOf result SlurpFault.TooLong
         → IfSome (R.remaining reader.old) (λ known. longest_input < length known) }
@@ -88,7 +88,7 @@ enum Progress {
     Goes,
 }
 
-/// Puts the bytes that a call of `read` gave, at the front of the chunk, behind those that were read.
+/// Puts the bytes that a call of `read` gave, at the start of the chunk, behind those that were read.
 ///
 /// A call that gave none ends the input, one that was interrupted changes nothing. Returns `TooLong` past the limit,
 /// `Memory` where there is no memory for the bytes, and `Read` where the call failed otherwise.

@@ -31,14 +31,14 @@ impl From<AllocError> for PrintFault {
 }
 
 /// The most bytes that a line may have, its line end included. The longest line there is, a lot's row with the
-/// longest names, numbers and label, has some 300.
+/// longest names, numbers and label, has 300.
 const LONGEST: usize = 512;
 
 /// Writes a text and a line end. It takes no memory.
 ///
-/// Returns `Memory` where the line has more than `LONGEST` bytes (no contract says when): the writer is as it was. Returns `Write` where the writer
-/// fails, or takes nothing: a prefix of the line is written, but not all of it. A write that was interrupted is tried
-/// again. That the writer is called so is shown by the tests of `lot_cli`.
+/// Returns `Memory` where the line has more than `LONGEST` bytes (no contract says when): the writer is as it was.
+/// Returns `Write` where the writer fails, or takes nothing: a prefix of the line is written, but not all of it. A write
+/// that was interrupted is tried again. That the writer is called so is shown by the tests of `lot_cli`.
 pub fn print_line<W: Write, T: Display + Drop>(writer: &mut W, text: T) -> Result<(), PrintFault>
     ensures bytes { IfSome (with_newline (T.output text))
         (WritesLine (W.contents writer.old) (W.contents writer.new) result) }

@@ -13,7 +13,7 @@ use lot_inv::{CostSpec, Inventory};
 use lot_num::Units;
 use std::process::Abort;
 
-/// A posting under a method: its units, the parts of its cost, and what is told of it.
+/// A posting under a method: its units, the parts of its cost, and what comes of it.
 type Case<'a> = (Method, &'a str, &'a str, &'a str);
 
 /// Lots, and postings on an inventory that holds them.
@@ -53,7 +53,7 @@ fn booked(
 }
 
 /// What became of a posting: whether it takes or opens, and its legs as the holdings print them, or the refusal's name.
-fn told(rt: &(impl Abort + AllocGlobal), outcome: &Result<Booked, BookingFault>) -> String {
+fn printed(rt: &(impl Abort + AllocGlobal), outcome: &Result<Booked, BookingFault>) -> String {
     match outcome {
         Ok(booked) => {
             let legs = lots_text(rt, booked.legs.as_slice());
@@ -68,7 +68,7 @@ fn told(rt: &(impl Abort + AllocGlobal), outcome: &Result<Booked, BookingFault>)
 fn assert_booked(rt: &(impl Abort + AllocGlobal), held: &Inventory, cases: &[Case<'_>]) {
     for (method, number, parts, want) in cases {
         let outcome = booked(rt, held, *method, units(rt, number), spec(rt, parts));
-        assert_text(rt, told(rt, &outcome).as_str(), want);
+        assert_text(rt, printed(rt, &outcome).as_str(), want);
     }
 }
 

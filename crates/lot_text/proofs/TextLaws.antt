@@ -75,7 +75,7 @@ no_more lines number fault rest said says =
     let some = take-prefix [] None (fault.before ++ fault.line ∷ []) rest read.0 read.1 in
     fault.faulty (closed some.0.0 some.0.1) (read_says (fault.before ++ fault.line ∷ []) some.0.0 some.0.1 some.1)
 
--- of two fronts of one list the shorter stands in the longer, with what follows it
+-- of two prefixes of one list the shorter stands in the longer, with what follows it
 longer : (xs ys us vs : List (List ℕ)) (x y : List ℕ) → xs ++ x ∷ us ≡ ys ++ y ∷ vs → length xs < length ys
     → (rest : List (List ℕ)) × (ys ≡ xs ++ x ∷ rest)
 longer [] [] us vs x y e lt = absurd (omega arith)

@@ -1,6 +1,6 @@
-use super::{Holdings, ReportFault};
+use super::{Holdings, ReportFault, print_row};
 use crate::line::PrintFault;
-use lot_base::{Account, Commodity, Day};
+use lot_base::{Account, Commodity, Day, Label};
 use lot_ledger::{LotKey, Position};
 use lot_num::{Rate, Units};
 use std::alloc::Global;
@@ -58,6 +58,47 @@ fn nothing_of_a_row_past_the_largest_total_is_written(rt: HostRuntime) -> Result
     let refused = holdings.row(&lot, units, &mut written);
     assert_eq!(rt; refused, Err(ReportFault::Range));
     assert_eq!(rt; written.len(), 0);
+    Ok(())
+}
+
+/// So many copies of a text behind another one.
+fn filled(alloc: Global, head: &str, fill: &str, copies: usize) -> Result<String, Fail> {
+    let mut text = String::from_str(alloc, head)?;
+    for _ in 0..copies {
+        text.push_str(fill)?;
+    }
+    Ok(text)
+}
+
+#[test]
+fn the_longest_row_has_300_bytes(rt: HostRuntime) -> Result<(), Fail> {
+    let account = filled(rt.alloc(), "Assets:", "A", 121)?;
+    let commodity = filled(rt.alloc(), "", "H", 24)?;
+    let currency = filled(rt.alloc(), "", "U", 24)?;
+    let label = filled(rt.alloc(), "", "l", 64)?;
+    let lot = LotKey {
+        day: Day::parse("2020-01-02")?,
+        currency: Commodity::new(rt.alloc(), currency.as_str())?,
+        number: Rate::parse("99999999.99999999")?,
+        label: Some(Label::new(rt.alloc(), label.as_str())?),
+    };
+    let position = Position {
+        account: Account::new(rt.alloc(), account.as_str())?,
+        commodity: Commodity::new(rt.alloc(), commodity.as_str())?,
+        lot: Some(lot),
+    };
+    let units = Units::parse("-9999999999.99999999")?;
+    let mut written = Vec::new(rt.alloc());
+    print_row(rt.alloc(), &mut written, &position, units)?;
+    let mut row = filled(rt.alloc(), account.as_str(), " -9999999999.99999999 ", 1)?;
+    row.push_str(commodity.as_str())?;
+    row.push_str(" {99999999.99999999 ")?;
+    row.push_str(currency.as_str())?;
+    row.push_str(", 2020-01-02, \"")?;
+    row.push_str(label.as_str())?;
+    row.push_str("\"}\n")?;
+    assert_eq!(rt; written.as_slice(), row.as_str().as_bytes());
+    assert_eq!(rt; written.len(), 300);
     Ok(())
 }
 

@@ -1,6 +1,6 @@
 //! Costs of all units: `{{total currency}}`.
 
-use super::{PURCHASES, told};
+use super::{PURCHASES, printed};
 use crate::assertions::{assert_is, assert_text};
 use crate::make::{commodity, day, inventory, spec, units};
 use lot_base::Commodity;
@@ -69,7 +69,7 @@ fn whole_costs_are_booked_by_their_rate(rt: HostRuntime) {
             &cost,
             day(&rt, "2020-03-15"),
         );
-        assert_text(&rt, told(&rt, &outcome).as_str(), want);
+        assert_text(&rt, printed(&rt, &outcome).as_str(), want);
     }
 }
 
