@@ -1,5 +1,5 @@
 -- When out of memory is reported: only where a line says something, and fits behind those before it.
-use Rattle.std.proofs.Common.{◌≡◌, ◌⊎◌, ℕ, Bool, true, false, cond, List, [], ◌∷◌, ◌++◌, length, Option, Some, None, Err, ℤ, inl, inr, refl, sym, ap, subst, ◌∙◌}
+use Rattle.std.proofs.Common.{◌≡◌, ◌⊎◌, ℕ, true, false, List, [], Option, Some, None, Err, ℤ, inl, inr, refl, ap}
 use Rattle.std.specs.Prelude.{◌==◌, option_map, option_and_then, IsSome, ⊤, codes}
 use Rattle.std.specs.Cmp.Lexicographic.{pointwise}
 use Rattle.std.specs.Option.{is_some}

@@ -281,23 +281,34 @@ runs_out-at lines text rest line behind number commands pending prefix takes pla
     by : (o : Option (List Command × Option TransactionOf)) → take_line commands pending line ≡ o → IsSome o → RunsOutAt text number
     by None e some = absurd cc
     by (Some after) e some = record {
-      before = lines ++ line ∷ [];
+      lines = lines ++ line ∷ [];
       after = lines_of behind;
       whole = subst (λ (zs : List (List ℕ)). IsTextOf zs text) (sym (append_assoc lines (line ∷ []) (lines_of behind)))
           (prefix (line ∷ lines_of behind) (text-cons rest line behind (lines_of behind) takes (text-lines behind)));
       place = place ∙ sym (length_push lines line);
+      from_one = omega (arith, place);
       commands = closed after.0 after.1;
       says = read_says (lines ++ line ∷ []) after.0 after.1 (take-push lines line commands pending (Some after) read e);
     }
 
--- memory ends once all lines are read
+-- lines that end with a transaction are at least one
+some-lines : (lines : List (List ℕ)) (commands : List Command) (pending : Option TransactionOf)
+    → take_lines [] None lines ≡ Some (commands, pending) → IsSome pending → 1 ≤ length lines
+some-lines [] commands None read some = absurd cc
+some-lines [] commands (Some t) read some =
+    absurd (none-some t (ap (λ (s : List Command × Option TransactionOf). s.1) (same_Some ([], None) (commands, Some t) read)))
+some-lines (line ∷ lines) commands pending read some = omega arith
+
+-- memory ends once all lines are read, of which the last belong to a transaction
 pub runs_out-whole : (lines : List (List ℕ)) (text : List ℕ) (number : ℕ) (commands : List Command) (pending : Option TransactionOf)
-    → IsPrefix lines text [] → number ≡ length lines → take_lines [] None lines ≡ Some (commands, pending) → RunsOutAt text number
-runs_out-whole lines text number commands pending prefix place read = record {
-  before = lines;
+    → IsPrefix lines text [] → number ≡ length lines → take_lines [] None lines ≡ Some (commands, pending) → IsSome pending
+    → RunsOutAt text number
+runs_out-whole lines text number commands pending prefix place read some = record {
+  lines = lines;
   after = [];
   whole = prefix [] refl;
   place = place;
+  from_one = omega (arith, place, some-lines lines commands pending read some);
   commands = closed commands pending;
   says = read_says lines commands pending read;
 }

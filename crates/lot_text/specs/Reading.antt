@@ -1,7 +1,7 @@
 -- Ledger text as it is read, from its beginning on: what each part of a line comes to, and what a line does to the
 -- commands so far. That this is what the forms of a line say is proved, both ways, in proofs/TextForms.antt and
 -- proofs/TextLemmas.antt.
-use Rattle.std.specs.Prelude.{◌≡◌, ◌≢◌, ◌⊎◌, ℕ, ◌==◌, ◌&&◌, Bool, if◌then◌else◌, List, [], ◌∷◌, ◌++◌, codes, Option, Some, None, IsSome, option_and_then, option_map, Result, Ok, Err, ℤ, pos, int_lt, ⊤}
+use Rattle.std.specs.Prelude.{◌≡◌, ◌≢◌, ◌⊎◌, ℕ, ◌==◌, ◌&&◌, Bool, if◌then◌else◌, List, [], ◌∷◌, ◌++◌, codes, Option, Some, None, IsSome, option_and_then, option_map, Result, Ok, Err, ℤ, pos, int_lt}
 use Rattle.std.specs.List.{list_all}
 use Rattle.std.specs.Cmp.Lexicographic.{pointwise}
 use Rattle.std.specs.Result.{result_ok}

@@ -1,6 +1,6 @@
 -- Ledger text: which commands it says, by its lines and their forms (after Beancount's Language Syntax; the exact
 -- form is this project's own: docs/FORMATS.md, What is read today).
-use Rattle.std.specs.Prelude.{◌≡◌, ◌≢◌, ◌⊎◌, ℕ, ◌+◌, ◌==◌, ◌||◌, Bool, not, IsTrue, List, [], ◌∷◌, ◌++◌, length, codes, Option, None, Some, Ok, ℤ, pos, int_lt, ⊤}
+use Rattle.std.specs.Prelude.{◌≡◌, ◌≢◌, ◌⊎◌, ◌≤◌, ℕ, ◌+◌, ◌==◌, ◌||◌, Bool, not, IsTrue, List, [], ◌∷◌, ◌++◌, length, codes, Option, None, Some, Ok, ℤ, pos, int_lt}
 use Rattle.std.specs.List.{AllZip, list_all}
 use Rattle.std.specs.Str.{IsUtf8}
 use Rattle.lot_num.specs.NumberText.{units_of, rate_of}
@@ -105,14 +105,15 @@ Reads text commands = (lines : List (List ℕ)) × IsTextOf lines text × Says l
 abbrev pub IsFaultAt : List ℕ → ℕ → Type 0
 IsFaultAt text number = (lines : List (List ℕ)) × IsTextOf lines text × IsFirstFault lines number
 
--- memory ends at the line of that number: the lines up to it and with it say commands
+-- memory ends at the line of that number, from 1: the lines up to it and with it say commands
 pub record RunsOutAt (text : List ℕ) (number : ℕ) : Type 0 where
-  pub before : List (List ℕ)
+  pub lines : List (List ℕ)
   pub after : List (List ℕ)
-  pub whole : IsTextOf (before ++ after) text
-  pub place : number ≡ length before
+  pub whole : IsTextOf (lines ++ after) text
+  pub place : number ≡ length lines
+  pub from_one : 1 ≤ number
   pub commands : List Command
-  pub says : Says before commands
+  pub says : Says lines commands
 
 -- the fault of a text is at its first faulty line, or memory ends at a line before that
 abbrev pub IsFaultOf : List ℕ → TextFault → Type 0

@@ -16,8 +16,7 @@ pub enum TextFault {
     /// The first line, counted from 1, that fits no form or is a posting without a transaction.
     #[error("line {line} is not understood")]
     Syntax { line: u64 },
-    /// Out of memory at that line, counted from 1: up to it and with it the lines say commands. It is 0 only for a text
-    /// without lines.
+    /// Out of memory at that line, counted from 1: up to it and with it the lines say commands.
     #[error("out of memory at line {line}")]
     Memory { line: u64 },
 }
@@ -165,10 +164,12 @@ impl Reading {
         Ok(())
     }
 
-    /// Ends the transaction so far: no further posting belongs to it. The error is out of memory.
+    /// Ends the transaction so far: no further posting belongs to it. The error is out of memory, which comes only where
+    /// there is a transaction.
     fn close(&mut self) -> Result<(), AllocError>
         ensures commands { OnOk result (self.new.commands.items ≡ closed self.old.commands.items self.old.pending) }
         ensures pending { OnOk result (self.new.pending ≡ None) }
+        ensures some { OnErr result (IsSome self.old.pending) }
     {
         if let Some(transaction) = self.pending.take() {
             self.commands.push(Command::Transaction(transaction))?;
@@ -176,9 +177,11 @@ impl Reading {
         Ok(())
     }
 
-    /// Returns all commands, once there is no line left. The error is out of memory.
+    /// Returns all commands, once there is no line left. The error is out of memory, which comes only where the last of
+    /// them is a transaction.
     fn finish(mut self) -> Result<Vec<Command>, AllocError>
-        ensures { IfOk result (λ commands. commands.items ≡ closed self.commands.items self.pending) }
+        ensures commands { IfOk result (λ commands. commands.items ≡ closed self.commands.items self.pending) }
+        ensures some { OnErr result (IsSome self.pending) }
     {
         self.close()?;
         Ok(self.commands)

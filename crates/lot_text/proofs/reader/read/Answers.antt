@@ -34,7 +34,7 @@ pub returns-in-Ok-clause-commands : goal.returns-in-Ok-clause-commands
 returns-in-Ok-clause-commands c =
     let (lines, count, prefix, read) = c.loop-line.invariant.lines in
     let whole = subst (λ (rest : List ℕ). IsPrefix lines c.args.text.now rest) c.in-None.ensures.steps.0 prefix in
-    subst (λ (commands : List Command). Reads c.args.text.now commands) (sym c.in-Ok.ensures)
+    subst (λ (commands : List Command). Reads c.args.text.now commands) (sym c.in-Ok.ensures.commands)
     (reads-at lines c.args.text.now c.loop-line.reading.commands.items c.loop-line.reading.pending whole read)
 
 pub returns-in-Err-finish-clause-fault : goal.returns-in-Err-finish-clause-fault
@@ -42,3 +42,4 @@ returns-in-Err-finish-clause-fault c =
     let (lines, count, prefix, read) = c.loop-line.invariant.lines in
     let whole = subst (λ (rest : List ℕ). IsPrefix lines c.args.text.now rest) c.in-None.ensures.steps.0 prefix in
     runs_out-whole lines c.args.text.now c.loop-line.number c.loop-line.reading.commands.items c.loop-line.reading.pending whole count read
+    c.in-Err-finish.ensures.some

@@ -1,7 +1,6 @@
 -- An indented line fits only behind a transaction; memory ends only at a line that fits.
-use Rattle.std.proofs.Common.{◌≡◌, ◌⊎◌, true, false, None, inl, inr, sym, ◌∙◌, ap}
+use Rattle.std.proofs.Common.{◌≡◌, ◌⊎◌, true, false, inl, inr, sym, ◌∙◌}
 use Rattle.std.specs.Option.{is_some}
-use Rattle.std.specs.Prelude.{not}
 use Rattle.std.proofs.lemmas.Result.{err_from_is_err_and}
 use Rattle.lot_text.specs.Reading.{indented, line_of}
 use Rattle.lot_text.proofs.FaultLemmas.{fits_behind, gives_memory, none_behind, some_taken}
