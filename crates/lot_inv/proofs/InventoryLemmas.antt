@@ -114,15 +114,15 @@ cond_same true x = refl
 cond_same false x = refl
 
 -- what is found at a position in some rows
-abbrev found_in : Position → List (Position × ℤ) → Option ℤ
+abbrev pub found_in : Position → List (Position × ℤ) → Option ℤ
 found_in position rest = lookup (is_at (position_cmp position)) rest
 
 -- what lots have at a key, of none where no key is given
-abbrev in_lots : Option LotKey → List (LotKey × ℤ) → Option ℤ
+abbrev pub in_lots : Option LotKey → List (LotKey × ℤ) → Option ℤ
 in_lots None lots = None
 in_lots (Some key) lots = lookup (is_at (lot_cmp key)) lots
 
-found_in-lots : (commodity other : List ℕ) (key : Option LotKey) (lots : List (LotKey × ℤ)) (rest : List (Position × ℤ))
+pub found_in-lots : (commodity other : List ℕ) (key : Option LotKey) (lots : List (LotKey × ℤ)) (rest : List (Position × ℤ))
     → found_in (commodity, key) (lot_rows other lots ++ rest)
     ≡ cond (is_eq (text_cmp commodity other)) (option_or (in_lots key lots) (found_in (commodity, key) rest)) (found_in (commodity, key) rest)
 found_in-lots commodity other None [] rest = cond_same (is_eq (text_cmp commodity other)) (found_in (commodity, None) rest)
@@ -302,6 +302,11 @@ lots_seen holdings held commodity at are view is =
     ap (λ m. lots_of m commodity) (sym view)
     ∙ lots_of-rows holdings commodity are.sorted (each_sorted holdings are.sorted are.each)
     ∙ ap lots_at (sym is)
+
+pub rows_seen : (holdings : List (List ℕ × Holding)) (held : Held) → AreHoldings holdings → from_entries (rows holdings) ≡ held
+    → rows holdings ≡ entries held
+rows_seen holdings held are view =
+    sym (ap (λ (m : Held). entries m) (sym view) ∙ entries-rows (rows holdings) (sorted_rows holdings are.sorted (each_sorted holdings are.sorted are.each)))
 
 pub found_seen : (holdings : List (List ℕ × Holding)) (held : Held) (commodity : List ℕ) (key : Option LotKey) (at : Option Holding) → AreHoldings holdings
     → from_entries (rows holdings) ≡ held → at ≡ lookup (is_at (text_cmp commodity)) holdings

@@ -44,7 +44,7 @@ sorted_in commodity (((other, Some k), units) ∷ rows) h =
       | false ↦ λ e. sorted_in commodity rows h.1
     ] refl
 
-sorted_lots_of : (held : Held) (commodity : List ℕ) → IsStrictlySortedBy lot_cmp (keys_of (lots_of held commodity))
+pub sorted_lots_of : (held : Held) (commodity : List ℕ) → IsStrictlySortedBy lot_cmp (keys_of (lots_of held commodity))
 unfolding lots_of
 sorted_lots_of held commodity = sorted_in commodity (entries held) (keys_sorted position_cmp (entries held) (entries_sorted held))
 

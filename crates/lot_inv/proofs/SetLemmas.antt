@@ -1,5 +1,5 @@
 -- What a change of one holding does to the map that the rows of all holdings make.
-use Rattle.std.specs.Prelude.{◌≡◌, ◌≢◌, ℕ, Bool, true, false, cond, ◌&&◌, List, [], ◌∷◌, length, Option, None, Some, is_some, ℤ, pos, ◌+ℤ◌, option_and_then, IfSome, Result, Ok, Err, OnErr}
+use Rattle.std.specs.Prelude.{◌≡◌, ◌≢◌, ℕ, Bool, true, false, cond, ◌&&◌, List, [], ◌∷◌, length, Option, None, Some, is_some, ℤ, pos, ◌+ℤ◌, option_and_then, IfSome, Result, Ok, Err, OnErr, OnOk}
 use Rattle.std.specs.BTreeMap.{is_at}
 use Rattle.std.specs.Cmp.{eq_by_cmp_equiv, tied_itself}
 use Rattle.std.specs.FinMap.{get, insert, remove, from_entries, get-insert, get-remove, same_map}
@@ -21,6 +21,18 @@ use Rattle.lot_inv.proofs.OrderLemmas.{lots_total, lot_options_total, positions_
 pub on_err : {X Y : Type 0} {P : Type 0} (r : Result X Y) → P → OnErr r P
 on_err (Ok x) p = tt
 on_err (Err y) p = p
+
+pub on_ok-then : {X Y : Type 0} {P Q : Type 0} (r : Result X Y) → (P → Q) → OnOk r P → OnOk r Q
+on_ok-then (Ok x) f p = f p
+on_ok-then (Err y) f p = tt
+
+pub on_err-then : {X Y : Type 0} {P Q : Type 0} (r : Result X Y) → (P → Q) → OnErr r P → OnErr r Q
+on_err-then (Ok x) f p = tt
+on_err-then (Err y) f p = f p
+
+pub on_err-both : {X Y : Type 0} {P Q R : Type 0} (r : Result X Y) → (P → Q → R) → OnErr r P → OnErr r Q → OnErr r R
+on_err-both (Ok x) f p q = tt
+on_err-both (Err y) f p q = f p q
 
 -- where nothing is held, what is added is the sum
 added_some : (at : Option ℤ) (units sum : ℤ) → at ≡ None → sum ≢ pos 0 → sum ≡ unwrap_or at (pos 0) +ℤ units → units ≢ pos 0
@@ -149,16 +161,19 @@ map_set old new held position units are still view is =
       | false ↦ sym (get-insert positions_total held position units other)
     ])
 
--- what is new among the holdings is new in the map, and the units that it is to hold are those that are added
-pub stores_more : (holdings : List (List ℕ × Holding)) (held : Held) (commodity : List ℕ) (key : Option LotKey) (units sum : ℤ) → AreHoldings holdings
-    → from_entries (rows holdings) ≡ held → NeedsPosition holdings (commodity, key) → sum ≢ pos 0 → sum ≡ units_at held (commodity, key) +ℤ units
-    → StoresMore held (commodity, key) units
-stores_more holdings held commodity None units sum are view needs some is =
-    let nothing : (other : Option LotKey) → get held (commodity, other) ≡ None = λ other. found_seen holdings held commodity other None are view (sym needs) in
-    (added_some (get held (commodity, None)) units sum (nothing None) some is, nothing)
-stores_more holdings held commodity (Some key) units sum are view needs some is =
-    let none : get held (commodity, Some key) ≡ None = ap (λ m. get m (commodity, Some key)) (sym view) ∙ get-rows holdings (commodity, Some key) are.sorted ∙ needs in
-    (added_some (get held (commodity, Some key)) units sum none some is, none)
+-- what is new among the holdings is new in the map
+pub stores_more : (holdings : List (List ℕ × Holding)) (held : Held) (commodity : List ℕ) (key : Option LotKey) (units : ℤ) → AreHoldings holdings
+    → from_entries (rows holdings) ≡ held → NeedsPosition holdings (commodity, key) → units ≢ pos 0 → StoresMore held (commodity, key) units
+stores_more holdings held commodity None units are view needs some =
+    (some, λ other. found_seen holdings held commodity other None are view (sym needs))
+stores_more holdings held commodity (Some key) units are view needs some =
+    (some, ap (λ m. get m (commodity, Some key)) (sym view) ∙ get-rows holdings (commodity, Some key) are.sorted ∙ needs)
+
+-- where the sum is new, the units that are added aren't zero
+pub stores_sum : (held : Held) (commodity : List ℕ) (key : Option LotKey) (units sum : ℤ) → StoresMore held (commodity, key) sum
+    → sum ≡ units_at held (commodity, key) +ℤ units → StoresMore held (commodity, key) units
+stores_sum held commodity None units sum more is = (added_some (get held (commodity, None)) units sum (more.1 None) more.0 is, more.1)
+stores_sum held commodity (Some key) units sum more is = (added_some (get held (commodity, Some key)) units sum more.1 more.0 is, more.1)
 
 -- ---- no holding is kept of which nothing is left
 

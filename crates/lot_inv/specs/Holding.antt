@@ -8,7 +8,7 @@ use Rattle.std.specs.Ordering.{int_eq, is_eq}
 use Rattle.lot_base.specs.Text.{text_cmp}
 use Rattle.lot_inv.specs.declared.inventory.Holding.{Holding}
 use Rattle.lot_inv.specs.declared.lot_key.LotKey.{LotKey}
-use Rattle.lot_inv.specs.Inventory.{Position, position_cmp, non_zero}
+use Rattle.lot_inv.specs.Inventory.{Held, Position, position_cmp, non_zero, with_units}
 use Rattle.lot_inv.specs.LotKey.{lot_cmp}
 
 -- what a holding has in the lot of that key, or plain
@@ -33,10 +33,19 @@ abbrev pub lot_rows : List ℕ → List (LotKey × ℤ) → List (Position × �
 lot_rows commodity [] = []
 lot_rows commodity (lot ∷ lots) = lot_row commodity lot ∷ lot_rows commodity lots
 
+-- the rows of one holding: that of its plain units, then those of its lots
+abbrev pub rows_of : List ℕ → Holding → List (Position × ℤ)
+rows_of commodity holding = plain_rows commodity holding.plain ++ lot_rows commodity holding.lots.entries
+
 -- the rows of all holdings, in the order of their positions
 abbrev pub rows : List (List ℕ × Holding) → List (Position × ℤ)
 rows [] = []
 rows (entry ∷ entries) = plain_rows entry.0 entry.1.plain ++ (lot_rows entry.0 entry.1.lots.entries ++ rows entries)
+
+-- an inventory in which these lots of a commodity are set, one after another
+abbrev pub with_lots : Held → List ℕ → List (LotKey × ℤ) → Held
+with_lots held commodity [] = held
+with_lots held commodity (lot ∷ lots) = with_lots (with_units held (commodity, Some lot.0) lot.1) commodity lots
 
 -- setting units at a key stores a new lot
 abbrev pub NeedsLot : Holding → Option LotKey → Type 0

@@ -1,5 +1,5 @@
 -- What an inventory holds: a finite map from positions to units that aren't zero (docs/RULES.md, Inventory).
-use Rattle.std.specs.Prelude.{◌≡◌, ◌≢◌, ℕ, Bool, ◌&&◌, ◌||◌, if◌then◌else◌, List, [], ◌∷◌, filter, Option, None, Some, ℤ, pos, ◌+ℤ◌, int_lt}
+use Rattle.std.specs.Prelude.{◌≡◌, ◌≢◌, ℕ, Bool, ◌&&◌, ◌||◌, if◌then◌else◌, List, [], ◌∷◌, filter, map, Option, None, Some, is_some, ℤ, pos, ◌+ℤ◌, int_lt}
 use Rattle.std.specs.declared.cmp.Ordering.{Ordering}
 use Rattle.std.specs.BTreeMap.{is_at}
 use Rattle.std.specs.Coded.{Coded, coded×, coded_option}
@@ -67,6 +67,14 @@ lots_in commodity (((other, Some key), units) ∷ rows) =
 unfoldable pub lots_of : Held → List ℕ → List (LotKey × ℤ)
 lots_of held commodity = lots_in commodity (finite.entries held)
 
+-- whether a position is a lot of the commodity
+abbrev pub is_lot_of : List ℕ → Position → Bool
+is_lot_of commodity position = is_eq (text_cmp commodity position.0) && is_some position.1
+
+-- the inventory of the lots of a commodity alone
+abbrev pub only_lots : Held → List ℕ → Held
+only_lots held commodity = finite.retain_keys held (is_lot_of commodity)
+
 -- the lots of a commodity that fit a specification, in the order of their keys
 abbrev pub matching : Held → List ℕ → CostSpec → List (LotKey × ℤ)
 matching held commodity spec = filter (λ (lot : LotKey × ℤ). fits spec lot.0) (lots_of held commodity)
@@ -82,6 +90,12 @@ reduces held commodity units = list_any (λ lot. other_sign lot units) (values_o
 -- the units of all lots of the commodity
 abbrev pub sum : Held → List ℕ → ℤ
 sum held commodity = sum_of (values_of (lots_of held commodity))
+
+-- ---- all that is held
+
+-- rows of a commodity, the key of a lot or none, and units, as entries of the map
+abbrev pub as_entries : List (List ℕ × Option LotKey × ℤ) → List (Position × ℤ)
+as_entries rows = map (λ (row : List ℕ × Option LotKey × ℤ). ((row.0, row.1), row.2)) rows
 
 -- ---- laws
 

@@ -2,3 +2,4 @@ pub mod CostSpec
 pub mod Holding
 pub mod Inventory
 pub mod LotKey
+pub mod Zeros

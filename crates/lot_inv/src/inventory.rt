@@ -1,4 +1,4 @@
-ghost use Rattle.std.specs.Prelude.{◌≡◌, ◌≢◌, ℕ, List, [], ℤ, pos, ◌+ℤ◌, ◌*ℤ◌, ◌+◌, ◌*◌, ◌^◌, ◌≤◌, length, option_copied, unsigned_abs, SomeIff, Option, None, cond, filter, ◌↔◌, IsTrue, IsFalse, IsOk, IsErrOf, IfOk, OnOk, OnErr};
+ghost use Rattle.std.specs.Prelude.{◌≡◌, ◌≢◌, ℕ, List, [], ◌++◌, map, ℤ, pos, ◌+ℤ◌, ◌*ℤ◌, ◌+◌, ◌*◌, ◌^◌, ◌≤◌, length, option_copied, unsigned_abs, SomeIff, Option, None, cond, filter, ◌↔◌, IsTrue, IsFalse, IsOk, IsErrOf, IfOk, OnOk, OnErr};
 ghost use Rattle.std.specs.FinMap as finite;
 ghost use Rattle.std.specs.List.{list_any};
 ghost use Rattle.std.specs.List.Sorted.{IsStrictlySortedBy};
@@ -8,10 +8,11 @@ ghost use Rattle.std.specs.Option.{option_cmp, unwrap_or};
 ghost use Rattle.std.specs.Ordering.{is_eq};
 ghost use Rattle.lot_num.specs.Amount.{IsUnits, IsWide, one, units_limit};
 ghost use Rattle.lot_num.specs.Sum.{sum_of};
-ghost use Rattle.lot_inv.specs.Inventory.{StoresMore, added, lots_of, matching, non_zero, other_sign, reduces, sum, units_at};
+ghost use Rattle.lot_inv.specs.Inventory.{StoresMore, added, as_entries, lots_of, matching, non_zero, only_lots, other_sign, reduces, sum, units_at, with_units};
 ghost use Rattle.lot_inv.specs.CostSpec.{fits};
+ghost use Rattle.lot_inv.specs.Zeros.{HasNoZeros};
 ghost use Rattle.lot_inv.specs.LotKey.{lot_cmp};
-ghost use Rattle.lot_inv.specs.Holding.{AreAlike, AreHoldings, ChangesPosition, NeedsPosition, NoneIsEmpty, NoOtherIsEmpty};
+ghost use Rattle.lot_inv.specs.Holding.{AreAlike, AreHoldings, ChangesPosition, NeedsPosition, NoneIsEmpty, NoOtherIsEmpty, lot_rows, plain_rows, rows_of, with_lots};
 ghost use Rattle.lot_inv.specs.declared.lot_key.LotKey.{LotKey};
 ghost use Rattle.lot_inv.specs.declared.fault.InventoryFault.TheVariants.{Memory, Range};
 
@@ -79,6 +80,13 @@ impl Inventory {
         }
     }
 
+    /// No position holds zero units. It does nothing: its contract tells this to a caller.
+    pub fn has_no_zeros(&self)
+        ensures { HasNoZeros self.now }
+    {
+        let _ = &self.held;
+    }
+
     /// Returns how many lots of a commodity are held.
     pub fn lots(&self, commodity: &Commodity) -> u64
         ensures { result ≡ length (lots_of self.now commodity.now) }
@@ -133,6 +141,31 @@ impl Inventory {
         }
     }
 
+    /// Returns an inventory of the lots of a commodity alone, each with its units: no plain units, and no other commodity.
+    /// The only error is out of memory, and comes only where there is such a lot.
+    pub fn only_lots(&self, commodity: &Commodity) -> Result<Inventory, AllocError>
+        ensures lots { IfOk result (λ inventory. inventory ≡ only_lots self.now commodity.now) }
+        ensures memory { OnErr result (lots_of self.now commodity.now ≢ []) }
+    {
+        match self.held.get(commodity) {
+            Some(holding) => holding.only_lots(self.alloc, commodity),
+            None => Ok(Inventory::new(self.alloc)),
+        }
+    }
+
+    /// Returns all that is held, a row for each position: by commodity, the plain units first, then the lots in the order of
+    /// their keys. The only error is out of memory, and comes only where something is held.
+    pub fn rows(&self) -> Result<Vec<(Commodity, Option<LotKey>, Units)>, AllocError>
+        ensures all { IfOk result (λ rows. as_entries rows.items ≡ finite.entries self.now) }
+        ensures memory { OnErr result (finite.entries self.now ≢ []) }
+    {
+        let mut rows = Vec::new(self.alloc);
+        for (commodity, holding) in &self.held {
+            holding.list(commodity, &mut rows)?;
+        }
+        Ok(rows)
+    }
+
     /// Adds units to the lot of that key, or without a key to the plain units. What becomes zero is held no more.
     ///
     /// The error is `Range` exactly where the sum is out of range. It is `Memory` only where units that aren't zero are
@@ -154,8 +187,25 @@ impl Inventory {
             Some(sum) => sum,
             None => return Err(InventoryFault::Range),
         };
-        set(&mut self.held, self.alloc, commodity, key, sum)?;
+        self.set(commodity, key, sum)?;
         Ok(())
+    }
+
+    /// Sets the units in the lot of that key, or without a key the plain units. Zero units are held no more.
+    ///
+    /// The only error is out of memory. It comes only where units that aren't zero are set in a lot that isn't held, or as
+    /// plain units of a commodity of which nothing is held. On an error nothing changes.
+    pub fn set(
+        &mut self,
+        commodity: &Commodity,
+        key: Option<&LotKey>,
+        units: Units,
+    ) -> Result<(), AllocError>
+        ensures ok { OnOk result (self.new ≡ with_units self.old (commodity.now, option_copied key.entry) units) }
+        ensures memory { OnErr result (StoresMore self.old (commodity.now, option_copied key.entry) units) }
+        ensures err { OnErr result (self.new ≡ self.old) }
+    {
+        set(&mut self.held, self.alloc, commodity, key, units)
     }
 }
 
@@ -235,6 +285,31 @@ impl Holding {
         Ok(fitting)
     }
 
+    /// Returns an inventory of these lots, as lots of the commodity.
+    fn only_lots(&self, alloc: Global, commodity: &Commodity) -> Result<Inventory, AllocError>
+        ensures lots { IfOk result (λ inventory. inventory ≡ with_lots finite.empty commodity.now self.now.lots.entries) }
+        ensures memory { OnErr result (self.now.lots.entries ≢ []) }
+    {
+        let mut lots = Inventory::new(alloc);
+        for (key, units) in &self.lots {
+            lots.set(commodity, Some(key), *units)?;
+        }
+        Ok(lots)
+    }
+
+    /// Lists what is held of the commodity behind other rows: the plain units, then the lots in the order of their keys.
+    fn list(
+        &self,
+        commodity: &Commodity,
+        rows: &mut Vec<(Commodity, Option<LotKey>, Units)>,
+    ) -> Result<(), AllocError>
+        ensures all { OnOk result (as_entries rows.new.items ≡ as_entries rows.old.items ++ rows_of commodity.now self.now) }
+        ensures memory { OnErr result (rows_of commodity.now self.now ≢ []) }
+    {
+        list_plain(self.plain, commodity, rows)?;
+        list_lots(&self.lots, commodity, rows)
+    }
+
     /// Returns the sum of the mantissas of all lots, at scale 8.
     fn total(&self) -> i128
         ensures { result ≡ sum_of (values_of self.now.lots.entries) }
@@ -245,6 +320,36 @@ impl Holding {
         }
         total
     }
+}
+
+/// Lists the plain units of a commodity behind other rows, unless they are zero.
+fn list_plain(
+    units: Units,
+    commodity: &Commodity,
+    rows: &mut Vec<(Commodity, Option<LotKey>, Units)>,
+) -> Result<(), AllocError>
+    ensures all { OnOk result (as_entries rows.new.items ≡ as_entries rows.old.items ++ plain_rows commodity.now units) }
+    ensures memory { OnErr result (plain_rows commodity.now units ≢ []) }
+{
+    if units.mantissa() != 0 {
+        rows.push((commodity.copy()?, None, units))?;
+    }
+    Ok(())
+}
+
+/// Lists the lots of a commodity behind other rows, in the order of their keys.
+fn list_lots(
+    lots: &BTreeMap<LotKey, Units>,
+    commodity: &Commodity,
+    rows: &mut Vec<(Commodity, Option<LotKey>, Units)>,
+) -> Result<(), AllocError>
+    ensures all { OnOk result (as_entries rows.new.items ≡ as_entries rows.old.items ++ lot_rows commodity.now lots.now.entries) }
+    ensures memory { OnErr result (lot_rows commodity.now lots.now.entries ≢ []) }
+{
+    for (key, units) in lots {
+        rows.push((commodity.copy()?, Some(key.copy()?), *units))?;
+    }
+    Ok(())
 }
 
 /// Sets the units at a position. Only a lot that isn't held yet, or a commodity of which nothing is held, needs memory.
