@@ -5,3 +5,5 @@ pub mod ChoiceLemmas
 pub mod ListLemmas
 pub mod TakeLemmas
 pub mod NumberLemmas
+pub mod SameLots
+pub mod SomeOutcome

@@ -153,7 +153,7 @@ walk-legs units choice left (lot ∷ lots) walk =
 -- ---- lots in an order
 
 -- of two keys the one that isn't first is second
-other_first : (one other : Bool) → one ≡ false → (one || other) ≡ true → other ≡ true
+pub other_first : (one other : Bool) → one ≡ false → (one || other) ≡ true → other ≡ true
 other_first one other not_one either = rw not_one at either
 
 pub orders_lots : (before : LotKey → LotKey → Bool) → IsOrder before → IsStrictWeakOrder (λ (a b : LotKey × ℤ). before a.0 b.0)
@@ -192,16 +192,14 @@ in_order-from_sorted before order (lot ∷ lots) distinct sorted =
 -- ---- what is taken
 
 -- the walk along lots that hold enough, in their order, is what the units take in turn
-pub takes-walked : (before : LotKey → LotKey → Bool) → IsOrder before → (lots listed : List (LotKey × ℤ)) (units : ℤ) (legs : List (LotKey × ℤ))
-    → HaveDistinctKeys lots → IsPermutation lots listed → IsSortedBy (λ (a b : LotKey × ℤ). before a.0 b.0) listed
+pub takes-in_order : (before : LotKey → LotKey → Bool) → IsOrder before → (lots listed : List (LotKey × ℤ)) (units : ℤ) (legs : List (LotKey × ℤ))
+    → HaveDistinctKeys lots → IsPermutation lots listed → AreInOrder before listed
     → unsigned_abs units ≤ held_in listed → legs ≡ walked units (unsigned_abs units) listed → Takes (InTurn before) before lots units legs
-takes-walked before order lots listed units legs distinct same sorted enough walked_legs =
+takes-in_order before order lots listed units legs distinct same ordered enough walked_legs =
     let amount = unsigned_abs units in
     let choice = walk_choice amount listed in
     let back = IsPermutation-sym lots listed same in
-    let distinct_listed = distinct-permuted lots listed same distinct in
-    let ordered = in_order-from_sorted before order listed distinct_listed sorted in
-    let walk = walk_choice-walks amount listed distinct_listed in
+    let walk = walk_choice-walks amount listed (distinct-permuted lots listed same distinct) in
     record {
       choice = choice;
       is = record {
@@ -214,6 +212,14 @@ takes-walked before order lots listed units legs distinct same sorted enough wal
       order = ordered;
       chosen = walked_legs ∙ sym (walk-legs units choice amount listed walk);
     }
+
+-- the same of lots that a sort put in their order
+pub takes-walked : (before : LotKey → LotKey → Bool) → IsOrder before → (lots listed : List (LotKey × ℤ)) (units : ℤ) (legs : List (LotKey × ℤ))
+    → HaveDistinctKeys lots → IsPermutation lots listed → IsSortedBy (λ (a b : LotKey × ℤ). before a.0 b.0) listed
+    → unsigned_abs units ≤ held_in listed → legs ≡ walked units (unsigned_abs units) listed → Takes (InTurn before) before lots units legs
+takes-walked before order lots listed units legs distinct same sorted enough walked_legs =
+    takes-in_order before order lots listed units legs distinct same
+    (in_order-from_sorted before order listed (distinct-permuted lots listed same distinct) sorted) enough walked_legs
 
 -- where a result is a value a fact holds, and with it what is known of the value says more
 pub if_ok-with : {T E : Type 0} (result : Result T E) (P Q : T → Type 0) (fact : Type 0) → (IsOk result → fact) → (fact → (value : T) → P value → Q value)

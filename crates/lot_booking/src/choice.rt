@@ -4,7 +4,7 @@ ghost use Rattle.std.specs.Ordering.{is_lt};
 ghost use Rattle.lot_inv.specs.Inventory.{other_sign};
 ghost use Rattle.lot_booking.specs.Choice.{HasNoChoice, HaveDistinctKeys, InTurn, Takes, held_in, with_sign_of};
 ghost use Rattle.lot_booking.specs.Way.{walked};
-ghost use Rattle.lot_booking.specs.declared.fault.TakeFault.TheVariants.{NotEnough};
+ghost use Rattle.lot_booking.specs.declared.fault.TakeFault.TheVariants.{Memory, NotEnough};
 
 use crate::fault::TakeFault;
 use crate::order::LotOrder;
@@ -17,7 +17,8 @@ use std::cmp::Ordering;
 /// They have the sign of the units, and stand in the order.
 ///
 /// The lots have distinct keys, and each has the other sign than the units. The error is `NotEnough` only where the lots
-/// hold less than the units, and else `Memory`, where there is no memory for the legs.
+/// hold less than the units, and else `Memory`, where there is no memory for the legs: only of units that aren't zero, and
+/// of lots that hold some.
 pub fn take<O: LotOrder>(
     alloc: Global,
     lots: Vec<(LotKey, Units)>,
@@ -29,6 +30,7 @@ pub fn take<O: LotOrder>(
     ensures enough { IsOk result → unsigned_abs units ≤ held_in lots.items }
     ensures less { IsErrOf result NotEnough → held_in lots.items < unsigned_abs units }
     ensures not_enough { IsErrOf result NotEnough → HasNoChoice (InTurn O.before) lots.items (unsigned_abs units) }
+    ensures memory { IsErrOf result Memory → (0 < unsigned_abs units) × (0 < held_in lots.items) }
 {
     let mut lots = lots;
     lots.sort_unstable_by(|a, b| compare::<O>(&a.0, &b.0));
@@ -57,6 +59,7 @@ fn in_turn(
     ensures legs { IfOk result (λ legs. legs.items ≡ walked units (unsigned_abs units) lots.items) }
     ensures enough { IsOk result → unsigned_abs units ≤ held_in lots.items }
     ensures not_enough { IsErrOf result NotEnough → held_in lots.items < unsigned_abs units }
+    ensures memory { IsErrOf result Memory → (0 < unsigned_abs units) × (0 < held_in lots.items) }
 {
     let mut legs = Vec::new(alloc);
     let mut left = units.mantissa().unsigned_abs();

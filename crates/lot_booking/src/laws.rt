@@ -33,10 +33,13 @@ pub fn orders_are_those_of_their_names(a: &LotKey, b: &LotKey) -> (bool, bool, b
     )
 }
 
-/// A posting with braces comes to no more than one outcome: one list of legs, or one refusal.
+/// A posting with braces comes to exactly one outcome: one list of legs, or one refusal.
 pub fn a_posting_has_one_outcome()
-    ensures { (posting : Braced) (one other : Outcome) → ComesTo posting one → ComesTo posting other → one ≡ other }
-{}
+    ensures some { (posting : Braced) → (outcome : Outcome) × ComesTo posting outcome }
+    ensures one { (posting : Braced) (one other : Outcome) → ComesTo posting one → ComesTo posting other → one ≡ other }
+{
+    matching_lots_are_distinct();
+}
 
 /// The legs of a posting add up to its units.
 pub fn legs_add_up_to_the_posting()

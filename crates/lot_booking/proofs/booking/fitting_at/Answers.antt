@@ -1,5 +1,5 @@
 -- The lots at the number among those that fit.
-use Rattle.std.proofs.Common.{◌≡◌, ◌⊎◌, true, ℕ, ℤ, List, Option, Some, None, filter, sym, subst, ap, ◌∙◌, rules}
+use Rattle.std.proofs.Common.{◌≡◌, ◌⊎◌, true, ℕ, ℤ, List, Option, None, filter, sym, subst, ap, ◌∙◌, rules}
 use Rattle.std.specs.Prelude.{◌==◌}
 use Rattle.std.specs.List.{AllByRecursion}
 use Rattle.std.proofs.lemmas.Fn.{filter_same}

@@ -46,3 +46,11 @@ returns-clause-not_enough g c = λ fault.
     let less : held_in listed < unsigned_abs c.args.units = c.in_turn.ensures.not_enough fault in
     let same = held_in-permuted lots listed c.sort_unstable_by.ensures.permutation in
     no_choice-from_less (InTurn g.O.LotOrder.before) lots (unsigned_abs c.args.units) (omega arith)
+
+pub returns-clause-memory : goal.returns-clause-memory
+returns-clause-memory g c = λ fault.
+    let lots = c.args.lots.items in
+    let listed = c.sort_unstable_by.new.self.items in
+    let some = c.in_turn.ensures.memory fault in
+    let same = held_in-permuted lots listed c.sort_unstable_by.ensures.permutation in
+    (some.0, omega (arith, some.1, same))

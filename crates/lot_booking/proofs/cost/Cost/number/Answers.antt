@@ -1,5 +1,5 @@
 -- The rate for each unit, where there is one.
-use Rattle.std.proofs.Common.{◌≡◌, Some, refl, sym, ap, ◌∙◌}
+use Rattle.std.proofs.Common.{refl, sym, ap, ◌∙◌}
 use Rattle.std.specs.Prelude.{is_none}
 use Rattle.lot_num.specs.Amount.{per_unit}
 use Rattle.lot_num.proofs.PerUnitLemmas.{per_unit_from}
