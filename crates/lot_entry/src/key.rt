@@ -1,0 +1,23 @@
+ghost use Rattle.std.specs.Prelude.{◌≡◌, IfOk};
+
+use lot_base::Label;
+use std::alloc::AllocError;
+
+/// What tells a command from every other: where it comes from, and its name there (docs/RULES.md, Keys and repeats).
+#[derive(Debug, PartialEq, Eq, Drop)]
+pub struct Key {
+    pub source: Label,
+    pub name: Label,
+}
+
+impl Key {
+    /// Returns a copy. The only error is out of memory.
+    pub fn copy(&self) -> Result<Key, AllocError>
+        ensures { IfOk result (λ key. key ≡ self.now) }
+    {
+        Ok(Key {
+            source: self.source.copy()?,
+            name: self.name.copy()?,
+        })
+    }
+}

@@ -1,0 +1,25 @@
+//! Commands: what a ledger text asks for, apart from how it is written and whether it may be done.
+//!
+//! - `command`: `Command` and its five kinds.
+//! - `currencies`: the currencies of an opening.
+//! - `transaction`: transactions, postings and amounts.
+//! - `price`: the price in a posting.
+//! - `canonical`: the canonical text of a command.
+//! - `key`: what tells a command from every other.
+#![tactic(auto)]
+
+pub mod canonical;
+mod command;
+mod currencies;
+mod key;
+mod price;
+mod transaction;
+
+pub use command::{Closing, Command, Declaring, Opening, Quoting};
+pub use currencies::Currencies;
+pub use key::Key;
+pub use lot_booking::{Cost, Method, WholeCost};
+pub use lot_command::Items;
+pub use lot_inv::CostSpec;
+pub use price::{Price, UnitPrice, WholePrice};
+pub use transaction::{Amount, Flag, Narration, Posting, Transaction};
