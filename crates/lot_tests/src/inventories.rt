@@ -65,6 +65,35 @@ fn specifications_match_lots(rt: HostRuntime) {
     assert_nothing(&rt, &held, &commodity(&rt, "USD"));
 }
 
+/// Sets the lot of HOOL of the key in a text.
+fn set_lot(rt: &(impl Abort + AllocGlobal), held: &mut Inventory, parts: &str, number: &str) {
+    let key = key(rt, parts);
+    held.set(&commodity(rt, "HOOL"), Some(&key), units(rt, number))
+        .expect(rt, parts);
+}
+
+#[test]
+fn set_lots_replace_the_held_ones(rt: HostRuntime) {
+    let mut held = inventory(&rt, THREE_LOTS);
+    set_lot(&rt, &mut held, "100 USD 2020-01-01", "4");
+    set_lot(&rt, &mut held, "120 USD 2020-02-01", "0");
+    let want = " 4 {100 USD, 2020-01-01} 10 {110 USD, 2020-03-01, \"x\"}";
+    assert_text(&rt, matched_text(&rt, &held, "").as_str(), want);
+}
+
+#[test]
+fn one_commodity_is_taken_alone(rt: HostRuntime) {
+    let mut held = inventory(&rt, THREE_LOTS);
+    let (hool, usd) = (commodity(&rt, "HOOL"), commodity(&rt, "USD"));
+    add(&rt, &mut held, &usd, None, units(&rt, "5"));
+    let alone = held.only_lots(&hool).expect(&rt, "a copy");
+    assert_text(&rt, matched_text(&rt, &alone, "").as_str(), ALL_THREE);
+    assert_is(&rt, &alone.units(&hool, None), &Units::ZERO, "plain");
+    assert_nothing(&rt, &alone, &usd);
+    let none = held.only_lots(&usd).expect(&rt, "a copy");
+    assert_nothing(&rt, &none, &hool);
+}
+
 /// The lots of one unit each on so many days from 1956 on.
 pub(crate) fn daily_lots(rt: &(impl Abort + AllocGlobal), size: usize) -> Inventory {
     let hool = commodity(rt, "HOOL");

@@ -10,6 +10,9 @@
 //! - `keys`: how lot keys compare, and which key fits which specification.
 //! - `steps`, `inventories`: what an inventory holds after each step, and its lots in order.
 //! - `booking`: postings with braces, with what becomes of each.
+//! - `commands`: the canonical texts of commands and of their copies, and the currencies of an opening.
+//! - `gains`: sales, with the gain of each.
+//! - `judge`: commands judged one after another, with what is held and sold then, and the order of refusals.
 //!
 //! What keeps the proofs of tests short: no `?`, which adds a path on which all that lives is dropped; tables that are
 //! slices, and not arrays that a loop takes by value; assertions in functions of their own.
@@ -22,11 +25,17 @@ mod assertions;
 #[cfg(test)]
 mod booking;
 #[cfg(test)]
+mod commands;
+#[cfg(test)]
 mod days;
 #[cfg(test)]
 mod faults;
 #[cfg(test)]
+mod gains;
+#[cfg(test)]
 mod inventories;
+#[cfg(test)]
+mod judge;
 #[cfg(test)]
 mod keys;
 #[cfg(test)]

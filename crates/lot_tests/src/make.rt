@@ -1,6 +1,6 @@
 //! Values made of texts. A text of which there is none ends the test.
 
-use lot_base::{Commodity, Day, Label};
+use lot_base::{Account, Commodity, Day, Label, Note};
 use lot_inv::{CostSpec, Inventory, LotKey};
 use lot_num::{Rate, Units};
 use std::alloc::Global;
@@ -26,6 +26,18 @@ pub(crate) fn day(rt: &impl Abort, text: &str) -> Day {
 
 pub(crate) fn commodity(rt: &(impl Abort + AllocGlobal), text: &str) -> Commodity {
     Commodity::new(rt.alloc(), text).expect(rt, text)
+}
+
+pub(crate) fn account(rt: &(impl Abort + AllocGlobal), text: &str) -> Account {
+    Account::new(rt.alloc(), text).expect(rt, text)
+}
+
+pub(crate) fn label(rt: &(impl Abort + AllocGlobal), text: &str) -> Label {
+    Label::new(rt.alloc(), text).expect(rt, text)
+}
+
+pub(crate) fn note(rt: &(impl Abort + AllocGlobal), text: &str) -> Note {
+    Note::new(rt.alloc(), text).expect(rt, text)
 }
 
 /// So many copies of a text behind another one.
@@ -149,9 +161,15 @@ pub(crate) fn lots_text(rt: &(impl Abort + AllocGlobal), lots: &[(LotKey, Units)
 
 fn push_lot(rt: &(impl Abort + AllocGlobal), text: &mut String, key: &LotKey, units: Units) {
     let units = units.text(rt.alloc()).expect(rt, "units");
+    push_texts(rt, text, &[" ", units.as_str()]);
+    push_key(rt, text, key);
+}
+
+/// Appends a lot key as the holdings print it, behind a blank.
+pub(crate) fn push_key(rt: &(impl Abort + AllocGlobal), text: &mut String, key: &LotKey) {
     let number = key.number.text(rt.alloc()).expect(rt, "number");
     let day = key.day.text(rt.alloc()).expect(rt, "day");
-    push_texts(rt, text, &[" ", units.as_str(), " {", number.as_str(), " "]);
+    push_texts(rt, text, &[" {", number.as_str(), " "]);
     push_texts(rt, text, &[key.currency.as_str(), ", ", day.as_str()]);
     if let Some(label) = &key.label {
         push_texts(rt, text, &[", \"", label.as_str(), "\""]);
@@ -159,7 +177,8 @@ fn push_lot(rt: &(impl Abort + AllocGlobal), text: &mut String, key: &LotKey, un
     push_texts(rt, text, &["}"]);
 }
 
-fn push_texts(rt: &impl Abort, text: &mut String, texts: &[&str]) {
+/// Appends texts.
+pub(crate) fn push_texts(rt: &impl Abort, text: &mut String, texts: &[&str]) {
     for further in texts {
         text.push_str(further).expect(rt, further);
     }
