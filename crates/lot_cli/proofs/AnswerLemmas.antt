@@ -1,28 +1,32 @@
 -- From the parts of the way to the answer.
 use Rattle.std.proofs.Common.{inl, inr, ◌≡◌, ℕ, List, [], ◌++◌, length, refl, sym, ap, subst, append_assoc, append-nil}
-use Rattle.std.specs.Prelude.{IfSome, None, Some, ◌≤◌, ℤ, Option, Result, Ok, Err, IsErrAnd}
+use Rattle.std.specs.Prelude.{IfSome, None, Some, ◌≤◌, Option, Result, Ok, Err, IsErrAnd}
 use Rattle.std.specs.Io.KnownBytes.{Appends, Keeps}
 use Rattle.std.proofs.KnownBytes.{Appends-kept, Appends-nil, Appends-trans}
 use Rattle.lot_cli.specs.declared.batch.fault.Fault.{Fault}
 use Rattle.lot_cli.specs.declared.batch.status.Status.{Status}
-use Rattle.lot_ledger.specs.declared.leg.Entry.{Entry}
-use Rattle.lot_ledger.specs.declared.leg.Position.{Position}
-use Rattle.lot_ledger.specs.declared.verdict.Verdict.{Verdict}
+use Rattle.lot_book.specs.declared.holding.Holding.{Holding}
+use Rattle.lot_book.specs.declared.verdict.Verdict.{Verdict}
+use Rattle.lot_view.specs.declared.view.View.{View}
 use Rattle.lot_report.specs.declared.holdings.ReportFault.{ReportFault}
 use Rattle.lot_report.specs.declared.line.PrintFault.{PrintFault}
 use Rattle.lot_command.specs.declared.command.Command.{Command}
 use Rattle.lot_text.specs.Text.{Reads}
-use Rattle.lot_ledger.specs.Leg.{IsInventory, legs_of}
-use Rattle.lot_ledger.specs.Book.{JudgesAll}
+use Rattle.lot_book.specs.Facts.{Entry, Facts}
+use Rattle.lot_book.specs.Holding.{ListsHoldings}
+use Rattle.lot_book.specs.Judged.{JudgesAll}
+use Rattle.lot_view.specs.View.{known}
 use Rattle.lot_report.specs.Printed.{replies}
 use Rattle.lot_report.specs.Written.{AppendsPrefix}
 use Rattle.lot_report.specs.Report.{WritesReport}
 use Rattle.lot_cli.specs.FaultLine.{fault_line}
+use Rattle.lot_cli.specs.Key.{key_of}
 use Rattle.lot_cli.specs.Input.{longest_input}
 use Rattle.lot_cli.specs.Status.{code_of, status_of, fault_of_report}
 use Rattle.lot_cli.specs.Answer.{IsOutcome, IsOutput, IsBegun, IsJudged, status_of_replies}
 use Rattle.lot_cli.specs.Way.{Runs, Reaches, Reports, Concludes, Ends}
 use Rattle.lot_report.proofs.PrintLemmas.{prefix_behind}
+use Rattle.lot_book.specs.Recorded.{facts_in}
 
 -- ---- A text that was read.
 
@@ -61,32 +65,38 @@ run_stopped input commands old new Fault.TooLong short reads none = absurd none
 run_stopped input commands old new Fault.Read short reads none = absurd none
 
 -- what a run has judged
-judged_input : (input : List ℕ) (commands : List Command) (verdicts : List Verdict) (book : List Entry) (rows : List (Position × ℤ))
-    → length input ≤ longest_input → Reads input commands → JudgesAll [] commands verdicts book → IsInventory (legs_of book) rows
+judged_input : (input : List ℕ) (commands : List Command) (verdicts : List Verdict) (book : List Entry) (rows : List Holding)
+    → length input ≤ longest_input → Reads input commands → JudgesAll key_of 1 [] commands verdicts book → ListsHoldings (facts_in book) rows
     → IsJudged input verdicts rows
 judged_input input commands verdicts book rows short reads judged inventory =
     record { short = short; commands = commands; book = book; reads = reads; judged = judged; inventory = inventory }
 
-pub reaches_the_end : (input : List ℕ) (commands : List Command) (book : List Entry) (rows : List (Position × ℤ)) (status : Status)
+pub reaches_the_end : (input : List ℕ) (commands : List Command) (view : View) (rows : List Holding) (status : Status)
     (old mid new : Option (List ℕ)) (done : Unit {0}) → length input ≤ longest_input → Reads input commands
-    → Runs commands old mid (Ok (book, status)) → IsInventory (legs_of book) rows → WritesReport rows mid new (Ok done)
+    → Runs commands old mid (Ok (view, status)) → ListsHoldings (known view) rows → WritesReport rows mid new (Ok done)
     → Reaches input old new (Ok status)
-reaches_the_end input commands book rows status old mid new done short reads (verdicts, judged, replied, said) inventory (report, is_report, reported) = (
+reaches_the_end input commands view rows status old mid new done short reads (verdicts, book, judged, same, replied, said) inventory (report, is_report, reported) = (
   replies 1 verdicts ++ report,
-  (verdicts, rows, report, judged_input input commands verdicts book rows short reads judged inventory, is_report, refl, ap code_of said),
+  (verdicts, rows, report, judged_input input commands verdicts book rows short reads judged (subst (λ (facts : Facts). ListsHoldings facts rows) same inventory), is_report, refl, ap code_of said),
   Appends-trans old mid new (replies 1 verdicts) report replied reported,
 )
 
-pub report_stopped : (input : List ℕ) (commands : List Command) (book : List Entry) (rows : List (Position × ℤ)) (status : Status)
+-- out of memory before the report
+pub rows_stopped : (input : List ℕ) (commands : List Command) (view : View) (status : Status) (old new : Option (List ℕ))
+    → length input ≤ longest_input → Reads input commands → Runs commands old new (Ok (view, status)) → Reaches input old new (Err Fault.Memory)
+rows_stopped input commands view status old new short reads (verdicts, book, judged, same, replied, said) =
+    (replies 1 verdicts, inr (inr (inl (commands, verdicts, book, short, reads, judged, refl, refl))), replied)
+
+pub report_stopped : (input : List ℕ) (commands : List Command) (view : View) (rows : List Holding) (status : Status)
     (old mid new : Option (List ℕ)) (fault : ReportFault) (result : Result Status Fault) → length input ≤ longest_input → Reads input commands
-    → Runs commands old mid (Ok (book, status)) → IsInventory (legs_of book) rows → WritesReport rows mid new (Err fault)
+    → Runs commands old mid (Ok (view, status)) → ListsHoldings (known view) rows → WritesReport rows mid new (Err fault)
     → IsErrAnd result (λ e. e ≡ fault_of_report fault) → Reaches input old new result
-report_stopped input commands book rows status old mid new fault (Ok x) short reads ran inventory reported fails = absurd fails
-report_stopped input commands book rows status old mid new fault (Err e) short reads (verdicts, judged, replied, said) inventory reported fails =
+report_stopped input commands view rows status old mid new fault (Ok x) short reads ran inventory reported fails = absurd fails
+report_stopped input commands view rows status old mid new fault (Err e) short reads (verdicts, book, judged, same, replied, said) inventory reported fails =
     subst (λ f. Reaches input old new (Err f)) (sym fails) (at fault reported)
   where
     whole : IsJudged input verdicts rows
-    whole = judged_input input commands verdicts book rows short reads judged inventory
+    whole = judged_input input commands verdicts book rows short reads judged (subst (λ (facts : Facts). ListsHoldings facts rows) same inventory)
 
     at : (f : ReportFault) → WritesReport rows mid new (Err f) → Reaches input old new (Err (fault_of_report f))
     at ReportFault.Range (report, is_report, written) =
@@ -103,7 +113,7 @@ report_stopped input commands book rows status old mid new fault (Err e) short r
     )
     at ReportFault.Memory (lines, first, written) = (
       replies 1 verdicts ++ lines,
-      inr (inr (verdicts, rows, lines, whole, first, refl, refl)),
+      inr (inr (inr (verdicts, rows, lines, whole, first, refl, refl))),
       Appends-trans old mid new (replies 1 verdicts) lines replied written,
     )
 

@@ -1,25 +1,26 @@
 -- An input has one answer, and what is written of it where memory ends or the writer fails is a prefix of that one.
-use Rattle.std.specs.Prelude.{◌≡◌, ℕ, suc, ◌<◌, ◌≤◌, List, [], ◌∷◌, ◌++◌, length, ℤ}
-use Rattle.std.proofs.Common.{refl, sym, ap, subst, ◌∙◌, inl, inr, append_assoc, not-le_of_lt}
+use Rattle.std.specs.Prelude.{◌≡◌, ℕ, suc, ◌<◌, ◌≤◌, List, [], ◌∷◌, ◌++◌, length}
+use Rattle.std.proofs.Common.{refl, sym, ap, subst, ◌∙◌, inl, inr, append_assoc, append-nil, not-le_of_lt}
 use Rattle.lot_cli.specs.declared.batch.fault.Fault.{Fault}
-use Rattle.lot_ledger.specs.declared.leg.Entry.{Entry}
-use Rattle.lot_ledger.specs.declared.leg.Position.{Position}
-use Rattle.lot_ledger.specs.declared.verdict.Verdict.{Verdict}
 use Rattle.lot_command.specs.declared.command.Command.{Command}
+use Rattle.lot_book.specs.declared.holding.Holding.{Holding}
+use Rattle.lot_book.specs.declared.verdict.Verdict.{Verdict}
 use Rattle.lot_cli.specs.Answer.{IsJudged, IsTooLong, IsNoText, IsWhole, IsBroken, IsAnswer, AreReplies, AreLines, IsJudgedBefore, RunsOut, status_of_replies}
 use Rattle.lot_cli.specs.Input.{longest_input}
-use Rattle.lot_ledger.specs.Book.{JudgesAll}
-use Rattle.lot_ledger.specs.Leg.{IsInventory, legs_of}
+use Rattle.lot_book.specs.Facts.{Entry}
+use Rattle.lot_book.specs.Holding.{ListsHoldings}
+use Rattle.lot_book.specs.Judged.{JudgesAll}
 use Rattle.lot_report.specs.Printed.{replies, reply}
 use Rattle.lot_cli.specs.FaultLine.{fault_line}
+use Rattle.lot_cli.specs.Key.{key_of}
 use Rattle.lot_report.specs.Report.{IsReport, IsReportToFault, AreFirstLines}
 use Rattle.lot_cli.specs.Status.{code_of}
-use Rattle.lot_text.specs.Text.{IsFaultAt}
+use Rattle.lot_text.specs.Text.{IsFaultAt, Reads}
 use Rattle.lot_report.specs.Written.{IsPrefixOf}
 use Rattle.lot_cli.proofs.LawAnswersReports.{one_report, one_report_to_fault, whole_or_to_fault, lines_of_report, lines_of_report_to_fault, kept_are_first}
-use Rattle.lot_ledger.proofs.LawBooks.{judged_alike}
-use Rattle.lot_ledger.proofs.LawInventory.{one_inventory}
+use Rattle.lot_laws.proofs.JudgedLaws.{judged_alike, one_holdings}
 use Rattle.lot_text.proofs.TextLaws.{reads_one, fault_one, not_both}
+use Rattle.lot_book.specs.Recorded.{facts_in}
 
 -- ---- Prefixes of texts.
 
@@ -34,20 +35,20 @@ prefix_behind start a b h = (h.0, ap (λ text. start ++ text) h.1 ∙ sym (appen
 
 -- ---- Inputs that are judged.
 
-one_judgement : (input : List ℕ) (vs ws : List Verdict) (rows others : List (Position × ℤ))
+one_judgement : (input : List ℕ) (vs ws : List Verdict) (rows others : List Holding)
     → IsJudged input vs rows → IsJudged input ws others → (vs ≡ ws) × (rows ≡ others)
 one_judgement input vs ws rows others h k =
     let commands = reads_one input h.commands k.commands h.reads k.reads in
-    let same = judged_alike [] h.commands vs ws h.book k.book h.judged (subst (λ cs. JudgesAll [] cs ws k.book) (sym commands) k.judged) in
-    (same.0, one_inventory (legs_of h.book) rows others h.inventory (subst (λ book. IsInventory (legs_of book) others) (sym same.1) k.inventory))
+    let same = judged_alike key_of 1 [] h.commands vs ws h.book k.book h.judged (subst (λ cs. JudgesAll key_of 1 [] cs ws k.book) (sym commands) k.judged) in
+    (same.0, one_holdings (facts_in h.book) rows others h.inventory (subst (λ (book : List Entry). ListsHoldings (facts_in book) others) (sym same.1) k.inventory))
 
-judged_first : (before : List Entry) (done rest : List Command) (verdicts : List Verdict) (after : List Entry)
-    → JudgesAll before (done ++ rest) verdicts after
-    → (first : List Verdict) × (more : List Verdict) × (mid : List Entry) × JudgesAll before done first mid × (verdicts ≡ first ++ more)
-judged_first before [] rest verdicts after h = ([], verdicts, before, refl, refl)
-judged_first before (command ∷ done) rest [] after h = absurd h
-judged_first before (command ∷ done) rest (verdict ∷ verdicts) after h =
-    let parts = judged_first h.0 done rest verdicts after h.2 in
+judged_first : (number : ℕ) (before : List Entry) (done rest : List Command) (verdicts : List Verdict) (after : List Entry)
+    → JudgesAll key_of number before (done ++ rest) verdicts after
+    → (first : List Verdict) × (more : List Verdict) × (mid : List Entry) × JudgesAll key_of number before done first mid × (verdicts ≡ first ++ more)
+judged_first number before [] rest verdicts after h = ([], verdicts, before, refl, refl)
+judged_first number before (command ∷ done) rest [] after h = absurd h
+judged_first number before (command ∷ done) rest (verdict ∷ verdicts) after h =
+    let parts = judged_first (suc number) h.0 done rest verdicts after h.2 in
     (verdict ∷ parts.0, parts.1, parts.2, (h.0, h.1, parts.3), ap (λ vs. verdict ∷ vs) parts.4)
 
 replies_first : (number : ℕ) (verdicts more : List Verdict) → IsPrefixOf (replies number verdicts) (replies number (verdicts ++ more))
@@ -56,12 +57,12 @@ replies_first number (verdict ∷ verdicts) more =
     prefix_behind (reply number verdict) (replies (suc number) verdicts) (replies (suc number) (verdicts ++ more)) (replies_first (suc number) verdicts more)
 
 -- the replies to the first commands are a prefix of the replies to all
-prefix_of_replies : (input text : List ℕ) (verdicts : List Verdict) (rows : List (Position × ℤ))
+prefix_of_replies : (input text : List ℕ) (verdicts : List Verdict) (rows : List Holding)
     → AreReplies input text → IsJudged input verdicts rows → IsPrefixOf text (replies 1 verdicts)
 prefix_of_replies input text verdicts rows h k =
     let commands = reads_one input k.commands (h.0 ++ h.1) k.reads h.5 in
-    let parts = judged_first [] h.0 h.1 verdicts k.book (subst (λ cs. JudgesAll [] cs verdicts k.book) commands k.judged) in
-    let same = (judged_alike [] h.0 parts.0 h.2 parts.2 h.3 parts.3 h.6).0 in
+    let parts = judged_first 1 [] h.0 h.1 verdicts k.book (subst (λ cs. JudgesAll key_of 1 [] cs verdicts k.book) commands k.judged) in
+    let same = (judged_alike key_of 1 [] h.0 parts.0 h.2 parts.2 h.3 parts.3 h.6).0 in
     let first = replies_first 1 parts.0 parts.1 in
     (first.0, ap (replies 1) parts.4 ∙ first.1 ∙ ap (λ vs. replies 1 vs ++ first.0) same ∙ ap (λ t. t ++ first.0) (sym h.7))
 
@@ -77,7 +78,7 @@ too_long input a b s t h (inr (inr (inl k))) = apart (length input) longest_inpu
 too_long input a b s t h (inr (inr (inr k))) = apart (length input) longest_input h.0 k.3.short
 
 -- no input has a faulty line and is judged
-no_verdicts : {P : Type 0} → (input : List ℕ) (number : ℕ) (verdicts : List Verdict) (rows : List (Position × ℤ))
+no_verdicts : {P : Type 0} → (input : List ℕ) (number : ℕ) (verdicts : List Verdict) (rows : List Holding)
     → IsFaultAt input number → IsJudged input verdicts rows → P
 no_verdicts input number verdicts rows h k = absurd (not_both input k.commands number k.reads h)
 
@@ -166,9 +167,18 @@ replies_before : (input text : List ℕ) (number : ℕ) (verdicts : List Verdict
     → AreReplies input text
 replies_before input text number verdicts h is = (h.done, h.command ∷ h.rest, verdicts, h.book, h.short, h.reads, h.judged, is)
 
+-- the replies to all commands are those to the first ones, of which none is left
+all_replies : (input text : List ℕ) (commands : List Command) (verdicts : List Verdict) (book : List Entry)
+    → length input ≤ longest_input → Reads input commands → JudgesAll key_of 1 [] commands verdicts book → text ≡ replies 1 verdicts
+    → AreReplies input text
+all_replies input text commands verdicts book short reads judged is =
+    (commands, [], verdicts, book, short, subst (Reads input) (sym (append-nil commands)) reads, judged, is)
+
 pub kept_begins : (input kept last text : List ℕ) (status : ℕ) → RunsOut input kept last → IsAnswer input text status → IsPrefixOf kept text
 kept_begins input kept last text status (inl h) k = (text, ap (λ start. start ++ text) (sym h.0))
 kept_begins input kept last text status (inr (inl h)) k =
     replies_begin input kept text status (replies_before input kept h.0 h.1 h.2 h.3) k
-kept_begins input kept last text status (inr (inr h)) k =
+kept_begins input kept last text status (inr (inr (inl h))) k =
+    replies_begin input kept text status (all_replies input kept h.0 h.1 h.2 h.3 h.4 h.5 h.6) k
+kept_begins input kept last text status (inr (inr (inr h))) k =
     lines_begin input kept text status (h.0, h.1, h.2, h.3, kept_are_first h.1 h.2 h.4, h.5) k

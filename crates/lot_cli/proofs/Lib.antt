@@ -1,4 +1,5 @@
 pub mod InputLemmas
+pub mod KeyLemmas
 pub mod RunLemmas
 pub mod FaultLemmas
 pub mod LawAnswersReports

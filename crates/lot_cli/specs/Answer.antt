@@ -1,20 +1,22 @@
 -- What `check` writes for an input, and with which status it ends.
-use Rattle.std.specs.Prelude.{◌≡◌, ◌⊎◌, ℕ, ◌+◌, ◌<◌, ◌≤◌, List, [], ◌∷◌, ◌++◌, length, ℤ}
+use Rattle.std.specs.Prelude.{◌≡◌, ◌⊎◌, ℕ, ◌+◌, ◌<◌, ◌≤◌, List, [], ◌∷◌, ◌++◌, length}
 use Rattle.lot_cli.specs.declared.batch.fault.Fault.{Fault}
 use Rattle.lot_cli.specs.declared.batch.status.Status.{Status}
-use Rattle.lot_ledger.specs.declared.leg.Position.{Position}
-use Rattle.lot_ledger.specs.declared.leg.Entry.{Entry}
-use Rattle.lot_ledger.specs.declared.verdict.Verdict.{Verdict}
 use Rattle.lot_command.specs.declared.command.Command.{Command}
+use Rattle.lot_book.specs.declared.holding.Holding.{Holding}
+use Rattle.lot_book.specs.declared.verdict.Verdict.{Verdict}
 use Rattle.lot_text.specs.Text.{Reads, IsFaultAt}
-use Rattle.lot_ledger.specs.Leg.{IsInventory, legs_of}
-use Rattle.lot_ledger.specs.Book.{JudgesAll}
+use Rattle.lot_book.specs.Facts.{Entry}
+use Rattle.lot_book.specs.Holding.{ListsHoldings}
+use Rattle.lot_book.specs.Judged.{JudgesAll}
 use Rattle.lot_report.specs.Printed.{replies}
 use Rattle.lot_cli.specs.FaultLine.{fault_line}
+use Rattle.lot_cli.specs.Key.{key_of}
 use Rattle.lot_report.specs.Report.{IsReport, IsReportToFault, AreFirstLines, AreKeptLines}
 use Rattle.lot_report.specs.Written.{IsProperPrefixOf}
 use Rattle.lot_cli.specs.Input.{longest_input}
 use Rattle.lot_cli.specs.Status.{code_of, status_of_verdict, status_after}
+use Rattle.lot_book.specs.Recorded.{facts_in}
 
 -- ---- The status of replies.
 
@@ -25,14 +27,14 @@ status_of_replies (verdict ∷ verdicts) = status_after (status_of_verdict verdi
 
 -- ---- The whole answer.
 
--- the commands of the input, judged in order on an empty book, come to these verdicts, and the book holds these rows
-pub record IsJudged (input : List ℕ) (verdicts : List Verdict) (rows : List (Position × ℤ)) : Type 0 where
+-- the commands of the input, judged in order on an empty book, each under the key of its number, come to these verdicts, and the book holds these rows
+pub record IsJudged (input : List ℕ) (verdicts : List Verdict) (rows : List Holding) : Type 0 where
   pub short : length input ≤ longest_input
   pub commands : List Command
   pub book : List Entry
   pub reads : Reads input commands
-  pub judged : JudgesAll [] commands verdicts book
-  pub inventory : IsInventory (legs_of book) rows
+  pub judged : JudgesAll key_of 1 [] commands verdicts book
+  pub inventory : ListsHoldings (facts_in book) rows
 
 -- the one line that the input is too long
 abbrev pub IsTooLong : List ℕ → List ℕ → ℕ → Type 0
@@ -46,13 +48,13 @@ IsNoText input text status =
 -- the replies and the holdings
 abbrev pub IsWhole : List ℕ → List ℕ → ℕ → Type 0
 IsWhole input text status =
-    (verdicts : List Verdict) × (rows : List (Position × ℤ)) × (report : List ℕ) × IsJudged input verdicts rows
+    (verdicts : List Verdict) × (rows : List Holding) × (report : List ℕ) × IsJudged input verdicts rows
     × IsReport rows report × (text ≡ replies 1 verdicts ++ report) × (status ≡ code_of (status_of_replies verdicts))
 
 -- the replies, the rows before the one with which a total leaves the range, and the line that reports it
 abbrev pub IsBroken : List ℕ → List ℕ → ℕ → Type 0
 IsBroken input text status =
-    (verdicts : List Verdict) × (rows : List (Position × ℤ)) × (report : List ℕ) × IsJudged input verdicts rows
+    (verdicts : List Verdict) × (rows : List Holding) × (report : List ℕ) × IsJudged input verdicts rows
     × IsReportToFault rows report × (text ≡ replies 1 verdicts ++ (report ++ fault_line Fault.Range)) × (status ≡ 4)
 
 -- the text is the answer to the input, and the status goes with it
@@ -66,12 +68,12 @@ IsAnswer input text status =
 abbrev pub AreReplies : List ℕ → List ℕ → Type 0
 AreReplies input text =
     (done : List Command) × (rest : List Command) × (verdicts : List Verdict) × (book : List Entry)
-    × (length input ≤ longest_input) × Reads input (done ++ rest) × JudgesAll [] done verdicts book × (text ≡ replies 1 verdicts)
+    × (length input ≤ longest_input) × Reads input (done ++ rest) × JudgesAll key_of 1 [] done verdicts book × (text ≡ replies 1 verdicts)
 
 -- all replies, and the first lines of the report, each of them whole
 abbrev pub AreLines : List ℕ → List ℕ → Type 0
 AreLines input text =
-    (verdicts : List Verdict) × (rows : List (Position × ℤ)) × (lines : List ℕ)
+    (verdicts : List Verdict) × (rows : List Holding) × (lines : List ℕ)
     × IsJudged input verdicts rows × AreFirstLines rows lines × (text ≡ replies 1 verdicts ++ lines)
 
 -- ---- Out of memory: whole lines of the answer, and then the line that reports it.
@@ -88,7 +90,7 @@ pub record IsJudgedBefore (input : List ℕ) (number : ℕ) (verdicts : List Ver
   pub rest : List Command
   pub book : List Entry
   pub reads : Reads input (done ++ command ∷ rest)
-  pub judged : JudgesAll [] done verdicts book
+  pub judged : JudgesAll key_of 1 [] done verdicts book
   pub numbered : number ≡ length verdicts + 1
 
 -- at a command: the replies to those before it, and the line with its number
@@ -97,14 +99,23 @@ RunsOutAtCommand input kept last =
     (number : ℕ) × (verdicts : List Verdict) × IsJudgedBefore input number verdicts
     × (kept ≡ replies 1 verdicts) × (last ≡ fault_line (Fault.MemoryAt number))
 
+-- before the report: all replies, and the line without a number
+abbrev pub RunsOutBeforeReport : List ℕ → List ℕ → List ℕ → Type 0
+RunsOutBeforeReport input kept last =
+    (commands : List Command) × (verdicts : List Verdict) × (book : List Entry)
+    × (length input ≤ longest_input) × Reads input commands × JudgesAll key_of 1 [] commands verdicts book
+    × (kept ≡ replies 1 verdicts) × (last ≡ fault_line Fault.Memory)
+
 -- in the report: all replies and the lines of the report before, and the line without a number
 abbrev pub RunsOutInReport : List ℕ → List ℕ → List ℕ → Type 0
 RunsOutInReport input kept last =
-    (verdicts : List Verdict) × (rows : List (Position × ℤ)) × (lines : List ℕ) × IsJudged input verdicts rows
+    (verdicts : List Verdict) × (rows : List Holding) × (lines : List ℕ) × IsJudged input verdicts rows
     × AreKeptLines rows lines × (kept ≡ replies 1 verdicts ++ lines) × (last ≡ fault_line Fault.Memory)
 
 abbrev pub RunsOut : List ℕ → List ℕ → List ℕ → Type 0
-RunsOut input kept last = RunsOutInReading input kept last ⊎ RunsOutAtCommand input kept last ⊎ RunsOutInReport input kept last
+RunsOut input kept last =
+    RunsOutInReading input kept last ⊎ RunsOutAtCommand input kept last ⊎ RunsOutBeforeReport input kept last
+    ⊎ RunsOutInReport input kept last
 
 -- ---- What is written where the writer takes all of it.
 

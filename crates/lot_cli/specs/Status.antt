@@ -3,7 +3,7 @@ use Rattle.std.specs.Prelude.{◌≡◌, ◌⊎◌, ℕ, Result, Ok, Err}
 use Rattle.std.specs.declared.io.Error.{Error}
 use Rattle.lot_cli.specs.declared.batch.fault.Fault.{Fault}
 use Rattle.lot_cli.specs.declared.batch.fault.Fault.TheVariants.{Read, TooLong, Syntax, Range, Write, Memory, MemoryAt}
-use Rattle.lot_ledger.specs.declared.verdict.Verdict.{Verdict}
+use Rattle.lot_book.specs.declared.verdict.Verdict.{Verdict}
 use Rattle.lot_cli.specs.declared.input.SlurpFault.{SlurpFault}
 use Rattle.lot_text.specs.declared.reader.TextFault.{TextFault}
 use Rattle.lot_report.specs.declared.holdings.ReportFault.{ReportFault}
@@ -25,6 +25,7 @@ IsStatus n = (n ≡ 0) ⊎ (n ≡ 1) ⊎ (n ≡ 3) ⊎ (n ≡ 4)
 -- the status of a run of one command
 abbrev pub status_of_verdict : Verdict → Status
 status_of_verdict Verdict.Accepted = Accepted
+status_of_verdict Verdict.Repeated = Accepted
 status_of_verdict (Verdict.Refused refusal) = Refused
 
 -- one refused command is enough for a run to count as refused

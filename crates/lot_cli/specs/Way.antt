@@ -1,33 +1,48 @@
 -- The parts of the way from an input to its answer, each as the contract of a call that `check` makes.
 use Rattle.std.specs.Io.KnownBytes.{Appends}
-use Rattle.std.specs.Prelude.{◌≡◌, ◌⊎◌, Option, Result, Ok, Err, ℕ, ◌+◌, ◌<◌, ◌≤◌, List, [], ◌∷◌, ◌++◌, length, ℤ}
+use Rattle.std.specs.Prelude.{◌≡◌, ◌⊎◌, Option, Result, Ok, Err, ℕ, ◌+◌, ◌<◌, ◌≤◌, List, [], ◌∷◌, ◌++◌, length}
 use Rattle.lot_cli.specs.declared.batch.fault.Fault.{Fault}
 use Rattle.lot_cli.specs.declared.batch.status.Status.{Status}
 use Rattle.lot_report.specs.declared.line.PrintFault.{PrintFault}
-use Rattle.lot_ledger.specs.declared.leg.Position.{Position}
-use Rattle.lot_ledger.specs.declared.leg.Entry.{Entry}
-use Rattle.lot_ledger.specs.declared.verdict.Verdict.{Verdict}
 use Rattle.lot_command.specs.declared.command.Command.{Command}
+use Rattle.lot_book.specs.declared.change.Change.{Change}
+use Rattle.lot_book.specs.declared.holding.Holding.{Holding}
+use Rattle.lot_book.specs.declared.verdict.Verdict.{Verdict}
+use Rattle.lot_view.specs.declared.view.View.{View}
 use Rattle.lot_text.specs.Text.{IsFaultAt}
-use Rattle.lot_ledger.specs.Book.{Judges, JudgesAll}
+use Rattle.lot_ledger.specs.Decide.{Lists}
+use Rattle.lot_book.specs.Facts.{Entry, Facts}
+use Rattle.lot_book.specs.Judged.{JudgesAll}
+use Rattle.lot_book.specs.Step.{Accept, Decides, Refuse, Repeat}
+use Rattle.lot_view.specs.View.{known}
 use Rattle.lot_report.specs.Printed.{reply, replies}
 use Rattle.lot_report.specs.Report.{IsReportToFault}
 use Rattle.lot_report.specs.Written.{AppendsPrefix}
 use Rattle.lot_cli.specs.FaultLine.{fault_line}
+use Rattle.lot_cli.specs.Key.{key_of}
 use Rattle.lot_cli.specs.Input.{longest_input}
 use Rattle.lot_cli.specs.Status.{code_of, status_of, status_of_verdict}
 use Rattle.lot_cli.specs.Answer.{status_of_replies, IsBegun, IsWhole, IsJudged, RunsOut}
+use Rattle.lot_book.specs.Recorded.{facts_in, recorded}
 
 -- ---- Runs: commands judged on a fresh book, with a reply to each.
 
--- a command of that number is judged on a book, and its reply is written; or the writer fails within the reply; or,
+-- a command judged on what is known of a book: the verdict, and what is known after it
+abbrev pub JudgesKnown : Facts → Command → Verdict → Facts → Type 0
+JudgesKnown before command Verdict.Accepted after =
+    (change : Change) × Decides before command (Accept change.legs) × Lists before command change
+    × (after ≡ recorded before command change)
+JudgesKnown before command Verdict.Repeated after = Decides before command Repeat × (after ≡ before)
+JudgesKnown before command (Verdict.Refused refusal) after = Decides before command (Refuse refusal) × (after ≡ before)
+
+-- a command of that number is judged on what is known, and its reply is written; or the writer fails within the reply; or,
 -- out of memory at that number, nothing is written
-abbrev pub Replies : List Entry → Command → ℕ → Option (List ℕ) → Option (List ℕ) → Result (List Entry × Status) Fault → Type 0
+abbrev pub Replies : Facts → Command → ℕ → Option (List ℕ) → Option (List ℕ) → Result (View × Status) Fault → Type 0
 Replies before command number old new (Ok replied) =
-    (verdict : Verdict) × Judges before command verdict replied.0 × Appends old new (reply number verdict)
+    (verdict : Verdict) × JudgesKnown before command verdict (known replied.0) × Appends old new (reply number verdict)
     × (replied.1 ≡ status_of_verdict verdict)
 Replies before command number old new (Err Fault.Write) =
-    (verdict : Verdict) × (after : List Entry) × Judges before command verdict after × AppendsPrefix old new (reply number verdict)
+    (verdict : Verdict) × (after : Facts) × JudgesKnown before command verdict after × AppendsPrefix old new (reply number verdict)
 Replies before command number old new (Err (Fault.MemoryAt stopped)) = (stopped ≡ number) × Appends old new []
 Replies before command number old new (Err Fault.Memory) = ⊥
 Replies before command number old new (Err Fault.Range) = ⊥
@@ -39,20 +54,21 @@ Replies before command number old new (Err Fault.Read) = ⊥
 abbrev pub IsCutInRun : List Command → Option (List ℕ) → Option (List ℕ) → Type 0
 IsCutInRun commands old new =
     (done : List Command) × (rest : List Command) × (verdicts : List Verdict) × (book : List Entry)
-    × (commands ≡ done ++ rest) × JudgesAll [] done verdicts book × AppendsPrefix old new (replies 1 verdicts)
+    × (commands ≡ done ++ rest) × JudgesAll key_of 1 [] done verdicts book × AppendsPrefix old new (replies 1 verdicts)
 
 -- out of memory at the command of that number: the replies to those before it are written
 abbrev pub RunsOutInRun : List Command → ℕ → Option (List ℕ) → Option (List ℕ) → Type 0
 RunsOutInRun commands number old new =
     (done : List Command) × (command : Command) × (rest : List Command) × (verdicts : List Verdict) × (book : List Entry)
-    × (commands ≡ done ++ command ∷ rest) × JudgesAll [] done verdicts book × (number ≡ length verdicts + 1)
+    × (commands ≡ done ++ command ∷ rest) × JudgesAll key_of 1 [] done verdicts book × (number ≡ length verdicts + 1)
     × Appends old new (replies 1 verdicts)
 
--- what a run of commands on a fresh book writes and returns: the replies to all, and the book after them; or it stops
--- at one of them
-abbrev pub Runs : List Command → Option (List ℕ) → Option (List ℕ) → Result (List Entry × Status) Fault → Type 0
+-- what a run of commands on a fresh book writes and returns: the replies to all, and what is known of the book after
+-- them; or it stops at one of them
+abbrev pub Runs : List Command → Option (List ℕ) → Option (List ℕ) → Result (View × Status) Fault → Type 0
 Runs commands old new (Ok ran) =
-    (verdicts : List Verdict) × JudgesAll [] commands verdicts ran.0 × Appends old new (replies 1 verdicts)
+    (verdicts : List Verdict) × (book : List Entry) × JudgesAll key_of 1 [] commands verdicts book
+    × (known ran.0 ≡ facts_in book) × Appends old new (replies 1 verdicts)
     × (ran.1 ≡ status_of_replies verdicts)
 Runs commands old new (Err Fault.Write) = IsCutInRun commands old new
 Runs commands old new (Err (Fault.MemoryAt number)) = RunsOutInRun commands number old new
@@ -75,7 +91,7 @@ Reaches input old new (Err Fault.Read) = Appends old new []
 Reaches input old new (Err Fault.TooLong) = (longest_input < length input) × Appends old new []
 Reaches input old new (Err (Fault.Syntax number)) = (length input ≤ longest_input) × IsFaultAt input number × Appends old new []
 Reaches input old new (Err Fault.Range) =
-    (verdicts : List Verdict) × (rows : List (Position × ℤ)) × (report : List ℕ) × IsJudged input verdicts rows
+    (verdicts : List Verdict) × (rows : List Holding) × (report : List ℕ) × IsJudged input verdicts rows
     × IsReportToFault rows report × Appends old new (replies 1 verdicts ++ report)
 Reaches input old new (Err Fault.Write) = (text : List ℕ) × IsBegun input text × AppendsPrefix old new text
 Reaches input old new (Err Fault.Memory) = StopsForMemory input Fault.Memory old new

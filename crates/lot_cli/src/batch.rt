@@ -3,12 +3,13 @@
 //! - `fault`: why a run ends before its end.
 //! - `status`: how it ended.
 
-ghost use Rattle.std.specs.Prelude.{◌≡◌, ◌≤◌, ℕ, List, length, IfSome};
+ghost use Rattle.std.specs.Prelude.{◌≡◌, ◌≤◌, ℕ, List, length, IfOk, IfSome};
 ghost use Rattle.std.specs.Io.KnownBytes.{Appends, Keeps};
 ghost use Rattle.lot_cli.specs.Status.{IsStatus, after_flush};
 ghost use Rattle.lot_cli.specs.Answer.{IsOutcome};
 ghost use Rattle.lot_cli.specs.Input.{longest_input};
-ghost use Rattle.lot_cli.specs.Way.{Concludes, Ends, Reaches, Replies, Runs};
+ghost use Rattle.lot_cli.specs.Way.{Concludes, Ends, JudgesKnown, Reaches, Replies, Runs};
+ghost use Rattle.lot_view.specs.View.{known};
 
 mod fault;
 mod status;
@@ -17,11 +18,12 @@ mod tests;
 
 use crate::input::slurp;
 use fault::{Fault, print_fault};
-use lot_ledger::{Book, Command};
+use lot_command::Command;
+use lot_ledger::{Outcome, Stop, Verdict, View, decide};
 use lot_report::{PrintFault, print_holdings, print_reply};
 use lot_text::read;
 use status::Status;
-use std::alloc::Global;
+use std::alloc::{AllocError, Global};
 use std::io::{self, Read, Write};
 
 /// Judges a ledger text on a fresh book: writes a reply to each of its commands, and then what the book holds.
@@ -62,45 +64,59 @@ fn answer_text<W: Write>(alloc: Global, text: &[u8], writer: &mut W) -> Result<S
     ensures { Reaches text.now (W.contents writer.old) (W.contents writer.new) result }
 {
     let commands = read(alloc, text)?;
-    let (book, status) = run(alloc, commands, writer)?;
-    print_holdings(alloc, book.holdings(), writer)?;
+    let (view, status) = run(alloc, commands, writer)?;
+    let rows = view.holdings()?;
+    print_holdings(alloc, &rows, writer)?;
     Ok(status)
 }
 
-/// Judges commands in their order on a fresh book, and writes a reply to each.
+/// Judges commands in their order on a fresh book, and writes a reply to each. Returns what is known of the book then.
 fn run<W: Write>(
     alloc: Global,
     commands: Vec<Command>,
     writer: &mut W,
-) -> Result<(Book, Status), Fault>
+) -> Result<(View, Status), Fault>
     ensures { Runs commands.items (W.contents writer.old) (W.contents writer.new) result }
 {
-    let mut book = Book::new(alloc);
+    let mut view = View::new(alloc, 0);
     let mut status = Status::Accepted;
     for (index, command) in commands.into_iter().enumerate() {
-        let (next, replied) = reply(alloc, book, index + 1, command, writer)?;
-        book = next;
+        let (next, replied) = reply(alloc, view, index + 1, &command, writer)?;
+        view = next;
         status = status.and(replied);
     }
-    Ok((book, status))
+    Ok((view, status))
 }
 
 /// Judges the command of that number, and writes the reply.
 fn reply<W: Write>(
     alloc: Global,
-    book: Book,
+    view: View,
     number: usize,
-    command: Command,
+    command: &Command,
     writer: &mut W,
-) -> Result<(Book, Status), Fault>
-    ensures { Replies book command number (W.contents writer.old) (W.contents writer.new) result }
+) -> Result<(View, Status), Fault>
+    ensures { Replies (known view) command.now number (W.contents writer.old) (W.contents writer.new) result }
 {
-    let Ok((book, verdict)) = book.judge(alloc, command) else {
+    let Ok((view, verdict)) = judge(alloc, view, command) else {
         return Err(Fault::MemoryAt { number });
     };
     match print_reply(writer, number, &verdict) {
-        Ok(()) => Ok((book, Status::of_verdict(&verdict))),
+        Ok(()) => Ok((view, Status::of_verdict(&verdict))),
         Err(fault) => Err(Fault::at(number, fault)),
+    }
+}
+
+/// Judges a command on what is known of the book, and returns the verdict with what is known then: of an accepted command
+/// its entry is recorded. The error is out of memory; the view is then lost.
+fn judge(alloc: Global, view: View, command: &Command) -> Result<(View, Verdict), AllocError>
+    ensures { IfOk result (λ judged. JudgesKnown (known view) command.now judged.1 (known judged.0)) }
+{
+    match decide(alloc, &view, command) {
+        Ok(Outcome::Accept(change)) => Ok((view.record(command, &change)?, Verdict::Accepted)),
+        Ok(Outcome::Repeat) => Ok((view, Verdict::Repeated)),
+        Err(Stop::Refused(refusal)) => Ok((view, Verdict::Refused(refusal))),
+        Err(Stop::Memory) => Err(AllocError),
     }
 }
 

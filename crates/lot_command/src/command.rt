@@ -1,50 +1,124 @@
-use crate::items::Items;
-use lot_base::{Account, Commodity, Day, Note};
-use lot_num::{Rate, Units};
+ghost use Rattle.std.specs.Prelude.{◌≡◌, IfOk};
 
-/// What a ledger text asks for (docs/FORMATS.md, Ledger text).
+use crate::currencies::Currencies;
+use crate::transaction::Transaction;
+use lot_base::{Account, Commodity, Day};
+use lot_booking::Method;
+use lot_num::Rate;
+use std::alloc::{AllocError, Global};
+
+/// What a ledger text asks for (docs/RULES.md, Commands).
 #[derive(Drop)]
 pub enum Command {
     /// To open an account.
     Opening(Opening),
+    /// To close an account.
+    Closing(Closing),
+    /// To declare a commodity.
+    Declaring(Declaring),
+    /// To note a price.
+    Quoting(Quoting),
     /// To move amounts.
     Transaction(Transaction),
 }
 
-/// An account is opened: from that day on it may be posted to.
-#[derive(Debug, PartialEq, Eq, Drop)]
+impl Command {
+    /// Returns a copy. The only error is out of memory.
+    pub fn copy(&self, alloc: Global) -> Result<Command, AllocError>
+        ensures { IfOk result (λ command. command ≡ self.now) }
+    {
+        Ok(match self {
+            Command::Opening(opening) => Command::Opening(opening.copy(alloc)?),
+            Command::Closing(closing) => Command::Closing(closing.copy()?),
+            Command::Declaring(declaring) => Command::Declaring(declaring.copy()?),
+            Command::Quoting(quoting) => Command::Quoting(quoting.copy()?),
+            Command::Transaction(transaction) => Command::Transaction(transaction.copy(alloc)?),
+        })
+    }
+}
+
+/// An account is opened: from that day on it may be posted to, in the currencies given, or in every commodity where none
+/// are.
+#[derive(Drop)]
 pub struct Opening {
     pub day: Day,
     pub account: Account,
+    pub currencies: Currencies,
+    /// How a reduction in the account chooses its lots.
+    pub method: Method,
 }
 
-/// Amounts move between accounts on one day.
+impl Opening {
+    /// Returns a copy. The only error is out of memory.
+    pub fn copy(&self, alloc: Global) -> Result<Opening, AllocError>
+        ensures { IfOk result (λ opening. opening ≡ self.now) }
+    {
+        Ok(Opening {
+            day: self.day,
+            account: self.account.copy()?,
+            currencies: self.currencies.copy(alloc)?,
+            method: self.method,
+        })
+    }
+}
+
+/// An account is closed: after that day it may be posted to no more.
 #[derive(Drop)]
-pub struct Transaction {
+pub struct Closing {
     pub day: Day,
-    /// The note on it, if there is one.
-    pub narration: Option<Note>,
-    pub postings: Items<Posting>,
-}
-
-/// One line of a transaction. A posting without an amount is elided: it takes what balances the others.
-#[derive(Debug, PartialEq, Eq, Drop)]
-pub struct Posting {
     pub account: Account,
-    pub amount: Option<Amount>,
 }
 
-/// Units of a commodity, and what one of them cost, where a lot is bought.
-#[derive(Debug, PartialEq, Eq, Drop)]
-pub struct Amount {
-    pub units: Units,
+impl Closing {
+    /// Returns a copy. The only error is out of memory.
+    pub fn copy(&self) -> Result<Closing, AllocError>
+        ensures { IfOk result (λ closing. closing ≡ self.now) }
+    {
+        Ok(Closing {
+            day: self.day,
+            account: self.account.copy()?,
+        })
+    }
+}
+
+/// A commodity is declared.
+#[derive(Drop)]
+pub struct Declaring {
+    pub day: Day,
     pub commodity: Commodity,
-    pub cost: Option<Cost>,
 }
 
-/// What one unit of a lot cost: a rate in a currency.
-#[derive(Debug, PartialEq, Eq, Drop)]
-pub struct Cost {
-    pub number: Rate,
-    pub currency: Commodity,
+impl Declaring {
+    /// Returns a copy. The only error is out of memory.
+    pub fn copy(&self) -> Result<Declaring, AllocError>
+        ensures { IfOk result (λ declaring. declaring ≡ self.now) }
+    {
+        Ok(Declaring {
+            day: self.day,
+            commodity: self.commodity.copy()?,
+        })
+    }
+}
+
+/// On a day one unit of a commodity is worth so much of a currency.
+#[derive(Drop)]
+pub struct Quoting {
+    pub day: Day,
+    pub base: Commodity,
+    pub rate: Rate,
+    pub quote: Commodity,
+}
+
+impl Quoting {
+    /// Returns a copy. The only error is out of memory.
+    pub fn copy(&self) -> Result<Quoting, AllocError>
+        ensures { IfOk result (λ quoting. quoting ≡ self.now) }
+    {
+        Ok(Quoting {
+            day: self.day,
+            base: self.base.copy()?,
+            rate: self.rate,
+            quote: self.quote.copy()?,
+        })
+    }
 }

@@ -1,25 +1,18 @@
-//! The book and its rules: whether a command may be done, and what it changes.
+//! Whether a command may be done, and what it changes: decisions on what is known of a book.
 //!
-//! - `leg`: legs and positions, and entries, which are accepted commands with their legs.
-//! - `book`: the list of entries, and what they open and hold.
-//! - `decide`: what a command would change, or why it is refused.
-//! - `balance`: the residuals of a transaction.
-//! - `refusal`: why a command is refused.
-//! - `verdict`: how a command was judged.
-//! - `laws`: laws of the definitions that the contracts cite.
+//! - `decision`: what becomes of a command.
+//! - `checks`: the refusals of a transaction that look at its postings and accounts.
+//! - `fill`: the legs of the elided posting.
+//! - `heads`: the latest days of postings with braces.
 #![tactic(auto)]
 
-mod balance;
-mod book;
-mod decide;
-pub mod laws;
-mod leg;
-mod refusal;
-mod verdict;
+mod checks;
+mod decision;
+mod fill;
+mod heads;
 
-pub use book::Book;
-pub use leg::{Entry, Leg, Position};
-pub use lot_command::{Amount, Command, Cost, Items, Opening, Posting, Transaction};
-pub use lot_inv::LotKey;
-pub use refusal::Refusal;
-pub use verdict::Verdict;
+pub use decision::{Outcome, decide};
+pub use lot_book::{
+    Change, Gain, Holding, Leg, LotKey, Pair, Position, Refusal, Sale, Standing, Stop, Verdict,
+};
+pub use lot_view::{Touched, View, touches};

@@ -7,11 +7,11 @@ use Rattle.std.specs.Map.{keys_of, lookup}
 use Rattle.std.specs.Ordering.{is_eq}
 use Rattle.std.specs.Option.{unwrap_or}
 use Rattle.lot_base.specs.Text.{same_text, text_cmp}
-use Rattle.lot_report.specs.Printed.{position_row}
+use Rattle.lot_report.specs.Printed.{holding_row}
 use Rattle.lot_report.specs.Written.{WritesLine}
-use Rattle.lot_ledger.specs.Currencies.{sum_in}
+use Rattle.lot_book.specs.Currencies.{sum_in}
 use Rattle.lot_inv.specs.declared.lot_key.LotKey.{LotKey}
-use Rattle.lot_ledger.specs.declared.leg.Position.{Position}
+use Rattle.lot_book.specs.declared.holding.Holding.{Holding}
 use Rattle.lot_report.specs.declared.line.PrintFault.{PrintFault}
 use Rattle.lot_report.specs.declared.holdings.Holdings.{Holdings}
 use Rattle.lot_report.specs.declared.holdings.ReportFault.{ReportFault}
@@ -22,7 +22,7 @@ use Rattle.std.proofs.Math.Bool.{or-false, or-true}
 use Rattle.std.proofs.lemmas.Grind.{flat_map-append}
 use Rattle.std.proofs.lemmas.List.Folds.{list_any-append}
 use Rattle.lot_base.proofs.TextLemmas.{one_text, same_text-itself, same_text-ordered}
-use Rattle.lot_ledger.proofs.SumLemmas.{sum_in-none, sum_in-push_here, sum_in-push_apart}
+use Rattle.lot_book.proofs.SumLemmas.{sum_in-none, sum_in-push_here, sum_in-push_apart}
 
 -- ---- Sums kept by the currency.
 
@@ -82,25 +82,25 @@ sums_under_copy costs totals new currency copy cost total sums updated order sam
 
 -- ---- Rows.
 
-costs_snoc : (rows : List (Position × ℤ)) (row : Position × ℤ) → costs_of (rows ++ row ∷ []) ≡ costs_of rows ++ cost_of row.0.lot row.1
+costs_snoc : (rows : List Holding) (row : Holding) → costs_of (rows ++ row ∷ []) ≡ costs_of rows ++ cost_of row.lot row.units
 costs_snoc rows row =
-    flat_map-append (λ (r : Position × ℤ). cost_of r.0.lot r.1) rows (row ∷ []) ∙ ap (λ costs. costs_of rows ++ costs) (append-nil (cost_of row.0.lot row.1))
+    flat_map-append (λ (r : Holding). cost_of r.lot r.units) rows (row ∷ []) ∙ ap (λ costs. costs_of rows ++ costs) (append-nil (cost_of row.lot row.units))
 
-snoc_is_some : (rows : List (Position × ℤ)) (row : Position × ℤ) → false ≡ is_nil (rows ++ row ∷ [])
+snoc_is_some : (rows : List Holding) (row : Holding) → false ≡ is_nil (rows ++ row ∷ [])
 snoc_is_some [] row = refl
 snoc_is_some (first ∷ rows) row = refl
 
-costs_with_lot : (rows : List (Position × ℤ)) (row : Position × ℤ) (lot : LotKey) → row.0.lot ≡ Some lot
-    → costs_of (rows ++ row ∷ []) ≡ costs_of rows ++ (lot.currency, row.1 *ℤ pos lot.number) ∷ []
-costs_with_lot rows row lot in_lot = costs_snoc rows row ∙ ap (λ l. costs_of rows ++ cost_of l row.1) in_lot
+costs_with_lot : (rows : List Holding) (row : Holding) (lot : LotKey) → row.lot ≡ Some lot
+    → costs_of (rows ++ row ∷ []) ≡ costs_of rows ++ (lot.currency, row.units *ℤ pos lot.number) ∷ []
+costs_with_lot rows row lot in_lot = costs_snoc rows row ∙ ap (λ l. costs_of rows ++ cost_of l row.units) in_lot
 
-fits_is_wide : (rows : List (Position × ℤ)) (row : Position × ℤ) (lot : LotKey) → row.0.lot ≡ Some lot
-    → fits rows row ≡ (is_wide (sum_in (costs_of rows) lot.currency +ℤ row.1 *ℤ pos lot.number) && true)
+fits_is_wide : (rows : List Holding) (row : Holding) (lot : LotKey) → row.lot ≡ Some lot
+    → fits rows row ≡ (is_wide (sum_in (costs_of rows) lot.currency +ℤ row.units *ℤ pos lot.number) && true)
 fits_is_wide rows row lot in_lot =
-    ap (λ l. list_all (λ (cost : List ℕ × ℤ). is_wide (sum_in (costs_of (rows ++ row ∷ [])) cost.0)) (cost_of l row.1)) in_lot
+    ap (λ l. list_all (λ (cost : List ℕ × ℤ). is_wide (sum_in (costs_of (rows ++ row ∷ [])) cost.0)) (cost_of l row.units)) in_lot
     ∙ ap (λ z. is_wide z && true)
     (ap (λ costs. sum_in costs lot.currency) (costs_with_lot rows row lot in_lot)
-    ∙ sum_in-push_here (costs_of rows) (lot.currency, row.1 *ℤ pos lot.number) lot.currency (same_text-itself lot.currency))
+    ∙ sum_in-push_here (costs_of rows) (lot.currency, row.units *ℤ pos lot.number) lot.currency (same_text-itself lot.currency))
 
 wide_is : (z : ℤ) → IsWide z → (is_wide z && true) ≡ true
 wide_is z wide = search (rules)
@@ -109,31 +109,31 @@ not_wide_is : (z : ℤ) → (IsWide z → ⊥) → not (is_wide z && true) ≡ t
 not_wide_is z wide = search (rules)
 
 -- what the addition of a lot's cost says of the row
-pub takes_lot : (rows : List (Position × ℤ)) (row : Position × ℤ) (lot : LotKey) (report : Holdings) (result : Result (Unit {0}) ReportFault)
-    → row.0.lot ≡ Some lot
-    → OnOk result (AreSums (costs_of rows ++ (lot.currency, row.1 *ℤ pos lot.number) ∷ []) report.costs.entries)
-    → OnOk result (IsWide (sum_in (costs_of rows) lot.currency +ℤ row.1 *ℤ pos lot.number))
-    → (IsErrOf result Range → IsWide (sum_in (costs_of rows) lot.currency +ℤ row.1 *ℤ pos lot.number) → ⊥)
-    → (IsErrOf result Memory → IsWide (sum_in (costs_of rows) lot.currency +ℤ row.1 *ℤ pos lot.number))
+pub takes_lot : (rows : List Holding) (row : Holding) (lot : LotKey) (report : Holdings) (result : Result (Unit {0}) ReportFault)
+    → row.lot ≡ Some lot
+    → OnOk result (AreSums (costs_of rows ++ (lot.currency, row.units *ℤ pos lot.number) ∷ []) report.costs.entries)
+    → OnOk result (IsWide (sum_in (costs_of rows) lot.currency +ℤ row.units *ℤ pos lot.number))
+    → (IsErrOf result Range → IsWide (sum_in (costs_of rows) lot.currency +ℤ row.units *ℤ pos lot.number) → ⊥)
+    → (IsErrOf result Memory → IsWide (sum_in (costs_of rows) lot.currency +ℤ row.units *ℤ pos lot.number))
     → IfErr result (λ fault. fault ≢ Write)
     → report.is_empty ≡ false → TakesCost rows row report result
 takes_lot rows row lot report (Ok done) in_lot taken wide range room cause some = (
-  fits_is_wide rows row lot in_lot ∙ wide_is (sum_in (costs_of rows) lot.currency +ℤ row.1 *ℤ pos lot.number) wide,
+  fits_is_wide rows row lot in_lot ∙ wide_is (sum_in (costs_of rows) lot.currency +ℤ row.units *ℤ pos lot.number) wide,
   (
     some ∙ snoc_is_some rows row,
     subst (λ costs. AreSums costs report.costs.entries) (sym (costs_with_lot rows row lot in_lot)) taken,
   ),
 )
 takes_lot rows row lot report (Err Range) in_lot taken wide range room cause some =
-    ap not (fits_is_wide rows row lot in_lot) ∙ not_wide_is (sum_in (costs_of rows) lot.currency +ℤ row.1 *ℤ pos lot.number) (range refl)
+    ap not (fits_is_wide rows row lot in_lot) ∙ not_wide_is (sum_in (costs_of rows) lot.currency +ℤ row.units *ℤ pos lot.number) (range refl)
 takes_lot rows row lot report (Err Write) in_lot taken wide range room cause some = cause refl
 takes_lot rows row lot report (Err Memory) in_lot taken wide range room cause some =
-    fits_is_wide rows row lot in_lot ∙ wide_is (sum_in (costs_of rows) lot.currency +ℤ row.1 *ℤ pos lot.number) (room refl)
+    fits_is_wide rows row lot in_lot ∙ wide_is (sum_in (costs_of rows) lot.currency +ℤ row.units *ℤ pos lot.number) (room refl)
 
 -- a row that was taken, and isn't written whole
-pub stops_at_row : (rows : List (Position × ℤ)) (row : Position × ℤ) (report : Holdings) (old new : Option (List ℕ))
+pub stops_at_row : (rows : List Holding) (row : Holding) (report : Holdings) (old new : Option (List ℕ))
     (fault : PrintFault) (result : Result (Unit {0}) ReportFault)
-    → IsTrue (fits rows row) → WritesLine old new (Err fault) (position_row row.0 row.1)
+    → IsTrue (fits rows row) → WritesLine old new (Err fault) (holding_row row)
     → IsErrAnd result (λ e. e ≡ report_fault fault) → TakesRow rows row report old new result
 stops_at_row rows row report old new fault (Ok done) taken stops fails = absurd fails
 stops_at_row rows row report old new PrintFault.Write (Err e) taken stops fails = rw (fails) (taken, stops)

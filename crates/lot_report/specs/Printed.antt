@@ -3,38 +3,94 @@ use Rattle.std.specs.Prelude.{ℕ, suc, List, [], ◌∷◌, ◌++◌, ℤ, pos,
 use Rattle.std.specs.List.{flat_map}
 use Rattle.lot_num.specs.AmountText.{amount_text}
 use Rattle.lot_base.specs.Day.{day_text}
-use Rattle.lot_ledger.specs.declared.refusal.Refusal.{Refusal}
-use Rattle.lot_ledger.specs.declared.refusal.Refusal.TheVariants.{AlreadyOpen, UnknownAccount, NotOpenYet, TooManyPostings, TwoElided, Range, InexactFill, NotBalanced}
-use Rattle.lot_ledger.specs.declared.verdict.Verdict.{Verdict}
-use Rattle.lot_ledger.specs.declared.verdict.Verdict.TheVariants.{Accepted, Refused}
 use Rattle.lot_inv.specs.declared.lot_key.LotKey.{LotKey}
-use Rattle.lot_ledger.specs.declared.leg.Position.{Position}
+use Rattle.lot_book.specs.declared.holding.Holding.{Holding}
+use Rattle.lot_book.specs.declared.refusal.Refusal.{Refusal}
+use Rattle.lot_book.specs.declared.refusal.Refusal.TheVariants.{KeyReused, AlreadyOpen, UnknownAccount, NotOpenYet, Closed, AlreadyDeclared, CurrencyNotAllowed, TooManyPostings, TwoElided, BackDated, NoMatch, Ambiguous, NotEnough, IncompleteCost, InexactCost, ZeroUnits, Range, InexactFill, FillNotAllowed, NotBalanced, TooManyLots, BookFull}
+use Rattle.lot_book.specs.declared.verdict.Verdict.{Verdict}
+use Rattle.lot_book.specs.declared.verdict.Verdict.TheVariants.{Accepted, Repeated, Refused}
 
 abbrev pub line : List ℕ → List ℕ
 line text = text ++ 10 ∷ []
 
 -- ---- Replies
 
--- the code and the name of a refusal, and its argument if it has one
-abbrev pub cause_text : Refusal → List ℕ
-cause_text AlreadyOpen = codes "L2 AlreadyOpen"
-cause_text (UnknownAccount posting) = codes "L3 UnknownAccount posting " ++ decimal posting
-cause_text (NotOpenYet posting) = codes "L4 NotOpenYet posting " ++ decimal posting
-cause_text TooManyPostings = codes "L8 TooManyPostings"
-cause_text TwoElided = codes "L9 TwoElided"
-cause_text (Range posting) = codes "L11 Range posting " ++ decimal posting
-cause_text (InexactFill currency) = codes "L12 InexactFill " ++ currency
-cause_text (NotBalanced currency) = codes "L14 NotBalanced " ++ currency
+-- the place of a posting as an argument
+abbrev pub posting_text : ℕ → List ℕ
+posting_text posting = codes " posting " ++ decimal posting
+
+-- the place of a posting, or nothing where the command is a closing
+abbrev pub place_text : Option ℕ → List ℕ
+place_text None = []
+place_text (Some posting) = posting_text posting
+
+-- a currency as an argument
+abbrev pub currency_text : List ℕ → List ℕ
+currency_text currency = codes " " ++ currency
+
+-- the code and the name of a refusal
+abbrev pub name_text : Refusal → List ℕ
+name_text KeyReused = codes "L1 KeyReused"
+name_text AlreadyOpen = codes "L2 AlreadyOpen"
+name_text (UnknownAccount posting) = codes "L3 UnknownAccount"
+name_text (NotOpenYet posting) = codes "L4 NotOpenYet"
+name_text (Closed posting) = codes "L5 Closed"
+name_text AlreadyDeclared = codes "L6 AlreadyDeclared"
+name_text (CurrencyNotAllowed posting) = codes "L7 CurrencyNotAllowed"
+name_text TooManyPostings = codes "L8 TooManyPostings"
+name_text TwoElided = codes "L9 TwoElided"
+name_text (BackDated posting) = codes "L10 BackDated"
+name_text (Range posting) = codes "L11 Range"
+name_text (InexactFill currency) = codes "L12 InexactFill"
+name_text (FillNotAllowed currency) = codes "L13 FillNotAllowed"
+name_text (NotBalanced currency) = codes "L14 NotBalanced"
+name_text (TooManyLots posting) = codes "L15 TooManyLots"
+name_text BookFull = codes "L16 BookFull"
+name_text (NoMatch posting) = codes "B1 NoMatch"
+name_text (Ambiguous posting) = codes "B2 Ambiguous"
+name_text (NotEnough posting) = codes "B3 NotEnough"
+name_text (IncompleteCost posting) = codes "B4 IncompleteCost"
+name_text (InexactCost posting) = codes "B5 InexactCost"
+name_text (ZeroUnits posting) = codes "B6 ZeroUnits"
+
+-- the argument of a refusal, with the space before it, or nothing where it has none
+abbrev pub argument_text : Refusal → List ℕ
+argument_text KeyReused = []
+argument_text AlreadyOpen = []
+argument_text (UnknownAccount posting) = place_text posting
+argument_text (NotOpenYet posting) = place_text posting
+argument_text (Closed posting) = place_text posting
+argument_text AlreadyDeclared = []
+argument_text (CurrencyNotAllowed posting) = posting_text posting
+argument_text TooManyPostings = []
+argument_text TwoElided = []
+argument_text (BackDated posting) = posting_text posting
+argument_text (Range posting) = posting_text posting
+argument_text (InexactFill currency) = currency_text currency
+argument_text (FillNotAllowed currency) = currency_text currency
+argument_text (NotBalanced currency) = currency_text currency
+argument_text (TooManyLots posting) = posting_text posting
+argument_text BookFull = []
+argument_text (NoMatch posting) = posting_text posting
+argument_text (Ambiguous posting) = posting_text posting
+argument_text (NotEnough posting) = posting_text posting
+argument_text (IncompleteCost posting) = posting_text posting
+argument_text (InexactCost posting) = posting_text posting
+argument_text (ZeroUnits posting) = posting_text posting
 
 abbrev pub accepted_line : ℕ → List ℕ
 accepted_line number = line (decimal number ++ codes " accepted")
 
+abbrev pub repeated_line : ℕ → List ℕ
+repeated_line number = line (decimal number ++ codes " repeat")
+
 abbrev pub refused_line : ℕ → Refusal → List ℕ
-refused_line number refusal = line (decimal number ++ codes " refused " ++ cause_text refusal)
+refused_line number refusal = line (decimal number ++ codes " refused " ++ name_text refusal ++ argument_text refusal)
 
 -- the reply to the command of that number
 abbrev pub reply : ℕ → Verdict → List ℕ
 reply number Accepted = accepted_line number
+reply number Repeated = repeated_line number
 reply number (Refused refusal) = refused_line number refusal
 
 -- the replies to commands, the first of which has that number
@@ -64,13 +120,13 @@ lot_text lot = in_braces (amount_text 0 8 (pos lot.number)) lot
 abbrev pub lot_row : List ℕ → List ℕ → LotKey → ℤ → List ℕ
 lot_row account commodity lot units = line (account ++ codes " " ++ amount_text 0 8 units ++ codes " " ++ commodity ++ codes " " ++ lot_text lot)
 
--- the row of a position, which is plain or in a lot
+-- the row of a holding, which is plain or in a lot
 abbrev pub row_of : List ℕ → List ℕ → Option LotKey → ℤ → List ℕ
 row_of account commodity None units = plain_row account commodity units
 row_of account commodity (Some lot) units = lot_row account commodity lot units
 
-abbrev pub position_row : Position → ℤ → List ℕ
-position_row position units = row_of position.account position.commodity position.lot units
+abbrev pub holding_row : Holding → List ℕ
+holding_row holding = row_of holding.account holding.commodity holding.lot holding.units
 
 abbrev pub total_line : List ℕ → ℤ → List ℕ
 total_line currency total = line (codes "total cost " ++ amount_text 2 16 total ++ codes " " ++ currency)

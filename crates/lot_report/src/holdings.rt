@@ -1,9 +1,9 @@
 ghost use Rattle.std.specs.Prelude.{◌≡◌, ◌≢◌, ℕ, List, [], ◌∷◌, ◌++◌, ℤ, pos, ◌+ℤ◌, ◌*ℤ◌, SomeIff, OnOk, IfErr, IsErrOf};
 ghost use Rattle.lot_num.specs.Amount.{IsWide};
-ghost use Rattle.lot_ledger.specs.Currencies.{sum_in};
-ghost use Rattle.lot_ledger.specs.declared.leg.Position.{Position as PositionValue};
+ghost use Rattle.lot_book.specs.Currencies.{sum_in};
+ghost use Rattle.lot_book.specs.declared.holding.Holding.{Holding as HoldingValue};
 ghost use Rattle.lot_report.specs.Report.{AreSums, HasTaken, TakesCost, TakesRow, WritesReport, WritesTotals};
-ghost use Rattle.lot_report.specs.Printed.{plain_row, lot_row, position_row, total_line};
+ghost use Rattle.lot_report.specs.Printed.{plain_row, lot_row, holding_row, total_line};
 ghost use Rattle.lot_report.specs.Written.{WritesLine};
 
 #[cfg(test)]
@@ -11,7 +11,7 @@ mod tests;
 
 use crate::line::{PrintFault, print_line};
 use lot_base::{Commodity, Label};
-use lot_ledger::{LotKey, Position};
+use lot_book::{Holding, LotKey};
 use lot_num::{Units, Wide, weight};
 use std::alloc::{AllocError, AllocFailed, Global};
 use std::collections::BTreeMap;
@@ -69,29 +69,28 @@ impl<T: Drop> From<AllocFailed<T>> for ReportFault {
     }
 }
 
-/// Writes the report of what is held: a row for each position, in their order, and then what the lots cost in each
-/// currency.
+/// Writes the report of what is held: a line for each row, in the order in which they are given, and then what the lots
+/// cost in each currency.
 ///
 /// Returns `Range` at the first row with which a total leaves the range of weights: the rows before it are written, and
 /// no total is. Returns `Memory` where there is no memory for a line or a total: whole lines of the report are written.
 /// Returns `Write` where the writer fails: a prefix of the report is written, but not all of it.
 pub fn print_holdings<W: Write>(
     alloc: Global,
-    held: &BTreeMap<Position, Units>,
+    rows: &[Holding],
     writer: &mut W,
 ) -> Result<(), ReportFault>
-    ensures { WritesReport held.now.entries (W.contents writer.old) (W.contents writer.new) result }
+    ensures { WritesReport rows.now (W.contents writer.old) (W.contents writer.new) result }
 {
     let mut holdings = Holdings::new(alloc);
-    for (position, units) in held {
-        holdings.row(position, *units, writer)?;
+    for holding in rows {
+        holdings.row(holding, writer)?;
     }
     holdings.end(writer)?;
     Ok(())
 }
 
-/// The report of what is held: a row for each position that isn't at zero, in their order, and then what the
-/// lots cost in each currency.
+/// The report of what is held: its rows in their order, and then what the lots cost in each currency.
 #[derive(Drop)]
 struct Holdings {
     alloc: Global,
@@ -112,21 +111,16 @@ impl Holdings {
         }
     }
 
-    /// Writes the row of one position.
+    /// Writes one row.
     ///
     /// Returns `Range` where it takes a total out of the range of weights. Nothing of the row is written then, nor when
     /// out of memory.
-    fn row<W: Write>(
-        &mut self,
-        position: &Position,
-        units: Units,
-        writer: &mut W,
-    ) -> Result<(), ReportFault>
-        ensures { (rows : List (PositionValue × ℤ)) → HasTaken rows self.old
-            → TakesRow rows (position.now, units) self.new (W.contents writer.old) (W.contents writer.new) result }
+    fn row<W: Write>(&mut self, holding: &Holding, writer: &mut W) -> Result<(), ReportFault>
+        ensures { (rows : List HoldingValue) → HasTaken rows self.old
+            → TakesRow rows holding.now self.new (W.contents writer.old) (W.contents writer.new) result }
     {
-        self.take_cost(position, units)?;
-        print_row(self.alloc, writer, position, units)?;
+        self.take_cost(holding)?;
+        print_row(self.alloc, writer, holding)?;
         Ok(())
     }
 
@@ -144,13 +138,12 @@ impl Holdings {
     }
 
     /// Takes what the units of one more row cost; plain units cost nothing.
-    fn take_cost(&mut self, position: &Position, units: Units) -> Result<(), ReportFault>
-        ensures { (rows : List (PositionValue × ℤ)) → HasTaken rows self.old
-            → TakesCost rows (position.now, units) self.new result }
+    fn take_cost(&mut self, holding: &Holding) -> Result<(), ReportFault>
+        ensures { (rows : List HoldingValue) → HasTaken rows self.old → TakesCost rows holding.now self.new result }
     {
         self.is_empty = false;
-        match &position.lot {
-            Some(lot) => self.add_cost(lot, units),
+        match &holding.lot {
+            Some(lot) => self.add_cost(lot, holding.units),
             None => Ok(()),
         }
     }
@@ -187,32 +180,22 @@ impl Holdings {
     }
 }
 
-fn print_row<W: Write>(
-    alloc: Global,
-    writer: &mut W,
-    position: &Position,
-    units: Units,
-) -> Result<(), PrintFault>
-    ensures { WritesLine (W.contents writer.old) (W.contents writer.new) result (position_row position.now units) }
+fn print_row<W: Write>(alloc: Global, writer: &mut W, holding: &Holding) -> Result<(), PrintFault>
+    ensures { WritesLine (W.contents writer.old) (W.contents writer.new) result (holding_row holding.now) }
 {
-    match &position.lot {
-        Some(lot) => print_lot(alloc, writer, position, lot, units),
-        None => print_plain(alloc, writer, position, units),
+    match &holding.lot {
+        Some(lot) => print_lot(alloc, writer, holding, lot),
+        None => print_plain(alloc, writer, holding),
     }
 }
 
-fn print_plain<W: Write>(
-    alloc: Global,
-    writer: &mut W,
-    position: &Position,
-    units: Units,
-) -> Result<(), PrintFault>
+fn print_plain<W: Write>(alloc: Global, writer: &mut W, holding: &Holding) -> Result<(), PrintFault>
     ensures { WritesLine (W.contents writer.old) (W.contents writer.new) result
-        (plain_row position.now.account position.now.commodity units) }
+        (plain_row holding.now.account holding.now.commodity holding.now.units) }
 {
-    let account = &position.account;
-    let units = units.text_money(alloc)?;
-    let commodity = &position.commodity;
+    let account = &holding.account;
+    let units = holding.units.text_money(alloc)?;
+    let commodity = &holding.commodity;
     print_line(writer, format_args!("{account} {units} {commodity}"))
 }
 
@@ -220,16 +203,15 @@ fn print_plain<W: Write>(
 fn print_lot<W: Write>(
     alloc: Global,
     writer: &mut W,
-    position: &Position,
+    holding: &Holding,
     lot: &LotKey,
-    units: Units,
 ) -> Result<(), PrintFault>
     ensures { WritesLine (W.contents writer.old) (W.contents writer.new) result
-        (lot_row position.now.account position.now.commodity lot.now units) }
+        (lot_row holding.now.account holding.now.commodity lot.now holding.now.units) }
 {
-    let account = &position.account;
-    let units = units.text(alloc)?;
-    let commodity = &position.commodity;
+    let account = &holding.account;
+    let units = holding.units.text(alloc)?;
+    let commodity = &holding.commodity;
     let number = lot.number.text(alloc)?;
     let lot = PrintedLot {
         number: number.as_str(),

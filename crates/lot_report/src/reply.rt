@@ -1,13 +1,16 @@
 ghost use Rattle.std.specs.Prelude.{◌≡◌, ◌≤◌, length, IsErrOf};
-ghost use Rattle.lot_report.specs.Printed.{reply, cause_text};
+ghost use Rattle.lot_report.specs.Printed.{argument_text, name_text, reply};
 ghost use Rattle.lot_report.specs.Written.{WritesLine, longest_line};
 
+#[cfg(test)]
+mod tests;
+
 use crate::line::{PrintFault, print_line};
-use lot_ledger::{Refusal, Verdict};
+use lot_book::{Refusal, Verdict};
 use std::fmt;
 use std::io::Write;
 
-/// Writes the reply to the command of that number: what became of it.
+/// Writes the reply to the command of that number: that it was accepted, that it stands already, or why it was refused.
 ///
 /// Returns what `print_line` returned: after `Memory` the writer is as it was, after `Write` a prefix of the line is
 /// written, but not all of it.
@@ -22,32 +25,81 @@ pub fn print_reply<W: Write>(
 {
     match verdict {
         Verdict::Accepted => print_line(writer, format_args!("{number} accepted")),
+        Verdict::Repeated => print_line(writer, format_args!("{number} repeat")),
         Verdict::Refused(refusal) => {
-            let cause = Cause(refusal);
-            print_line(writer, format_args!("{number} refused {cause}"))
+            let name = name(refusal);
+            let argument = Argument(refusal);
+            print_line(writer, format_args!("{number} refused {name}{argument}"))
         }
     }
 }
 
-/// A refusal as it is printed: its code, its name, and its argument if it has one.
-#[derive(Clone, Copy)]
-struct Cause<'a>(&'a Refusal);
+/// Returns the code and the name of a refusal.
+fn name(refusal: &Refusal) -> &'static str
+    ensures { result.now ≡ name_text refusal.now }
+{
+    match refusal {
+        Refusal::KeyReused => "L1 KeyReused",
+        Refusal::AlreadyOpen => "L2 AlreadyOpen",
+        Refusal::UnknownAccount { .. } => "L3 UnknownAccount",
+        Refusal::NotOpenYet { .. } => "L4 NotOpenYet",
+        Refusal::Closed { .. } => "L5 Closed",
+        Refusal::AlreadyDeclared => "L6 AlreadyDeclared",
+        Refusal::CurrencyNotAllowed { .. } => "L7 CurrencyNotAllowed",
+        Refusal::TooManyPostings => "L8 TooManyPostings",
+        Refusal::TwoElided => "L9 TwoElided",
+        Refusal::BackDated { .. } => "L10 BackDated",
+        Refusal::Range { .. } => "L11 Range",
+        Refusal::InexactFill { .. } => "L12 InexactFill",
+        Refusal::FillNotAllowed { .. } => "L13 FillNotAllowed",
+        Refusal::NotBalanced { .. } => "L14 NotBalanced",
+        Refusal::TooManyLots { .. } => "L15 TooManyLots",
+        Refusal::BookFull => "L16 BookFull",
+        Refusal::NoMatch { .. } => "B1 NoMatch",
+        Refusal::Ambiguous { .. } => "B2 Ambiguous",
+        Refusal::NotEnough { .. } => "B3 NotEnough",
+        Refusal::IncompleteCost { .. } => "B4 IncompleteCost",
+        Refusal::InexactCost { .. } => "B5 InexactCost",
+        Refusal::ZeroUnits { .. } => "B6 ZeroUnits",
+    }
+}
 
-impl fmt::Display for Cause<'_> {
+/// The argument of a refusal as it is printed behind its name: a posting, a currency, or nothing where it has none.
+#[derive(Clone, Copy)]
+struct Argument<'a>(&'a Refusal);
+
+impl fmt::Display for Argument<'_> {
     ghost use Rattle.std.specs.Prelude.{Some};
 
-    ghost output = { λ cause. Some (cause_text cause.0.now) };
+    ghost output = { λ argument. Some (argument_text argument.0.now) };
 
     fn fmt<W: fmt::Write>(&self, f: &mut fmt::Formatter<W>) -> fmt::Result {
         match self.0 {
-            Refusal::AlreadyOpen => f.write_str("L2 AlreadyOpen"),
-            Refusal::UnknownAccount { posting } => write!(f, "L3 UnknownAccount posting {posting}"),
-            Refusal::NotOpenYet { posting } => write!(f, "L4 NotOpenYet posting {posting}"),
-            Refusal::TooManyPostings => f.write_str("L8 TooManyPostings"),
-            Refusal::TwoElided => f.write_str("L9 TwoElided"),
-            Refusal::Range { posting } => write!(f, "L11 Range posting {posting}"),
-            Refusal::InexactFill { currency } => write!(f, "L12 InexactFill {currency}"),
-            Refusal::NotBalanced { currency } => write!(f, "L14 NotBalanced {currency}"),
+            Refusal::UnknownAccount { posting }
+            | Refusal::NotOpenYet { posting }
+            | Refusal::Closed { posting } => match posting {
+                Some(posting) => write!(f, " posting {posting}"),
+                None => Ok(()),
+            },
+            Refusal::CurrencyNotAllowed { posting }
+            | Refusal::BackDated { posting }
+            | Refusal::NoMatch { posting }
+            | Refusal::Ambiguous { posting }
+            | Refusal::NotEnough { posting }
+            | Refusal::IncompleteCost { posting }
+            | Refusal::InexactCost { posting }
+            | Refusal::ZeroUnits { posting }
+            | Refusal::Range { posting }
+            | Refusal::TooManyLots { posting } => write!(f, " posting {posting}"),
+            Refusal::InexactFill { currency }
+            | Refusal::FillNotAllowed { currency }
+            | Refusal::NotBalanced { currency } => write!(f, " {currency}"),
+            Refusal::KeyReused
+            | Refusal::AlreadyOpen
+            | Refusal::AlreadyDeclared
+            | Refusal::TooManyPostings
+            | Refusal::TwoElided
+            | Refusal::BookFull => Ok(()),
         }
     }
 }

@@ -3,8 +3,8 @@
 use crate::assertions::{assert_is, assert_named, assert_written};
 use crate::make::{account, commodity, day, label, note, rate, spec, units};
 use lot_base::{Commodity, Day};
-use lot_entry::canonical::body;
-use lot_entry::{
+use lot_command::canonical::body;
+use lot_command::{
     Amount, Closing, Command, Cost, Currencies, Declaring, Flag, Items, Key, Method, Narration,
     Opening, Posting, Price, Quoting, Transaction, UnitPrice, WholeCost, WholePrice,
 };

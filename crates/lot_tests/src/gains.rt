@@ -3,8 +3,8 @@
 use crate::assertions::assert_text;
 use crate::make::{commodity, day, key, lots_text, rate, units};
 use lot_base::Account;
-use lot_entry::{Price, UnitPrice, WholePrice};
-use lot_judge::{Gain, Sale};
+use lot_command::{Price, UnitPrice, WholePrice};
+use lot_ledger::{Gain, Sale};
 use lot_num::Wide;
 use std::process::Abort;
 

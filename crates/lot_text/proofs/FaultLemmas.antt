@@ -1,19 +1,20 @@
 -- When out of memory is reported: only where a line says something, and fits behind those before it.
-use Rattle.std.proofs.Common.{◌≡◌, ◌⊎◌, ℕ, true, false, List, [], Option, Some, None, Err, ℤ, inl, inr, refl, ap}
+use Rattle.std.proofs.Common.{◌≡◌, ◌⊎◌, ℕ, true, false, List, Option, Some, None, Err, ℤ, inl, inr, refl, ap}
 use Rattle.std.specs.Prelude.{◌==◌, option_map, option_and_then, IsSome, ⊤, codes}
 use Rattle.std.specs.Cmp.Lexicographic.{pointwise}
 use Rattle.std.specs.Option.{is_some}
 use Rattle.std.specs.Str.{is_utf8}
 use Rattle.std.proofs.lemmas.Bool.{cases_Bool}
 use Rattle.lot_command.specs.declared.command.Command.{Command}
-use Rattle.lot_command.specs.declared.command.Transaction.{Transaction as TransactionOf}
-use Rattle.lot_base.specs.Name.{is_account}
+use Rattle.lot_command.specs.declared.command.Opening.{Opening as OpeningOf}
+use Rattle.lot_command.specs.declared.transaction.Narration.{Narration}
+use Rattle.lot_command.specs.declared.transaction.Transaction.{Transaction as TransactionOf}
 use Rattle.lot_base.specs.Day.{named_day}
 use Rattle.lot_text.specs.declared.line.Line.{Line}
 use Rattle.lot_text.specs.declared.line.Line.TheVariants.{Opening as SaysOpening, Transaction as SaysHead, Posting as SaysPosting}
 use Rattle.lot_text.specs.declared.line.LineFault.{LineFault}
 use Rattle.lot_text.specs.declared.line.LineFault.TheVariants.{Syntax, Memory}
-use Rattle.lot_text.specs.Reading.{◌>>=◌, Gives, cut, name_of, note_of, done_by, done_of, head_of, indented, posting_of, line_of, put, take_line}
+use Rattle.lot_text.specs.Reading.{◌>>=◌, Gives, cut, note_of, opening_of, begun, done_by, done_of, head_of, indented, posting_of, line_of, put, take_line}
 
 -- a fault of what a part says is one of what is made of it
 pub gives_mapped : {X Y : Type 0} (f : X → Y) (said : Option X) (fault : LineFault) → Gives said (Err fault) → Gives (option_map f said) (Err fault)
@@ -47,24 +48,24 @@ no_posting_by : (day : ℤ) (word text : List ℕ) → IsNoPosting (done_by day 
 no_posting_by day word text = elim (cases_Bool (pointwise ◌==◌ word (codes "*"))) [
   | inl star ↦ rw star (note (note_of text))
   | inr other ↦ elim (cases_Bool (pointwise ◌==◌ word (codes "open"))) [
-    | inl opens ↦ rw (other, opens) (account (name_of is_account text))
+    | inl opens ↦ rw (other, opens) (opening (opening_of day text))
     | inr unknown ↦ rw (other, unknown) tt
   ]
 ]
   where
-    note : (o : Option (List ℕ)) → IsNoPosting (o >>= λ note. Some (SaysHead (record { day = day; narration = Some note; postings = [] })))
+    note : (o : Option Narration) → IsNoPosting (o >>= λ narration. Some (SaysHead (begun day (Some narration))))
     note None = tt
     note (Some n) = tt
 
-    account : (o : Option (List ℕ)) → IsNoPosting (o >>= λ account. Some (SaysOpening (record { day = day; account = account })))
-    account None = tt
-    account (Some a) = tt
+    opening : (o : Option OpeningOf) → IsNoPosting (o >>= λ opening. Some (SaysOpening opening))
+    opening None = tt
+    opening (Some o) = tt
 
 no_posting_done : (day : ℤ) (text : List ℕ) → IsNoPosting (done_of day text)
 unfolding done_of
 no_posting_done day text = elim (cases_Bool (pointwise ◌==◌ text (codes "*"))) [
   | inl star ↦ rw star tt
-  | inr other ↦ rw other (by (cut text))
+  | inr other ↦ rw other (by (cut 32 text))
 ]
   where
     by : (o : Option (List ℕ × List ℕ)) → IsNoPosting (o >>= λ parts. done_by day parts.0 parts.1)
@@ -73,7 +74,7 @@ no_posting_done day text = elim (cases_Bool (pointwise ◌==◌ text (codes "*")
 
 no_posting_head : (text : List ℕ) → IsNoPosting (head_of text)
 unfolding head_of
-no_posting_head text = by (cut text)
+no_posting_head text = by (cut 32 text)
   where
     on : (o : Option ℤ) (rest : List ℕ) → IsNoPosting (o >>= λ day. done_of day rest)
     on None rest = tt

@@ -1,4 +1,4 @@
--- A text is cut at its first space, and no day, number, account or commodity has a space in it.
+-- A text is cut at its first space, or at its first @, and no day, number, account or commodity has one of them in it.
 use Rattle.std.proofs.Common.{◌≡◌, ◌≢◌, inl, inr, ℕ, suc, ◌<◌, Bool, true, false, cond, ◌&&◌, ◌||◌, List, [], ◌∷◌, ◌++◌, length, take, drop, get_or, Option, Some, None, MatchOption, Result, Ok, Err, ℤ, refl, ap, ◌∙◌, sym, arith, eqb}
 use Rattle.std.specs.Prelude.{not, option_map, codes}
 use Rattle.std.specs.Cmp.Lexicographic.{pointwise, same_text}
@@ -23,80 +23,110 @@ use Rattle.lot_num.specs.declared.number_text.NumberFault.TheVariants.{Syntax}
 use Rattle.lot_num.specs.declared.number_text.Sign.{Sign}
 use denote.Ref.{Bor}
 
--- ---- Words: texts with no space in them.
+-- ---- The cut at the first byte of one value, its mark.
+
+-- a text without the mark
+abbrev pub IsFree : ℕ → List ℕ → Type 0
+IsFree mark text = list_all (λ b. not (eqb b mark)) text ≡ true
+
+free_from_bytes : (mark : ℕ) (text : List ℕ) → ((i : ℕ) → i < length text → get_or text i 0 ≢ mark) → IsFree mark text
+free_from_bytes mark [] h = refl
+free_from_bytes mark (b ∷ text) h =
+    and_from _ _ (not_from_false _ (ne_eqb b mark (h 0 (omega arith))))
+    (free_from_bytes mark text (λ i l. h (suc i) (omega arith)))
+
+pub free-append : (mark : ℕ) (xs ys : List ℕ) → IsFree mark xs → IsFree mark ys → IsFree mark (xs ++ ys)
+free-append mark xs ys h k = list_all-append (λ b. not (eqb b mark)) xs ys ∙ and_from _ _ h k
+
+pub mark-at : (mark : ℕ) (prefix rest : List ℕ) → IsFree mark prefix → cut mark (prefix ++ mark ∷ rest) ≡ Some (prefix, rest)
+unfolding cut
+mark-at mark [] rest h = rw (eq-eqb mark mark refl) refl
+mark-at mark (b ∷ prefix) rest h =
+    let parts = and_parts _ _ h in
+    let no : eqb b mark ≡ false = not-true _ parts.0 in
+    let more : cut mark (prefix ++ mark ∷ rest) ≡ Some (prefix, rest) = mark-at mark prefix rest parts.1 in
+    rw (no, more) refl
+
+pub mark-none : (mark : ℕ) (text : List ℕ) → IsFree mark text → cut mark text ≡ None
+unfolding cut
+mark-none mark [] h = refl
+mark-none mark (b ∷ text) h =
+    let parts = and_parts _ _ h in
+    let no : eqb b mark ≡ false = not-true _ parts.0 in
+    let more : cut mark text ≡ None = mark-none mark text parts.1 in
+    rw (no, more) refl
+
+mark-parts_by : (mark b : ℕ) (text prefix rest : List ℕ) (here : Bool) → eqb b mark ≡ here → (o : Option (List ℕ × List ℕ)) → cut mark text ≡ o
+    → ((x y : List ℕ) → cut mark text ≡ Some (x, y) → text ≡ x ++ mark ∷ y)
+    → cut mark (b ∷ text) ≡ Some (prefix, rest) → b ∷ text ≡ prefix ++ mark ∷ rest
+unfolding cut
+mark-parts_by mark b text prefix rest true e o g ih h =
+    let same = some_pair_parts [] prefix text rest (rw e at h) in
+    rw (← same.0, ← same.1, eqb-true b mark e) refl
+mark-parts_by mark b text prefix rest false e None g ih h = absurd (none-some _ (rw (e, g) at h))
+mark-parts_by mark b text prefix rest false e (Some p) g ih h =
+    let same = some_pair_parts (b ∷ p.0) prefix p.1 rest (rw (e, g) at h) in
+    rw (← same.0, ← same.1) (ap (λ t. b ∷ t) (ih p.0 p.1 g))
+
+pub mark-parts : (mark : ℕ) (text prefix rest : List ℕ) → cut mark text ≡ Some (prefix, rest) → text ≡ prefix ++ mark ∷ rest
+unfolding cut
+mark-parts mark [] prefix rest h = absurd (none-some _ h)
+mark-parts mark (b ∷ text) prefix rest h =
+    mark-parts_by mark b text prefix rest (eqb b mark) refl (cut mark text) refl (mark-parts mark text) h
+
+-- what a search for the first mark returns
+pub cut-result : (mark : ℕ) (text : List ℕ) (r : Option (Bor (List ℕ) × Bor (List ℕ)))
+    → MatchOption r ((i : ℕ) → i < length text → get_or text i 0 ≢ mark) (λ x. (text ≡ x.0.now ++ (mark ∷ x.1.now)) × ((i : ℕ) → i < length x.0.now → get_or x.0.now i 0 ≢ mark))
+    → MatchOption r (cut mark text ≡ None) (λ parts. cut mark text ≡ Some (parts.0.now, parts.1.now))
+cut-result mark text None h = mark-none mark text (free_from_bytes mark text h)
+cut-result mark text (Some x) h = ap (cut mark) h.0 ∙ mark-at mark x.0.now x.1.now (free_from_bytes mark x.0.now h.1)
+
+-- ---- Words: texts with neither a space nor an @ in them.
 
 abbrev pub is_solid : ℕ → Bool
-is_solid b = not (eqb b 32)
+is_solid b = not (eqb b 32) && not (eqb b 64)
 
 abbrev pub IsWord : List ℕ → Type 0
 IsWord text = list_all is_solid text ≡ true
 
-pub word_from_bytes : (text : List ℕ) → ((i : ℕ) → i < length text → get_or text i 0 ≢ 32) → IsWord text
-word_from_bytes [] h = refl
-word_from_bytes (b ∷ text) h =
-    and_from _ _ (not_from_false _ (ne_eqb b 32 (h 0 (omega arith))))
-    (word_from_bytes text (λ i l. h (suc i) (omega arith)))
-
--- ---- The cut at the first space.
-
-pub cut-at : (word rest : List ℕ) → IsWord word → cut (word ++ 32 ∷ rest) ≡ Some (word, rest)
-unfolding cut
-cut-at [] rest h = refl
-cut-at (b ∷ word) rest h =
+all-weaker : {X : Type 0} (p q : X → Bool) → ((x : X) → p x ≡ true → q x ≡ true) → (xs : List X) → list_all p xs ≡ true → list_all q xs ≡ true
+all-weaker p q f [] h = refl
+all-weaker p q f (x ∷ xs) h =
     let parts = and_parts _ _ h in
-    let no : eqb b 32 ≡ false = not-true _ parts.0 in
-    let more : cut (word ++ 32 ∷ rest) ≡ Some (word, rest) = cut-at word rest parts.1 in
-    rw (no, more) refl
+    and_from _ _ (f x parts.0) (all-weaker p q f xs parts.1)
 
-pub cut-none : (word : List ℕ) → IsWord word → cut word ≡ None
-unfolding cut
-cut-none [] h = refl
-cut-none (b ∷ word) h =
-    let parts = and_parts _ _ h in
-    let no : eqb b 32 ≡ false = not-true _ parts.0 in
-    let more : cut word ≡ None = cut-none word parts.1 in
-    rw (no, more) refl
+word-no_space : (word : List ℕ) → IsWord word → IsFree 32 word
+word-no_space word h = all-weaker is_solid (λ b. not (eqb b 32)) (λ b k. (and_parts _ _ k).0) word h
 
-cut-parts_by : (b : ℕ) (text prefix rest : List ℕ) (space : Bool) → eqb b 32 ≡ space → (o : Option (List ℕ × List ℕ)) → cut text ≡ o
-    → ((x y : List ℕ) → cut text ≡ Some (x, y) → text ≡ x ++ 32 ∷ y)
-    → cut (b ∷ text) ≡ Some (prefix, rest) → b ∷ text ≡ prefix ++ 32 ∷ rest
-unfolding cut
-cut-parts_by b text prefix rest true e o g ih h =
-    let same = some_pair_parts [] prefix text rest (rw e at h) in
-    rw (← same.0, ← same.1, eqb-true b 32 e) refl
-cut-parts_by b text prefix rest false e None g ih h = absurd (none-some _ (rw (e, g) at h))
-cut-parts_by b text prefix rest false e (Some p) g ih h =
-    let same = some_pair_parts (b ∷ p.0) prefix p.1 rest (rw (e, g) at h) in
-    rw (← same.0, ← same.1) (ap (λ t. b ∷ t) (ih p.0 p.1 g))
+pub word-no_at : (word : List ℕ) → IsWord word → IsFree 64 word
+word-no_at word h = all-weaker is_solid (λ b. not (eqb b 64)) (λ b k. (and_parts _ _ k).1) word h
 
-pub cut-parts : (text prefix rest : List ℕ) → cut text ≡ Some (prefix, rest) → text ≡ prefix ++ 32 ∷ rest
-unfolding cut
-cut-parts [] prefix rest h = absurd (none-some _ h)
-cut-parts (b ∷ text) prefix rest h = cut-parts_by b text prefix rest (eqb b 32) refl (cut text) refl (cut-parts text) h
+-- a word is cut off at the space behind it
+pub cut-at : (word rest : List ℕ) → IsWord word → cut 32 (word ++ 32 ∷ rest) ≡ Some (word, rest)
+cut-at word rest h = mark-at 32 word rest (word-no_space word h)
 
--- what a search for the first space returns
-pub cut-result : (text : List ℕ) (r : Option (Bor (List ℕ) × Bor (List ℕ)))
-    → MatchOption r ((i : ℕ) → i < length text → get_or text i 0 ≢ 32) (λ x. (text ≡ x.0.now ++ (32 ∷ x.1.now)) × ((i : ℕ) → i < length x.0.now → get_or x.0.now i 0 ≢ 32))
-    → MatchOption r (cut text ≡ None) (λ parts. cut text ≡ Some (parts.0.now, parts.1.now))
-cut-result text None h = cut-none text (word_from_bytes text h)
-cut-result text (Some x) h = ap cut h.0 ∙ cut-at x.0.now x.1.now (word_from_bytes x.0.now h.1)
+pub cut-none : (word : List ℕ) → IsWord word → cut 32 word ≡ None
+cut-none word h = mark-none 32 word (word-no_space word h)
+
+pub cut-parts : (text prefix rest : List ℕ) → cut 32 text ≡ Some (prefix, rest) → text ≡ prefix ++ 32 ∷ rest
+cut-parts text prefix rest h = mark-parts 32 text prefix rest h
 
 -- ---- What stands between a first and a last byte.
 
-none_unless : {X : Type 0} (o : Option X) → ((x : X) → o ≡ Some x → ⊥) → o ≡ None
+pub none_unless : {X : Type 0} (o : Option X) → ((x : X) → o ≡ Some x → ⊥) → o ≡ None
 none_unless None h = refl
 none_unless (Some x) h = absurd (h x refl)
 
 pub without_first-is : (first : ℕ) (rest : List ℕ) → without_first first (first ∷ rest) ≡ Some rest
 without_first-is first rest = rw (eq-eqb first first refl) refl
 
-without_first-parts : (first : ℕ) (text rest : List ℕ) → without_first first text ≡ Some rest → text ≡ first ∷ rest
+pub without_first-parts : (first : ℕ) (text rest : List ℕ) → without_first first text ≡ Some rest → text ≡ first ∷ rest
 without_first-parts first [] rest h = absurd (none-some _ h)
 without_first-parts first (b ∷ text) rest h =
     let found = cond_some (eqb b first) text rest h in
     rw (eqb-true b first found.0, found.1) refl
 
-without_last-is : (last : ℕ) (prefix : List ℕ) → without_last last (prefix ++ last ∷ []) ≡ Some prefix
+pub without_last-is : (last : ℕ) (prefix : List ℕ) → without_last last (prefix ++ last ∷ []) ≡ Some prefix
 unfolding without_last
 without_last-is last [] = rw (eq-eqb last last refl) refl
 without_last-is last (b ∷ []) = rw (eq-eqb last last refl) refl
@@ -111,7 +141,7 @@ without_last-parts_by last b text prefix None g ih h = absurd (none-some _ h)
 without_last-parts_by last b text prefix (Some x) g ih h =
     rw (← same_Some (b ∷ x) prefix h) (ap (λ t. b ∷ t) (ih x g))
 
-without_last-parts : (last : ℕ) (text prefix : List ℕ) → without_last last text ≡ Some prefix → text ≡ prefix ++ last ∷ []
+pub without_last-parts : (last : ℕ) (text prefix : List ℕ) → without_last last text ≡ Some prefix → text ≡ prefix ++ last ∷ []
 unfolding without_last
 without_last-parts last [] prefix h = absurd (none-some _ h)
 without_last-parts last (b ∷ []) prefix h =
@@ -162,16 +192,10 @@ pub indented-word : (b : ℕ) (word rest : List ℕ) → IsWord (b ∷ word) →
 indented-word b word rest h =
     indented-none ((b ∷ word) ++ rest)
     (λ more e. let same : b ≡ 32 = cc in
-    let no : eqb b 32 ≡ false = not-true _ (and_parts _ _ h).0 in
+    let no : eqb b 32 ≡ false = not-true _ (and_parts _ _ (and_parts _ _ h).0).0 in
     cc (eq-eqb b 32 same))
 
--- ---- What has no space in it.
-
-all-weaker : {X : Type 0} (p q : X → Bool) → ((x : X) → p x ≡ true → q x ≡ true) → (xs : List X) → list_all p xs ≡ true → list_all q xs ≡ true
-all-weaker p q f [] h = refl
-all-weaker p q f (x ∷ xs) h =
-    let parts = and_parts _ _ h in
-    and_from _ _ (f x parts.0) (all-weaker p q f xs parts.1)
+-- ---- What is a word.
 
 digit-solid : (b : ℕ) → is_ascii_digit b ≡ true → is_solid b ≡ true
 digit-solid b h = grind (arith, nat_tests)

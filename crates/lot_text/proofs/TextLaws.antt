@@ -2,11 +2,11 @@
 use Rattle.std.proofs.Common.{◌≡◌, inl, inr, ℕ, ◌+◌, ◌<◌, false, List, [], ◌∷◌, ◌++◌, length, Option, Some, None, refl, ap, ◌∙◌, sym, subst, arith, eqb, append_assoc}
 use Rattle.std.proofs.lemmas.Bool.{and_parts, not-true, cases_order}
 use Rattle.std.proofs.lemmas.Option.{same_Some, option_and_then_some}
-use Rattle.lot_command.specs.declared.command.Transaction.{Transaction as TransactionOf}
 use Rattle.lot_command.specs.declared.command.Command.{Command}
+use Rattle.lot_command.specs.declared.transaction.Transaction.{Transaction as TransactionOf}
 use Rattle.lot_text.specs.Text.{Says, IsFirstFault, IsLine, IsTextOf, Reads, IsFaultAt}
 use Rattle.lot_text.specs.Reading.{closed, take_line, take_lines}
-use Rattle.lot_text.proofs.TextForms.{then_is}
+use Rattle.lot_text.proofs.TextPostings.{then_is}
 use Rattle.lot_text.proofs.TextLemmas.{lines_of, read_says, said_reads}
 
 -- ---- The lines of a text are these alone.

@@ -8,10 +8,10 @@ use Rattle.std.proofs.lemmas.List.Elements.{All-from_get_or}
 use Rattle.std.proofs.lemmas.List.Sums.{list_all-from_AllPass, fails_before_first, passes_at_first}
 use Rattle.std.proofs.lemmas.Bool.Decides.{nat_tests}
 use Rattle.std.proofs.lemmas.Option.{none-some, same_Some, option_and_then_some}
-use Rattle.lot_command.specs.declared.command.Transaction.{Transaction as TransactionOf}
-use Rattle.lot_command.specs.declared.command.Posting.{Posting}
 use Rattle.lot_command.specs.declared.command.Command.{Command}
-use Rattle.lot_command.specs.declared.command.Command.TheVariants.{Opening, Transaction}
+use Rattle.lot_command.specs.declared.command.Command.TheVariants.{Opening, Closing, Declaring, Quoting, Transaction}
+use Rattle.lot_command.specs.declared.transaction.Posting.{Posting}
+use Rattle.lot_command.specs.declared.transaction.Transaction.{Transaction as TransactionOf}
 use Rattle.lot_text.specs.declared.line.Line.{Line}
 use Rattle.lot_text.specs.declared.line.Line.TheVariants.{Opening as SaysOpening, Transaction as SaysHead, Posting as SaysPosting}
 use Rattle.lot_text.specs.Text.{IsPosting, Says, IsLine, IsTextOf, Reads, IsFaultAt, IsFaultOf, RunsOutAt, is_within_line}
@@ -19,7 +19,8 @@ use Rattle.lot_text.specs.declared.line.LineFault.{LineFault}
 use Rattle.lot_text.specs.declared.line.LineFault.TheVariants.{Syntax, Memory}
 use Rattle.lot_text.specs.declared.reader.TextFault.{TextFault}
 use Rattle.lot_text.specs.Reading.{line_of, closed, put, take_line, take_lines, TakesLine, of_line}
-use Rattle.lot_text.proofs.TextForms.{LineSays, line_says, line_reads, then_is}
+use Rattle.lot_text.proofs.TextPostings.{then_is}
+use Rattle.lot_text.proofs.TextForms.{LineSays, line_says, line_reads}
 
 -- ---- What is read is said.
 
@@ -36,6 +37,9 @@ says-append (Transaction t ∷ cs) ds xs ys (head, postings, rest, form, forms, 
   says-append cs ds rest ys says more,
   ap (λ zs. zs ++ ys) whole ∙ ap (λ zs. head ∷ zs) (append_assoc postings rest ys),
 )
+says-append (Closing c ∷ cs) ds xs ys says more = absurd says
+says-append (Declaring d ∷ cs) ds xs ys says more = absurd says
+says-append (Quoting q ∷ cs) ds xs ys says more = absurd says
 
 postings-push : (xs : List (List ℕ)) (ps : List Posting) (x : List ℕ) (p : Posting) → AllZip IsPosting xs ps → IsPosting x p
     → AllZip IsPosting (xs ++ x ∷ []) (ps ++ p ∷ [])
@@ -46,7 +50,7 @@ postings-push (y ∷ xs) (q ∷ ps) x p (first, h) k = (first, postings-push xs 
 
 -- one more posting of the last transaction
 abbrev with_posting : TransactionOf → Posting → TransactionOf
-with_posting t p = record { day = t.day; narration = t.narration; postings = t.postings ++ p ∷ [] }
+with_posting t p = record { day = t.day; flag = t.flag; narration = t.narration; postings = t.postings ++ p ∷ [] }
 
 says-posting : (commands : List Command) (t : TransactionOf) (xs : List (List ℕ)) (line : List ℕ) (p : Posting)
     → Says xs (commands ++ Transaction t ∷ []) → IsPosting line p
@@ -72,6 +76,9 @@ says-posting (Transaction u ∷ commands) t xs line p (head, postings, rest, for
   says-posting commands t rest line p says k,
   ap (λ zs. zs ++ line ∷ []) whole ∙ ap (λ zs. head ∷ zs) (append_assoc postings rest (line ∷ [])),
 )
+says-posting (Closing c ∷ commands) t xs line p says k = absurd says
+says-posting (Declaring d ∷ commands) t xs line p says k = absurd says
+says-posting (Quoting q ∷ commands) t xs line p says k = absurd says
 
 says-put : (commands : List Command) (pending : Option TransactionOf) (xs : List (List ℕ)) (line : List ℕ) (what : Line)
     (after : List Command × Option TransactionOf) → Says xs (closed commands pending) → LineSays line what
@@ -126,15 +133,15 @@ take-more commands pending line lines what after form e =
 
 take-postings : (commands : List Command) (t : TransactionOf) (xs rest : List (List ℕ)) (ps : List Posting) → AllZip IsPosting xs ps
     → take_lines commands (Some t) (xs ++ rest)
-    ≡ take_lines commands (Some (record { day = t.day; narration = t.narration; postings = t.postings ++ ps })) rest
+    ≡ take_lines commands (Some (record { day = t.day; flag = t.flag; narration = t.narration; postings = t.postings ++ ps })) rest
 take-postings commands t [] rest [] h =
-    ap (λ ps. take_lines commands (Some (record { day = t.day; narration = t.narration; postings = ps })) rest) (sym (append-nil t.postings))
+    ap (λ ps. take_lines commands (Some (record { day = t.day; flag = t.flag; narration = t.narration; postings = ps })) rest) (sym (append-nil t.postings))
 take-postings commands t [] rest (p ∷ ps) h = absurd h
 take-postings commands t (x ∷ xs) rest [] h = absurd h
 take-postings commands t (x ∷ xs) rest (p ∷ ps) (first, h) =
     take-more commands (Some t) x (xs ++ rest) (SaysPosting p) (commands, Some (with_posting t p)) first refl
     ∙ take-postings commands (with_posting t p) xs rest ps h
-    ∙ ap (λ qs. take_lines commands (Some (record { day = t.day; narration = t.narration; postings = qs })) rest) (append_assoc t.postings (p ∷ []) ps)
+    ∙ ap (λ qs. take_lines commands (Some (record { day = t.day; flag = t.flag; narration = t.narration; postings = qs })) rest) (append_assoc t.postings (p ∷ []) ps)
 
 -- how lines that say commands are read
 abbrev IsRead : List Command → Option TransactionOf → List (List ℕ) → List Command → Type 0
@@ -157,7 +164,7 @@ says-read (Opening o ∷ said) commands pending lines (line, rest, form, says, w
     )
 says-read (Transaction t ∷ said) commands pending lines (head, postings, rest, form, forms, says, whole) =
     let prefix = closed commands pending in
-    let begun : TransactionOf = record { day = t.day; narration = t.narration; postings = [] } in
+    let begun : TransactionOf = record { day = t.day; flag = t.flag; narration = t.narration; postings = [] } in
     let more = says-read said prefix (Some t) rest says in (
       more.0,
       ap (take_lines commands pending) whole
@@ -166,6 +173,9 @@ says-read (Transaction t ∷ said) commands pending lines (head, postings, rest,
           ∙ more.1,
       more.2 ∙ append_assoc prefix (Transaction t ∷ []) said,
     )
+says-read (Closing c ∷ said) commands pending lines says = absurd says
+says-read (Declaring d ∷ said) commands pending lines says = absurd says
+says-read (Quoting q ∷ said) commands pending lines says = absurd says
 
 -- lines that say commands are read as these
 pub said_reads : (lines : List (List ℕ)) (said : List Command) → Says lines said → IsRead [] None lines said

@@ -1,7 +1,7 @@
 -- Ledger text as it is read, from its beginning on: what each part of a line comes to, and what a line does to the
 -- commands so far. That this is what the forms of a line say is proved, both ways, in proofs/TextForms.antt and
 -- proofs/TextLemmas.antt.
-use Rattle.std.specs.Prelude.{◌≡◌, ◌≢◌, ◌⊎◌, ℕ, ◌==◌, ◌&&◌, Bool, if◌then◌else◌, List, [], ◌∷◌, ◌++◌, codes, Option, Some, None, IsSome, option_and_then, option_map, Result, Ok, Err, ℤ, pos, int_lt}
+use Rattle.std.specs.Prelude.{◌≡◌, ◌≢◌, ◌⊎◌, ℕ, ◌==◌, ◌&&◌, Bool, if◌then◌else◌, List, [], ◌∷◌, ◌++◌, codes, Option, Some, None, IsSome, option_and_then, option_map, Result, Ok, Err, ℤ, length}
 use Rattle.std.specs.List.{list_all}
 use Rattle.std.specs.Cmp.Lexicographic.{pointwise}
 use Rattle.std.specs.Result.{result_ok}
@@ -11,12 +11,20 @@ use Rattle.lot_base.specs.Name.{is_account, is_commodity, is_note}
 use Rattle.lot_base.specs.Day.{named_day}
 use Rattle.lot_base.specs.declared.fault.NameFault.{NameFault}
 use Rattle.lot_base.specs.declared.fault.NameFault.TheVariants.{BadAccount, BadCommodity, BadLabel, BadNote, Memory as NoMemory}
-use Rattle.lot_command.specs.declared.command.Transaction.{Transaction as TransactionOf}
-use Rattle.lot_command.specs.declared.command.Posting.{Posting}
-use Rattle.lot_command.specs.declared.command.Amount.{Amount}
-use Rattle.lot_command.specs.declared.command.Cost.{Cost}
+use Rattle.lot_booking.specs.Method.{word_of}
+use Rattle.lot_booking.specs.declared.cost.Cost.{Cost}
+use Rattle.lot_booking.specs.declared.cost.Cost.TheVariants.{Each}
+use Rattle.lot_booking.specs.declared.method.Method.{Method}
+use Rattle.lot_booking.specs.declared.method.Method.TheVariants.{Strict, Fifo, Lifo, Hifo, Unmatched}
+use Rattle.lot_command.specs.declared.command.Opening.{Opening as OpeningOf}
 use Rattle.lot_command.specs.declared.command.Command.{Command}
 use Rattle.lot_command.specs.declared.command.Command.TheVariants.{Opening, Transaction}
+use Rattle.lot_command.specs.declared.price.Price.TheVariants.{Each as EachUnit}
+use Rattle.lot_command.specs.declared.transaction.Amount.{Amount}
+use Rattle.lot_command.specs.declared.transaction.Flag.TheVariants.{Complete}
+use Rattle.lot_command.specs.declared.transaction.Narration.{Narration}
+use Rattle.lot_command.specs.declared.transaction.Posting.{Posting}
+use Rattle.lot_command.specs.declared.transaction.Transaction.{Transaction as TransactionOf}
 use Rattle.lot_text.specs.declared.line.Line.{Line}
 use Rattle.lot_text.specs.declared.line.Line.TheVariants.{Opening as SaysOpening, Transaction as SaysHead, Posting as SaysPosting}
 use Rattle.lot_text.specs.declared.line.LineFault.{LineFault}
@@ -48,10 +56,10 @@ of_name BadNote = Syntax
 
 -- ---- The parts of a text.
 
--- what stands before the first space, and what stands behind it
-unfoldable pub cut : List ℕ → Option (List ℕ × List ℕ)
-cut [] = None
-cut (b ∷ text) = if b == 32 then Some ([], text) else option_map (λ parts. (b ∷ parts.0, parts.1)) (cut text)
+-- what stands before the first byte of that value, and what stands behind it
+unfoldable pub cut : ℕ → List ℕ → Option (List ℕ × List ℕ)
+cut mark [] = None
+cut mark (b ∷ text) = if b == mark then Some ([], text) else option_map (λ parts. (b ∷ parts.0, parts.1)) (cut mark text)
 
 -- a text without that first byte, and one without that last byte
 abbrev pub without_first : ℕ → List ℕ → Option (List ℕ)
@@ -78,32 +86,74 @@ name_of is_name text = if is_name text then Some text else None
 
 -- ---- What each part says.
 
-unfoldable pub cost_of : List ℕ → Option Cost
-cost_of text = do
-  within ← inside 123 125 text
-  parts ← cut within
-  number ← result_ok (rate_of parts.0)
+-- a rate and a currency
+unfoldable pub money_of : List ℕ → Option (ℕ × List ℕ)
+money_of text = do
+  parts ← cut 32 text
+  rate ← result_ok (rate_of parts.0)
   currency ← name_of is_commodity parts.1
-  Some (record { number = number; currency = currency })
+  Some (rate, currency)
+
+-- what is said of a lot with these parts alone
+abbrev pub lot_of : Option ℕ → Option (List ℕ) → Cost
+lot_of number currency = Each (record { number = number; currency = currency; day = None; label = None })
+
+-- what stands in braces: nothing, or a rate and a currency
+abbrev pub cost_in : List ℕ → Option Cost
+cost_in within =
+    if length within == 0
+    then Some (lot_of None None)
+    else (money_of within >>= λ money. Some (lot_of (Some money.0) (Some money.1)))
+
+unfoldable pub cost_of : List ℕ → Option Cost
+cost_of text = inside 123 125 text >>= cost_in
 
 -- a commodity, and where there is more than one word a cost
 abbrev pub held_in : ℤ → List ℕ → Option (List ℕ × List ℕ) → Option Amount
 held_in units text None = do
   commodity ← name_of is_commodity text
-  Some (record { units = units; commodity = commodity; cost = None })
-held_in units text (Some parts) =
-    if int_lt (pos 0) units
-    then (cost_of parts.1 >>= λ cost. (name_of is_commodity parts.0 >>= λ commodity. Some (record { units = units; commodity = commodity; cost = Some cost })))
-    else None
+  Some (record { units = units; commodity = commodity; cost = None; price = None })
+held_in units text (Some parts) = do
+  cost ← cost_of parts.1
+  commodity ← name_of is_commodity parts.0
+  Some (record { units = units; commodity = commodity; cost = Some cost; price = None })
 
 unfoldable pub held_of : ℤ → List ℕ → Option Amount
-held_of units text = held_in units text (cut text)
+held_of units text = held_in units text (cut 32 text)
 
-unfoldable pub amount_of : List ℕ → Option Amount
-amount_of text = do
-  parts ← cut text
+unfoldable pub unpriced_of : List ℕ → Option Amount
+unpriced_of text = do
+  parts ← cut 32 text
   units ← result_ok (units_of parts.0)
   held_of units parts.1
+
+-- what stands before and behind the first @, which stands between spaces
+unfoldable pub price_cut : List ℕ → Option (List ℕ × List ℕ)
+price_cut text = do
+  parts ← cut 64 text
+  amount ← without_last 32 parts.0
+  price ← without_first 32 parts.1
+  Some (amount, price)
+
+-- an amount with that price of each unit
+abbrev pub priced : Amount → ℕ → List ℕ → Amount
+priced amount rate currency = record {
+  units = amount.units;
+  commodity = amount.commodity;
+  cost = amount.cost;
+  price = Some (EachUnit (record { rate = rate; currency = currency }));
+}
+
+-- an amount without a price, and one with a price where there is a @
+abbrev pub amount_in : List ℕ → Option (List ℕ × List ℕ) → Option Amount
+amount_in text None = unpriced_of text
+amount_in text (Some parts) = do
+  money ← money_of parts.1
+  amount ← unpriced_of parts.0
+  Some (priced amount money.0 money.1)
+
+unfoldable pub amount_of : List ℕ → Option Amount
+amount_of text = amount_in text (price_cut text)
 
 -- an account, and where there is more than one word an amount
 abbrev pub posting_in : List ℕ → Option (List ℕ × List ℕ) → Option Posting
@@ -116,32 +166,71 @@ posting_in text (Some parts) = do
   Some (record { account = account; amount = Some amount })
 
 unfoldable pub posting_of : List ℕ → Option Posting
-posting_of text = posting_in text (cut text)
+posting_of text = posting_in text (cut 32 text)
 
-unfoldable pub note_of : List ℕ → Option (List ℕ)
+-- a narration without a payee
+abbrev pub noted : List ℕ → Narration
+noted note = record { payee = None; text = note }
+
+unfoldable pub note_of : List ℕ → Option Narration
 note_of text = do
-  note ← inside 34 34 text
-  plain ← name_of (λ bytes. list_all is_plain bytes) note
-  name_of is_note plain
+  within ← inside 34 34 text
+  plain ← name_of (λ bytes. list_all is_plain bytes) within
+  note ← name_of is_note plain
+  Some (noted note)
+
+-- the method of that word
+abbrev pub method_named : List ℕ → Option Method
+method_named word =
+    if pointwise ◌==◌ word (word_of Strict) then Some Strict
+    else (if pointwise ◌==◌ word (word_of Fifo) then Some Fifo
+    else (if pointwise ◌==◌ word (word_of Lifo) then Some Lifo
+    else (if pointwise ◌==◌ word (word_of Hifo) then Some Hifo
+    else (if pointwise ◌==◌ word (word_of Unmatched) then Some Unmatched
+    else None))))
+
+unfoldable pub method_of : List ℕ → Option Method
+method_of text = inside 34 34 text >>= method_named
+
+-- an opening without currencies
+abbrev pub opened : ℤ → List ℕ → Method → OpeningOf
+opened day account method = record { day = day; account = account; currencies = []; method = method }
+
+-- an account, and where there is more than one word a method
+abbrev pub opening_in : ℤ → List ℕ → Option (List ℕ × List ℕ) → Option OpeningOf
+opening_in day text None = do
+  account ← name_of is_account text
+  Some (opened day account Strict)
+opening_in day text (Some parts) = do
+  method ← method_of parts.1
+  account ← name_of is_account parts.0
+  Some (opened day account method)
+
+unfoldable pub opening_of : ℤ → List ℕ → Option OpeningOf
+opening_of day text = opening_in day text (cut 32 text)
+
+-- a transaction without postings
+abbrev pub begun : ℤ → Option Narration → TransactionOf
+begun day narration = record { day = day; flag = Complete; narration = narration; postings = [] }
 
 -- what is done on a day, by its first word and what stands behind it
 abbrev pub done_by : ℤ → List ℕ → List ℕ → Option Line
 done_by day word text =
     if pointwise ◌==◌ word (codes "*")
-    then (note_of text >>= λ note. Some (SaysHead (record { day = day; narration = Some note; postings = [] })))
+    then (note_of text >>= λ narration. Some (SaysHead (begun day (Some narration))))
     else (if pointwise ◌==◌ word (codes "open")
-    then (name_of is_account text >>= λ account. Some (SaysOpening (record { day = day; account = account })))
+    then (opening_of day text >>= λ opening. Some (SaysOpening opening))
     else None)
 
 unfoldable pub done_of : ℤ → List ℕ → Option Line
 done_of day text =
     if pointwise ◌==◌ text (codes "*")
-    then Some (SaysHead (record { day = day; narration = None; postings = [] }))
-    else (cut text >>= λ parts. done_by day parts.0 parts.1)
+    then Some (SaysHead (begun day None))
+    else (cut 32 text >>= λ parts. done_by day parts.0 parts.1)
 
 unfoldable pub head_of : List ℕ → Option Line
 head_of text = do
-  parts ← cut text
+  parts ← cut 32 text
   day ← named_day parts.0
   done_of day parts.1
 
@@ -166,7 +255,7 @@ put commands pending (SaysOpening o) = Some (closed commands pending ++ Opening 
 put commands pending (SaysHead t) = Some (closed commands pending, Some t)
 put commands None (SaysPosting p) = None
 put commands (Some t) (SaysPosting p) =
-    Some (commands, Some (record { day = t.day; narration = t.narration; postings = t.postings ++ p ∷ [] }))
+    Some (commands, Some (record { day = t.day; flag = t.flag; narration = t.narration; postings = t.postings ++ p ∷ [] }))
 
 -- the two after one more line, where it fits there
 unfoldable pub take_line : List Command → Option TransactionOf → List ℕ → Option (List Command × Option TransactionOf)

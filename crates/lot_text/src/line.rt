@@ -1,10 +1,16 @@
-ghost use Rattle.std.specs.Prelude.{◌≡◌, ◌<◌, Some, None, [], MatchOption};
+ghost use Rattle.std.specs.Prelude.{◌≡◌, ◌<◌, Some, None, [], MatchOption, IsTrue};
 ghost use Rattle.std.specs.List.{list_all};
 ghost use Rattle.lot_text.specs.Text.{is_plain};
-ghost use Rattle.lot_text.specs.Reading.{Gives, cut, inside, cost_of, held_of, amount_of, posting_of, note_of, done_of, head_of, line_of};
+ghost use Rattle.lot_base.specs.Name.{is_commodity};
+ghost use Rattle.lot_command.specs.declared.transaction.Flag.TheVariants.{Complete};
+ghost use Rattle.lot_text.specs.Reading.{Gives, cut, inside, method_of, money_of, lot_of, cost_of, held_of, unpriced_of, price_cut, priced, amount_of, posting_of, opening_of, opened, note_of, done_of, head_of, line_of};
 
 use lot_base::{Account, Commodity, Day, DayFault, NameFault, Note};
-use lot_command::{Amount, Cost, Items, Opening, Posting, Transaction};
+use lot_booking::{Cost, Method};
+use lot_command::{
+    Amount, Currencies, Flag, Items, Narration, Opening, Posting, Price, Transaction, UnitPrice,
+};
+use lot_inv::CostSpec;
 use lot_num::{NumberFault, Rate, Units};
 use std::alloc::{AllocError, AllocFailed, Global};
 use std::str::{self, Utf8Error};
@@ -111,7 +117,7 @@ pub(crate) fn parse(alloc: Global, line: &[u8]) -> Result<Line, LineFault>
 fn parse_head(alloc: Global, text: &str) -> Result<Line, LineFault>
     ensures { Gives (head_of text.now) result }
 {
-    let Some((day, directive)) = cut(text) else {
+    let Some((day, directive)) = cut(text, ' ') else {
         return Err(LineFault::Syntax);
     };
     parse_directive(alloc, Day::parse(day)?, directive)
@@ -125,7 +131,7 @@ fn parse_directive(alloc: Global, day: Day, text: &str) -> Result<Line, LineFaul
     if text == "*" {
         return Ok(Line::Transaction(transaction(alloc, day, None)));
     }
-    let Some((word, rest)) = cut(text) else {
+    let Some((word, rest)) = cut(text, ' ') else {
         return Err(LineFault::Syntax);
     };
     match word {
@@ -133,34 +139,76 @@ fn parse_directive(alloc: Global, day: Day, text: &str) -> Result<Line, LineFaul
             let narration = parse_narration(alloc, rest)?;
             Ok(Line::Transaction(transaction(alloc, day, Some(narration))))
         }
-        "open" => {
-            let account = Account::new(alloc, rest)?;
-            Ok(Line::Opening(Opening { day, account }))
-        }
+        "open" => Ok(Line::Opening(parse_opening(alloc, day, rest)?)),
         _ => Err(LineFault::Syntax),
     }
 }
 
 /// Returns a transaction without postings.
-fn transaction(alloc: Global, day: Day, narration: Option<Note>) -> Transaction
+fn transaction(alloc: Global, day: Day, narration: Option<Narration>) -> Transaction
     ensures day { result.day ≡ day }
+    ensures flag { result.flag ≡ Complete }
     ensures narration { result.narration ≡ narration }
     ensures postings { result.postings ≡ [] }
 {
     Transaction {
         day,
+        flag: Flag::Complete,
         narration,
         postings: Items::new(alloc),
     }
 }
 
-/// Returns the note between two quotes, with neither quote nor backslash in it.
+/// Returns the opening of a day: an account, and the word of a method in quotes or none.
+#[tactic(auto, unfolding(crate::specs::Reading::opening_of))]
+fn parse_opening(alloc: Global, day: Day, text: &str) -> Result<Opening, LineFault>
+    ensures { Gives (opening_of day text.now) result }
+{
+    match cut(text, ' ') {
+        Some((account, quoted)) => {
+            let Some(method) = method(quoted) else {
+                return Err(LineFault::Syntax);
+            };
+            let account = Account::new(alloc, account)?;
+            Ok(opening(alloc, day, account, method))
+        }
+        None => {
+            let account = Account::new(alloc, text)?;
+            Ok(opening(alloc, day, account, Method::Strict))
+        }
+    }
+}
+
+/// Returns an opening without currencies.
+fn opening(alloc: Global, day: Day, account: Account, method: Method) -> Opening
+    ensures { result ≡ opened day account method }
+{
+    Opening {
+        day,
+        account,
+        currencies: Currencies::none(alloc),
+        method,
+    }
+}
+
+/// Returns the method of the word between two quotes, or none for another text.
+#[tactic(auto, unfolding(crate::specs::Reading::method_of))]
+fn method(text: &str) -> Option<Method>
+    ensures { result ≡ method_of text.now }
+{
+    Method::from_name(inside(text, '"', '"')?)
+}
+
+/// Returns the narration between two quotes, with neither quote nor backslash in it.
 #[tactic(auto, unfolding(crate::specs::Reading::note_of))]
-fn parse_narration(alloc: Global, text: &str) -> Result<Note, LineFault>
+fn parse_narration(alloc: Global, text: &str) -> Result<Narration, LineFault>
     ensures { Gives (note_of text.now) result }
 {
     match inside(text, '"', '"') {
-        Some(note) if is_plain(note) => Ok(Note::new(alloc, note)?),
+        Some(note) if is_plain(note) => Ok(Narration {
+            payee: None,
+            text: Note::new(alloc, note)?,
+        }),
         _ => Err(LineFault::Syntax),
     }
 }
@@ -170,7 +218,7 @@ fn parse_narration(alloc: Global, text: &str) -> Result<Note, LineFault>
 fn parse_posting(alloc: Global, text: &str) -> Result<Posting, LineFault>
     ensures { Gives (posting_of text.now) result }
 {
-    match cut(text) {
+    match cut(text, ' ') {
         Some((account, amount)) => {
             if !Account::is_name(account) {
                 return Err(LineFault::Syntax);
@@ -192,25 +240,63 @@ fn parse_posting(alloc: Global, text: &str) -> Result<Posting, LineFault>
     }
 }
 
-/// Returns an amount: units, a commodity, and a cost or none.
+/// Returns an amount: units, a commodity, a cost or none, and a price or none.
 #[tactic(auto, unfolding(crate::specs::Reading::amount_of))]
 fn parse_amount(alloc: Global, text: &str) -> Result<Amount, LineFault>
     ensures { Gives (amount_of text.now) result }
 {
-    let Some((units, held)) = cut(text) else {
+    let Some((amount, price)) = cut_price(text) else {
+        return parse_unpriced(alloc, text);
+    };
+    let Some((rate, currency)) = money(price) else {
+        return Err(LineFault::Syntax);
+    };
+    let amount = parse_unpriced(alloc, amount)?;
+    let currency = Commodity::new(alloc, currency)?;
+    Ok(with_price(amount, rate, currency))
+}
+
+/// Returns what stands before ` @ ` and what stands behind it, or none where the first `@` doesn't stand between spaces.
+fn cut_price(text: &str) -> Option<(&str, &str)>
+    ensures { MatchOption result (price_cut text.now ≡ None) (λ parts. price_cut text.now ≡ Some (parts.0.now, parts.1.now)) }
+{
+    let (amount, price) = cut(text, '@')?;
+    let amount = amount.strip_suffix(' ')?;
+    let price = price.strip_prefix(' ')?;
+    Some((amount, price))
+}
+
+/// Returns the amount with that price of each unit.
+fn with_price(amount: Amount, rate: Rate, currency: Commodity) -> Amount
+    ensures { result ≡ priced amount rate currency }
+{
+    Amount {
+        units: amount.units,
+        commodity: amount.commodity,
+        cost: amount.cost,
+        price: Some(Price::Each(UnitPrice { rate, currency })),
+    }
+}
+
+/// Returns an amount without a price: units, a commodity, and a cost or none.
+#[tactic(auto, unfolding(crate::specs::Reading::unpriced_of))]
+fn parse_unpriced(alloc: Global, text: &str) -> Result<Amount, LineFault>
+    ensures { Gives (unpriced_of text.now) result }
+{
+    let Some((units, held)) = cut(text, ' ') else {
         return Err(LineFault::Syntax);
     };
     parse_held(alloc, Units::parse(units)?, held)
 }
 
-/// Returns the amount of these units: a commodity, and a cost or none. With a cost the units are above zero.
+/// Returns the amount of these units: a commodity, and a cost or none.
 #[tactic(auto, unfolding(crate::specs::Reading::held_of))]
 fn parse_held(alloc: Global, units: Units, text: &str) -> Result<Amount, LineFault>
     ensures { Gives (held_of units text.now) result }
 {
-    match cut(text) {
+    match cut(text, ' ') {
         Some((commodity, cost)) => {
-            if units.mantissa() <= 0 || !Commodity::is_name(commodity) {
+            if !Commodity::is_name(commodity) {
                 return Err(LineFault::Syntax);
             }
             let cost = parse_cost(alloc, cost)?;
@@ -219,6 +305,7 @@ fn parse_held(alloc: Global, units: Units, text: &str) -> Result<Amount, LineFau
                 units,
                 commodity,
                 cost: Some(cost),
+                price: None,
             })
         }
         None => {
@@ -227,12 +314,13 @@ fn parse_held(alloc: Global, units: Units, text: &str) -> Result<Amount, LineFau
                 units,
                 commodity,
                 cost: None,
+                price: None,
             })
         }
     }
 }
 
-/// Returns a cost: a number and a currency in braces.
+/// Returns a cost: a rate and a currency in braces, or empty braces, which give nothing of the lot.
 #[tactic(auto, unfolding(crate::specs::Reading::cost_of))]
 fn parse_cost(alloc: Global, text: &str) -> Result<Cost, LineFault>
     ensures { Gives (cost_of text.now) result }
@@ -240,19 +328,50 @@ fn parse_cost(alloc: Global, text: &str) -> Result<Cost, LineFault>
     let Some(within) = inside(text, '{', '}') else {
         return Err(LineFault::Syntax);
     };
-    let Some((number, currency)) = cut(within) else {
+    if within.is_empty() {
+        return Ok(lot(None, None));
+    }
+    let Some((rate, currency)) = money(within) else {
         return Err(LineFault::Syntax);
     };
-    let number = Rate::parse(number)?;
     let currency = Commodity::new(alloc, currency)?;
-    Ok(Cost { number, currency })
+    Ok(lot(Some(rate), Some(currency)))
 }
 
-/// Returns what stands before the first space of a text, and what stands behind it, or none where it has no space.
-fn cut(text: &str) -> Option<(&str, &str)>
-    ensures { MatchOption result (cut text.now ≡ None) (λ parts. cut text.now ≡ Some (parts.0.now, parts.1.now)) }
+/// Returns what a posting says of a lot with these parts alone.
+fn lot(number: Option<Rate>, currency: Option<Commodity>) -> Cost
+    ensures { result ≡ lot_of number currency }
 {
-    text.split_once(' ')
+    Cost::Each(CostSpec {
+        number,
+        currency,
+        day: None,
+        label: None,
+    })
+}
+
+/// Returns a rate and the name of a currency, or none for another text.
+#[tactic(auto, unfolding(crate::specs::Reading::money_of))]
+fn money(text: &str) -> Option<(Rate, &str)>
+    ensures { MatchOption result (money_of text.now ≡ None)
+        (λ money. (money_of text.now ≡ Some (money.0, money.1.now)) × IsTrue (is_commodity money.1.now)) }
+{
+    let (number, currency) = cut(text, ' ')?;
+    let rate = Rate::parse(number).ok()?;
+    if Commodity::is_name(currency) {
+        Some((rate, currency))
+    } else {
+        None
+    }
+}
+
+/// Returns what stands before the first place of an ASCII character in a text, and what stands behind it, or none where it
+/// isn't there.
+fn cut(text: &str, mark: char) -> Option<(&str, &str)>
+    requires { mark < 128 }
+    ensures { MatchOption result (cut mark text.now ≡ None) (λ parts. cut mark text.now ≡ Some (parts.0.now, parts.1.now)) }
+{
+    text.split_once(mark)
 }
 
 /// Returns what stands between the two ASCII characters that a text begins and ends with, or none for another text.

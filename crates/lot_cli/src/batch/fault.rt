@@ -7,6 +7,7 @@ use super::status::Status;
 use crate::input::SlurpFault;
 use lot_report::{PrintFault, ReportFault, print_line};
 use lot_text::TextFault;
+use std::alloc::AllocError;
 use std::io::Write;
 use thiserror::Error;
 
@@ -48,6 +49,17 @@ impl From<SlurpFault> for Fault {
             SlurpFault::TooLong => Fault::TooLong,
             SlurpFault::Memory => Fault::Memory,
         }
+    }
+}
+
+impl From<AllocError> for Fault {
+    ghost use Rattle.std.specs.Prelude.{◌≡◌};
+    ghost use Rattle.lot_cli.specs.declared.batch.fault.Fault.TheVariants.{Memory};
+
+    ghost from_gives = { λ _ e. e ≡ Memory };
+
+    fn from(_error: AllocError) -> Fault {
+        Fault::Memory
     }
 }
 

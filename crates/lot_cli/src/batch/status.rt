@@ -6,7 +6,7 @@ use lot_ledger::Verdict;
 /// How a run ended.
 #[derive(Clone, Copy, Debug, PartialEq, Eq)]
 pub(super) enum Status {
-    /// Every command was accepted.
+    /// Every command was accepted or repeated.
     Accepted,
     /// Some command was refused.
     Refused,
@@ -22,7 +22,7 @@ impl Status {
         ensures { result ≡ status_of_verdict verdict.now }
     {
         match verdict {
-            Verdict::Accepted => Status::Accepted,
+            Verdict::Accepted | Verdict::Repeated => Status::Accepted,
             Verdict::Refused(_) => Status::Refused,
         }
     }

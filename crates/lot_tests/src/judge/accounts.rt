@@ -4,8 +4,8 @@ use super::book::{Book, reply};
 use super::script::command;
 use super::{BUYS, FIFO, OTHERS, STRICT, Step, Story, assert_stories, told};
 use crate::assertions::assert_text;
-use lot_entry::canonical::body;
-use lot_judge::decide;
+use lot_command::canonical::body;
+use lot_ledger::decide;
 use std::process::Abort;
 
 /// Each kind of command, accepted or refused by how its account or its commodity stands.

@@ -5,8 +5,8 @@ use crate::assertions::assert_text;
 use crate::gains;
 use crate::make::{commodity, key, lots_text, push_key, push_texts, units};
 use lot_base::Account;
-use lot_entry::Command;
-use lot_judge::{Change, Outcome, Position, Refusal, Sale, Stop, View, decide};
+use lot_command::Command;
+use lot_ledger::{Change, Outcome, Position, Refusal, Sale, Stop, View, decide};
 use lot_num::{Rate, Units};
 use std::collections::BTreeMap;
 use std::marker::Model;
@@ -30,7 +30,7 @@ pub(crate) struct Book {
 
 impl Model for Book {
     ghost use Rattle.std.specs.Prelude.{◌≡◌, ℕ};
-    ghost use Rattle.lot_judge.specs.View.{known};
+    ghost use Rattle.lot_view.specs.View.{known};
 
     ghost Value = { ℕ };
 

@@ -8,7 +8,7 @@ use super::book::{Book, reply};
 use super::script::command;
 use crate::assertions::assert_is;
 use crate::make::{account, push_texts};
-use lot_judge::{View, decide};
+use lot_ledger::{View, decide};
 use std::process::Abort;
 
 /// What each transaction of 2020-03-15 meets: two lots, accounts that are opened later, closed before or opened with EUR

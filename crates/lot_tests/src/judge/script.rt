@@ -4,7 +4,7 @@
 use crate::commands::{currencies, whole_cost};
 use crate::make::{account, commodity, day, rate, spec, units};
 use lot_base::{Commodity, Day};
-use lot_entry::{
+use lot_command::{
     Amount, Closing, Command, Cost, Currencies, Declaring, Flag, Items, Method, Opening, Posting,
     Price, Quoting, Transaction, UnitPrice, WholePrice,
 };

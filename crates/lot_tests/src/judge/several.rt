@@ -5,7 +5,7 @@ use super::script::command;
 use super::{BOUGHT, BUYS, FIFO, OTHERS, STRICT, Step, Story, assert_stories, told};
 use crate::assertions::assert_text;
 use crate::make::push_texts;
-use lot_judge::{Change, Outcome, decide};
+use lot_ledger::{Change, Outcome, decide};
 use std::process::Abort;
 
 const TWO_SALES: &[Step<'_>] = &[(

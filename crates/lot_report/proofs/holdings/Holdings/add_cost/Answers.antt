@@ -1,6 +1,6 @@
 use Rattle.std.proofs.Common.{◌∙◌, ap}
 use Rattle.std.specs.Prelude.{◌+ℤ◌}
-use Rattle.lot_ledger.specs.Currencies.{sum_in}
+use Rattle.lot_book.specs.Currencies.{sum_in}
 use Rattle.lot_report.proofs.CostLemmas.{sums_under_copy}
 use Rattle.lot_report.proofs.holdings.Holdings.add_cost.Goals as goal
 

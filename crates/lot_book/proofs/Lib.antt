@@ -1,0 +1,11 @@
+pub mod CaseLemmas
+pub mod OrderLemmas
+pub mod LegLemmas
+pub mod HeldLemmas
+pub mod FactLemmas
+pub mod SumLemmas
+pub mod CurrencyLemmas
+pub mod WeightLemmas
+pub mod GainSums
+pub mod GainLemmas
+pub mod StopLemmas

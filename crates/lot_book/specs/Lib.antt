@@ -1,0 +1,16 @@
+pub mod Leg
+pub mod Facts
+pub mod Booking
+pub mod Currencies
+pub mod Balance
+pub mod Refusals
+pub mod Step
+pub mod Book
+pub mod Judged
+pub mod Change
+pub mod Recorded
+pub mod Holding
+pub mod Touched
+pub mod Agree
+pub mod Sale
+pub mod Gain

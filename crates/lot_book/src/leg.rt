@@ -1,0 +1,62 @@
+ghost use Rattle.std.specs.Prelude.{◌≡◌, ◌≤◌, ◌*◌, unsigned_abs, IfOk};
+ghost use Rattle.lot_num.specs.Amount.{rate_limit};
+ghost use Rattle.lot_book.specs.Balance.{weight_of};
+
+use lot_base::{Account, Commodity};
+use lot_inv::LotKey;
+use lot_num::{Units, Wide, weight};
+use std::alloc::AllocError;
+
+/// Where units are held: an account, a commodity, and the key of a lot, or none for plain units. Positions are ordered as
+/// the holdings are: by account, then commodity, the plain one before the lots.
+#[derive(Debug, PartialEq, Eq, PartialOrd, Ord, Drop)]
+pub struct Position {
+    pub account: Account,
+    pub commodity: Commodity,
+    /// The lot, or none for plain units.
+    pub lot: Option<LotKey>,
+}
+
+impl Position {
+    /// Returns a copy. The error is out of memory.
+    pub fn copy(&self) -> Result<Position, AllocError>
+        ensures { IfOk result (λ position. position ≡ self.now) }
+    {
+        let lot = match &self.lot {
+            Some(lot) => Some(lot.copy()?),
+            None => None,
+        };
+        Ok(Position {
+            account: self.account.copy()?,
+            commodity: self.commodity.copy()?,
+            lot,
+        })
+    }
+}
+
+/// Units that a posting of an entry puts into a position, or, below zero, takes out of it.
+#[derive(Drop)]
+pub struct Leg {
+    /// The place of the entry in its book, from 1.
+    pub entry: u64,
+    /// The place of the posting in its transaction, from 1.
+    pub posting: usize,
+    /// The place of the leg among those of its posting, from 0.
+    pub place: usize,
+    pub position: Position,
+    pub units: Units,
+}
+
+impl Leg {
+    /// Returns the currency and the weight: for a lot its units times the number of its key, in the key's currency; for
+    /// plain units the units, in their commodity.
+    pub fn weight(&self) -> (&Commodity, Wide)
+        ensures value { (result.0.now, result.1) ≡ weight_of self.now }
+        ensures bound { unsigned_abs result.1 ≤ unsigned_abs self.now.units * rate_limit }
+    {
+        match &self.position.lot {
+            Some(lot) => (&lot.currency, weight(self.units, lot.number)),
+            None => (&self.position.commodity, self.units.wide()),
+        }
+    }
+}

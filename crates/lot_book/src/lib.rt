@@ -1,0 +1,28 @@
+//! What the entries of a book say, what a step on a book is, and what a command changes of it.
+//!
+//! - `leg`: legs and positions.
+//! - `standing`: how an account stands.
+//! - `holding`: what one position holds.
+//! - `refusal`, `verdict`: why a command is refused, and how it was judged.
+//! - `change`: what an accepted command changes.
+//! - `sale`, `gain`: postings that took lots away, and what they bring.
+#![tactic(auto)]
+
+mod change;
+mod gain;
+mod holding;
+mod leg;
+mod refusal;
+mod sale;
+mod standing;
+mod verdict;
+
+pub use change::{Change, Pair};
+pub use gain::Gain;
+pub use holding::Holding;
+pub use leg::{Leg, Position};
+pub use lot_inv::LotKey;
+pub use refusal::{Refusal, Stop};
+pub use sale::Sale;
+pub use standing::Standing;
+pub use verdict::Verdict;

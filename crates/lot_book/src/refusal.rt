@@ -1,0 +1,118 @@
+use lot_base::Commodity;
+use std::alloc::{AllocError, AllocFailed};
+use thiserror::Error;
+
+/// Why a command is refused (docs/RULES.md, Order of refusals). A posting is named by its place in its transaction, from 1.
+#[derive(Debug, PartialEq, Eq, Drop, Error)]
+pub enum Refusal {
+    /// The key stands with another command.
+    #[error("the key stands with another text")]
+    KeyReused,
+    /// The account was opened before.
+    #[error("the account is open already")]
+    AlreadyOpen,
+    /// The account was never opened: that of a posting, or that of a closing.
+    #[error("the account was never opened")]
+    UnknownAccount { posting: Option<usize> },
+    /// The day is before the opening of the account: that of a posting, or that of a closing.
+    #[error("the account is not open on that day")]
+    NotOpenYet { posting: Option<usize> },
+    /// The account was closed: before the day of a transaction that posts to it, or before a closing.
+    #[error("the account is closed")]
+    Closed { posting: Option<usize> },
+    /// The commodity was declared before.
+    #[error("the commodity is declared already")]
+    AlreadyDeclared,
+    /// The account of the posting was opened with other currencies.
+    #[error("the account of posting {posting} was not opened with its commodity")]
+    CurrencyNotAllowed { posting: usize },
+    /// The transaction has too many postings.
+    #[error("the transaction has too many postings")]
+    TooManyPostings,
+    /// Two postings are elided.
+    #[error("only one posting may have no amount")]
+    TwoElided,
+    /// The day is before the latest on which the account and the commodity of the posting were posted to with braces.
+    #[error("posting {posting} is before the latest one at cost")]
+    BackDated { posting: usize },
+    /// No lot fits.
+    #[error("no lot fits posting {posting}")]
+    NoMatch { posting: usize },
+    /// Several lots fit, and the posting doesn't take them all.
+    #[error("several lots fit posting {posting}")]
+    Ambiguous { posting: usize },
+    /// The lots that fit hold less.
+    #[error("the lots that fit posting {posting} hold less")]
+    NotEnough { posting: usize },
+    /// The number or the currency of the lot to be opened isn't given.
+    #[error("the cost in posting {posting} lacks its number or its currency")]
+    IncompleteCost { posting: usize },
+    /// The total by the units isn't exactly a rate.
+    #[error("the total cost in posting {posting} by its units is not exact")]
+    InexactCost { posting: usize },
+    /// The posting has braces and no units.
+    #[error("posting {posting} has braces, but no units")]
+    ZeroUnits { posting: usize },
+    /// After the posting the units of a position are out of range.
+    #[error("posting {posting} leaves the range of units")]
+    Range { posting: usize },
+    /// What the elided posting would take in the currency has too many decimals, or is out of range.
+    #[error("what is left over in {currency} has too many decimals or is too large")]
+    InexactFill { currency: Commodity },
+    /// The account of the elided posting was opened with other currencies.
+    #[error("the account of the posting without amount was not opened with {currency}")]
+    FillNotAllowed { currency: Commodity },
+    /// The weights in the currency don't sum to zero, and every posting has an amount.
+    #[error("the transaction does not balance in {currency}")]
+    NotBalanced { currency: Commodity },
+    /// The account of the posting would hold too many lots of its commodity.
+    #[error("the account of posting {posting} would hold too many lots")]
+    TooManyLots { posting: usize },
+    /// The book has as many entries as it may have.
+    #[error("the book is full")]
+    BookFull,
+}
+
+/// Why a command isn't decided with an outcome.
+#[derive(Debug, PartialEq, Eq, Drop, Error)]
+pub enum Stop {
+    /// The rules refuse it.
+    #[error("{0}")]
+    Refused(Refusal),
+    /// Out of memory.
+    #[error("out of memory")]
+    Memory,
+}
+
+impl From<Refusal> for Stop {
+    ghost use Rattle.std.specs.Prelude.{◌≡◌};
+    ghost use Rattle.lot_book.specs.declared.refusal.Stop.TheVariants.{Refused};
+
+    ghost from_gives = { λ refusal stop. stop ≡ Refused refusal };
+
+    fn from(refusal: Refusal) -> Stop {
+        Stop::Refused(refusal)
+    }
+}
+
+impl From<AllocError> for Stop {
+    ghost use Rattle.std.specs.Prelude.{◌≡◌};
+    ghost use Rattle.lot_book.specs.declared.refusal.Stop.TheVariants.{Memory};
+
+    ghost from_gives = { λ _ stop. stop ≡ Memory };
+
+    fn from(_error: AllocError) -> Stop {
+        Stop::Memory
+    }
+}
+
+impl<T: Drop> From<AllocFailed<T>> for Stop {
+    ghost use Rattle.std.specs.Prelude.{◌≡◌};
+    ghost use Rattle.lot_book.specs.declared.refusal.Stop.TheVariants.{Memory};
+
+    ghost from_gives = { λ _ stop. stop ≡ Memory };
+
+    fn from(_failed: AllocFailed<T>) -> Stop {
+        Stop::Memory
+    }
+}

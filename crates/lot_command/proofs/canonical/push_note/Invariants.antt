@@ -1,0 +1,9 @@
+use Rattle.std.proofs.Common.{◌≡◌, ◌++◌}
+use Rattle.std.specs.String.{string_bytes}
+use Rattle.lot_command.specs.Canonical.{escaped}
+use Rattle.lot_command.proofs.canonical.push_note.Given as goal
+
+-- what is appended and what is left are the whole note
+abbrev pub invariant-loop-character : goal.invariant-loop-character
+invariant-loop-character l =
+    string_bytes l.text ++ escaped l.character-iterator.rest.now ≡ string_bytes l.initial.text ++ escaped l.note

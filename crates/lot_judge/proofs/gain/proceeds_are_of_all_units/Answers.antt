@@ -1,5 +1,0 @@
-use Rattle.lot_judge.proofs.GainLaws.{proceeds_are_of_all_units}
-use Rattle.lot_judge.proofs.gain.proceeds_are_of_all_units.Goals as goal
-
-pub returns : goal.returns
-returns c = proceeds_are_of_all_units

@@ -1,6 +1,0 @@
--- A posting augments lots of its sign, or takes from each lot no more than is there.
-use Rattle.lot_judge.proofs.LawOneSign.{book_signed}
-use Rattle.lot_judge.proofs.laws.an_accounts_lots_have_one_sign.Goals as goal
-
-pub returns : goal.returns
-returns c = book_signed

@@ -1,6 +1,0 @@
--- What is left over is zero, or taken up.
-use Rattle.lot_judge.proofs.LawBalance.{book_balances}
-use Rattle.lot_judge.proofs.laws.every_transaction_balances.Goals as goal
-
-pub returns : goal.returns
-returns c = book_balances

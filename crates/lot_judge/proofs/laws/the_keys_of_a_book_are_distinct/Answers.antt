@@ -1,6 +1,0 @@
--- Each entry was accepted under a key that was new.
-use Rattle.lot_judge.proofs.LawKeys.{one_key_each}
-use Rattle.lot_judge.proofs.laws.the_keys_of_a_book_are_distinct.Goals as goal
-
-pub returns : goal.returns
-returns c = one_key_each

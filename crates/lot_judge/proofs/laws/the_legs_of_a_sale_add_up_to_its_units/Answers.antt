@@ -1,6 +1,0 @@
--- A choice gives each lot an amount with the sign of the units.
-use Rattle.lot_judge.proofs.LawSales.{booked_sale}
-use Rattle.lot_judge.proofs.laws.the_legs_of_a_sale_add_up_to_its_units.Goals as goal
-
-pub returns : goal.returns
-returns c = booked_sale

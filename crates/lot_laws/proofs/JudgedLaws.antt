@@ -1,0 +1,136 @@
+-- Commands judged in their order come to one list of verdicts and to one book, and what it holds is listed in one way.
+use Rattle.std.specs.Prelude.{◌≡◌, ℕ, suc, List, [], ◌∷◌, ◌++◌, map, ℤ}
+use Rattle.std.specs.List.Sorted.{IsStrictlySortedBy}
+use Rattle.std.specs.Map.{keys_of}
+use Rattle.std.proofs.Common.{refl, sym, ap, subst, ◌∙◌}
+use Rattle.lot_base.proofs.MapLemmas.{one_map}
+use Rattle.lot_command.specs.declared.command.Command.{Command}
+use Rattle.lot_command.specs.declared.key.Key.{Key}
+use Rattle.lot_book.specs.declared.holding.Holding.{Holding}
+use Rattle.lot_book.specs.declared.leg.Leg.{Leg}
+use Rattle.lot_book.specs.declared.leg.Position.{Position}
+use Rattle.lot_book.specs.declared.refusal.Refusal.{Refusal}
+use Rattle.lot_book.specs.declared.verdict.Verdict.{Verdict}
+use Rattle.lot_book.specs.declared.verdict.Verdict.TheVariants.{Accepted, Repeated, Refused}
+use Rattle.lot_book.specs.Book.{IsBook, entry_of}
+use Rattle.lot_book.specs.Facts.{Entry, Facts}
+use Rattle.lot_book.specs.Holding.{ListsHoldings, entry_of as as_entry, position_of}
+use Rattle.lot_book.specs.Judged.{Judges, JudgesAll}
+use Rattle.lot_book.specs.Leg.{position_cmp}
+use Rattle.lot_book.specs.Step.{Accept, Outcome, Refuse, Repeat, Step}
+use Rattle.lot_book.proofs.OrderLemmas.{exact_positions, positions_total}
+use Rattle.lot_laws.proofs.StepLemmas.{some_step, step_one}
+use Rattle.lot_laws.proofs.RecordedBook.{book-grows}
+
+-- ---- Judged commands leave a book a book.
+
+judged_once : (before : List Entry) (key : Key) (command : Command) (verdict : Verdict) (after : List Entry)
+    → Judges before key command verdict after → IsBook before → IsBook after
+judged_once before key command Accepted after h book = subst IsBook (sym h.2) (book-grows before key command h.0 book h.1)
+judged_once before key command Repeated after h book = subst IsBook (sym h.1) book
+judged_once before key command (Refused refusal) after h book = subst IsBook (sym h.1) book
+
+pub judged_book : (key_of : ℕ → Key) (number : ℕ) (before : List Entry) (commands : List Command) (verdicts : List Verdict)
+    (after : List Entry) → IsBook before → JudgesAll key_of number before commands verdicts after → IsBook after
+judged_book key_of number before [] [] after book h = subst IsBook (sym h) book
+judged_book key_of number before [] (verdict ∷ verdicts) after book h = absurd h
+judged_book key_of number before (command ∷ commands) [] after book h = absurd h
+judged_book key_of number before (command ∷ commands) (verdict ∷ verdicts) after book h =
+    judged_book key_of (suc number) h.0 commands verdicts after
+    (judged_once before (key_of number) command verdict h.0 h.1 book) h.2
+
+-- ---- Commands come to some verdicts and some book.
+
+judged_by : (before : List Entry) (key : Key) (command : Command) (outcome : Outcome) → Step before key command outcome
+    → (verdict : Verdict) × (after : List Entry) × Judges before key command verdict after
+judged_by before key command (Accept legs) step = (Accepted, before ++ entry_of key command legs ∷ [], (legs, step, refl))
+judged_by before key command Repeat step = (Repeated, before, (step, refl))
+judged_by before key command (Refuse refusal) step = (Refused refusal, before, (step, refl))
+
+pub some_judged : (key_of : ℕ → Key) (number : ℕ) (before : List Entry) (commands : List Command)
+    → (verdicts : List Verdict) × (after : List Entry) × JudgesAll key_of number before commands verdicts after
+some_judged key_of number before [] = ([], before, refl)
+some_judged key_of number before (command ∷ commands) =
+    let outcome = some_step before (key_of number) command in
+    let first = judged_by before (key_of number) command outcome.0 outcome.1 in
+    let rest = some_judged key_of (suc number) first.1 commands in
+    (first.0 ∷ rest.0, rest.1, (first.1, first.2, rest.2))
+
+-- ---- They come to no other.
+
+same_legs : (legs more : List Leg) → Accept legs ≡ Accept more → legs ≡ more
+same_legs legs more e = cc
+
+same_refusal : (a b : Refusal) → Refuse a ≡ Refuse b → a ≡ b
+same_refusal a b e = cc
+
+accept_or_repeat : (legs : List Leg) → Accept legs ≡ Repeat → ⊥
+accept_or_repeat legs e = cc
+
+accept_or_refuse : (legs : List Leg) (refusal : Refusal) → Accept legs ≡ Refuse refusal → ⊥
+accept_or_refuse legs refusal e = cc
+
+repeat_or_refuse : (refusal : Refusal) → Repeat ≡ Refuse refusal → ⊥
+repeat_or_refuse refusal e = cc
+
+alike : (before : List Entry) (key : Key) (command : Command) (v w : Verdict) (a b : List Entry)
+    → Judges before key command v a → Judges before key command w b → (v ≡ w) × (a ≡ b)
+alike before key command Accepted Accepted a b h k =
+    let legs = same_legs h.0 k.0 (step_one before key command (Accept h.0) (Accept k.0) h.1 k.1) in
+    (refl, h.2 ∙ ap (λ (legs : List Leg). before ++ entry_of key command legs ∷ []) legs ∙ sym k.2)
+alike before key command Accepted Repeated a b h k =
+    absurd (accept_or_repeat h.0 (step_one before key command (Accept h.0) Repeat h.1 k.0))
+alike before key command Accepted (Refused q) a b h k =
+    absurd (accept_or_refuse h.0 q (step_one before key command (Accept h.0) (Refuse q) h.1 k.0))
+alike before key command Repeated Accepted a b h k =
+    absurd (accept_or_repeat k.0 (step_one before key command (Accept k.0) Repeat k.1 h.0))
+alike before key command Repeated Repeated a b h k = (refl, h.1 ∙ sym k.1)
+alike before key command Repeated (Refused q) a b h k =
+    absurd (repeat_or_refuse q (step_one before key command Repeat (Refuse q) h.0 k.0))
+alike before key command (Refused p) Accepted a b h k =
+    absurd (accept_or_refuse k.0 p (step_one before key command (Accept k.0) (Refuse p) k.1 h.0))
+alike before key command (Refused p) Repeated a b h k =
+    absurd (repeat_or_refuse p (step_one before key command Repeat (Refuse p) k.0 h.0))
+alike before key command (Refused p) (Refused q) a b h k =
+    (ap Refused (same_refusal p q (step_one before key command (Refuse p) (Refuse q) h.0 k.0)), h.1 ∙ sym k.1)
+
+pub judged_alike : (key_of : ℕ → Key) (number : ℕ) (before : List Entry) (commands : List Command) (vs ws : List Verdict)
+    (a b : List Entry) → JudgesAll key_of number before commands vs a → JudgesAll key_of number before commands ws b
+    → (vs ≡ ws) × (a ≡ b)
+judged_alike key_of number before [] [] [] a b h k = (refl, h ∙ sym k)
+judged_alike key_of number before [] [] (w ∷ ws) a b h k = absurd k
+judged_alike key_of number before [] (v ∷ vs) ws a b h k = absurd h
+judged_alike key_of number before (command ∷ commands) [] ws a b h k = absurd h
+judged_alike key_of number before (command ∷ commands) (v ∷ vs) [] a b h k = absurd k
+judged_alike key_of number before (command ∷ commands) (v ∷ vs) (w ∷ ws) a b h k =
+    let first = alike before (key_of number) command v w h.0 k.0 h.1 k.1 in
+    let rest = judged_alike key_of (suc number) h.0 commands vs ws a b h.2
+    (subst (λ (mid : List Entry). JudgesAll key_of (suc number) mid commands ws b) (sym first.1) k.2) in
+    (ap (λ (u : Verdict). u ∷ vs) first.0 ∙ ap (λ (us : List Verdict). w ∷ us) rest.0, rest.1)
+
+-- ---- What is held is listed in one way.
+
+-- a position and its units as a row
+abbrev as_row : Position × ℤ → Holding
+as_row entry =
+    record { account = entry.0.account; commodity = entry.0.commodity; lot = entry.0.lot; units = entry.1 }
+
+rows_back : (rows : List Holding) → map as_row (map as_entry rows) ≡ rows
+rows_back [] = refl
+rows_back (row ∷ rows) = ap (λ (more : List Holding). row ∷ more) (rows_back rows)
+
+positions_listed : (rows : List Holding) → map position_of rows ≡ keys_of (map as_entry rows)
+positions_listed [] = refl
+positions_listed (row ∷ rows) = ap (λ (more : List Position). position_of row ∷ more) (positions_listed rows)
+
+entries_in_order : (facts : Facts) (rows : List Holding) → ListsHoldings facts rows
+    → IsStrictlySortedBy position_cmp (keys_of (map as_entry rows))
+entries_in_order facts rows h = subst (IsStrictlySortedBy position_cmp) (positions_listed rows) h.in_order
+
+pub one_holdings : (facts : Facts) (rows others : List Holding) → ListsHoldings facts rows → ListsHoldings facts others
+    → rows ≡ others
+one_holdings facts rows others h k =
+    sym (rows_back rows)
+    ∙ ap (map as_row) (one_map position_cmp positions_total exact_positions (map as_entry rows) (map as_entry others)
+    (entries_in_order facts rows h) (entries_in_order facts others k) (λ (p : Position). h.each p ∙ sym (k.each p)))
+    ∙ rows_back others

@@ -1,0 +1,108 @@
+//! Laws of books: of their entries, of what they hold, and of what judging commands leaves.
+ghost use Rattle.std.specs.Prelude.{◌≡◌, ◌≢◌, ℕ, ℤ, true, Some, List, [], ◌∷◌, ◌++◌, ◌+ℤ◌, neg_ℤ};
+ghost use Rattle.lot_booking.specs.declared.method.Method.TheVariants.{Unmatched};
+ghost use Rattle.lot_command.specs.Canonical.{canonical};
+ghost use Rattle.lot_command.specs.declared.command.Command.{Command};
+ghost use Rattle.lot_command.specs.declared.command.Command.TheVariants.{Transaction};
+ghost use Rattle.lot_command.specs.declared.key.Key.{Key};
+ghost use Rattle.lot_command.specs.declared.transaction.Transaction.{Transaction as TransactionOf};
+ghost use Rattle.lot_inv.specs.declared.lot_key.LotKey.{LotKey};
+ghost use Rattle.lot_inv.specs.Inventory.{lots_of, sum, units_at};
+ghost use Rattle.lot_book.specs.declared.leg.Leg.{Leg};
+ghost use Rattle.lot_book.specs.declared.leg.Position.{Position};
+ghost use Rattle.lot_book.specs.declared.verdict.Verdict.{Verdict};
+ghost use Rattle.lot_book.specs.Book.{IsBook, after, entry_of};
+ghost use Rattle.lot_book.specs.Booking.{Booked, IsBooked, Line, method_of};
+ghost use Rattle.lot_book.specs.Currencies.{sum_in};
+ghost use Rattle.lot_book.specs.Facts.{Entry, facts_of, legs_of, standing_of, text_under};
+ghost use Rattle.lot_book.specs.Judged.{JudgesAll as JudgesNumbered};
+ghost use Rattle.lot_laws.specs.Laws.{BooksEntries, HaveOneKeyEach, HaveOneSign, IsBalanced, JudgesAll};
+ghost use Rattle.lot_laws.specs.Laws.{bought, cost_in, sold, weights_at_cost};
+ghost use Rattle.lot_book.specs.Leg.{inventory_of, legs_at_lots, sum_at};
+ghost use Rattle.lot_book.specs.Sale.{AreLegsOf};
+ghost use Rattle.lot_book.specs.Step.{Accept, Outcome, Repeat, Step};
+
+/// What an account holds in a position is the sum of the units of all legs there.
+pub fn what_an_account_holds_is_the_sum_of_its_legs()
+    ensures { (legs : List Leg) (p : Position)
+        → units_at (inventory_of legs p.account) (p.commodity, p.lot) ≡ sum_at legs p }
+{}
+
+/// Each transaction of a book balances: its legs are those of its postings as they are booked on the entries before it,
+/// and in each currency the weights of the booked postings and of the elided posting's legs sum to zero, exactly.
+pub fn every_transaction_balances()
+    ensures { (before more : List Entry) (key : Key) (t : TransactionOf) (legs : List Leg)
+        → IsBook (before ++ entry_of key (Transaction t) legs ∷ more) → IsBalanced (facts_of before key) t legs }
+{}
+
+/// In every book the units of a commodity that an account holds in lots are those that its commands bought there less
+/// those that they sold.
+pub fn units_held_in_lots_are_those_bought_less_those_sold()
+    ensures { (entries : List Entry) (account commodity : List ℕ) → IsBook entries
+        → sum (inventory_of (legs_of entries) account) commodity
+        ≡ bought entries account commodity +ℤ neg_ℤ (sold entries account commodity) }
+{}
+
+/// In every book the lots of a commodity in an account have one sign, unless the method of the account is NONE.
+pub fn an_accounts_lots_have_one_sign()
+    ensures { (entries : List Entry) (account commodity : List ℕ) → IsBook entries
+        → method_of (standing_of entries account) ≢ Unmatched
+        → HaveOneSign (lots_of (inventory_of (legs_of entries) account) commodity) }
+{}
+
+/// No two entries of a book have one key.
+pub fn the_keys_of_a_book_are_distinct()
+    ensures { (entries : List Entry) → IsBook entries → HaveOneKeyEach entries }
+{}
+
+/// An accepted command stands under its key. A command under a key that stands with its text repeats an entry, and does
+/// nothing else; so it may be taken out of any list of commands, or put in at any place, and the book after them is the
+/// same.
+pub fn an_equal_command_may_be_taken_out()
+    ensures stands { (book : List Entry) (key : Key) (command : Command) (legs : List Leg)
+        → Step book key command (Accept legs)
+        → text_under (after book key command (Accept legs)) key ≡ Some (canonical command) }
+    ensures repeats { (book : List Entry) (key : Key) (command : Command)
+        → text_under book key ≡ Some (canonical command) → Step book key command Repeat }
+    ensures nothing_else { (book : List Entry) (key : Key) (command : Command) (outcome : Outcome)
+        → text_under book key ≡ Some (canonical command) → Step book key command outcome → outcome ≡ Repeat }
+    ensures taken_out { (book result : List Entry) (key : Key) (command : Command) (first more : List (Key × Command))
+        → text_under book key ≡ Some (canonical command)
+        → JudgesAll book (first ++ (key, command) ∷ more) result → JudgesAll book (first ++ more) result }
+    ensures put_in { (book result : List Entry) (key : Key) (command : Command) (first more : List (Key × Command))
+        → text_under book key ≡ Some (canonical command)
+        → JudgesAll book (first ++ more) result → JudgesAll book (first ++ (key, command) ∷ more) result }
+{}
+
+/// In every book the cost of the lots of a commodity that an account holds, in each currency, is what the postings with
+/// braces there weigh in it.
+pub fn the_cost_of_lots_is_the_weight_of_their_postings()
+    ensures booked { (entries : List Entry) → IsBook entries → (booked : List Booked) × BooksEntries [] entries booked }
+    ensures cost { (entries : List Entry) (booked : List Booked) (account commodity currency : List ℕ)
+        → BooksEntries [] entries booked
+        → cost_in (lots_of (inventory_of (legs_of entries) account) commodity) currency
+        ≡ sum_in (weights_at_cost account commodity booked) currency }
+{}
+
+/// A booked posting that takes lots away has a leg for each of them, with the sign of its units, and the legs add up to
+/// its units.
+pub fn the_legs_of_a_sale_add_up_to_its_units()
+    ensures { (line : Line) (booked : Booked) → IsBooked line booked → booked.reduces ≡ true
+        → (lots : List (LotKey × ℤ)) × AreLegsOf line.amount.units lots
+        × (booked.legs ≡ legs_at_lots line.entry line.place line.account line.amount.commodity 0 lots) }
+{}
+
+/// Commands, each under the key of its number, are judged in one way: there is one list of verdicts, and one list of
+/// entries after them, which is a book where the list before them was.
+pub fn judged_commands_make_a_book()
+    ensures some { (key_of : ℕ → Key) (number : ℕ) (before : List Entry) (commands : List Command)
+        → (verdicts : List Verdict) × (after : List Entry)
+        × JudgesNumbered key_of number before commands verdicts after }
+    ensures one { (key_of : ℕ → Key) (number : ℕ) (before : List Entry) (commands : List Command) (vs ws : List Verdict)
+        (a b : List Entry)
+        → JudgesNumbered key_of number before commands vs a → JudgesNumbered key_of number before commands ws b
+        → (vs ≡ ws) × (a ≡ b) }
+    ensures book { (key_of : ℕ → Key) (number : ℕ) (before : List Entry) (commands : List Command)
+        (verdicts : List Verdict) (after : List Entry)
+        → IsBook before → JudgesNumbered key_of number before commands verdicts after → IsBook after }
+{}

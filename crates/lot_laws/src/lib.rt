@@ -1,0 +1,11 @@
+//! Laws of what a book says, of what commands come to on it, and of sales. Each is the contract of a function that does
+//! nothing.
+//!
+//! - `steps`: what a command comes to.
+//! - `books`: entries, what they hold, and judging a list of commands.
+//! - `gains`: sales and their gains.
+#![tactic(auto)]
+
+pub mod books;
+pub mod gains;
+pub mod steps;

@@ -1,0 +1,104 @@
+-- The postings of a transaction, booked one after another.
+use Rattle.std.proofs.Common.{◌≡◌, ℕ, suc, List, [], ◌∷◌, ◌++◌, Option, Some, None, refl, sym, ap, subst, ◌∙◌, ℤ, append_assoc, append-nil, arith, add-one, ◌+◌, ◌<◌, length, drop, slice_index_or}
+use Rattle.std.proofs.Math.Seq.{drop-cons, drop-length}
+use Rattle.lot_command.specs.declared.transaction.Amount.{Amount}
+use Rattle.lot_command.specs.declared.transaction.Posting.{Posting}
+use Rattle.lot_posting.specs.declared.draft.Draft.{Draft}
+use Rattle.lot_book.specs.declared.leg.Leg.{Leg}
+use Rattle.lot_book.specs.declared.refusal.Refusal.{Refusal}
+use Rattle.lot_book.specs.declared.refusal.Stop.TheVariants as stop
+use Rattle.lot_book.specs.Balance.{AreWithin, residuals, weights_in}
+use Rattle.lot_book.specs.Booking.{All, Booked, Bookings, Books as BooksOne, BooksAll, Fails, Stopped, follow, legs_in}
+use Rattle.lot_ledger.specs.Decide.{BooksNext, IsDraft, StopsNext}
+use Rattle.lot_book.specs.Facts.{Facts}
+use Rattle.lot_posting.specs.Posting.{Books, sales_in, sales_of}
+use Rattle.lot_posting.proofs.BalanceResiduals.{AreWithin-more, weights_in-push}
+
+-- what postings come to, behind others that are booked
+abbrev pub follow_all : List Booked → Bookings → Bookings
+follow_all [] more = more
+follow_all (booked ∷ others) more = follow booked (follow_all others more)
+
+pub follow_all-push : (booked : List Booked) (next : Booked) (more : Bookings) → follow_all (booked ++ next ∷ []) more ≡ follow_all booked (follow next more)
+follow_all-push [] next more = refl
+follow_all-push (first ∷ booked) next more = ap (follow first) (follow_all-push booked next more)
+
+pub follow_all-stopped : (booked : List Booked) (refusal : Refusal) → follow_all booked (Stopped refusal) ≡ Stopped refusal
+follow_all-stopped [] refusal = refl
+follow_all-stopped (first ∷ booked) refusal = ap (follow first) (follow_all-stopped booked refusal)
+
+pub follow_all-all : (booked more : List Booked) → follow_all booked (All more) ≡ All (booked ++ more)
+follow_all-all [] more = refl
+follow_all-all (first ∷ booked) more = ap (follow first) (follow_all-all booked more)
+
+-- ---- one posting more
+
+pub legs_in-push : (booked : List Booked) (next : Booked) → legs_in (booked ++ next ∷ []) ≡ legs_in booked ++ next.legs
+legs_in-push [] next = append-nil next.legs
+legs_in-push (first ∷ booked) next = ap (λ legs. first.legs ++ legs) (legs_in-push booked next) ∙ sym (append_assoc first.legs (legs_in booked) next.legs)
+
+pub sales_in-push : (day : ℤ) (booked : List Booked) (next : Booked) → sales_in day (booked ++ next ∷ []) ≡ sales_in day booked ++ sales_of day next
+sales_in-push day [] next = append-nil (sales_of day next)
+sales_in-push day (first ∷ booked) next = ap (λ sales. sales_of day first ++ sales) (sales_in-push day booked next) ∙ sym (append_assoc (sales_of day first) (sales_in day booked) (sales_of day next))
+
+-- What is so after some postings: those with amounts are booked as the draft has it, its residuals are within their count,
+-- and what the others come to decides what all come to.
+pub record Booking (facts : Facts) (day : ℤ) (all : List Posting) (draft : Draft) (count place : ℕ) (left : List Posting) : Type 0 where
+  pub booked : List Booked
+  pub is : IsDraft facts day draft booked
+  pub within : AreWithin count draft.residuals
+  pub others : (more : Bookings) → BooksAll facts day draft.tally.legs place left more → BooksAll facts day [] 1 all (follow_all booked more)
+
+-- a draft with one posting more
+pub drafts-more : (facts : Facts) (day : ℤ) (place : ℕ) (account : List ℕ) (amount : Amount) (old new : Draft) (booked : List Booked)
+    → IsDraft facts day old booked → (books : Books facts day place account amount old new) → IsDraft facts day new (booked ++ books.booked ∷ [])
+drafts-more facts day place account amount old new booked is books = record {
+  legs = books.legs ∙ ap (λ legs. legs ++ books.booked.legs) is.legs ∙ sym (legs_in-push booked books.booked);
+  lists = books.lists;
+  residuals = books.sum (weights_in booked) is.residuals ∙ ap residuals (sym (weights_in-push booked books.booked));
+  sales = books.sales ∙ ap (λ sales. sales ++ sales_of day books.booked) is.sales ∙ sym (sales_in-push day booked books.booked);
+}
+
+pub booking-more : (facts : Facts) (day : ℤ) (all : List Posting) (old new : Draft) (count place : ℕ) (account : List ℕ) (amount : Option Amount) (left : List Posting)
+    → Booking facts day all old count place (record { account = account; amount = amount } ∷ left)
+    → BooksNext facts day place account amount old new
+    → Booking facts day all new (suc count) (suc place) left
+booking-more facts day all old new count place account None left so same = record {
+  booked = so.booked;
+  is = subst (λ (draft : Draft). IsDraft facts day draft so.booked) (sym same) so.is;
+  within = subst (λ (draft : Draft). AreWithin (suc count) draft.residuals) (sym same) (AreWithin-more count (suc count) old.residuals (grind arith) so.within);
+  others = λ more h. so.others more (subst (λ (draft : Draft). BooksAll facts day draft.tally.legs (suc place) left more) same h);
+}
+booking-more facts day all old new count place account (Some amount) left so books = record {
+  booked = so.booked ++ books.booked ∷ [];
+  is = drafts-more facts day place account amount old new so.booked so.is books;
+  within = books.within count so.within;
+  others = λ more h.
+      let h_old = subst (λ (legs : List Leg). BooksAll facts day legs (suc place) left more) books.legs h in
+      subst (BooksAll facts day [] 1 all) (sym (follow_all-push so.booked books.booked more))
+      (so.others (follow books.booked more) (BooksOne books.booked, books.is, (more, h_old, refl)));
+}
+
+-- a posting that stops decides
+pub booking-stops : (facts : Facts) (day : ℤ) (all : List Posting) (old : Draft) (count place : ℕ) (account : List ℕ) (amount : Option Amount) (left : List Posting) (refusal : Refusal)
+    → Booking facts day all old count place (record { account = account; amount = amount } ∷ left)
+    → StopsNext facts day place account amount old (stop.Refused refusal)
+    → BooksAll facts day [] 1 all (Stopped refusal)
+booking-stops facts day all old count place account None left refusal so h = absurd h
+booking-stops facts day all old count place account (Some amount) left refusal so h =
+    subst (BooksAll facts day [] 1 all) (follow_all-stopped so.booked refusal)
+    (so.others (Stopped refusal) (Fails refusal, h, refl))
+
+-- ---- the postings that are left
+
+-- they begin with the one at their place
+pub left_with : (all items : List Posting) (index : ℕ) (posting : Posting) → items ≡ all → index < length items → posting ≡ slice_index_or items index posting
+    → drop index all ≡ posting ∷ drop (index + 1) all
+left_with all items index posting same below is =
+    let here : index < length all = subst (λ (ps : List Posting). index < length ps) same below in
+    let first : slice_index_or all index posting ≡ posting = sym (is ∙ ap (λ (ps : List Posting). slice_index_or ps index posting) same) in
+    drop-cons all index posting here ∙ ap (λ (p : Posting). p ∷ drop (suc index) all) first ∙ ap (λ n. posting ∷ drop n all) (sym (add-one index))
+
+-- there are none at the end
+pub no_left : (all items : List Posting) (index : ℕ) → items ≡ all → index ≡ length items → drop index all ≡ []
+no_left all items index same is = ap (λ n. drop n all) (is ∙ ap length same) ∙ drop-length all

@@ -1,0 +1,78 @@
+-- What the elided posting takes.
+use Rattle.std.specs.Prelude.{◌≡◌, ℕ, suc, Bool, true, false, cond, List, [], ◌∷◌, map, find, Option, None, Some, ℤ, Result, Ok, Err}
+use Rattle.std.specs.Option.{option_map, option_or}
+use Rattle.std.specs.Result.{IfErr, IsErrAnd}
+use Rattle.std.proofs.Common.{refl, sym, ap, subst}
+use Rattle.lot_inv.specs.Inventory.{Held}
+use Rattle.lot_book.specs.declared.leg.Leg.{Leg}
+use Rattle.lot_book.specs.declared.refusal.Refusal.{Refusal}
+use Rattle.lot_book.specs.declared.refusal.Refusal.TheVariants.{Range}
+use Rattle.lot_book.specs.declared.refusal.Stop.{Stop}
+use Rattle.lot_book.specs.declared.refusal.Stop.TheVariants.{Refused, Memory}
+use Rattle.lot_book.specs.declared.standing.Standing.{Standing}
+use Rattle.lot_book.specs.Balance.{fill_from, opposite}
+use Rattle.lot_ledger.specs.Decide.{filled, first_barred}
+use Rattle.lot_book.specs.Leg.{leave_range, leg_at}
+use Rattle.lot_book.specs.Refusals.{Stops, bars, first_currency, holds_as}
+use Rattle.lot_posting.specs.Tally.{AreOf, StopsAt}
+
+-- ---- the currencies of the fills
+
+-- an account that was never opened bars nothing
+pub none_barred : (fills : List (List ℕ × ℤ)) → first_barred None fills ≡ None
+none_barred [] = refl
+none_barred (fill ∷ fills) = none_barred fills
+
+-- the first currency of the fills that is barred is that of the residuals that they take
+pub barred-fills : (standing : Option Standing) (rs : List (List ℕ × ℤ))
+    → first_barred standing (map (λ (r : List ℕ × ℤ). (r.0, opposite r.1)) rs)
+    ≡ first_currency (λ (r : List ℕ × ℤ). bars standing r.0) rs
+barred-fills standing [] = refl
+barred-fills standing (r ∷ rs) = by (bars standing r.0) (barred-fills standing rs)
+  where
+    fills : List (List ℕ × ℤ)
+    fills = map (λ (r : List ℕ × ℤ). (r.0, opposite r.1)) rs
+
+    by : (b : Bool) → first_barred standing fills ≡ first_currency (λ (r : List ℕ × ℤ). bars standing r.0) rs
+        → option_map (λ (r : List ℕ × ℤ). r.0)
+        (cond b (Some (r.0, opposite r.1)) (find (λ (r : List ℕ × ℤ). bars standing r.0) fills))
+        ≡ option_map (λ (r : List ℕ × ℤ). r.0) (cond b (Some r) (find (λ (r : List ℕ × ℤ). bars standing r.0) rs))
+    by true rest = refl
+    by false rest = rest
+
+-- ---- the legs of the fills
+
+-- they are those of the residuals that the fills take
+pub filled-fills : (entry posting : ℕ) (account : List ℕ) (place : ℕ) (rs : List (List ℕ × ℤ))
+    → filled entry posting account place (map (λ (r : List ℕ × ℤ). (r.0, opposite r.1)) rs)
+    ≡ fill_from entry posting account place rs
+filled-fills entry posting account place [] = refl
+filled-fills entry posting account place (r ∷ rs) =
+    ap (λ legs. leg_at entry posting place account r.0 None (opposite r.1) ∷ legs)
+    (filled-fills entry posting account (suc place) rs)
+
+-- they are those of one posting to one account
+pub filled-own : (entry posting : ℕ) (account : List ℕ) (place : ℕ) (rs : List (List ℕ × ℤ))
+    → AreOf account posting (fill_from entry posting account place rs)
+filled-own entry posting account place [] = tt
+filled-own entry posting account place (r ∷ rs) = ((refl, refl), filled-own entry posting account (suc place) rs)
+
+-- ---- where filling stops
+
+pub passed_on : {T E : Type 0} (r : Result T E) (stop : E) (P : E → Type 0)
+    → IsErrAnd r (λ e. e ≡ stop) → P stop → IfErr r P
+passed_on (Ok x) stop P is h = tt
+passed_on (Err e) stop P is h = subst P (sym is) h
+
+-- at a barred currency, where every fill is exact
+pub stops-barred : (inexact barred rest : Option Refusal) (stop : Stop) → inexact ≡ None → Stops barred stop
+    → Stops (option_or inexact (option_or barred rest)) stop
+stops-barred inexact barred rest (Refused refusal) exact at = rw (exact, at) refl
+stops-barred inexact barred rest Memory exact at = tt
+
+-- where a sum leaves the range, and every fill is exact and none is barred
+pub stops-range : (inexact barred : Option Refusal) (held : Held) (posting : ℕ) (legs : List Leg) (stop : Stop)
+    → inexact ≡ None → barred ≡ None → StopsAt held posting legs stop
+    → Stops (option_or inexact (option_or barred (holds_as (leave_range held legs) (Range posting)))) stop
+stops-range inexact barred held posting legs (Refused refusal) exact allowed at = rw (exact, allowed, at.0, at.1) refl
+stops-range inexact barred held posting legs Memory exact allowed at = tt

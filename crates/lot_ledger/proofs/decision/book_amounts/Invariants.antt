@@ -1,0 +1,9 @@
+use Rattle.std.proofs.Common.{drop, ◌+◌}
+use Rattle.lot_view.specs.View.{known}
+use Rattle.lot_ledger.proofs.DecideLemmas.{Booking}
+use Rattle.lot_ledger.proofs.decision.book_amounts.Given as goal
+
+-- the postings so far are booked as the draft has it; what those that are left come to decides
+abbrev pub invariant-loop-index : goal.invariant-loop-index
+invariant-loop-index l =
+    Booking (known l.view) l.transaction.day l.transaction.postings l.draft l.index (l.index + 1) (drop l.index l.transaction.postings)

@@ -1,0 +1,12 @@
+-- The checks that come first hold none of the refusals, and the postings with amounts are booked.
+use Rattle.std.proofs.Common.{refl}
+use Rattle.std.proofs.lemmas.Result.{IfErr-weaker}
+use Rattle.lot_view.specs.View.{known}
+use Rattle.lot_ledger.proofs.ConcludeLemmas.{judged_last}
+use Rattle.lot_ledger.proofs.decision.decide_transaction.Goals as goal
+
+pub returns-clause-stops : goal.returns-clause-stops
+returns-clause-stops c =
+    IfErr-weaker c.conclude.result _ _
+    (λ found is. judged_last (known c.args.view.now) c.args.transaction.now c.in_ok-draft.draft found (c.in_ok-elided.ensures.passed refl) c.in_ok-draft.ensures.drafts is)
+    c.conclude.ensures.stops

@@ -1,0 +1,257 @@
+ghost use Rattle.std.specs.Prelude.{◌≡◌, ◌≤◌, ◌-◌, [], None, Some, length, IfErr, IfOk, IsOk, OnOk};
+ghost use Rattle.std.specs.BTreeMap.{IsEmpty};
+ghost use Rattle.lot_book.specs.Balance.{AreWithin};
+ghost use Rattle.lot_book.specs.Change.{ListsHeads, ListsSums};
+ghost use Rattle.lot_command.specs.declared.command.Command.TheVariants.{Opening as OpeningOf, Closing as ClosingOf, Declaring as DeclaringOf, Quoting as QuotingOf, Transaction as TransactionOf};
+ghost use Rattle.lot_command.specs.declared.command.Quoting.{Quoting as QuotingParts};
+ghost use Rattle.lot_ledger.specs.Decide.{Accepts, BooksNext, Comes, DraftsAll, IsElided, StopsBooking, StopsJudging, StopsNext, StopsStep, conditions_on, legs_with_fill, residual_conditions};
+ghost use Rattle.lot_book.specs.Refusals.{Stops, most_postings};
+ghost use Rattle.lot_book.specs.Step.{Judges, Refuse, first_conditions, first_of};
+ghost use Rattle.lot_view.specs.View.{known};
+
+use crate::checks::{
+    Elided, every_account_known, every_account_open, every_currency_allowed, few_lots,
+    few_postings, no_account_closed, none_back_dated, not_full, only_elided,
+};
+use crate::fill::fill;
+use crate::heads::heads_of;
+use lot_base::Day;
+use lot_book::{Change, Pair, Refusal, Stop};
+use lot_command::{Closing, Command, Declaring, Items, Opening, Posting, Transaction, canonical};
+use lot_posting::{Draft, Site, Tally, book_posting};
+use lot_view::View;
+use std::alloc::Global;
+use std::collections::BTreeMap;
+
+/// What becomes of a command that isn't refused.
+#[derive(Drop)]
+pub enum Outcome {
+    /// It is accepted, with this change.
+    Accept(Change),
+    /// It stands already, under its key.
+    Repeat,
+}
+
+/// Returns what becomes of a command on what a view knows, or why it is refused, or out of memory. The view is that of the
+/// command's key: it has the text that stands under it, if there is one.
+pub fn decide(alloc: Global, view: &View, command: &Command) -> Result<Outcome, Stop>
+    ensures decided { IfOk result (λ outcome. Comes (known view.now) command.now outcome) }
+    ensures stops { IfErr result (λ stop. StopsStep (known view.now) command.now stop) }
+{
+    if let Some(text) = view.text() {
+        return if text == canonical::body(alloc, command)?.as_str() {
+            Ok(Outcome::Repeat)
+        } else {
+            Err(Refusal::KeyReused.into())
+        };
+    }
+    let change = match command {
+        Command::Opening(opening) => decide_opening(alloc, view, opening)?,
+        Command::Closing(closing) => decide_closing(alloc, view, closing)?,
+        Command::Declaring(declaring) => decide_declaring(alloc, view, declaring)?,
+        Command::Quoting(_) => decide_quoting(alloc, view)?,
+        Command::Transaction(transaction) => decide_transaction(alloc, view, transaction)?,
+    };
+    Ok(Outcome::Accept(change))
+}
+
+/// The same for an opening whose key is new.
+fn decide_opening(alloc: Global, view: &View, opening: &Opening) -> Result<Change, Refusal>
+    ensures accepted { IfOk result (λ change. Accepts (known view.now) (OpeningOf opening.now) change) }
+    ensures refused { IfErr result (λ refusal. Judges (known view.now) (OpeningOf opening.now) (Refuse refusal)) }
+{
+    if view.standing(&opening.account).is_some() {
+        return Err(Refusal::AlreadyOpen);
+    }
+    not_full(view)?;
+    Ok(no_change(alloc))
+}
+
+/// The same for a closing whose key is new.
+fn decide_closing(alloc: Global, view: &View, closing: &Closing) -> Result<Change, Refusal>
+    ensures accepted { IfOk result (λ change. Accepts (known view.now) (ClosingOf closing.now) change) }
+    ensures refused { IfErr result (λ refusal. Judges (known view.now) (ClosingOf closing.now) (Refuse refusal)) }
+{
+    let Some(standing) = view.standing(&closing.account) else {
+        return Err(Refusal::UnknownAccount { posting: None });
+    };
+    if closing.day < standing.opened {
+        return Err(Refusal::NotOpenYet { posting: None });
+    }
+    if standing.closed.is_some() {
+        return Err(Refusal::Closed { posting: None });
+    }
+    not_full(view)?;
+    Ok(no_change(alloc))
+}
+
+/// The same for a declaring whose key is new.
+fn decide_declaring(alloc: Global, view: &View, declaring: &Declaring) -> Result<Change, Refusal>
+    ensures accepted { IfOk result (λ change. Accepts (known view.now) (DeclaringOf declaring.now) change) }
+    ensures refused { IfErr result (λ refusal. Judges (known view.now) (DeclaringOf declaring.now) (Refuse refusal)) }
+{
+    if view.is_declared(&declaring.commodity) {
+        return Err(Refusal::AlreadyDeclared);
+    }
+    not_full(view)?;
+    Ok(no_change(alloc))
+}
+
+/// The same for a quoting.
+fn decide_quoting(alloc: Global, view: &View) -> Result<Change, Refusal>
+    ensures accepted { IfOk result (λ change. (quoting : QuotingParts) → Accepts (known view.now) (QuotingOf quoting) change) }
+    ensures refused { IfErr result (λ refusal. (quoting : QuotingParts) → Judges (known view.now) (QuotingOf quoting) (Refuse refusal)) }
+{
+    not_full(view)?;
+    Ok(no_change(alloc))
+}
+
+/// The same for a transaction. Each step looks at all postings before the next one does.
+fn decide_transaction(alloc: Global, view: &View, transaction: &Transaction) -> Result<Change, Stop>
+    ensures accepted { IfOk result (λ change. Accepts (known view.now) (TransactionOf transaction.now) change) }
+    ensures stops { IfErr result (λ stop. StopsJudging (known view.now) (TransactionOf transaction.now) stop) }
+{
+    let elided = check_first(view, transaction)?;
+    let draft = book_amounts(alloc, view, transaction)?;
+    conclude(alloc, view, transaction, elided, draft)
+}
+
+/// Makes the checks that come before a transaction is booked, and returns its elided posting, if it has one.
+fn check_first<'a>(view: &View, transaction: &'a Transaction) -> Result<Option<Elided<'a>>, Refusal>
+    ensures passed { IsOk result → first_of (first_conditions (known view.now) transaction.now) ≡ None }
+    ensures few { IsOk result → length transaction.now.postings ≤ most_postings }
+    ensures elided { IfOk result (λ elided. IsElided elided transaction.now) }
+    ensures refused { IfErr result (λ refusal. first_of (first_conditions (known view.now) transaction.now) ≡ Some refusal) }
+{
+    let postings = transaction.postings.as_slice();
+    every_account_known(view, postings)?;
+    every_account_open(view, postings, transaction.day)?;
+    no_account_closed(view, postings, transaction.day)?;
+    every_currency_allowed(view, postings)?;
+    few_postings(postings)?;
+    let elided = only_elided(postings)?;
+    none_back_dated(view, postings, transaction.day)?;
+    Ok(elided)
+}
+
+/// Makes the fill and the checks that come after the postings with amounts are booked, and returns the change.
+fn conclude(
+    alloc: Global,
+    view: &View,
+    transaction: &Transaction,
+    elided: Option<Elided<'_>>,
+    draft: Draft,
+) -> Result<Change, Stop>
+    requires elided { IsElided elided transaction.now }
+    requires lists { ListsSums (known view.now) draft.tally.legs draft.tally.positions.entries }
+    ensures passed { IsOk result → first_of (conditions_on (known view.now) transaction.now draft.tally.legs draft.residuals) ≡ None }
+    ensures legs { IfOk result (λ change. change.legs ≡ legs_with_fill (known view.now) transaction.now draft.tally.legs draft.residuals) }
+    ensures sales { IfOk result (λ change. change.sales ≡ draft.sales) }
+    ensures positions { IfOk result (λ change. ListsSums (known view.now) change.legs change.positions.entries) }
+    ensures heads { IfOk result (λ change. ListsHeads (TransactionOf transaction.now) change.heads) }
+    ensures stops { IfErr result (λ stop. Stops (first_of (conditions_on (known view.now) transaction.now draft.tally.legs draft.residuals)) stop) }
+{
+    let mut draft = draft;
+    take_up(alloc, view, transaction, elided, &mut draft)?;
+    few_lots(view, &draft, transaction.postings.as_slice())?;
+    not_full(view)?;
+    let heads = heads_of(alloc, transaction)?;
+    Ok(change_of(draft, heads))
+}
+
+/// Adds the fill where there is an elided posting, and else returns `NotBalanced` where a residual isn't zero.
+fn take_up(
+    alloc: Global,
+    view: &View,
+    transaction: &Transaction,
+    elided: Option<Elided<'_>>,
+    draft: &mut Draft,
+) -> Result<(), Stop>
+    requires elided { IsElided elided transaction.now }
+    requires lists { ListsSums (known view.now) draft.old.tally.legs draft.old.tally.positions.entries }
+    ensures passed { IsOk result → first_of (residual_conditions (known view.now) transaction.now draft.old.tally.legs draft.old.residuals) ≡ None }
+    ensures legs { OnOk result (draft.new.tally.legs ≡ legs_with_fill (known view.now) transaction.now draft.old.tally.legs draft.old.residuals) }
+    ensures lists { OnOk result (ListsSums (known view.now) draft.new.tally.legs draft.new.tally.positions.entries) }
+    ensures sales { OnOk result (draft.new.sales ≡ draft.old.sales) }
+    ensures stops { IfErr result (λ stop. Stops (first_of (residual_conditions (known view.now) transaction.now draft.old.tally.legs draft.old.residuals)) stop) }
+{
+    match elided {
+        Some(elided) => fill(alloc, view, elided, draft),
+        None => draft.residuals.balanced(),
+    }
+}
+
+/// Books the postings with amounts, each on the legs of those before it. The error is the refusal of the first that can't
+/// be booked, or out of memory.
+fn book_amounts(alloc: Global, view: &View, transaction: &Transaction) -> Result<Draft, Stop>
+    requires { length transaction.now.postings ≤ most_postings }
+    ensures drafts { IfOk result (λ draft. DraftsAll (known view.now) transaction.now draft) }
+    ensures stops { IfErr result (λ stop. StopsBooking (known view.now) transaction.now stop) }
+{
+    let mut draft = Draft::new(alloc);
+    for (index, posting) in transaction.postings.as_slice().iter().enumerate() {
+        book_next(alloc, view, transaction.day, index + 1, posting, &mut draft)?;
+    }
+    Ok(draft)
+}
+
+/// Books the posting at that place, from 1, if it has an amount.
+fn book_next(
+    alloc: Global,
+    view: &View,
+    day: Day,
+    place: usize,
+    posting: &Posting,
+    draft: &mut Draft,
+) -> Result<(), Stop>
+    requires lists { ListsSums (known view.now) draft.old.tally.legs draft.old.tally.positions.entries }
+    requires room { AreWithin (most_postings - 1) draft.old.residuals }
+    ensures books { OnOk result (BooksNext (known view.now) day place posting.now.account posting.now.amount draft.old draft.new) }
+    ensures stops { IfErr result (λ stop. StopsNext (known view.now) day place posting.now.account posting.now.amount draft.old stop) }
+{
+    let Some(amount) = &posting.amount else {
+        return Ok(());
+    };
+    let site = Site {
+        entry: u64::from(view.entries()) + 1,
+        day,
+        posting: place,
+        account: &posting.account,
+        amount,
+    };
+    book_posting(alloc, view, &site, draft)
+}
+
+/// Returns a change of nothing.
+fn no_change(alloc: Global) -> Change
+    ensures legs { result.legs ≡ [] }
+    ensures sales { result.sales ≡ [] }
+    ensures positions { IsEmpty result.positions }
+    ensures heads { IsEmpty result.heads }
+{
+    Change {
+        legs: Items::new(alloc),
+        sales: Items::new(alloc),
+        positions: BTreeMap::new(alloc),
+        heads: BTreeMap::new(alloc),
+    }
+}
+
+/// Returns the change of what is booked.
+fn change_of(draft: Draft, heads: BTreeMap<Pair, Day>) -> Change
+    ensures { result ≡ record {
+      legs = draft.tally.legs;
+      sales = draft.sales;
+      positions = draft.tally.positions;
+      heads = heads;
+    } }
+{
+    let Draft { tally, sales, .. } = draft;
+    let Tally { legs, positions } = tally;
+    Change {
+        legs,
+        sales,
+        positions,
+        heads,
+    }
+}

@@ -1,0 +1,92 @@
+ghost use Rattle.std.specs.Prelude.{◌≡◌, ◌∷◌, [], ◌++◌, suc, None, IfErr, IfOk, OnOk};
+ghost use Rattle.std.specs.Option.{option_map, option_or};
+ghost use Rattle.lot_book.specs.declared.refusal.Refusal.TheVariants.{FillNotAllowed};
+ghost use Rattle.lot_book.specs.Balance.{fill_of};
+ghost use Rattle.lot_book.specs.Change.{ListsSums};
+ghost use Rattle.lot_ledger.specs.Decide.{filled, first_barred};
+ghost use Rattle.lot_book.specs.Refusals.{Stops, fill_not_allowed, fill_out_of_range, inexact_fill};
+ghost use Rattle.lot_view.specs.View.{known};
+
+use crate::checks::Elided;
+use lot_base::{Account, Commodity};
+use lot_book::{Leg, Position, Refusal, Stop};
+use lot_num::Units;
+use lot_posting::Draft;
+use lot_view::View;
+use std::alloc::{AllocError, Global};
+
+/// Adds the legs of the elided posting, which take the residuals. The refusal is `InexactFill`, `FillNotAllowed` or
+/// `Range`, each over all residuals before the next.
+pub(crate) fn fill(
+    alloc: Global,
+    view: &View,
+    elided: Elided<'_>,
+    draft: &mut Draft,
+) -> Result<(), Stop>
+    requires { ListsSums (known view.now) draft.old.tally.legs draft.old.tally.positions.entries }
+    ensures exact { OnOk result (inexact_fill (elided.entry ∷ []) draft.old.residuals ≡ None) }
+    ensures allowed { OnOk result (fill_not_allowed (known view.now) (elided.entry ∷ []) draft.old.residuals ≡ None) }
+    ensures in_range { OnOk result (fill_out_of_range (known view.now) (elided.entry ∷ []) draft.old.tally.legs
+        (fill_of (suc (known view.now).entries) (elided.entry ∷ []) draft.old.residuals) ≡ None) }
+    ensures legs { OnOk result (draft.new.tally.legs ≡ draft.old.tally.legs
+        ++ fill_of (suc (known view.now).entries) (elided.entry ∷ []) draft.old.residuals) }
+    ensures lists { OnOk result (ListsSums (known view.now) draft.new.tally.legs draft.new.tally.positions.entries) }
+    ensures sales { OnOk result (draft.new.sales ≡ draft.old.sales) }
+    ensures stops { IfErr result (λ stop. Stops (option_or (inexact_fill (elided.entry ∷ []) draft.old.residuals)
+        (option_or (fill_not_allowed (known view.now) (elided.entry ∷ []) draft.old.residuals)
+        (fill_out_of_range (known view.now) (elided.entry ∷ []) draft.old.tally.legs
+        (fill_of (suc (known view.now).entries) (elided.entry ∷ []) draft.old.residuals)))) stop) }
+{
+    let fills = draft.residuals.fills(alloc)?;
+    every_fill_allowed(view, elided.account, &fills)?;
+    let legs = legs_of_fills(alloc, view, &elided, fills)?;
+    draft.tally.post_all(view, legs)
+}
+
+/// Returns `FillNotAllowed` with the first currency with which the account wasn't opened, if there is one.
+fn every_fill_allowed(
+    view: &View,
+    account: &Account,
+    fills: &[(Commodity, Units)],
+) -> Result<(), Stop>
+    ensures ok { OnOk result (first_barred ((known view.now).standing account.now) fills.now ≡ None) }
+    ensures refused { IfErr result (λ stop. Stops (option_map FillNotAllowed (first_barred ((known view.now).standing account.now) fills.now)) stop) }
+{
+    let Some(standing) = view.standing(account) else {
+        return Ok(());
+    };
+    for fill in fills {
+        if !standing.allowed.allows(&fill.0) {
+            let currency = fill.0.copy()?;
+            return Err(Refusal::FillNotAllowed { currency }.into());
+        }
+    }
+    Ok(())
+}
+
+/// Returns the legs of the elided posting: one plain leg for each fill.
+fn legs_of_fills(
+    alloc: Global,
+    view: &View,
+    elided: &Elided<'_>,
+    fills: Vec<(Commodity, Units)>,
+) -> Result<Vec<Leg>, AllocError>
+    ensures { IfOk result (λ legs. legs.items ≡ filled (suc (known view.now).entries) elided.now.0 elided.now.1 0 fills.items) }
+{
+    let mut legs = Vec::new(alloc);
+    for (place, (commodity, units)) in fills.into_iter().enumerate() {
+        let position = Position {
+            account: elided.account.copy()?,
+            commodity,
+            lot: None,
+        };
+        legs.push(Leg {
+            entry: u64::from(view.entries()) + 1,
+            posting: elided.posting,
+            place,
+            position,
+            units,
+        })?;
+    }
+    Ok(legs)
+}

@@ -1,0 +1,5 @@
+pub mod PostingLemmas
+pub mod BalanceLemmas
+pub mod BalanceResiduals
+pub mod TallyLemmas
+pub mod TallyCount

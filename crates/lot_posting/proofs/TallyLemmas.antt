@@ -1,0 +1,133 @@
+-- What an account holds after legs, told by the rows that list it: the lots of a commodity, and their number.
+use Rattle.std.specs.Prelude.{◌≡◌, ℕ, Bool, true, false, cond, ◌&&◌, ◌||◌, List, [], ◌∷◌, None, Some, is_some, ℤ}
+use Rattle.std.specs.FinMap.{get}
+use Rattle.std.specs.List.{AllByRecursion, list_any}
+use Rattle.std.specs.List.Sorted.{IsStrictlySortedBy}
+use Rattle.std.specs.Map.{keys_of, lookup}
+use Rattle.std.proofs.Common.{refl, sym, ap, ◌∙◌}
+use Rattle.std.proofs.lemmas.Map.Keys.{sorted_head, sorted_tail}
+use Rattle.lot_base.specs.Text.{same_text}
+use Rattle.lot_base.proofs.MapLemmas.{none_below}
+use Rattle.lot_base.proofs.TextLemmas.{one_text, same_text-itself}
+use Rattle.lot_inv.specs.declared.lot_key.LotKey.{LotKey}
+use Rattle.lot_inv.specs.Inventory.{Held, lots_of, non_zero, with_units, Position as Place}
+use Rattle.lot_inv.specs.Zeros.{HasNoZeros}
+use Rattle.lot_inv.proofs.LotLemmas.{same_lots}
+use Rattle.lot_book.specs.declared.leg.Leg.{Leg}
+use Rattle.lot_book.specs.declared.leg.Position.{Position}
+use Rattle.lot_book.specs.Change.{ListsSums}
+use Rattle.lot_book.specs.Facts.{Facts}
+use Rattle.lot_book.specs.Leg.{position_cmp, same_position, with_legs}
+use Rattle.lot_posting.specs.Tally.{is_lot_of}
+use Rattle.lot_book.proofs.HeldLemmas.{at, get-with_legs, get-with_row, no_zeros-set, settled}
+use Rattle.lot_book.proofs.OrderLemmas.{one_position}
+use Rattle.lot_book.specs.Recorded.{with_row}
+
+-- ---- inventories without zeros
+
+pub no_zeros-row : (account : List ℕ) (held : Held) (row : Position × ℤ) → HasNoZeros held → HasNoZeros (with_row account held row)
+no_zeros-row account held row kept = by (same_text account row.0.account)
+  where
+    by : (b : Bool) → HasNoZeros (cond b (with_units held (row.0.commodity, row.0.lot) row.1) held)
+    by true = no_zeros-set held (row.0.commodity, row.0.lot) row.1 kept
+    by false = kept
+
+-- ---- what rows set
+
+-- the inventory of an account with rows set one after another
+abbrev pub set_rows : List ℕ → Held → List (Position × ℤ) → Held
+set_rows account held [] = held
+set_rows account held (row ∷ rows) = set_rows account (with_row account held row) rows
+
+pub get-set_rows : (account : List ℕ) (held : Held) (rows : List (Position × ℤ)) → IsStrictlySortedBy position_cmp (keys_of rows) → (place : Place)
+    → get (set_rows account held rows) place ≡ settled (lookup (same_position (at account place)) rows) (get held place)
+get-set_rows account held [] sorted place = refl
+get-set_rows account held (row ∷ rows) sorted place =
+    let later = lookup (same_position (at account place)) rows in
+    get-set_rows account (with_row account held row) rows (sorted_tail position_cmp row.0 (keys_of rows) sorted) place
+    ∙ ap (settled later) (get-with_row account held row place)
+    ∙ by (same_position (at account place) row.0) refl
+  where
+    by : (b : Bool) → same_position (at account place) row.0 ≡ b
+        → settled (lookup (same_position (at account place)) rows) (cond b (non_zero row.1) (get held place))
+        ≡ settled (cond b (Some row.1) (lookup (same_position (at account place)) rows)) (get held place)
+    by true e =
+        let gone : lookup (same_position (at account place)) rows ≡ None =
+        ap (λ q. lookup (same_position q) rows) (one_position (at account place) row.0 e)
+        ∙ none_below position_cmp row.0 rows (sorted_head position_cmp row.0 (keys_of rows) sorted) in
+        ap (λ later. settled later (non_zero row.1)) gone
+    by false e = refl
+
+-- ---- the lots of a commodity after legs
+
+-- the lots after legs are those with the rows that list them
+pub lots-set_rows : (facts : Facts) (legs : List Leg) (rows : List (Position × ℤ)) (account commodity : List ℕ) → HasNoZeros (facts.held account) → ListsSums facts legs rows
+    → IsStrictlySortedBy position_cmp (keys_of rows)
+    → lots_of (set_rows account (facts.held account) rows) commodity ≡ lots_of (with_legs account (facts.held account) legs) commodity
+lots-set_rows facts legs rows account commodity kept lists sorted =
+    same_lots (set_rows account (facts.held account) rows) (with_legs account (facts.held account) legs) commodity (λ key.
+    get-set_rows account (facts.held account) rows sorted (commodity, Some key)
+    ∙ sym (get-with_legs facts legs rows account kept lists (commodity, Some key)))
+
+-- ---- rows of lots
+
+first_true : (a b : Bool) → (a && b) ≡ true → a ≡ true
+first_true true b e = refl
+first_true false b e = e
+
+second_true : (a b : Bool) → (a && b) ≡ true → b ≡ true
+second_true true b e = e
+second_true false b e = cc
+
+-- a position that is a lot of an account and a commodity
+pub lot-parts : (account commodity : List ℕ) (p : Position) → is_lot_of account commodity p ≡ true
+    → (is_some p.lot ≡ true) × (p.account ≡ account) × (p.commodity ≡ commodity)
+lot-parts account commodity p e =
+    let names = second_true (is_some p.lot) (same_text p.account account && same_text p.commodity commodity) e in (
+      first_true (is_some p.lot) (same_text p.account account && same_text p.commodity commodity) e,
+      one_text p.account account (first_true (same_text p.account account) (same_text p.commodity commodity) names),
+      one_text p.commodity commodity (second_true (same_text p.account account) (same_text p.commodity commodity) names),
+    )
+
+lot-itself : (account commodity : List ℕ) (key : LotKey) → is_lot_of account commodity (at account (commodity, Some key)) ≡ true
+lot-itself account commodity key = λ i. same_text-itself account i && same_text-itself commodity i
+
+-- another position is not at a key of the commodity
+pub not_at : (account commodity : List ℕ) (p : Position) (key : LotKey) → is_lot_of account commodity p ≡ false → same_position (at account (commodity, Some key)) p ≡ false
+not_at account commodity p key other = by (same_position (at account (commodity, Some key)) p) refl
+  where
+    by : (b : Bool) → same_position (at account (commodity, Some key)) p ≡ b → b ≡ false
+    by true e =
+        let is : is_lot_of account commodity p ≡ true = ap (is_lot_of account commodity) (sym (one_position (at account (commodity, Some key)) p e)) ∙ lot-itself account commodity key in
+        sym is ∙ other
+    by false e = refl
+
+-- where no row is a lot of the pair, none is listed at a key of it
+pub none_listed : (account commodity : List ℕ) (rows : List (Position × ℤ)) (key : LotKey) → AllByRecursion (λ (p : Position). is_lot_of account commodity p ≡ false) (keys_of rows)
+    → lookup (same_position (at account (commodity, Some key))) rows ≡ None
+none_listed account commodity [] key none = refl
+none_listed account commodity (row ∷ rows) key none =
+    ap (λ b. cond b (Some row.1) (lookup (same_position (at account (commodity, Some key))) rows)) (not_at account commodity row.0 key none.0)
+    ∙ none_listed account commodity rows key none.1
+
+-- then the legs leave the lots of the pair as they were
+pub lots-unchanged : (facts : Facts) (legs : List Leg) (rows : List (Position × ℤ)) (account commodity : List ℕ) → HasNoZeros (facts.held account) → ListsSums facts legs rows
+    → AllByRecursion (λ (p : Position). is_lot_of account commodity p ≡ false) (keys_of rows)
+    → lots_of (with_legs account (facts.held account) legs) commodity ≡ lots_of (facts.held account) commodity
+lots-unchanged facts legs rows account commodity kept lists none =
+    same_lots (with_legs account (facts.held account) legs) (facts.held account) commodity (λ key.
+    get-with_legs facts legs rows account kept lists (commodity, Some key)
+    ∙ ap (λ listed. settled listed (get (facts.held account) (commodity, Some key))) (none_listed account commodity rows key none))
+
+either_false : (a b : Bool) → (a || b) ≡ false → (a ≡ false) × (b ≡ false)
+either_false true b e = cc
+either_false false b e = (refl, e)
+
+pub none_of : (account commodity : List ℕ) (positions : List Position) → list_any (λ p. is_lot_of account commodity p) positions ≡ false
+    → AllByRecursion (λ (p : Position). is_lot_of account commodity p ≡ false) positions
+none_of account commodity [] none = tt
+none_of account commodity (p ∷ positions) none =
+    let both = either_false (is_lot_of account commodity p) (list_any (λ p. is_lot_of account commodity p) positions) none in (
+      both.0,
+      none_of account commodity positions both.1,
+    )

@@ -1,0 +1,45 @@
+-- The one leg of a posting without braces, of all its units.
+use Rattle.std.proofs.Common.{◌≡◌, ◌∷◌, [], false, ℕ, Option, None, sym, ap, subst, ◌∙◌, refl}
+use Rattle.std.proofs.lemmas.Result.{on_ok_weaker}
+use Rattle.std.proofs.lemmas.List.{append-nil}
+use Rattle.lot_booking.specs.declared.cost.Cost.{Cost}
+use Rattle.lot_book.specs.declared.leg.Leg.{Leg}
+use Rattle.lot_book.specs.Leg.{leg_at}
+use Rattle.lot_book.specs.Booking.{HasLegs, line_of, plain_leg}
+use Rattle.lot_view.specs.View.{known}
+use Rattle.lot_posting.proofs.PostingLemmas.{adds_at, books, stops_of}
+use Rattle.lot_posting.proofs.posting.book_plain.Goals as goal
+
+-- the one leg of the posting
+one_leg : (c : goal.After-add) → let site = c.args.site.now in
+    let line = line_of (known c.args.view.now) site.day c.args.draft.now.tally.legs site.posting site.account.now site.amount.now in
+    HasLegs line site.amount.now.cost false c.in_ok-vec.field-0.items
+one_leg c =
+    let site = c.args.site.now in
+    let amount = site.amount.now in
+    let line = line_of (known c.args.view.now) site.day c.args.draft.now.tally.legs site.posting site.account.now amount in
+    let numbered = λ (entry : ℕ). leg_at entry site.posting 0 site.account.now amount.commodity None amount.units in
+    let legs : c.in_ok-vec.field-0.items ≡ plain_leg line ∷ [] =
+    c.in_ok-vec.ensures.items ∙ ap (λ (leg : Leg). leg ∷ []) (c.in_ok-leg.ensures ∙ ap numbered c.requires.entry) in
+    subst (λ (cost : Option Cost). HasLegs line cost false c.in_ok-vec.field-0.items) (sym c.requires.plain) (refl, legs)
+
+pub returns-clause-books : goal.returns-clause-books
+returns-clause-books c =
+    let facts = known c.args.view.now in
+    let site = c.args.site.now in
+    let amount = site.amount.now in
+    let legs = c.in_ok-vec.field-0.items in
+    let old = c.args.draft.now in
+    let new = c.add.new.self in
+    let added = c.add.ensures in
+    on_ok_weaker c.add.result
+    (λ adds. books facts site.day site.posting site.account.now amount old new false legs (one_leg c) adds.0
+    (adds.1 ∙ sym (append-nil old.sales)))
+    (adds_at facts amount legs old new c.add.result added.legs added.lists added.sum added.within added.in_range added.sales)
+
+pub returns-clause-stops : goal.returns-clause-stops
+returns-clause-stops c =
+    let site = c.args.site.now in
+    let before = c.args.draft.now.tally.legs in
+    stops_of (known c.args.view.now) site.day before site.posting site.account.now site.amount.now false c.in_ok-vec.field-0.items
+    c.add.result (one_leg c) c.add.ensures.stops

@@ -1,0 +1,80 @@
+-- Booking one posting of a transaction: what it adds to what is booked so far.
+use Rattle.std.specs.Prelude.{◌≡◌, ℕ, suc, if◌then◌else◌, List, [], ◌∷◌, ◌++◌, Option, None, Some, ℤ, ⊤}
+use Rattle.lot_inv.specs.declared.lot_key.LotKey.{LotKey}
+use Rattle.lot_command.specs.declared.transaction.Amount.{Amount}
+use Rattle.lot_posting.specs.declared.draft.Draft.{Draft}
+use Rattle.lot_book.specs.declared.leg.Leg.{Leg}
+use Rattle.lot_book.specs.declared.refusal.Stop.{Stop}
+use Rattle.lot_book.specs.declared.refusal.Stop.TheVariants.{Refused, Memory}
+use Rattle.lot_book.specs.Balance.{AreWithin, residuals, weights_of}
+use Rattle.lot_booking.specs.declared.fault.BookingFault.{BookingFault}
+use Rattle.lot_booking.specs.declared.fault.BookingFault.TheVariants as fault
+use Rattle.lot_booking.specs.Booking.{Braced, ComesTo, Refused as Rejected}
+use Rattle.lot_book.specs.Booking.{IsRefusalOf, Booked, BooksTo, Fails, HasNoLegs, IsBooked, Line, line_of}
+use Rattle.lot_book.specs.Change.{ListsSums}
+use Rattle.lot_book.specs.Facts.{Facts}
+use Rattle.lot_book.specs.Sale.{SaleParts}
+
+-- ---- sales
+
+-- the lots of legs, with what is taken of each
+abbrev pub lots_in_legs : List Leg → List (LotKey × ℤ)
+lots_in_legs [] = []
+lots_in_legs (leg ∷ legs) = lot_before leg.position.lot leg.units (lots_in_legs legs)
+  where
+    lot_before : Option LotKey → ℤ → List (LotKey × ℤ) → List (LotKey × ℤ)
+    lot_before None units lots = lots
+    lot_before (Some lot) units lots = (lot, units) ∷ lots
+
+-- the sale that a posting of that day is, with its place, where it takes lots away
+abbrev pub sales_of : ℤ → Booked → List (ℕ × SaleParts)
+sales_of day booked =
+    if booked.reduces then (
+      booked.place,
+      record {
+        day = day;
+        account = booked.account;
+        commodity = booked.amount.commodity;
+        units = booked.amount.units;
+        price = booked.amount.price;
+        legs = lots_in_legs booked.legs;
+      },
+    ) ∷ [] else []
+
+-- the sales of all postings, in their order
+abbrev pub sales_in : ℤ → List Booked → List (ℕ × SaleParts)
+sales_in day [] = []
+sales_in day (booked ∷ more) = sales_of day booked ++ sales_in day more
+
+-- ---- one posting
+
+-- a posting with an amount is booked on a draft, which then has its legs, its weights and its sale
+pub record Books (facts : Facts) (day : ℤ) (place : ℕ) (account : List ℕ) (amount : Amount) (old new : Draft) : Type 0 where
+  pub booked : Booked
+  pub is : IsBooked (line_of facts day old.tally.legs place account amount) booked
+  pub legs : new.tally.legs ≡ old.tally.legs ++ booked.legs
+  pub lists : ListsSums facts new.tally.legs new.tally.positions.entries
+  pub sum : (weights : List (List ℕ × ℤ)) → old.residuals ≡ residuals weights → new.residuals ≡ residuals (weights ++ weights_of booked)
+  pub within : (count : ℕ) → AreWithin count old.residuals → AreWithin (suc count) new.residuals
+  pub sales : new.sales ≡ old.sales ++ sales_of day booked
+
+-- a posting stops at its refusal, or out of memory
+abbrev pub StopsPosting : Line → Stop → Type 0
+StopsPosting line (Refused refusal) = BooksTo line (Fails refusal)
+StopsPosting line Memory = ⊤
+
+-- the same, of a posting that has no legs
+abbrev pub StopsWithoutLegs : Line → Stop → Type 0
+StopsWithoutLegs line (Refused refusal) = HasNoLegs line line.amount.cost refusal
+StopsWithoutLegs line Memory = ⊤
+
+-- the fault of a booking, as the refusal of the posting at that place, or out of memory
+abbrev pub IsStopOf : ℕ → BookingFault → Stop → Type 0
+IsStopOf place found (Refused refusal) = IsRefusalOf place found refusal
+IsStopOf place found Memory = found ≡ fault.Memory
+
+-- a booking on an inventory stops at the refusal of the posting at that place, or out of memory
+abbrev pub StopsOn : Braced → ℕ → Stop → Type 0
+StopsOn posting place (Refused refusal) =
+    (found : BookingFault) × ComesTo posting (Rejected found) × IsRefusalOf place found refusal
+StopsOn posting place Memory = ⊤

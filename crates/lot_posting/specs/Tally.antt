@@ -1,0 +1,39 @@
+-- How booking the legs of one posting ends where a sum leaves the range of units.
+use Rattle.std.specs.Prelude.{◌≡◌, ℕ, Bool, true, ◌&&◌, is_some, if◌then◌else◌, List, ℤ, pos, ◌+ℤ◌, ⊤}
+use Rattle.std.specs.List.{AllByRecursion}
+use Rattle.std.specs.Ordering.{int_eq}
+use Rattle.lot_num.specs.Amount.{IsUnits}
+use Rattle.lot_inv.specs.Inventory.{Held}
+use Rattle.lot_base.specs.Text.{same_text}
+use Rattle.lot_book.specs.declared.leg.Position.{Position}
+use Rattle.lot_book.specs.declared.leg.Leg.{Leg}
+use Rattle.lot_book.specs.declared.refusal.Refusal.TheVariants.{Range}
+use Rattle.lot_book.specs.declared.refusal.Stop.{Stop}
+use Rattle.lot_book.specs.declared.refusal.Stop.TheVariants.{Refused, Memory}
+use Rattle.lot_book.specs.Change.{units_after}
+use Rattle.lot_book.specs.Facts.{Facts}
+use Rattle.lot_book.specs.Leg.{leave_range}
+
+-- the legs are those of one posting to one account
+abbrev pub AreOf : List ℕ → ℕ → List Leg → Type 0
+AreOf account posting legs = AllByRecursion (λ (leg : Leg). (leg.position.account ≡ account) × (leg.posting ≡ posting)) legs
+
+-- a leg leaves its position out of range, or there is no memory
+abbrev pub StopsAtLeg : Facts → List Leg → Leg → Stop → Type 0
+StopsAtLeg facts before leg (Refused refusal) =
+    (IsUnits (units_after facts before leg.position +ℤ leg.units) → ⊥) × (refusal ≡ Range leg.posting)
+StopsAtLeg facts before leg Memory = ⊤
+
+-- the legs of a posting leave some sum of their account out of range, or there is no memory
+abbrev pub StopsAt : Held → ℕ → List Leg → Stop → Type 0
+StopsAt held posting legs (Refused refusal) = (leave_range held legs ≡ true) × (refusal ≡ Range posting)
+StopsAt held posting legs Memory = ⊤
+
+-- whether a position is a lot of the commodity in the account
+abbrev pub is_lot_of : List ℕ → List ℕ → Position → Bool
+is_lot_of account commodity position =
+    is_some position.lot && (same_text position.account account && same_text position.commodity commodity)
+
+-- how many lots units make: none where they are zero
+abbrev pub lot_count : ℤ → ℕ
+lot_count units = if int_eq units (pos 0) then 0 else 1

@@ -1,0 +1,154 @@
+ghost use Rattle.std.specs.Prelude.{◌≡◌, ◌≤◌, ◌*◌, ◌-◌, ◌++◌, ◌+ℤ◌, ℕ, suc, ℤ, List, [], None, not, map, unsigned_abs, IfOk, IfErr, OnOk};
+ghost use Rattle.std.specs.Option.{option_map};
+ghost use Rattle.lot_num.specs.Amount.{IsWide, rate_limit, units_limit};
+ghost use Rattle.lot_book.specs.declared.refusal.Refusal.TheVariants.{InexactFill};
+ghost use Rattle.lot_book.specs.Balance.{AreWithin, add_weight, fits_units, left_over, opposite, residual_in, residuals, weight_at_price, weight_of, weights_by, with_sign};
+ghost use Rattle.lot_book.specs.Leg.{units_moved};
+ghost use Rattle.lot_book.specs.Refusals.{Stops, first_currency, most_postings, not_balanced};
+
+use indexmap::IndexMap;
+use lot_base::Commodity;
+use lot_book::{Leg, Refusal, Stop};
+use lot_command::{Amount, Price};
+use lot_num::{Units, Wide, weight};
+use std::alloc::{AllocError, Global};
+use std::marker::Model;
+
+/// The residuals of what is booked so far: for each currency the sum of the weights in it, in the order in which the
+/// currencies first appear. A contract sees the currencies, each beside its residual.
+#[derive(Drop)]
+pub struct Residuals {
+    sums: IndexMap<Commodity, Wide>,
+}
+
+impl Model for Residuals {
+    ghost use Rattle.std.specs.Prelude.{ℕ, ℤ, List};
+
+    ghost Value = { List (List ℕ × ℤ) };
+
+    ghost view = { λ r. r.sums.entries };
+}
+
+impl Residuals {
+    /// Returns the residuals before anything is booked: none.
+    pub(crate) fn new(alloc: Global) -> Residuals
+        ensures { result ≡ [] }
+    {
+        Residuals {
+            sums: IndexMap::new(alloc),
+        }
+    }
+
+    /// Adds the weights of a posting that is booked: with braces those of its legs, else the one at its price. Its legs move
+    /// no more than the limit of units, and the residuals leave room for one more posting. The error is out of memory.
+    pub(crate) fn weigh(&mut self, amount: &Amount, legs: &[Leg]) -> Result<(), AllocError>
+        requires moved { units_moved legs.now ≤ units_limit }
+        requires room { AreWithin (most_postings - 1) self.old }
+        ensures sum { OnOk result ((weights : List (List ℕ × ℤ)) → self.old ≡ residuals weights
+            → self.new ≡ residuals (weights ++ weights_by amount.now.cost amount.now legs.now)) }
+        ensures within { OnOk result ((count : ℕ) → AreWithin count self.old → AreWithin (suc count) self.new) }
+    {
+        match &amount.cost {
+            Some(_) => self.add_legs(legs),
+            None => {
+                let (currency, weight) = weight_at_price(amount);
+                self.add(currency, weight)
+            }
+        }
+    }
+
+    /// Adds the weights of the legs of one posting. The error is out of memory.
+    fn add_legs(&mut self, legs: &[Leg]) -> Result<(), AllocError>
+        requires moved { units_moved legs.now ≤ units_limit }
+        requires room { AreWithin (most_postings - 1) self.old }
+        ensures sum { OnOk result ((weights : List (List ℕ × ℤ)) → self.old ≡ residuals weights
+            → self.new ≡ residuals (weights ++ map weight_of legs.now)) }
+        ensures within { OnOk result ((count : ℕ) → AreWithin count self.old → AreWithin (suc count) self.new) }
+    {
+        for leg in legs {
+            let (currency, weight) = leg.weight();
+            self.add(currency, weight)?;
+        }
+        Ok(())
+    }
+
+    /// Adds one more weight to the residual of its currency. The error is out of memory.
+    fn add(&mut self, currency: &Commodity, weight: Wide) -> Result<(), AllocError>
+        requires { IsWide (residual_in currency.now self.old +ℤ weight) }
+        ensures { OnOk result (self.new ≡ add_weight self.old (currency.now, weight)) }
+    {
+        let sum = match self.sums.get(currency) {
+            Some(sum) => match sum.checked_add(weight) {
+                Some(sum) => sum,
+                None => unreachable!(),
+            },
+            None => weight,
+        };
+        self.sums.insert(currency.copy()?, sum)?;
+        Ok(())
+    }
+
+    /// Returns `NotBalanced` with the first currency whose residual isn't zero, if there is one.
+    pub fn balanced(&self) -> Result<(), Stop>
+        ensures ok { OnOk result (not_balanced [] self.now ≡ None) }
+        ensures refused { IfErr result (λ stop. Stops (not_balanced [] self.now) stop) }
+    {
+        for (currency, sum) in &self.sums {
+            if sum.mantissa() != 0 {
+                let currency = currency.copy()?;
+                return Err(Refusal::NotBalanced { currency }.into());
+            }
+        }
+        Ok(())
+    }
+
+    /// Returns what the elided posting takes: the opposite of each residual that isn't zero, as units. The refusal is
+    /// `InexactFill` with the first currency whose residual isn't that of units.
+    pub fn fills(&self, alloc: Global) -> Result<Vec<(Commodity, Units)>, Stop>
+        ensures exact { OnOk result (first_currency (λ r. not (fits_units r.1)) self.now ≡ None) }
+        ensures fills { IfOk result (λ fills. fills.items ≡ map (λ r. (r.0, opposite r.1)) (left_over self.now)) }
+        ensures refused { IfErr result (λ stop.
+            Stops (option_map InexactFill (first_currency (λ r. not (fits_units r.1)) self.now)) stop) }
+    {
+        let mut fills = Vec::new(alloc);
+        for (currency, sum) in &self.sums {
+            match sum.to_units() {
+                Some(units) if units.mantissa() == 0 => {}
+                Some(units) => fills.push((currency.copy()?, units.negated()))?,
+                None => {
+                    let currency = currency.copy()?;
+                    return Err(Refusal::InexactFill { currency }.into());
+                }
+            }
+        }
+        Ok(fills)
+    }
+}
+
+/// Returns what an amount without braces weighs, with the currency: its units times the rate of its price, or the total
+/// with the sign of the units; without a price the units themselves, in their commodity.
+fn weight_at_price(amount: &Amount) -> (&Commodity, Wide)
+    ensures value { (result.0.now, result.1) ≡ weight_at_price amount.now.commodity amount.now.units amount.now.price }
+    ensures bound { unsigned_abs result.1 ≤ units_limit * rate_limit }
+{
+    let units = amount.units.wide();
+    match &amount.price {
+        Some(Price::Each(price)) => (&price.currency, weight(amount.units, price.rate)),
+        Some(Price::Whole(price)) => (price.currency(), with_sign(amount.units, price.total())),
+        None => (&amount.commodity, units),
+    }
+}
+
+/// Returns the total, at scale 16, with the sign of the units, or zero for zero units.
+fn with_sign(units: Units, total: Units) -> Wide
+    ensures value { result ≡ with_sign units total }
+    ensures bound { unsigned_abs result ≤ units_limit * rate_limit }
+{
+    if units.mantissa() == 0 {
+        Wide::ZERO
+    } else if units.mantissa() < 0 {
+        total.wide().negated()
+    } else {
+        total.wide()
+    }
+}

@@ -1,0 +1,62 @@
+ghost use Rattle.std.specs.Prelude.{◌≡◌, ◌≤◌, ◌-◌, [], ◌++◌, IfErr, OnOk, ℕ, suc, ℤ, false, List};
+ghost use Rattle.lot_num.specs.Amount.{units_limit};
+ghost use Rattle.lot_book.specs.Balance.{AreWithin, residuals, weights_by};
+ghost use Rattle.lot_book.specs.Change.{ListsSums};
+ghost use Rattle.lot_book.specs.Facts.{Facts};
+ghost use Rattle.lot_book.specs.Leg.{leave_range, units_moved, with_legs};
+ghost use Rattle.lot_book.specs.Refusals.{most_postings};
+ghost use Rattle.lot_posting.specs.Tally.{AreOf, StopsAt};
+ghost use Rattle.lot_view.specs.View.{known};
+
+use crate::balance::Residuals;
+use crate::tally::Tally;
+use lot_book::{Leg, Sale, Stop};
+use lot_command::{Amount, Items};
+use lot_view::View;
+use std::alloc::Global;
+
+/// What is booked so far of a transaction.
+#[derive(Drop)]
+pub struct Draft {
+    pub tally: Tally,
+    pub residuals: Residuals,
+    /// The postings that took lots away, each with its place in the transaction, from 1.
+    pub sales: Items<(usize, Sale)>,
+}
+
+impl Draft {
+    /// Returns a draft with nothing booked.
+    pub fn new(alloc: Global) -> Draft
+        ensures legs { result.tally.legs ≡ [] }
+        ensures lists { (facts : Facts) → ListsSums facts [] result.tally.positions.entries }
+        ensures residuals { result.residuals ≡ [] }
+        ensures sales { result.sales ≡ [] }
+    {
+        Draft {
+            tally: Tally::new(alloc),
+            residuals: Residuals::new(alloc),
+            sales: Items::new(alloc),
+        }
+    }
+
+    /// Adds the legs of a posting and their weights. The refusal is `Range` where a position is out of the range of units
+    /// after one of them.
+    pub(crate) fn add(&mut self, view: &View, amount: &Amount, legs: Vec<Leg>) -> Result<(), Stop>
+        requires lists { ListsSums (known view.now) self.old.tally.legs self.old.tally.positions.entries }
+        requires moved { units_moved legs.items ≤ units_limit }
+        requires room { AreWithin (most_postings - 1) self.old.residuals }
+        ensures legs { OnOk result (self.new.tally.legs ≡ self.old.tally.legs ++ legs.items) }
+        ensures lists { OnOk result (ListsSums (known view.now) self.new.tally.legs self.new.tally.positions.entries) }
+        ensures sum { OnOk result ((weights : List (List ℕ × ℤ)) → self.old.residuals ≡ residuals weights
+            → self.new.residuals ≡ residuals (weights ++ weights_by amount.now.cost amount.now legs.items)) }
+        ensures within { OnOk result ((count : ℕ) → AreWithin count self.old.residuals → AreWithin (suc count) self.new.residuals) }
+        ensures sales { OnOk result (self.new.sales ≡ self.old.sales) }
+        ensures in_range { OnOk result ((account : List ℕ) (posting : ℕ) → AreOf account posting legs.items
+            → leave_range (with_legs account ((known view.now).held account) self.old.tally.legs) legs.items ≡ false) }
+        ensures stops { IfErr result (λ stop. (account : List ℕ) (posting : ℕ) → AreOf account posting legs.items
+            → StopsAt (with_legs account ((known view.now).held account) self.old.tally.legs) posting legs.items stop) }
+    {
+        self.residuals.weigh(amount, &legs)?;
+        self.tally.post_all(view, legs)
+    }
+}

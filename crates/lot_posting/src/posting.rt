@@ -1,0 +1,242 @@
+ghost use Rattle.std.specs.Prelude.{◌≡◌, ◌≤◌, ◌-◌, ◌∷◌, [], suc, true, false, IfErr, IfOk, OnOk, Some, None, ℤ};
+ghost use Rattle.std.specs.FinMap as finite;
+ghost use Rattle.lot_inv.specs.Inventory.{Held, lots_of};
+ghost use Rattle.lot_booking.specs.Booking.{ComesTo, Legs, posting_of};
+ghost use Rattle.lot_book.specs.Balance.{AreWithin};
+ghost use Rattle.lot_book.specs.Booking.{braced, line_of, method_of, plain_leg};
+ghost use Rattle.lot_book.specs.Change.{ListsSums};
+ghost use Rattle.lot_book.specs.Leg.{leg_at, legs_at_lots, with_legs};
+ghost use Rattle.lot_posting.specs.Posting.{Books, IsStopOf, StopsOn, StopsPosting, StopsWithoutLegs};
+ghost use Rattle.lot_book.specs.Refusals.{most_postings};
+ghost use Rattle.lot_book.specs.Sale.{AreLegsOf};
+ghost use Rattle.lot_view.specs.View.{known};
+
+use crate::draft::Draft;
+use crate::tally::Tally;
+use lot_base::{Account, Day};
+use lot_book::{Leg, Position, Refusal, Sale, Stop};
+use lot_booking::{Booked, BookingFault, book};
+use lot_command::{Amount, Cost, Method};
+use lot_inv::{Inventory, LotKey};
+use lot_num::Units;
+use lot_view::View;
+use std::alloc::{AllocError, Global};
+
+/// A posting with an amount, and where it stands.
+#[derive(Drop)]
+pub struct Site<'a> {
+    /// The number of its entry, from 1.
+    pub entry: u64,
+    pub day: Day,
+    /// Its place in the transaction, from 1.
+    pub posting: usize,
+    pub account: &'a Account,
+    pub amount: &'a Amount,
+}
+
+/// Books a posting with an amount on what is booked so far. The error is its refusal, or out of memory.
+pub fn book_posting(
+    alloc: Global,
+    view: &View,
+    site: &Site<'_>,
+    draft: &mut Draft,
+) -> Result<(), Stop>
+    requires entry { site.now.entry ≡ suc (known view.now).entries }
+    requires lists { ListsSums (known view.now) draft.old.tally.legs draft.old.tally.positions.entries }
+    requires room { AreWithin (most_postings - 1) draft.old.residuals }
+    ensures books { OnOk result (Books (known view.now) site.now.day site.now.posting site.now.account.now site.now.amount.now draft.old draft.new) }
+    ensures stops { IfErr result (λ stop. StopsPosting (line_of (known view.now) site.now.day draft.old.tally.legs site.now.posting site.now.account.now site.now.amount.now) stop) }
+{
+    match &site.amount.cost {
+        Some(cost) => book_at_cost(alloc, view, site, cost, draft),
+        None => book_plain(alloc, view, site, draft),
+    }
+}
+
+/// Books a posting without braces.
+fn book_plain(alloc: Global, view: &View, site: &Site<'_>, draft: &mut Draft) -> Result<(), Stop>
+    requires plain { site.now.amount.now.cost ≡ None }
+    requires entry { site.now.entry ≡ suc (known view.now).entries }
+    requires lists { ListsSums (known view.now) draft.old.tally.legs draft.old.tally.positions.entries }
+    requires room { AreWithin (most_postings - 1) draft.old.residuals }
+    ensures books { OnOk result (Books (known view.now) site.now.day site.now.posting site.now.account.now site.now.amount.now draft.old draft.new) }
+    ensures stops { IfErr result (λ stop. StopsPosting (line_of (known view.now) site.now.day draft.old.tally.legs site.now.posting site.now.account.now site.now.amount.now) stop) }
+{
+    let _in_range = site.amount.units.mantissa(); // says to the prover that they are below the limit of units
+    let leg = leg_of(site, 0, None, site.amount.units)?;
+    draft.add(view, site.amount, vec![in alloc; leg]?)
+}
+
+/// Books a posting with braces.
+fn book_at_cost(
+    alloc: Global,
+    view: &View,
+    site: &Site<'_>,
+    cost: &Cost,
+    draft: &mut Draft,
+) -> Result<(), Stop>
+    requires cost { site.now.amount.now.cost ≡ Some cost.now }
+    requires entry { site.now.entry ≡ suc (known view.now).entries }
+    requires lists { ListsSums (known view.now) draft.old.tally.legs draft.old.tally.positions.entries }
+    requires room { AreWithin (most_postings - 1) draft.old.residuals }
+    ensures books { OnOk result (Books (known view.now) site.now.day site.now.posting site.now.account.now site.now.amount.now draft.old draft.new) }
+    ensures stops { IfErr result (λ stop. StopsPosting (line_of (known view.now) site.now.day draft.old.tally.legs site.now.posting site.now.account.now site.now.amount.now) stop) }
+{
+    let _in_range = site.amount.units.mantissa(); // says to the prover that they are below the limit of units
+    let Booked {
+        reduces,
+        legs: lots,
+    } = book_lots(alloc, view, &draft.tally, site, cost)?;
+    let legs = legs_of_lots(alloc, site, &lots)?;
+    draft.add(view, site.amount, legs)?;
+    if reduces {
+        let sale = sale_of(site, lots)?;
+        draft.sales.push((site.posting, sale))?;
+    }
+    Ok(())
+}
+
+/// Returns the lots that a posting with braces takes or opens, on what its account holds after the legs so far.
+fn book_lots(
+    alloc: Global,
+    view: &View,
+    tally: &Tally,
+    site: &Site<'_>,
+    cost: &Cost,
+) -> Result<Booked, Stop>
+    requires cost { site.now.amount.now.cost ≡ Some cost.now }
+    requires lists { ListsSums (known view.now) tally.now.legs tally.now.positions.entries }
+    ensures booked { IfOk result (λ booked. ComesTo
+        (braced (line_of (known view.now) site.now.day tally.now.legs site.now.posting site.now.account.now site.now.amount.now) cost.now)
+        (Legs booked.reduces booked.legs.items)) }
+    ensures stops { IfErr result (λ stop. StopsWithoutLegs
+        (line_of (known view.now) site.now.day tally.now.legs site.now.posting site.now.account.now site.now.amount.now) stop) }
+{
+    let method = method_of(view, site.account);
+    if tally.has_changed(site.account, &site.amount.commodity) {
+        let lots = tally.lots_of(alloc, view, site.account, &site.amount.commodity)?;
+        return book_on(alloc, method, &lots, site, cost);
+    }
+    match view.held(site.account) {
+        Some(held) => book_on(alloc, method, held, site, cost),
+        None => book_on(alloc, method, &Inventory::new(alloc), site, cost),
+    }
+}
+
+/// Returns the method of an account, STRICT where it isn't known.
+fn method_of(view: &View, account: &Account) -> Method
+    ensures { result ≡ method_of ((known view.now).standing account.now) }
+{
+    match view.standing(account) {
+        Some(standing) => standing.method,
+        None => Method::Strict,
+    }
+}
+
+/// Returns the lots that a posting with braces takes of an inventory, or opens in it.
+fn book_on(
+    alloc: Global,
+    method: Method,
+    held: &Inventory,
+    site: &Site<'_>,
+    cost: &Cost,
+) -> Result<Booked, Stop>
+    ensures booked { IfOk result (λ booked. ComesTo
+        (posting_of method held.now site.now.amount.now.commodity site.now.amount.now.units cost.now site.now.day)
+        (Legs booked.reduces booked.legs.items)) }
+    ensures stops { IfErr result (λ stop. StopsOn
+        (posting_of method held.now site.now.amount.now.commodity site.now.amount.now.units cost.now site.now.day)
+        site.now.posting stop) }
+{
+    let amount = site.amount;
+    match book(
+        alloc,
+        method,
+        held,
+        &amount.commodity,
+        amount.units,
+        cost,
+        site.day,
+    ) {
+        Ok(booked) => Ok(booked),
+        Err(fault) => Err(refused(site.posting, fault)),
+    }
+}
+
+/// Returns the fault of a booking as the refusal of the posting at that place, or out of memory.
+fn refused(posting: usize, fault: BookingFault) -> Stop
+    ensures { IsStopOf posting fault result }
+{
+    Stop::Refused(match fault {
+        BookingFault::ZeroUnits => Refusal::ZeroUnits { posting },
+        BookingFault::InexactCost => Refusal::InexactCost { posting },
+        BookingFault::IncompleteCost => Refusal::IncompleteCost { posting },
+        BookingFault::NoMatch => Refusal::NoMatch { posting },
+        BookingFault::Ambiguous => Refusal::Ambiguous { posting },
+        BookingFault::NotEnough => Refusal::NotEnough { posting },
+        BookingFault::Memory => return Stop::Memory,
+    })
+}
+
+/// Returns one leg of a posting.
+fn leg_of(
+    site: &Site<'_>,
+    place: usize,
+    lot: Option<LotKey>,
+    units: Units,
+) -> Result<Leg, AllocError>
+    ensures { IfOk result (λ leg. leg ≡ leg_at site.now.entry site.now.posting place site.now.account.now site.now.amount.now.commodity lot units) }
+{
+    let position = Position {
+        account: site.account.copy()?,
+        commodity: site.amount.commodity.copy()?,
+        lot,
+    };
+    Ok(Leg {
+        entry: site.entry,
+        posting: site.posting,
+        place,
+        position,
+        units,
+    })
+}
+
+/// Returns the legs of a posting at these lots, in their order.
+fn legs_of_lots(
+    alloc: Global,
+    site: &Site<'_>,
+    lots: &[(LotKey, Units)],
+) -> Result<Vec<Leg>, AllocError>
+    ensures { IfOk result (λ legs. legs.items ≡ legs_at_lots site.now.entry site.now.posting site.now.account.now site.now.amount.now.commodity 0 lots.now) }
+{
+    let mut legs = Vec::new(alloc);
+    for (place, lot) in lots.iter().enumerate() {
+        legs.push(leg_of(site, place, Some(lot.0.copy()?), lot.1)?)?;
+    }
+    Ok(legs)
+}
+
+/// Returns a posting that takes these lots away as a sale.
+fn sale_of(site: &Site<'_>, lots: Vec<(LotKey, Units)>) -> Result<Sale, AllocError>
+    requires { AreLegsOf site.now.amount.now.units lots.items }
+    ensures { IfOk result (λ sale. sale ≡ record {
+      day = site.now.day;
+      account = site.now.account.now;
+      commodity = site.now.amount.now.commodity;
+      units = site.now.amount.now.units;
+      price = site.now.amount.now.price;
+      legs = lots.items;
+    }) }
+{
+    let amount = site.amount;
+    let price = match &amount.price {
+        Some(price) => Some(price.copy()?),
+        None => None,
+    };
+    let account = site.account.copy()?;
+    let commodity = amount.commodity.copy()?;
+    match Sale::new(site.day, account, commodity, amount.units, price, lots) {
+        Some(sale) => Ok(sale),
+        None => unreachable!(),
+    }
+}

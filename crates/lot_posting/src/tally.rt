@@ -1,0 +1,158 @@
+ghost use Rattle.std.specs.Prelude.{◌≡◌, [], ◌∷◌, ◌++◌, ◌+ℤ◌, IfErr, IfOk, OnOk, SomeIff, IsFalse, true, false, length, ℕ, List};
+ghost use Rattle.lot_inv.specs.Inventory.{lots_of};
+ghost use Rattle.lot_inv.specs.Zeros.{HasNoZeros};
+ghost use Rattle.lot_num.specs.Amount.{IsUnits};
+ghost use Rattle.lot_book.specs.Change.{ListsSums, units_after};
+ghost use Rattle.lot_book.specs.Facts.{Facts};
+ghost use Rattle.lot_book.specs.Leg.{leave_range, with_legs};
+ghost use Rattle.lot_posting.specs.Tally.{AreOf, StopsAt, StopsAtLeg, is_lot_of, lot_count};
+ghost use Rattle.lot_view.specs.View.{known};
+
+use lot_base::{Account, Commodity};
+use lot_book::{Leg, Position, Refusal, Stop};
+use lot_command::Items;
+use lot_inv::Inventory;
+use lot_num::Units;
+use lot_view::View;
+use std::alloc::{AllocError, Global};
+use std::collections::BTreeMap;
+
+/// The legs of a transaction so far, and what each position that they touch holds after them.
+#[derive(Drop)]
+pub struct Tally {
+    pub legs: Items<Leg>,
+    pub positions: BTreeMap<Position, Units>,
+}
+
+impl Tally {
+    /// Returns a tally without legs.
+    pub(crate) fn new(alloc: Global) -> Tally
+        ensures legs { result.legs ≡ [] }
+        ensures lists { (facts : Facts) → ListsSums facts [] result.positions.entries }
+    {
+        Tally {
+            legs: Items::new(alloc),
+            positions: BTreeMap::new(alloc),
+        }
+    }
+
+    /// Returns what a position holds after the legs so far.
+    fn units(&self, view: &View, position: &Position) -> Units
+        requires { ListsSums (known view.now) self.now.legs self.now.positions.entries }
+        ensures { result ≡ units_after (known view.now) self.now.legs position.now }
+    {
+        match self.positions.get(position) {
+            Some(units) => *units,
+            None => view.units(
+                &position.account,
+                &position.commodity,
+                position.lot.as_ref(),
+            ),
+        }
+    }
+
+    /// Adds one more leg. The refusal is `Range` where its position is out of the range of units after it.
+    fn post(&mut self, view: &View, leg: Leg) -> Result<(), Stop>
+        requires lists { ListsSums (known view.now) self.old.legs self.old.positions.entries }
+        ensures legs { OnOk result (self.new.legs ≡ self.old.legs ++ leg ∷ []) }
+        ensures lists { OnOk result (ListsSums (known view.now) self.new.legs self.new.positions.entries) }
+        ensures in_range { OnOk result (IsUnits (units_after (known view.now) self.old.legs leg.position +ℤ leg.units)) }
+        ensures stops { IfErr result (λ stop. StopsAtLeg (known view.now) self.old.legs leg stop) }
+    {
+        let Some(units) = self.units(view, &leg.position).checked_add(leg.units) else {
+            let posting = leg.posting;
+            return Err(Refusal::Range { posting }.into());
+        };
+        self.positions.insert(leg.position.copy()?, units)?;
+        self.legs.push(leg)?;
+        Ok(())
+    }
+
+    /// Adds the legs of a posting. The refusal is `Range` where a position is out of the range of units after one of them.
+    pub fn post_all(&mut self, view: &View, legs: Vec<Leg>) -> Result<(), Stop>
+        requires lists { ListsSums (known view.now) self.old.legs self.old.positions.entries }
+        ensures legs { OnOk result (self.new.legs ≡ self.old.legs ++ legs.items) }
+        ensures lists { OnOk result (ListsSums (known view.now) self.new.legs self.new.positions.entries) }
+        ensures in_range { OnOk result ((account : List ℕ) (posting : ℕ) → AreOf account posting legs.items
+            → leave_range (with_legs account ((known view.now).held account) self.old.legs) legs.items ≡ false) }
+        ensures stops { IfErr result (λ stop. (account : List ℕ) (posting : ℕ) → AreOf account posting legs.items
+            → StopsAt (with_legs account ((known view.now).held account) self.old.legs) posting legs.items stop) }
+    {
+        for leg in legs {
+            self.post(view, leg)?;
+        }
+        Ok(())
+    }
+
+    /// Returns whether a leg so far is in a lot of that account and commodity.
+    pub(crate) fn has_changed(&self, account: &Account, commodity: &Commodity) -> bool
+        ensures { IsFalse result → (facts : Facts) → HasNoZeros (facts.held account.now) → ListsSums facts self.now.legs self.now.positions.entries
+            → lots_of (with_legs account.now (facts.held account.now) self.now.legs) commodity.now ≡ lots_of (facts.held account.now) commodity.now }
+    {
+        for position in self.positions.keys() {
+            if is_lot_of(position, account, commodity) {
+                return true;
+            }
+        }
+        false
+    }
+
+    /// Returns the lots that an account holds of a commodity after the legs so far, and nothing else. The only error is out
+    /// of memory.
+    pub(crate) fn lots_of(
+        &self,
+        alloc: Global,
+        view: &View,
+        account: &Account,
+        commodity: &Commodity,
+    ) -> Result<Inventory, AllocError>
+        requires { ListsSums (known view.now) self.now.legs self.now.positions.entries }
+        ensures { IfOk result (λ lots. lots_of lots commodity.now
+            ≡ lots_of (with_legs account.now ((known view.now).held account.now) self.now.legs) commodity.now) }
+    {
+        let mut lots = match view.held(account) {
+            Some(held) => held.only_lots(commodity)?,
+            None => Inventory::new(alloc),
+        };
+        for (position, units) in &self.positions {
+            if is_lot_of(position, account, commodity) {
+                lots.set(commodity, position.lot.as_ref(), *units)?;
+            }
+        }
+        Ok(lots)
+    }
+
+    /// Returns how many lots of a commodity an account holds after the legs so far.
+    pub fn count_lots(&self, view: &View, account: &Account, commodity: &Commodity) -> u128
+        requires { ListsSums (known view.now) self.now.legs self.now.positions.entries }
+        ensures { result ≡ length (lots_of (with_legs account.now ((known view.now).held account.now) self.now.legs) commodity.now) }
+    {
+        let before = match view.held(account) {
+            Some(held) => u128::from(held.lots(commodity)),
+            None => 0,
+        };
+        let mut had = 0u128;
+        let mut listed = 0u128;
+        for (position, units) in &self.positions {
+            if is_lot_of(position, account, commodity) {
+                had += lot_count(view.units(account, commodity, position.lot.as_ref()));
+                listed += lot_count(*units);
+            }
+        }
+        before + listed - had
+    }
+}
+
+/// Returns how many lots units make: none where they are zero.
+fn lot_count(units: Units) -> u128
+    ensures { result ≡ lot_count units }
+{
+    u128::from(units != Units::ZERO)
+}
+
+/// Returns whether a position is a lot of that account and commodity.
+fn is_lot_of(position: &Position, account: &Account, commodity: &Commodity) -> bool
+    ensures { result ≡ is_lot_of account.now commodity.now position.now }
+{
+    position.lot.is_some() && position.account == *account && position.commodity == *commodity
+}

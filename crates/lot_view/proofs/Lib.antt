@@ -1,0 +1,4 @@
+pub mod ViewHeld
+pub mod ViewLemmas
+pub mod HoldingLemmas
+pub mod TouchedLemmas
