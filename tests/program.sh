@@ -6,6 +6,8 @@ need_program
 # Stored examples, byte for byte.
 run <"$examples/first-purchase.ledger"
 expect "the first purchase" 0 "$examples/first-purchase.expected"
+run <"$examples/first-sale.ledger"
+expect "the first sale" 0 "$examples/first-sale.expected"
 run <"$examples/small-year.ledger"
 expect "a small year" 0 "$examples/small-year.expected"
 

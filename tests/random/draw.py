@@ -1,0 +1,313 @@
+"""Draws small ledgers from a seed: few accounts and commodities, so that commands meet each other often.
+
+`today` keeps to what docs/FORMATS.md, 'What is read today', can say; otherwise every kind of command, cost and price comes.
+The drawing follows the book by the plain judge: a sale can then be drawn to take exactly what is held, and postings to
+balance.
+"""
+
+import datetime
+import random
+
+import model
+from model import Amount, Booked, Cost, Leg, LotKey, Posting, Price
+
+ACCOUNTS = ("Assets:Broker", "Assets:Broker:B", "Assets:Cash", "Income:Gains", "Equity:Start", "Liabilities:2nd-Loan")
+NAMES = ("HOOL", "ABC", "V", "X'Y_Z-1", "HOOL.B", "USD", "EUR", "CHF")
+LABELS = (None, None, None, "a", "b", "é", "a lot; {}", "L" * 64)
+NOTES = ("", "Buy", "Zürich", "{1 USD} ; * @ 5", "a\tb", "N" * 1000)
+NOTES_NOT_READ_TODAY = ('say "x"', "a\\b", '"' * 1000, "\\" * 1000)
+STARTS = ("2020-02-25", "2020-02-25", "2020-02-25", "0001-01-01", "9999-12-20", "1999-12-28", "2100-02-26")
+
+UNITS = tuple(
+    int(units * model.ONE) for units in (1, 1, 1, 2, 2, 3, 4, 5, 6, 10, 12, 20, 100, 0.5, 0.25, 1.5)
+)
+RATES = tuple(int(rate * model.ONE) for rate in (0, 1, 1, 2, 2, 3, 4, 10, 100, 120, 0.5, 0.25))
+FINE = (1, 1, 10, model.ONE + 1)
+GREAT_UNITS = tuple(model.UNITS_LIMIT - less for less in (1, 1, model.ONE, 2 * model.ONE)) + (model.UNITS_LIMIT // 2,)
+GREAT_RATES = (model.RATE_LIMIT - 1, model.RATE_LIMIT - model.ONE, model.RATE_LIMIT // 10)
+
+
+class Drawing:
+    def __init__(self, seed, today):
+        self.rng = random.Random(seed)
+        self.today = today
+        self.book = []
+        self.judged = []
+        self.day = datetime.date.fromisoformat(self.rng.choice(STARTS))
+        self.names = self.rng.sample(NAMES, 4)
+        self.accounts = self.rng.sample(ACCOUNTS, self.rng.randint(2, 4))
+        self.great = self.rng.choice((0.005, 0.005, 0.005, 0.25))  # how often a number is near the limit of its kind
+        self.fine = self.rng.choice((0.005, 0.005, 0.3))  # how often it has the last decimal
+        self.back = self.rng.choice((0, 0.05, 0.2))
+        self.tidy = self.rng.choice((0.5, 0.9, 0.98, 0.98))  # how often a command is drawn to be accepted
+        self.side = self.rng.choice((1, 1, -1))  # whether lots are mostly bought or sold short
+        self.sales = 0.2  # how often a posting with braces is drawn to take lots
+
+    def chance(self, p):
+        return self.rng.random() < p
+
+    def pick(self, items):
+        return self.rng.choice(items)
+
+    def judge(self, command):
+        """Adds a command to the list, and to the book where it is accepted."""
+        try:
+            self.book.append(model.judge(self.book, command))
+            self.judged.append(model.Judged(command, self.book[-1], None))
+        except model.Refused as refused:
+            self.judged.append(model.Judged(command, None, refused))
+
+    # Parts of commands.
+
+    def next_day(self):
+        """Mostly today or soon after it, now and then before it."""
+        day = self.day
+        try:
+            if self.chance(self.back):
+                day -= datetime.timedelta(self.pick((1, 1, 2, 5, 40)))
+            else:
+                self.day += datetime.timedelta(self.pick((0, 0, 1, 1, 2, 3)))
+                day = self.day
+        except OverflowError:
+            pass
+        return day.year, day.month, day.day
+
+    def account(self):
+        if self.chance((1 - self.tidy) / 6):
+            return self.pick(ACCOUNTS)
+        return self.pick(self.accounts[:1] * 3 + self.accounts)
+
+    def number(self, great, usual):
+        return self.pick(great if self.chance(self.great) else FINE if self.chance(self.fine) else usual)
+
+    def rate(self):
+        return self.number(GREAT_RATES, RATES)
+
+    def units(self):
+        if self.chance((1 - self.tidy) / 5):
+            return 0
+        units = self.number(GREAT_UNITS, UNITS)
+        return self.side * (units if self.chance(0.85) else -units)
+
+    def price(self, currency):
+        if self.chance(0.5):
+            return None
+        currency = currency if currency and self.chance(0.8) else self.pick(self.names)
+        if self.today or self.chance(0.6):
+            return Price(False, self.rate(), currency)
+        return Price(True, self.pick((0, 1, 100 * model.ONE, self.rate(), model.UNITS_LIMIT - 1)), currency)
+
+    # Postings.
+
+    def opening_cost(self, units):
+        """A cost as for a new lot, mostly complete."""
+        number, currency = self.rate(), self.pick(self.names[1:3])
+        if self.today:
+            if self.chance((1 - self.tidy) / 3):
+                return Cost(False, None, None, None, None)
+            return Cost(False, number, currency, None, None)
+        day = self.next_day() if self.chance(0.2) else None
+        label = self.pick(LABELS)
+        if self.chance((1 - self.tidy) / 3):
+            number, currency = self.pick(((None, currency), (number, None), (None, None)))
+        if number is None or self.chance(0.75):
+            return Cost(False, number, currency, day, label)
+        total = number * abs(units) // model.ONE
+        if not 0 < total < model.UNITS_LIMIT or self.chance((1 - self.tidy) / 2):
+            total = self.pick((0, model.ONE, 100 * model.ONE, 1, model.UNITS_LIMIT - 1))
+        return Cost(True, total, currency, day, label)
+
+    def part_of(self, key):
+        """A specification that this key fits, of some of its parts."""
+        if self.chance(0.6):
+            return Cost(False, None, None, None, None)
+        if self.today:
+            return Cost(False, key.number, key.currency, None, None)
+        parts = [part if self.chance(0.4) else None for part in (key.number, key.currency, key.day, key.label)]
+        return Cost(False, *parts)
+
+    def reduction(self, account, commodity, lots):
+        """A posting that is drawn to take some of these lots, which have one sign."""
+        key = self.pick(sorted(lots, key=model.key_order))
+        cost = self.part_of(key)
+        fitting = [units for other, units in lots.items() if model.fits(cost, cost.number, other)]
+        units = self.pick((sum(fitting), sum(fitting), lots[key], lots[key], lots[key] // 2, self.units(), 2 * sum(fitting)))
+        if abs(units) >= model.UNITS_LIMIT:
+            units = lots[key]
+        if not self.today and self.chance(0.2):
+            total = key.number * abs(units) // model.ONE
+            if total < model.UNITS_LIMIT:
+                cost = cost._replace(whole=True, number=total)
+        return Posting(account, Amount(-units, commodity, cost, self.price(key.currency)))
+
+    def at_cost(self, earlier):
+        if earlier and self.chance(0.2):  # the other way round, or the same once more
+            account, (units, commodity, cost, price) = self.pick(earlier)
+            if cost is not None:
+                return Posting(account, Amount(self.pick((-units, -units, units, self.units())), commodity, cost, price))
+        held = model.Held(self.book)
+        pairs = [pair for pair in held.pairs() if held.lots_of(pair)]
+        if pairs and self.chance(self.sales):
+            pair = self.pick(pairs)
+            lots = held.lots_of(pair)
+            sign = self.pick(sorted(lots.values())) > 0  # under NONE there may be both
+            return self.reduction(*pair, {key: units for key, units in lots.items() if (units > 0) == sign})
+        units = self.units()
+        commodity = self.names[0] if self.chance(0.8) else self.names[1]
+        cost = self.opening_cost(units)
+        return Posting(self.account(), Amount(units, commodity, cost, self.price(cost.currency)))
+
+    def plain(self):
+        units, commodity = self.units(), self.pick(self.names)
+        return Posting(self.account(), Amount(units, commodity, None, self.price(None)))
+
+    def brimful(self):
+        """Postings near the limit of units, in two currencies."""
+        return [Posting(self.account(), Amount(self.pick(GREAT_UNITS), name, None, None)) for name in self.names[1:3]]
+
+    def weightless(self):
+        """A posting whose weight is zero, so that a currency appears before it counts."""
+        units = self.pick((0, 0, model.ONE))
+        price = Price(not self.today and self.chance(0.5), 0, self.pick(self.names)) if units else self.price(None)
+        return Posting(self.account(), Amount(units, self.pick(self.names), None, price))
+
+    def scattered(self):
+        """Small postings in two or three currencies, some of which appear with a weight of zero."""
+        names = self.rng.sample(self.names, self.pick((2, 2, 3)))
+        postings = []
+        for _ in range(self.rng.randint(2, 6)):
+            price = Price(False, self.pick((0, model.ONE)), self.pick(names)) if self.chance(0.3) else None
+            units = self.pick((-1, 0, 0, 1)) * model.ONE
+            postings.append(Posting(self.accounts[0], Amount(units, self.pick(names), None, price)))
+        return postings
+
+    # Commands.
+
+    def opening(self, account):
+        currencies = ()
+        if not self.today and self.chance(0.2):
+            currencies = tuple(self.pick(self.names) for _ in range(self.pick((1, 2, 3, 3, 64))))
+        day = self.next_day()
+        if self.chance(0.06) and day < (9999, 12, 1):  # some days from now
+            later = datetime.date(*day) + datetime.timedelta(self.pick((1, 2, 3, 5, 10)))
+            day = later.year, later.month, later.day
+        return model.Opening(day, account, currencies, self.pick(model.METHODS))
+
+    def transaction(self):
+        postings = []
+        for _ in range(self.pick((0, 1, 1, 1, 2, 2, 3, 4))):
+            earlier = [posting for posting in postings if posting.amount is not None]
+            postings.append(self.at_cost(earlier) if self.chance(0.75) else self.plain())
+        if self.chance(self.great / 2):
+            postings += self.brimful()
+        if self.chance(0.1):
+            postings.insert(0, self.weightless())
+        if self.chance(0.01):
+            postings += [self.weightless()] * (self.pick((63, 64, 64, 65, 66)) - len(postings))
+        day = self.next_day()
+        flag, payee, narration = "*", None, None
+        if self.chance(0.3):
+            narration = self.pick(NOTES)
+        if not self.today:
+            flag = self.pick("*!")
+            if narration is not None and self.chance(0.4):
+                narration = self.pick(NOTES_NOT_READ_TODAY)
+            if narration is not None and self.chance(0.3):
+                payee = self.pick(NOTES + NOTES_NOT_READ_TODAY)
+
+        def of(postings):
+            return model.Transaction(day, flag, payee, narration, tuple(postings))
+
+        ending = self.rng.random()
+        if self.chance(0.03):
+            postings, ending = self.scattered(), 0.85 + ending / 4
+        if ending < 0.92:
+            account = self.account()
+            place = self.rng.randint(0, len(postings)) if self.chance(0.3) else len(postings)
+            elided = postings[:place] + [Posting(account, None)] + postings[place:]
+            if ending > 0.45 and (fill := self.fill(of(elided), place)) is not None:
+                if fill and self.chance(1 - self.tidy):  # not quite what balances
+                    leg = fill.pop()
+                    fill.append(leg._replace(units=leg.units + (1 if leg.units < 0 else -1)))
+                plain = [Posting(account, Amount(leg.units, leg.commodity, None, None)) for leg in fill]
+                return of(postings[:place] + plain + postings[place:])
+            postings = elided
+        if self.chance((1 - self.tidy) / 4):
+            postings.append(Posting(self.account(), None))
+        return of(postings)
+
+    def fill(self, command, place):
+        """The legs that the elided posting at this place takes, or none where the command is refused."""
+        try:
+            return list(model.judge(self.book, command).booked[place].legs)
+        except model.Refused:
+            return None
+
+    def command(self):
+        kind = self.rng.random()
+        if kind < 0.04:
+            return self.opening(self.account())
+        if self.today or kind > 0.18:
+            return self.transaction()
+        if kind < 0.06:
+            return model.Closing(self.next_day(), self.account())
+        if kind < 0.13:
+            return model.Declaring(self.next_day(), self.pick(self.names))
+        return model.Quoting(self.next_day(), self.pick(self.names), self.rate(), self.pick(self.names))
+
+    def small(self):
+        for account in self.accounts:
+            if self.chance(0.98):
+                self.judge(self.opening(account))
+        purchases, sales = self.rng.randint(1, 9), self.rng.randint(0, 8)
+        for turn in range(purchases + sales):
+            self.sales = 0.2 if turn < purchases else 0.8
+            self.judge(self.command())
+
+    def crowded(self, method):
+        """An account that is filled nearly to the greatest number of lots, then postings about that limit.
+
+        The purchases that fill it are plain, so their entries are made here, without the judge.
+        """
+        day = (2020, 1, 1)
+        broker, other = ACCOUNTS[:2]
+        self.judge(model.Opening(day, broker, (), method))
+        self.judge(model.Opening(day, other, (), "NONE"))
+
+        def lot(account, number, units):
+            return Posting(account, Amount(units * model.ONE, "HOOL", Cost(False, number, "USD", None, None), None))
+
+        def paid(postings):
+            return model.Transaction(day, "*", None, None, (*postings, Posting(other, None)))
+
+        filled = model.MOST_LOTS - self.rng.randint(1, 20)
+        for number in range(filled):
+            leg = Leg(broker, "HOOL", LotKey(day, "USD", number, None), 2 * model.ONE)
+            fill = (Leg(other, "USD", None, -2 * number),) if number else ()
+            command = paid([lot(broker, number, 2)])
+            self.book.append(model.Entry(command, (Booked(False, (leg,)), Booked(False, fill))))
+            self.judged.append(model.Judged(command, self.book[-1], None))
+        for turn in range(20):
+            new = range(filled + 20 * turn, filled + 20 * turn + self.rng.randint(0, 20))
+            postings = [lot(self.pick((broker, broker, other)), number, 1) for number in new]
+            for _ in range(self.rng.randint(0, 5)):
+                postings.append(lot(broker, self.rng.randint(0, 200), -2))
+            if method != "NONE" and self.chance(0.5):
+                every = Cost(False, None, None, None, None)
+                postings.append(Posting(broker, Amount(-self.rng.randint(1, 9) * model.ONE, "HOOL", every, None)))
+            self.rng.shuffle(postings)
+            self.judge(paid(postings))
+
+
+def small(seed, today):
+    """The drawing of this seed: its `judged` commands and its `book`."""
+    drawing = Drawing(seed, today)
+    drawing.small()
+    return drawing
+
+
+def crowded(seed, today, method):
+    """Likewise, of an account of this method that holds some 10,000 lots."""
+    drawing = Drawing(seed, today)
+    drawing.crowded(method)
+    return drawing
