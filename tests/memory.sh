@@ -6,8 +6,8 @@
 source "$(dirname "$(readlink -f "${BASH_SOURCE[0]}")")/lib/cases.sh"
 need_program
 
-# 200 transactions of 63 lots, each lot in a currency of its own, so that the totals of the report take memory, too; half of
-# the lots are of another commodity, since one commodity has at most 10,000 in an account.
+# 200 transactions of 63 lots, each lot in a currency of its own, so that the totals of the report take memory, too. The lots of
+# a transaction are of 63 commodities, since one commodity has at most 10,000 lots in an account.
 awk 'function code(n,   text, k) {
     for (k = 0; k < 4; k++) { text = sprintf("%c", 65 + n % 26) text; n = int(n / 26) }
     return "LONGEST.CURRENCY.OF." text
@@ -16,7 +16,7 @@ BEGIN {
     print "2020-01-01 open Assets:A"
     for (n = 0; n < 12600; n++) {
         if (n % 63 == 0) print "2020-01-02 *\n  Assets:A"
-        print "  Assets:A 1 " (n < 6300 ? "HOOL" : "GOOG") " {1 " code(n) "}"
+        print "  Assets:A 1 C" n % 63 " {1 " code(n) "}"
     }
 }' >"$scratch/ledger"
 replies=201

@@ -55,3 +55,23 @@ prints() {
     printf '%s\n' "$3" >"$scratch/expected"
     expect "$1" "$2" "$scratch/expected"
 }
+
+# run_python SCRIPT WORDS..: counts the lines `ok NAME` and `FAILED NAME: ..` of a script in Python, given from the root. That there
+# is no Python, or that the script ends early, is a failure.
+run_python() {
+    local line
+    if ! command -v python3 >/dev/null; then
+        fail "$1" "there is no command 'python3' on the PATH to run it with"
+        return
+    fi
+    python3 -B "$root/$1" "${@:2}" |
+        while IFS= read -r line; do
+            case $line in
+                "ok "*) pass "${line#ok }" ;;
+                "FAILED "*) line=${line#FAILED } && fail "${line%%: *}" "${line#*: }" ;;
+                *) fail "$1" "$line" ;;
+            esac
+        done
+    status=${PIPESTATUS[0]}
+    if ((status != 0)); then fail "$1" "it ended with status $status"; fi
+}

@@ -1,10 +1,11 @@
 """Compares the program with the plain judge, on ledgers drawn from seeds.
 
-    compare.py PROGRAM [--whole] [--first SEED] [--count N] [--crowded METHOD ..]
+    compare.py PROGRAM [--whole] [--first SEED] [--count N] [--crowded METHOD ..] [--changed N]
 
 It prints a line `ok NAME` or `FAILED NAME: ..` for each case. A case is a hundred ledgers, one of 10,000 lots, or a kind of
 refusal or booking, which has to occur at least some times. For a ledger whose answer isn't the judge's, its seed and text and
-the two answers go to standard error. Without --whole the ledgers are such as today's program reads.
+the two answers go to standard error. Without --whole the ledgers are such as today's program reads. --changed is for a program
+that reads the whole text: so many texts are changed at random, and read here by the second reader.
 """
 
 import argparse
@@ -14,7 +15,9 @@ import sys
 
 import draw
 import model
+import mutate
 import spell
+import text as second
 
 A_CASE = 100  # ledgers
 AT_LEAST = 3  # times that each kind occurs
@@ -101,9 +104,17 @@ def run(program, text):
     return done.stdout, done.returncode, done.stderr
 
 
-def differs(program, drawing, text):
-    """What differs on this text, or nothing."""
-    wanted = (*model.answer(drawing.book, drawing.judged), b"")
+def answer_to(text):
+    """What the program prints on this text, as bytes, and its status, by the second reader and the plain judge."""
+    try:
+        return model.answer(*model.run(second.read(text)))
+    except second.Fault as fault:
+        return f"fault line {fault.line} {fault.code}\n".encode(), 3
+
+
+def differs(program, text, answer):
+    """How the program's answer to this text differs from this one, or nothing."""
+    wanted = (*answer, b"")
     got = run(program, text)
     if got == wanted:
         return None
@@ -113,6 +124,12 @@ def differs(program, drawing, text):
     )
 
 
+def in_cases(first, count):
+    """The seeds from the first one on, in parts of a case each."""
+    seeds = range(first, first + count)
+    return [seeds[at : at + A_CASE] for at in range(0, count, A_CASE)]
+
+
 def main():
     words = argparse.ArgumentParser()
     words.add_argument("program")
@@ -120,6 +137,7 @@ def main():
     words.add_argument("--first", type=int, default=1)
     words.add_argument("--count", type=int, default=2500)
     words.add_argument("--crowded", nargs="*", default=["NONE", "FIFO"], choices=model.METHODS)
+    words.add_argument("--changed", type=int, default=0)
     words = words.parse_args()
     today = not words.whole
     census = collections.Counter()
@@ -133,7 +151,16 @@ def main():
         for it in drawing.judged:
             census.update(kinds(drawing.book, it))
         census["lots of both signs under NONE"] += both_signs(drawing.book)
-        difference = differs(words.program, drawing, text)
+        note(seed, text, model.answer(drawing.book, drawing.judged))
+
+    def compare_changed(seed):
+        drawing = draw.small(seed, False)
+        text = spell.Speller(drawing.rng, False).ledger([it.command for it in drawing.judged])
+        text = mutate.mutated(drawing.rng, text)
+        note(seed, text, answer_to(text))
+
+    def note(seed, text, answer):
+        difference = differs(words.program, text, answer)
         if difference:
             failing.append(seed)
             shown = text.decode(errors="replace") if len(text) < 20000 else f"{len(text)} bytes\n"
@@ -146,11 +173,14 @@ def main():
             print(f"ok {name}", flush=True)
         failing.clear()
 
-    for begin in range(words.first, words.first + words.count, A_CASE):
-        end = min(begin + A_CASE, words.first + words.count)
-        for seed in range(begin, end):
+    for seeds in in_cases(words.first, words.count):
+        for seed in seeds:
             compare(seed, draw.small(seed, today))
-        case(f"ledgers of the seeds {begin} to {end - 1}")
+        case(f"ledgers of the seeds {seeds[0]} to {seeds[-1]}")
+    for seeds in in_cases(words.first, words.changed):
+        for seed in seeds:
+            compare_changed(seed)
+        case(f"changed texts of the seeds {seeds[0]} to {seeds[-1]}")
     for method in words.crowded:
         compare(words.first, draw.crowded(words.first, today, method))
         case(f"a ledger of 10,000 lots under {method}")
