@@ -1,0 +1,4 @@
+pub mod Form
+pub mod Shape
+pub mod Head
+pub mod Meaning

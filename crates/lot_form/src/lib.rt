@@ -1,0 +1,21 @@
+//! What a line of ledger text says: its form, and the parts that it gives.
+//!
+//! - `form`: the parts of a line, as they are written.
+//! - `posting_line`: the form of a posting.
+//! - `head_line`: the forms of the other lines.
+//! - `take`: one token of a line.
+#![tactic(auto)]
+
+mod fault;
+mod form;
+mod head_line;
+mod posting_line;
+mod take;
+
+pub use fault::{FormFault, ValueFault};
+pub use form::{
+    AmountForm, CostForm, CurrencyWords, DirectiveForm, HeadForm, NotesForm, Part, Parts,
+    PostingForm, PriceForm,
+};
+pub use head_line::head;
+pub use posting_line::posting;

@@ -1,0 +1,171 @@
+ghost use Rattle.std.specs.Prelude.{◌≡◌, None, Some, IfSome, IfNone, MatchOption, option_map};
+ghost use Rattle.lot_form.specs.Form.{WrittenPosting, IsPosting};
+ghost use Rattle.lot_form.specs.Shape.{amount_of, amount_seen, cost_at, cost_seen, distinct_at, each_at, money_of, part_at, part_seen, parts_at, parts_seen, posting_of, posting_seen, price_of, price_seen, whole_at};
+
+use crate::form::{AmountForm, CostForm, Part, Parts, PostingForm, PriceForm};
+use crate::take::{close, close_close, comma, is_end, number, word};
+use lot_token::{Mark, Token, Tokens};
+
+/// Returns the parts of a posting, by the tokens of its line, or none where they have no such form (docs/FORMATS.md, Forms).
+pub fn posting<'a>(tokens: &Tokens<'a>) -> Option<PostingForm<'a>>
+    ensures is { IfSome result (λ form. IsPosting tokens.now (posting_seen form)) }
+    ensures none { IfNone result ((written : WrittenPosting) → IsPosting tokens.now written → ⊥) }
+{
+    written(tokens)
+}
+
+/// Returns the same, by the tokens from the first on.
+#[tactic(auto, unfolding(crate::specs::Shape::posting_of))]
+fn written<'a>(tokens: &Tokens<'a>) -> Option<PostingForm<'a>>
+    ensures { posting_of tokens.now ≡ option_map posting_seen result }
+{
+    let (account, rest) = word(tokens)?;
+    let amount = if is_end(&rest) {
+        None
+    } else {
+        Some(amount(&rest)?)
+    };
+    Some(PostingForm { account, amount })
+}
+
+/// Returns units and a commodity, with a cost and a price where there are such.
+#[tactic(auto, unfolding(crate::specs::Shape::amount_of))]
+fn amount<'a>(tokens: &Tokens<'a>) -> Option<AmountForm<'a>>
+    ensures { amount_of tokens.now ≡ option_map amount_seen result }
+{
+    let (units, rest) = number(tokens)?;
+    let (commodity, rest) = word(&rest)?;
+    let (cost, rest) = cost(rest)?;
+    let price = price(&rest)?;
+    Some(AmountForm {
+        units,
+        commodity,
+        cost,
+        price,
+    })
+}
+
+/// Returns the price at the end of a posting, where there is one.
+#[tactic(auto, unfolding(crate::specs::Shape::price_of))]
+fn price<'a>(tokens: &Tokens<'a>) -> Option<Option<PriceForm<'a>>>
+    ensures { price_of tokens.now ≡ option_map (λ price. option_map price_seen price) result }
+{
+    let Some((token, rest)) = tokens.split_first() else {
+        return Some(None);
+    };
+    match token {
+        Token::Mark(Mark::At) => {
+            let (rate, currency) = money(&rest)?;
+            Some(Some(PriceForm::Each(rate, currency)))
+        }
+        Token::Mark(Mark::AtAt) => {
+            let (total, currency) = money(&rest)?;
+            Some(Some(PriceForm::Whole(total, currency)))
+        }
+        _ => None,
+    }
+}
+
+/// Returns a number and a word, behind which there is nothing.
+fn money<'a>(tokens: &Tokens<'a>) -> Option<(&'a str, &'a str)>
+    ensures { MatchOption result (money_of tokens.now ≡ None) (λ money. money_of tokens.now ≡ Some (money.0.now, money.1.now)) }
+{
+    let (number, rest) = number(tokens)?;
+    let (currency, rest) = word(&rest)?;
+    if is_end(&rest) {
+        Some((number, currency))
+    } else {
+        None
+    }
+}
+
+/// Returns the cost at the front and the tokens behind it; without braces there is no cost.
+#[tactic(auto, unfolding(crate::specs::Shape::cost_at))]
+fn cost<'a>(tokens: Tokens<'a>) -> Option<(Option<CostForm<'a>>, Tokens<'a>)>
+    ensures { MatchOption result (cost_at tokens.entry ≡ None) (λ found. cost_at tokens.entry ≡ Some (option_map cost_seen found.0, found.1)) }
+{
+    match tokens.split_first() {
+        Some((Token::Mark(Mark::Open), rest)) => each(rest),
+        Some((Token::Mark(Mark::OpenOpen), rest)) => whole(rest),
+        _ => Some((None, tokens)),
+    }
+}
+
+/// Returns the cost of each unit, behind its opening brace.
+fn each<'a>(tokens: Tokens<'a>) -> Option<(Option<CostForm<'a>>, Tokens<'a>)>
+    ensures { MatchOption result (each_at tokens.entry ≡ None) (λ found. each_at tokens.entry ≡ Some (option_map cost_seen found.0, found.1)) }
+{
+    let (parts, rest) = distinct_parts(tokens)?;
+    let rest = close(&rest)?;
+    Some((Some(CostForm::Each(parts)), rest))
+}
+
+/// Returns the cost of all units, behind its opening braces. It gives a number.
+fn whole<'a>(tokens: Tokens<'a>) -> Option<(Option<CostForm<'a>>, Tokens<'a>)>
+    ensures { MatchOption result (whole_at tokens.entry ≡ None) (λ found. whole_at tokens.entry ≡ Some (option_map cost_seen found.0, found.1)) }
+{
+    let (parts, rest) = distinct_parts(tokens)?;
+    if !parts.have_number() {
+        return None;
+    }
+    let rest = close_close(&rest)?;
+    Some((Some(CostForm::Whole(parts)), rest))
+}
+
+/// Returns the parts of a cost, which can stand in one, and the tokens behind them.
+#[tactic(auto, unfolding(crate::specs::Shape::distinct_at))]
+fn distinct_parts<'a>(tokens: Tokens<'a>) -> Option<(Parts<'a>, Tokens<'a>)>
+    ensures { MatchOption result (distinct_at tokens.entry ≡ None) (λ found. distinct_at tokens.entry ≡ Some (parts_seen found.0, found.1)) }
+{
+    let (parts, rest) = parts(tokens)?;
+    if parts.are_distinct() {
+        Some((parts, rest))
+    } else {
+        None
+    }
+}
+
+/// Returns the parts of a cost, with commas between them, and the tokens behind them. More than three can't stand in one cost.
+#[tactic(auto, unfolding(crate::specs::Shape::parts_at))]
+fn parts<'a>(tokens: Tokens<'a>) -> Option<(Parts<'a>, Tokens<'a>)>
+    ensures { MatchOption result (parts_at tokens.entry ≡ None) (λ found. parts_at tokens.entry ≡ Some (parts_seen found.0, found.1)) }
+{
+    let mut parts = Parts {
+        first: None,
+        second: None,
+        third: None,
+    };
+    let Some((first, rest)) = part(&tokens) else {
+        return Some((parts, tokens));
+    };
+    parts.first = Some(first);
+    let Some(behind) = comma(&rest) else {
+        return Some((parts, rest));
+    };
+    let (second, rest) = part(&behind)?;
+    parts.second = Some(second);
+    let Some(behind) = comma(&rest) else {
+        return Some((parts, rest));
+    };
+    let (third, rest) = part(&behind)?;
+    parts.third = Some(third);
+    Some((parts, rest))
+}
+
+/// Returns the part of a cost at the front and the tokens behind it, or none where there is no part.
+#[tactic(auto, unfolding(crate::specs::Shape::part_at))]
+fn part<'a>(tokens: &Tokens<'a>) -> Option<(Part<'a>, Tokens<'a>)>
+    ensures { MatchOption result (part_at tokens.now ≡ None) (λ found. part_at tokens.now ≡ Some (part_seen found.0, found.1)) }
+{
+    let (token, rest) = tokens.split_first()?;
+    match token {
+        Token::Word(currency) => Some((Part::Currency(currency), rest)),
+        Token::Number(number) => match word(&rest) {
+            Some((currency, rest)) => Some((Part::Money(number, currency), rest)),
+            None => Some((Part::Number(number), rest)),
+        },
+        Token::Date(day) => Some((Part::Day(day), rest)),
+        Token::Text(label) => Some((Part::Label(label), rest)),
+        Token::Mark(_) => None,
+    }
+}

@@ -1,0 +1,10 @@
+pub mod RunLemmas
+pub mod WithinLemmas
+pub mod DateLemmas
+pub mod NumberLemmas
+pub mod TokenLemmas
+pub mod FoundLemmas
+pub mod CutLemmas
+pub mod Boundaries
+pub mod TextAt
+pub mod LineLemmas
