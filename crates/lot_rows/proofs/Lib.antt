@@ -1,0 +1,12 @@
+pub mod AccountLemmas
+pub mod AllowedLemmas
+pub mod BookLemmas
+pub mod CommodityLemmas
+pub mod EntryLemmas
+pub mod HeadLemmas
+pub mod LegLemmas
+pub mod LotLemmas
+pub mod MakeLemmas
+pub mod PlainLemmas
+pub mod PriceLemmas
+pub mod SaleLemmas

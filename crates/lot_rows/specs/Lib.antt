@@ -1,0 +1,13 @@
+pub mod Account
+pub mod Allowed
+pub mod Book
+pub mod Commodity
+pub mod Entry
+pub mod Head
+pub mod Leg
+pub mod Lot
+pub mod LotKey
+pub mod Plain
+pub mod Price
+pub mod Sale
+pub mod Tables

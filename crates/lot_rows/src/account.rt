@@ -1,0 +1,103 @@
+ghost use Rattle.std.specs.Prelude.{◌≡◌, ◌∷◌, [], All, IfOk, IfSome, IsTrue, None, OnErr, OnOk, map, pos, slice_get};
+ghost use Rattle.lot_rows.specs.Account.{IsAccountRow, account_cells};
+ghost use Rattle.lot_rows.specs.Tables.{Has, Tables, layout};
+ghost use Rattle.lot_table.specs.Book.{IsUndone, StaysInside, Turns, always};
+ghost use Rattle.lot_table.specs.Rows.{put_in, with_key};
+ghost use Rattle.lot_table.specs.Statement.{DiskFailed};
+ghost use Rattle.sqlite.specs.Held.{state};
+ghost use Rattle.sqlite.specs.State.{HasCleanDisk, IsUnchanged, Survives};
+ghost use Rattle.sqlite.specs.declared.types.Value.TheVariants.{Text};
+
+use lot_base::{Account, Day};
+use lot_booking::Method;
+use lot_table::{Cell, Fault, TableRow, change, column, find as find_row, select};
+use sqlite::{Alter, Connection, Row, Transaction};
+use std::alloc::Global;
+
+/// A row of the table `account`: an account, the days on which it was opened and closed, and its method.
+#[derive(Debug, PartialEq, Eq, Drop)]
+pub struct AccountRow {
+    pub name: Account,
+    pub opened: Day,
+    pub closed: Option<Day>,
+    pub method: Method,
+}
+
+impl TableRow for AccountRow {
+    ghost encode = { account_cells };
+
+    ghost IsGood = { IsAccountRow };
+
+    fn read(alloc: Global, row: &Row) -> Result<AccountRow, Fault> {
+        if row.column_count() != 4 {
+            return Err(Fault::Damaged);
+        }
+        Ok(AccountRow {
+            name: column(alloc, row, 0)?,
+            opened: column(alloc, row, 1)?,
+            closed: column(alloc, row, 2)?,
+            method: column(alloc, row, 3)?,
+        })
+    }
+}
+
+/// Puts a row, instead of the row of its key.
+pub fn put<S: Alter>(tx: &mut Transaction<'_, S>, row: &AccountRow) -> Result<(), Fault>
+    requires { HasCleanDisk (state S.Store tx.old.conn.now) → IsTrue (state S.Store tx.old.conn.now).in_transaction }
+    ensures same_reference { tx.new.conn.ghost_name ≡ tx.old.conn.ghost_name }
+    ensures inside { HasCleanDisk (state S.Store tx.new.conn.now) → OnOk result (StaysInside (state S.Store tx.old.conn.now) (state S.Store tx.new.conn.now)) }
+    ensures put { HasCleanDisk (state S.Store tx.new.conn.now) → OnOk result (Turns layout always (λ b. record b { account = put_in account_cells 1 row.now b.account }) (state S.Store tx.old.conn.now) (state S.Store tx.new.conn.now)) }
+    ensures err { HasCleanDisk (state S.Store tx.new.conn.now) → OnErr result (IsUndone (state S.Store tx.old.conn.now) (state S.Store tx.new.conn.now)) }
+    ensures crash { Survives (state S.Store tx.old.conn.now) (state S.Store tx.new.conn.now) (λ _. ⊥) }
+{
+    change(
+        tx,
+        "INSERT OR REPLACE INTO account (name, opened, closed, method) VALUES (?1, ?2, ?3, ?4)",
+        &[
+            row.name.to_cell(),
+            row.opened.to_cell(),
+            row.closed.to_cell(),
+            row.method.to_cell(),
+        ],
+    )
+}
+
+/// Returns the row of an account, or `None` where there is none.
+pub fn find<S: Alter>(
+    alloc: Global,
+    conn: &mut Connection<S>,
+    name: &Account,
+) -> Result<Option<AccountRow>, Fault>
+    ensures found { HasCleanDisk (state S.Store conn.new) → IfOk result (λ row. (b : Tables) → Has (state S.Store conn.old) b → row ≡ slice_get (with_key account_cells 1 (Text name.now ∷ []) b.account) 0) }
+    ensures good { IfOk result (λ row. IfSome row IsAccountRow) }
+    ensures same { HasCleanDisk (state S.Store conn.new) → OnOk result (IsUnchanged (state S.Store conn.old) (state S.Store conn.new)) }
+    ensures damaged { HasCleanDisk (state S.Store conn.new) → result ≡ Err Fault.Damaged → (state S.Store conn.old).step_limit ≡ None → (b : Tables) → Has (state S.Store conn.old) b → ¬ All IsAccountRow (with_key account_cells 1 (Text name.now ∷ []) b.account) }
+    ensures device { HasCleanDisk (state S.Store conn.new) → result ≡ Err Fault.Device → DiskFailed (state S.Store conn.old) (state S.Store conn.new) }
+    ensures err { HasCleanDisk (state S.Store conn.new) → OnErr result (IsUndone (state S.Store conn.old) (state S.Store conn.new)) }
+    ensures crash { Survives (state S.Store conn.old) (state S.Store conn.new) (λ _. ⊥) }
+{
+    find_row(
+        alloc,
+        conn,
+        "SELECT name, opened, closed, method FROM account WHERE name = ?1 ORDER BY name",
+        &[name.to_cell()],
+    )
+}
+
+/// Returns all rows, by name.
+pub fn list<S: Alter>(alloc: Global, conn: &mut Connection<S>) -> Result<Vec<AccountRow>, Fault>
+    ensures listed { HasCleanDisk (state S.Store conn.new) → IfOk result (λ rows. (b : Tables) → Has (state S.Store conn.old) b → rows.items ≡ b.account) }
+    ensures good { IfOk result (λ rows. All IsAccountRow rows.items) }
+    ensures same { HasCleanDisk (state S.Store conn.new) → OnOk result (IsUnchanged (state S.Store conn.old) (state S.Store conn.new)) }
+    ensures damaged { HasCleanDisk (state S.Store conn.new) → result ≡ Err Fault.Damaged → (state S.Store conn.old).step_limit ≡ None → (b : Tables) → Has (state S.Store conn.old) b → ¬ All IsAccountRow b.account }
+    ensures device { HasCleanDisk (state S.Store conn.new) → result ≡ Err Fault.Device → DiskFailed (state S.Store conn.old) (state S.Store conn.new) }
+    ensures err { HasCleanDisk (state S.Store conn.new) → OnErr result (IsUndone (state S.Store conn.old) (state S.Store conn.new)) }
+    ensures crash { Survives (state S.Store conn.old) (state S.Store conn.new) (λ _. ⊥) }
+{
+    select(
+        alloc,
+        conn,
+        "SELECT name, opened, closed, method FROM account ORDER BY name",
+        &[],
+    )
+}

@@ -1,0 +1,93 @@
+ghost use Rattle.std.specs.Prelude.{◌≡◌, ◌∷◌, [], All, IfOk, IfSome, IsTrue, None, OnErr, OnOk, map, pos, slice_get};
+ghost use Rattle.lot_rows.specs.Commodity.{IsCommodityRow, commodity_cells};
+ghost use Rattle.lot_rows.specs.Tables.{Has, Tables, layout};
+ghost use Rattle.lot_table.specs.Book.{IsUndone, StaysInside, Turns, always};
+ghost use Rattle.lot_table.specs.Rows.{put_in, with_key};
+ghost use Rattle.lot_table.specs.Statement.{DiskFailed};
+ghost use Rattle.sqlite.specs.Held.{state};
+ghost use Rattle.sqlite.specs.State.{HasCleanDisk, IsUnchanged, Survives};
+ghost use Rattle.sqlite.specs.declared.types.Value.TheVariants.{Text};
+
+use lot_base::{Commodity, Day};
+use lot_table::{Cell, Fault, TableRow, change, column, find as find_row, select};
+use sqlite::{Alter, Connection, Row, Transaction};
+use std::alloc::Global;
+
+/// A row of the table `commodity`: a commodity, and the day on which it was declared.
+#[derive(Debug, PartialEq, Eq, Drop)]
+pub struct CommodityRow {
+    pub name: Commodity,
+    pub day: Day,
+}
+
+impl TableRow for CommodityRow {
+    ghost encode = { commodity_cells };
+
+    ghost IsGood = { IsCommodityRow };
+
+    fn read(alloc: Global, row: &Row) -> Result<CommodityRow, Fault> {
+        if row.column_count() != 2 {
+            return Err(Fault::Damaged);
+        }
+        Ok(CommodityRow {
+            name: column(alloc, row, 0)?,
+            day: column(alloc, row, 1)?,
+        })
+    }
+}
+
+/// Puts a row, instead of the row of its key.
+pub fn put<S: Alter>(tx: &mut Transaction<'_, S>, row: &CommodityRow) -> Result<(), Fault>
+    requires { HasCleanDisk (state S.Store tx.old.conn.now) → IsTrue (state S.Store tx.old.conn.now).in_transaction }
+    ensures same_reference { tx.new.conn.ghost_name ≡ tx.old.conn.ghost_name }
+    ensures inside { HasCleanDisk (state S.Store tx.new.conn.now) → OnOk result (StaysInside (state S.Store tx.old.conn.now) (state S.Store tx.new.conn.now)) }
+    ensures put { HasCleanDisk (state S.Store tx.new.conn.now) → OnOk result (Turns layout always (λ b. record b { commodity = put_in commodity_cells 1 row.now b.commodity }) (state S.Store tx.old.conn.now) (state S.Store tx.new.conn.now)) }
+    ensures err { HasCleanDisk (state S.Store tx.new.conn.now) → OnErr result (IsUndone (state S.Store tx.old.conn.now) (state S.Store tx.new.conn.now)) }
+    ensures crash { Survives (state S.Store tx.old.conn.now) (state S.Store tx.new.conn.now) (λ _. ⊥) }
+{
+    change(
+        tx,
+        "INSERT OR REPLACE INTO commodity (name, day) VALUES (?1, ?2)",
+        &[row.name.to_cell(), row.day.to_cell()],
+    )
+}
+
+/// Returns the row of a commodity, or `None` where there is none.
+pub fn find<S: Alter>(
+    alloc: Global,
+    conn: &mut Connection<S>,
+    name: &Commodity,
+) -> Result<Option<CommodityRow>, Fault>
+    ensures found { HasCleanDisk (state S.Store conn.new) → IfOk result (λ row. (b : Tables) → Has (state S.Store conn.old) b → row ≡ slice_get (with_key commodity_cells 1 (Text name.now ∷ []) b.commodity) 0) }
+    ensures good { IfOk result (λ row. IfSome row IsCommodityRow) }
+    ensures same { HasCleanDisk (state S.Store conn.new) → OnOk result (IsUnchanged (state S.Store conn.old) (state S.Store conn.new)) }
+    ensures damaged { HasCleanDisk (state S.Store conn.new) → result ≡ Err Fault.Damaged → (state S.Store conn.old).step_limit ≡ None → (b : Tables) → Has (state S.Store conn.old) b → ¬ All IsCommodityRow (with_key commodity_cells 1 (Text name.now ∷ []) b.commodity) }
+    ensures device { HasCleanDisk (state S.Store conn.new) → result ≡ Err Fault.Device → DiskFailed (state S.Store conn.old) (state S.Store conn.new) }
+    ensures err { HasCleanDisk (state S.Store conn.new) → OnErr result (IsUndone (state S.Store conn.old) (state S.Store conn.new)) }
+    ensures crash { Survives (state S.Store conn.old) (state S.Store conn.new) (λ _. ⊥) }
+{
+    find_row(
+        alloc,
+        conn,
+        "SELECT name, day FROM commodity WHERE name = ?1 ORDER BY name",
+        &[name.to_cell()],
+    )
+}
+
+/// Returns all rows, by name.
+pub fn list<S: Alter>(alloc: Global, conn: &mut Connection<S>) -> Result<Vec<CommodityRow>, Fault>
+    ensures listed { HasCleanDisk (state S.Store conn.new) → IfOk result (λ rows. (b : Tables) → Has (state S.Store conn.old) b → rows.items ≡ b.commodity) }
+    ensures good { IfOk result (λ rows. All IsCommodityRow rows.items) }
+    ensures same { HasCleanDisk (state S.Store conn.new) → OnOk result (IsUnchanged (state S.Store conn.old) (state S.Store conn.new)) }
+    ensures damaged { HasCleanDisk (state S.Store conn.new) → result ≡ Err Fault.Damaged → (state S.Store conn.old).step_limit ≡ None → (b : Tables) → Has (state S.Store conn.old) b → ¬ All IsCommodityRow b.commodity }
+    ensures device { HasCleanDisk (state S.Store conn.new) → result ≡ Err Fault.Device → DiskFailed (state S.Store conn.old) (state S.Store conn.new) }
+    ensures err { HasCleanDisk (state S.Store conn.new) → OnErr result (IsUndone (state S.Store conn.old) (state S.Store conn.new)) }
+    ensures crash { Survives (state S.Store conn.old) (state S.Store conn.new) (λ _. ⊥) }
+{
+    select(
+        alloc,
+        conn,
+        "SELECT name, day FROM commodity ORDER BY name",
+        &[],
+    )
+}

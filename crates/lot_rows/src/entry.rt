@@ -1,0 +1,159 @@
+ghost use Rattle.std.specs.Prelude.{◌≡◌, ◌∷◌, [], All, IfOk, IfSome, IsTrue, None, OnErr, OnOk, map, option_map, pos, slice_get};
+ghost use Rattle.lot_rows.specs.Entry.{IsEntryRow, IsNumberRow, IsUnnamed, entry_cells, greatest_number, named, number_cells};
+ghost use Rattle.lot_rows.specs.declared.entry.NumberRow.{NumberRow};
+ghost use Rattle.lot_rows.specs.Tables.{Has, Tables, layout};
+ghost use Rattle.lot_table.specs.Book.{IsUndone, StaysInside, Turns};
+ghost use Rattle.lot_table.specs.Rows.{put_in};
+ghost use Rattle.lot_table.specs.Statement.{DiskFailed};
+ghost use Rattle.sqlite.specs.Held.{state};
+ghost use Rattle.sqlite.specs.State.{HasCleanDisk, IsUnchanged, Survives};
+
+use lot_base::Label;
+use lot_table::{
+    AnyText, Cell, Fault, Ordinal, TableRow, change, column, find as find_row, select,
+};
+use sqlite::{Alter, Connection, Row, Transaction};
+use std::alloc::Global;
+
+/// A row of the table `entry`: an accepted command by its number and its key, with its canonical text.
+#[derive(Debug, Drop)]
+pub struct EntryRow {
+    pub number: Ordinal,
+    pub source: Label,
+    pub name: Label,
+    pub body: AnyText,
+}
+
+impl TableRow for EntryRow {
+    ghost encode = { entry_cells };
+
+    ghost IsGood = { IsEntryRow };
+
+    fn read(alloc: Global, row: &Row) -> Result<EntryRow, Fault> {
+        if row.column_count() != 4 {
+            return Err(Fault::Damaged);
+        }
+        Ok(EntryRow {
+            number: column(alloc, row, 0)?,
+            source: column(alloc, row, 1)?,
+            name: column(alloc, row, 2)?,
+            body: column(alloc, row, 3)?,
+        })
+    }
+}
+
+/// Puts a row, instead of the row of its number. The source and the name are told of no other row: look them up before.
+pub fn put<S: Alter>(tx: &mut Transaction<'_, S>, row: &EntryRow) -> Result<(), Fault>
+    requires { HasCleanDisk (state S.Store tx.old.conn.now) → IsTrue (state S.Store tx.old.conn.now).in_transaction }
+    ensures same_reference { tx.new.conn.ghost_name ≡ tx.old.conn.ghost_name }
+    ensures inside { HasCleanDisk (state S.Store tx.new.conn.now) → OnOk result (StaysInside (state S.Store tx.old.conn.now) (state S.Store tx.new.conn.now)) }
+    ensures put { HasCleanDisk (state S.Store tx.new.conn.now) → OnOk result (Turns layout (λ b. IsUnnamed row.now b.entry) (λ b. record b { entry = put_in entry_cells 1 row.now b.entry }) (state S.Store tx.old.conn.now) (state S.Store tx.new.conn.now)) }
+    ensures err { HasCleanDisk (state S.Store tx.new.conn.now) → OnErr result (IsUndone (state S.Store tx.old.conn.now) (state S.Store tx.new.conn.now)) }
+    ensures crash { Survives (state S.Store tx.old.conn.now) (state S.Store tx.new.conn.now) (λ _. ⊥) }
+{
+    change(
+        tx,
+        "INSERT OR REPLACE INTO entry (number, source, name, body) VALUES (?1, ?2, ?3, ?4)",
+        &[
+            row.number.to_cell(),
+            row.source.to_cell(),
+            row.name.to_cell(),
+            row.body.to_cell(),
+        ],
+    )
+}
+
+/// Returns all rows, by number.
+pub fn list<S: Alter>(alloc: Global, conn: &mut Connection<S>) -> Result<Vec<EntryRow>, Fault>
+    ensures listed { HasCleanDisk (state S.Store conn.new) → IfOk result (λ rows. (b : Tables) → Has (state S.Store conn.old) b → rows.items ≡ b.entry) }
+    ensures good { IfOk result (λ rows. All IsEntryRow rows.items) }
+    ensures same { HasCleanDisk (state S.Store conn.new) → OnOk result (IsUnchanged (state S.Store conn.old) (state S.Store conn.new)) }
+    ensures damaged { HasCleanDisk (state S.Store conn.new) → result ≡ Err Fault.Damaged → (state S.Store conn.old).step_limit ≡ None → (b : Tables) → Has (state S.Store conn.old) b → ¬ All IsEntryRow b.entry }
+    ensures device { HasCleanDisk (state S.Store conn.new) → result ≡ Err Fault.Device → DiskFailed (state S.Store conn.old) (state S.Store conn.new) }
+    ensures err { HasCleanDisk (state S.Store conn.new) → OnErr result (IsUndone (state S.Store conn.old) (state S.Store conn.new)) }
+    ensures crash { Survives (state S.Store conn.old) (state S.Store conn.new) (λ _. ⊥) }
+{
+    select(
+        alloc,
+        conn,
+        "SELECT number, source, name, body FROM entry ORDER BY number",
+        &[],
+    )
+}
+
+/// Returns the row of a source and a name, or `None` where there is none.
+pub fn find<S: Alter>(
+    alloc: Global,
+    conn: &mut Connection<S>,
+    source: &Label,
+    name: &Label,
+) -> Result<Option<EntryRow>, Fault>
+    ensures found { HasCleanDisk (state S.Store conn.new) → IfOk result (λ row. (b : Tables) → Has (state S.Store conn.old) b → row ≡ slice_get (named source.now name.now b.entry) 0) }
+    ensures good { IfOk result (λ row. IfSome row IsEntryRow) }
+    ensures same { HasCleanDisk (state S.Store conn.new) → OnOk result (IsUnchanged (state S.Store conn.old) (state S.Store conn.new)) }
+    ensures damaged { HasCleanDisk (state S.Store conn.new) → result ≡ Err Fault.Damaged → (state S.Store conn.old).step_limit ≡ None → (b : Tables) → Has (state S.Store conn.old) b → ¬ All IsEntryRow (named source.now name.now b.entry) }
+    ensures device { HasCleanDisk (state S.Store conn.new) → result ≡ Err Fault.Device → DiskFailed (state S.Store conn.old) (state S.Store conn.new) }
+    ensures err { HasCleanDisk (state S.Store conn.new) → OnErr result (IsUndone (state S.Store conn.old) (state S.Store conn.new)) }
+    ensures crash { Survives (state S.Store conn.old) (state S.Store conn.new) (λ _. ⊥) }
+{
+    find_row(
+        alloc,
+        conn,
+        "SELECT number, source, name, body FROM entry WHERE source = ?1 AND name = ?2 ORDER BY number",
+        &[source.to_cell(), name.to_cell()],
+    )
+}
+
+/// Returns the greatest number, which is that of the last row, or `None` where there is no row.
+pub fn greatest<S: Alter>(alloc: Global, conn: &mut Connection<S>) -> Result<Option<Ordinal>, Fault>
+    ensures greatest { HasCleanDisk (state S.Store conn.new) → IfOk result (λ number. (b : Tables) → Has (state S.Store conn.old) b → number ≡ greatest_number b.entry) }
+    ensures same { HasCleanDisk (state S.Store conn.new) → OnOk result (IsUnchanged (state S.Store conn.old) (state S.Store conn.new)) }
+    ensures damaged { HasCleanDisk (state S.Store conn.new) → result ≡ Err Fault.Damaged → (state S.Store conn.old).step_limit ≡ None → (b : Tables) → Has (state S.Store conn.old) b → ¬ All IsEntryRow b.entry }
+    ensures device { HasCleanDisk (state S.Store conn.new) → result ≡ Err Fault.Device → DiskFailed (state S.Store conn.old) (state S.Store conn.new) }
+    ensures err { HasCleanDisk (state S.Store conn.new) → OnErr result (IsUndone (state S.Store conn.old) (state S.Store conn.new)) }
+    ensures crash { Survives (state S.Store conn.old) (state S.Store conn.new) (λ _. ⊥) }
+{
+    let row = greatest_row(alloc, conn)?;
+    Ok(row.map(|row| row.number))
+}
+
+/// The number of an entry alone.
+#[derive(Drop)]
+struct NumberRow {
+    number: Ordinal,
+}
+
+impl TableRow for NumberRow {
+    ghost encode = { number_cells };
+
+    ghost IsGood = { IsNumberRow };
+
+    fn read(alloc: Global, row: &Row) -> Result<NumberRow, Fault> {
+        if row.column_count() != 1 {
+            return Err(Fault::Damaged);
+        }
+        Ok(NumberRow {
+            number: column(alloc, row, 0)?,
+        })
+    }
+}
+
+/// Returns the row of the greatest number, or `None` where there is no row.
+fn greatest_row<S: Alter>(
+    alloc: Global,
+    conn: &mut Connection<S>,
+) -> Result<Option<NumberRow>, Fault>
+    ensures greatest { HasCleanDisk (state S.Store conn.new) → IfOk result (λ row. (b : Tables) → Has (state S.Store conn.old) b → option_map (λ (n : NumberRow). n.number) row ≡ greatest_number b.entry) }
+    ensures same { HasCleanDisk (state S.Store conn.new) → OnOk result (IsUnchanged (state S.Store conn.old) (state S.Store conn.new)) }
+    ensures damaged { HasCleanDisk (state S.Store conn.new) → result ≡ Err Fault.Damaged → (state S.Store conn.old).step_limit ≡ None → (b : Tables) → Has (state S.Store conn.old) b → ¬ All IsEntryRow b.entry }
+    ensures device { HasCleanDisk (state S.Store conn.new) → result ≡ Err Fault.Device → DiskFailed (state S.Store conn.old) (state S.Store conn.new) }
+    ensures err { HasCleanDisk (state S.Store conn.new) → OnErr result (IsUndone (state S.Store conn.old) (state S.Store conn.new)) }
+    ensures crash { Survives (state S.Store conn.old) (state S.Store conn.new) (λ _. ⊥) }
+{
+    find_row(
+        alloc,
+        conn,
+        "SELECT number FROM entry ORDER BY number DESC LIMIT 1",
+        &[],
+    )
+}

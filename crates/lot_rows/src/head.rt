@@ -1,0 +1,100 @@
+ghost use Rattle.std.specs.Prelude.{◌≡◌, ◌∷◌, [], All, IfOk, IfSome, IsTrue, None, OnErr, OnOk, map, pos, slice_get};
+ghost use Rattle.lot_rows.specs.Head.{IsHeadRow, head_cells};
+ghost use Rattle.lot_rows.specs.Tables.{Has, Tables, layout};
+ghost use Rattle.lot_table.specs.Book.{IsUndone, StaysInside, Turns, always};
+ghost use Rattle.lot_table.specs.Rows.{put_in, with_key};
+ghost use Rattle.lot_table.specs.Statement.{DiskFailed};
+ghost use Rattle.sqlite.specs.Held.{state};
+ghost use Rattle.sqlite.specs.State.{HasCleanDisk, IsUnchanged, Survives};
+ghost use Rattle.sqlite.specs.declared.types.Value.TheVariants.{Text};
+
+use lot_base::{Account, Commodity, Day};
+use lot_table::{Cell, Fault, TableRow, change, column, find as find_row, select};
+use sqlite::{Alter, Connection, Row, Transaction};
+use std::alloc::Global;
+
+/// A row of the table `head`: the latest day of a transaction that posted with braces to an account and a commodity.
+#[derive(Debug, PartialEq, Eq, Drop)]
+pub struct HeadRow {
+    pub account: Account,
+    pub commodity: Commodity,
+    pub day: Day,
+}
+
+impl TableRow for HeadRow {
+    ghost encode = { head_cells };
+
+    ghost IsGood = { IsHeadRow };
+
+    fn read(alloc: Global, row: &Row) -> Result<HeadRow, Fault> {
+        if row.column_count() != 3 {
+            return Err(Fault::Damaged);
+        }
+        Ok(HeadRow {
+            account: column(alloc, row, 0)?,
+            commodity: column(alloc, row, 1)?,
+            day: column(alloc, row, 2)?,
+        })
+    }
+}
+
+/// Puts a row, instead of the row of its key.
+pub fn put<S: Alter>(tx: &mut Transaction<'_, S>, row: &HeadRow) -> Result<(), Fault>
+    requires { HasCleanDisk (state S.Store tx.old.conn.now) → IsTrue (state S.Store tx.old.conn.now).in_transaction }
+    ensures same_reference { tx.new.conn.ghost_name ≡ tx.old.conn.ghost_name }
+    ensures inside { HasCleanDisk (state S.Store tx.new.conn.now) → OnOk result (StaysInside (state S.Store tx.old.conn.now) (state S.Store tx.new.conn.now)) }
+    ensures put { HasCleanDisk (state S.Store tx.new.conn.now) → OnOk result (Turns layout always (λ b. record b { head = put_in head_cells 2 row.now b.head }) (state S.Store tx.old.conn.now) (state S.Store tx.new.conn.now)) }
+    ensures err { HasCleanDisk (state S.Store tx.new.conn.now) → OnErr result (IsUndone (state S.Store tx.old.conn.now) (state S.Store tx.new.conn.now)) }
+    ensures crash { Survives (state S.Store tx.old.conn.now) (state S.Store tx.new.conn.now) (λ _. ⊥) }
+{
+    change(
+        tx,
+        "INSERT OR REPLACE INTO head (account, commodity, day) VALUES (?1, ?2, ?3)",
+        &[
+            row.account.to_cell(),
+            row.commodity.to_cell(),
+            row.day.to_cell(),
+        ],
+    )
+}
+
+/// Returns the row of an account and a commodity, or `None` where there is none.
+pub fn find<S: Alter>(
+    alloc: Global,
+    conn: &mut Connection<S>,
+    account: &Account,
+    commodity: &Commodity,
+) -> Result<Option<HeadRow>, Fault>
+    ensures found { HasCleanDisk (state S.Store conn.new) → IfOk result (λ row. (b : Tables) → Has (state S.Store conn.old) b → row ≡ slice_get (with_key head_cells 2 (Text account.now ∷ Text commodity.now ∷ []) b.head) 0) }
+    ensures good { IfOk result (λ row. IfSome row IsHeadRow) }
+    ensures same { HasCleanDisk (state S.Store conn.new) → OnOk result (IsUnchanged (state S.Store conn.old) (state S.Store conn.new)) }
+    ensures damaged { HasCleanDisk (state S.Store conn.new) → result ≡ Err Fault.Damaged → (state S.Store conn.old).step_limit ≡ None → (b : Tables) → Has (state S.Store conn.old) b → ¬ All IsHeadRow (with_key head_cells 2 (Text account.now ∷ Text commodity.now ∷ []) b.head) }
+    ensures device { HasCleanDisk (state S.Store conn.new) → result ≡ Err Fault.Device → DiskFailed (state S.Store conn.old) (state S.Store conn.new) }
+    ensures err { HasCleanDisk (state S.Store conn.new) → OnErr result (IsUndone (state S.Store conn.old) (state S.Store conn.new)) }
+    ensures crash { Survives (state S.Store conn.old) (state S.Store conn.new) (λ _. ⊥) }
+{
+    find_row(
+        alloc,
+        conn,
+        "SELECT account, commodity, day FROM head WHERE account = ?1 AND commodity = ?2 ORDER BY account, commodity",
+        &[account.to_cell(), commodity.to_cell()],
+    )
+}
+
+/// Returns all rows, by account and commodity.
+pub fn list<S: Alter>(alloc: Global, conn: &mut Connection<S>) -> Result<Vec<HeadRow>, Fault>
+    ensures listed { HasCleanDisk (state S.Store conn.new) → IfOk result (λ rows. (b : Tables) → Has (state S.Store conn.old) b → rows.items ≡ b.head) }
+    ensures good { IfOk result (λ rows. All IsHeadRow rows.items) }
+    ensures same { HasCleanDisk (state S.Store conn.new) → OnOk result (IsUnchanged (state S.Store conn.old) (state S.Store conn.new)) }
+    ensures damaged { HasCleanDisk (state S.Store conn.new) → result ≡ Err Fault.Damaged → (state S.Store conn.old).step_limit ≡ None → (b : Tables) → Has (state S.Store conn.old) b → ¬ All IsHeadRow b.head }
+    ensures device { HasCleanDisk (state S.Store conn.new) → result ≡ Err Fault.Device → DiskFailed (state S.Store conn.old) (state S.Store conn.new) }
+    ensures err { HasCleanDisk (state S.Store conn.new) → OnErr result (IsUndone (state S.Store conn.old) (state S.Store conn.new)) }
+    ensures crash { Survives (state S.Store conn.old) (state S.Store conn.new) (λ _. ⊥) }
+{
+    select(
+        alloc,
+        conn,
+        "SELECT account, commodity, day FROM head ORDER BY account, commodity",
+        &[],
+    )
+}

@@ -1,0 +1,120 @@
+ghost use Rattle.std.specs.Prelude.{◌≡◌, ◌∷◌, [], All, IfOk, IfSome, IsTrue, None, OnErr, OnOk, map, pos, slice_get};
+ghost use Rattle.lot_rows.specs.Leg.{IsLegRow, leg_cells};
+ghost use Rattle.lot_rows.specs.Tables.{Has, Tables, layout};
+ghost use Rattle.lot_table.specs.Book.{IsUndone, StaysInside, Turns, always};
+ghost use Rattle.lot_table.specs.Rows.{put_in, with_key};
+ghost use Rattle.lot_table.specs.Statement.{DiskFailed};
+ghost use Rattle.sqlite.specs.Held.{state};
+ghost use Rattle.sqlite.specs.State.{HasCleanDisk, IsUnchanged, Survives};
+ghost use Rattle.sqlite.specs.declared.types.Value.TheVariants.{Int};
+
+use crate::cost;
+use lot_base::{Account, Commodity};
+use lot_inv::LotKey;
+use lot_num::Units;
+use lot_table::{Cell, Fault, Ordinal, TableRow, change, column, select};
+use sqlite::{Alter, Connection, Row, Transaction};
+use std::alloc::Global;
+
+/// A row of the table `leg`: units that a posting of an entry put into a position or, below zero, took out of it.
+#[derive(Debug, PartialEq, Eq, Drop)]
+pub struct LegRow {
+    pub entry: Ordinal,
+    pub posting: Ordinal,
+    /// The place of the leg among those of its posting, from 0.
+    pub place: u32,
+    pub account: Account,
+    pub commodity: Commodity,
+    pub units: Units,
+    /// The lot, or none for plain units.
+    pub lot: Option<LotKey>,
+}
+
+impl TableRow for LegRow {
+    ghost encode = { leg_cells };
+
+    ghost IsGood = { IsLegRow };
+
+    fn read(alloc: Global, row: &Row) -> Result<LegRow, Fault> {
+        if row.column_count() != 10 {
+            return Err(Fault::Damaged);
+        }
+        Ok(LegRow {
+            entry: column(alloc, row, 0)?,
+            posting: column(alloc, row, 1)?,
+            place: column(alloc, row, 2)?,
+            account: column(alloc, row, 3)?,
+            commodity: column(alloc, row, 4)?,
+            units: column(alloc, row, 5)?,
+            lot: cost::lot(alloc, row)?,
+        })
+    }
+}
+
+/// Puts a row, instead of the row of its key.
+pub fn put<S: Alter>(tx: &mut Transaction<'_, S>, row: &LegRow) -> Result<(), Fault>
+    requires { HasCleanDisk (state S.Store tx.old.conn.now) → IsTrue (state S.Store tx.old.conn.now).in_transaction }
+    ensures same_reference { tx.new.conn.ghost_name ≡ tx.old.conn.ghost_name }
+    ensures inside { HasCleanDisk (state S.Store tx.new.conn.now) → OnOk result (StaysInside (state S.Store tx.old.conn.now) (state S.Store tx.new.conn.now)) }
+    ensures put { HasCleanDisk (state S.Store tx.new.conn.now) → OnOk result (Turns layout always (λ b. record b { leg = put_in leg_cells 3 row.now b.leg }) (state S.Store tx.old.conn.now) (state S.Store tx.new.conn.now)) }
+    ensures err { HasCleanDisk (state S.Store tx.new.conn.now) → OnErr result (IsUndone (state S.Store tx.old.conn.now) (state S.Store tx.new.conn.now)) }
+    ensures crash { Survives (state S.Store tx.old.conn.now) (state S.Store tx.new.conn.now) (λ _. ⊥) }
+{
+    change(
+        tx,
+        "INSERT OR REPLACE INTO leg (entry, posting, place, account, commodity, units, cost_number, cost_currency, cost_day, cost_label) VALUES (?1, ?2, ?3, ?4, ?5, ?6, ?7, ?8, ?9, ?10)",
+        &[
+            row.entry.to_cell(),
+            row.posting.to_cell(),
+            row.place.to_cell(),
+            row.account.to_cell(),
+            row.commodity.to_cell(),
+            row.units.to_cell(),
+            cost::number_cell(&row.lot),
+            cost::currency_cell(&row.lot),
+            cost::day_cell(&row.lot),
+            cost::label_cell(&row.lot),
+        ],
+    )
+}
+
+/// Returns the legs of a posting, by place.
+pub fn list_of<S: Alter>(
+    alloc: Global,
+    conn: &mut Connection<S>,
+    entry: Ordinal,
+    posting: Ordinal,
+) -> Result<Vec<LegRow>, Fault>
+    ensures listed { HasCleanDisk (state S.Store conn.new) → IfOk result (λ rows. (b : Tables) → Has (state S.Store conn.old) b → map leg_cells rows.items ≡ map leg_cells (with_key leg_cells 2 (Int (pos entry) ∷ Int (pos posting) ∷ []) b.leg)) }
+    ensures good { IfOk result (λ rows. All IsLegRow rows.items) }
+    ensures same { HasCleanDisk (state S.Store conn.new) → OnOk result (IsUnchanged (state S.Store conn.old) (state S.Store conn.new)) }
+    ensures damaged { HasCleanDisk (state S.Store conn.new) → result ≡ Err Fault.Damaged → (state S.Store conn.old).step_limit ≡ None → (b : Tables) → Has (state S.Store conn.old) b → ¬ All IsLegRow (with_key leg_cells 2 (Int (pos entry) ∷ Int (pos posting) ∷ []) b.leg) }
+    ensures device { HasCleanDisk (state S.Store conn.new) → result ≡ Err Fault.Device → DiskFailed (state S.Store conn.old) (state S.Store conn.new) }
+    ensures err { HasCleanDisk (state S.Store conn.new) → OnErr result (IsUndone (state S.Store conn.old) (state S.Store conn.new)) }
+    ensures crash { Survives (state S.Store conn.old) (state S.Store conn.new) (λ _. ⊥) }
+{
+    select(
+        alloc,
+        conn,
+        "SELECT entry, posting, place, account, commodity, units, cost_number, cost_currency, cost_day, cost_label FROM leg WHERE entry = ?1 AND posting = ?2 ORDER BY entry, posting, place",
+        &[entry.to_cell(), posting.to_cell()],
+    )
+}
+
+/// Returns all rows, by entry, posting and place.
+pub fn list<S: Alter>(alloc: Global, conn: &mut Connection<S>) -> Result<Vec<LegRow>, Fault>
+    ensures listed { HasCleanDisk (state S.Store conn.new) → IfOk result (λ rows. (b : Tables) → Has (state S.Store conn.old) b → map leg_cells rows.items ≡ map leg_cells b.leg) }
+    ensures good { IfOk result (λ rows. All IsLegRow rows.items) }
+    ensures same { HasCleanDisk (state S.Store conn.new) → OnOk result (IsUnchanged (state S.Store conn.old) (state S.Store conn.new)) }
+    ensures damaged { HasCleanDisk (state S.Store conn.new) → result ≡ Err Fault.Damaged → (state S.Store conn.old).step_limit ≡ None → (b : Tables) → Has (state S.Store conn.old) b → ¬ All IsLegRow b.leg }
+    ensures device { HasCleanDisk (state S.Store conn.new) → result ≡ Err Fault.Device → DiskFailed (state S.Store conn.old) (state S.Store conn.new) }
+    ensures err { HasCleanDisk (state S.Store conn.new) → OnErr result (IsUndone (state S.Store conn.old) (state S.Store conn.new)) }
+    ensures crash { Survives (state S.Store conn.old) (state S.Store conn.new) (λ _. ⊥) }
+{
+    select(
+        alloc,
+        conn,
+        "SELECT entry, posting, place, account, commodity, units, cost_number, cost_currency, cost_day, cost_label FROM leg ORDER BY entry, posting, place",
+        &[],
+    )
+}

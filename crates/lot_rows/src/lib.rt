@@ -1,0 +1,21 @@
+//! The tables of a book of edition 1: a row type for each, and one call for each statement.
+//!
+//! - `tables`: `make` makes all of them.
+//! - `book`, `account`, `allowed`, `commodity`, `price`, `entry`, `leg`, `sale`, `lot`, `plain`, `head`: one table each, with
+//!   its row type, `put`, and what else it needs of `delete`, `find`, `list_of` and `list`.
+#![tactic(auto)]
+
+pub mod account;
+pub mod allowed;
+pub mod book;
+pub mod commodity;
+mod cost;
+pub mod entry;
+pub mod head;
+pub mod leg;
+pub mod lot;
+pub mod plain;
+pub mod price;
+pub mod sale;
+mod sale_price;
+pub mod tables;

@@ -1,0 +1,141 @@
+ghost use Rattle.lot_table.specs.Cell.{label_text};
+ghost use Rattle.std.specs.Prelude.{◌≡◌, ◌∷◌, [], All, IfOk, IfSome, IsTrue, None, OnErr, OnOk, map, pos, slice_get};
+ghost use Rattle.lot_rows.specs.Lot.{IsLotRow, lot_cells};
+ghost use Rattle.lot_rows.specs.Tables.{Has, Tables, layout};
+ghost use Rattle.lot_table.specs.Book.{IsUndone, StaysInside, Turns, always};
+ghost use Rattle.lot_table.specs.Rows.{put_in, with_key, without_key};
+ghost use Rattle.lot_table.specs.Statement.{DiskFailed};
+ghost use Rattle.sqlite.specs.Held.{state};
+ghost use Rattle.sqlite.specs.State.{HasCleanDisk, IsUnchanged, Survives};
+ghost use Rattle.sqlite.specs.declared.types.Value.TheVariants.{Int, Text};
+
+use lot_base::{Account, Commodity};
+use lot_inv::LotKey;
+use lot_table::{Cell, Fault, Sum, TableRow, change, column, select};
+use sqlite::{Alter, Connection, Row, Transaction};
+use std::alloc::Global;
+
+/// A row of the table `lot`: the units that an account has in a lot.
+#[derive(Debug, PartialEq, Eq, Drop)]
+pub struct LotRow {
+    pub account: Account,
+    pub commodity: Commodity,
+    pub lot: LotKey,
+    pub units: Sum,
+}
+
+impl TableRow for LotRow {
+    ghost encode = { lot_cells };
+
+    ghost IsGood = { IsLotRow };
+
+    fn read(alloc: Global, row: &Row) -> Result<LotRow, Fault> {
+        if row.column_count() != 7 {
+            return Err(Fault::Damaged);
+        }
+        Ok(LotRow {
+            account: column(alloc, row, 0)?,
+            commodity: column(alloc, row, 1)?,
+            lot: LotKey {
+                day: column(alloc, row, 2)?,
+                currency: column(alloc, row, 3)?,
+                number: column(alloc, row, 4)?,
+                label: column(alloc, row, 5)?,
+            },
+            units: column(alloc, row, 6)?,
+        })
+    }
+}
+
+/// Puts a row, instead of the row of its key.
+pub fn put<S: Alter>(tx: &mut Transaction<'_, S>, row: &LotRow) -> Result<(), Fault>
+    requires { HasCleanDisk (state S.Store tx.old.conn.now) → IsTrue (state S.Store tx.old.conn.now).in_transaction }
+    ensures same_reference { tx.new.conn.ghost_name ≡ tx.old.conn.ghost_name }
+    ensures inside { HasCleanDisk (state S.Store tx.new.conn.now) → OnOk result (StaysInside (state S.Store tx.old.conn.now) (state S.Store tx.new.conn.now)) }
+    ensures put { HasCleanDisk (state S.Store tx.new.conn.now) → OnOk result (Turns layout always (λ b. record b { lot = put_in lot_cells 6 row.now b.lot }) (state S.Store tx.old.conn.now) (state S.Store tx.new.conn.now)) }
+    ensures err { HasCleanDisk (state S.Store tx.new.conn.now) → OnErr result (IsUndone (state S.Store tx.old.conn.now) (state S.Store tx.new.conn.now)) }
+    ensures crash { Survives (state S.Store tx.old.conn.now) (state S.Store tx.new.conn.now) (λ _. ⊥) }
+{
+    change(
+        tx,
+        "INSERT OR REPLACE INTO lot (account, commodity, cost_day, cost_currency, cost_number, cost_label, units) VALUES (?1, ?2, ?3, ?4, ?5, ?6, ?7)",
+        &[
+            row.account.to_cell(),
+            row.commodity.to_cell(),
+            row.lot.day.to_cell(),
+            row.lot.currency.to_cell(),
+            row.lot.number.to_cell(),
+            row.lot.label.to_cell(),
+            row.units.to_cell(),
+        ],
+    )
+}
+
+/// Deletes the row of a lot, if there is one.
+pub fn delete<S: Alter>(
+    tx: &mut Transaction<'_, S>,
+    account: &Account,
+    commodity: &Commodity,
+    lot: &LotKey,
+) -> Result<(), Fault>
+    requires { HasCleanDisk (state S.Store tx.old.conn.now) → IsTrue (state S.Store tx.old.conn.now).in_transaction }
+    ensures same_reference { tx.new.conn.ghost_name ≡ tx.old.conn.ghost_name }
+    ensures inside { HasCleanDisk (state S.Store tx.new.conn.now) → OnOk result (StaysInside (state S.Store tx.old.conn.now) (state S.Store tx.new.conn.now)) }
+    ensures deleted { HasCleanDisk (state S.Store tx.new.conn.now) → OnOk result (Turns layout always (λ b. record b { lot = without_key lot_cells 6 (Text account.now ∷ Text commodity.now ∷ Int lot.now.day ∷ Text lot.now.currency ∷ Int (pos lot.now.number) ∷ Text (label_text lot.now.label) ∷ []) b.lot }) (state S.Store tx.old.conn.now) (state S.Store tx.new.conn.now)) }
+    ensures err { HasCleanDisk (state S.Store tx.new.conn.now) → OnErr result (IsUndone (state S.Store tx.old.conn.now) (state S.Store tx.new.conn.now)) }
+    ensures crash { Survives (state S.Store tx.old.conn.now) (state S.Store tx.new.conn.now) (λ _. ⊥) }
+{
+    change(
+        tx,
+        "DELETE FROM lot WHERE account = ?1 AND commodity = ?2 AND cost_day = ?3 AND cost_currency = ?4 AND cost_number = ?5 AND cost_label = ?6",
+        &[
+            account.to_cell(),
+            commodity.to_cell(),
+            lot.day.to_cell(),
+            lot.currency.to_cell(),
+            lot.number.to_cell(),
+            lot.label.to_cell(),
+        ],
+    )
+}
+
+/// Returns the rows of a commodity in an account, by the lots: by day, currency, number and label, no label before every label.
+pub fn list_of<S: Alter>(
+    alloc: Global,
+    conn: &mut Connection<S>,
+    account: &Account,
+    commodity: &Commodity,
+) -> Result<Vec<LotRow>, Fault>
+    ensures listed { HasCleanDisk (state S.Store conn.new) → IfOk result (λ rows. (b : Tables) → Has (state S.Store conn.old) b → map lot_cells rows.items ≡ map lot_cells (with_key lot_cells 2 (Text account.now ∷ Text commodity.now ∷ []) b.lot)) }
+    ensures good { IfOk result (λ rows. All IsLotRow rows.items) }
+    ensures same { HasCleanDisk (state S.Store conn.new) → OnOk result (IsUnchanged (state S.Store conn.old) (state S.Store conn.new)) }
+    ensures damaged { HasCleanDisk (state S.Store conn.new) → result ≡ Err Fault.Damaged → (state S.Store conn.old).step_limit ≡ None → (b : Tables) → Has (state S.Store conn.old) b → ¬ All IsLotRow (with_key lot_cells 2 (Text account.now ∷ Text commodity.now ∷ []) b.lot) }
+    ensures device { HasCleanDisk (state S.Store conn.new) → result ≡ Err Fault.Device → DiskFailed (state S.Store conn.old) (state S.Store conn.new) }
+    ensures err { HasCleanDisk (state S.Store conn.new) → OnErr result (IsUndone (state S.Store conn.old) (state S.Store conn.new)) }
+    ensures crash { Survives (state S.Store conn.old) (state S.Store conn.new) (λ _. ⊥) }
+{
+    select(
+        alloc,
+        conn,
+        "SELECT account, commodity, cost_day, cost_currency, cost_number, cost_label, units FROM lot WHERE account = ?1 AND commodity = ?2 ORDER BY account, commodity, cost_day, cost_currency, cost_number, cost_label",
+        &[account.to_cell(), commodity.to_cell()],
+    )
+}
+
+/// Returns all rows, by account, commodity and lot.
+pub fn list<S: Alter>(alloc: Global, conn: &mut Connection<S>) -> Result<Vec<LotRow>, Fault>
+    ensures listed { HasCleanDisk (state S.Store conn.new) → IfOk result (λ rows. (b : Tables) → Has (state S.Store conn.old) b → map lot_cells rows.items ≡ map lot_cells b.lot) }
+    ensures good { IfOk result (λ rows. All IsLotRow rows.items) }
+    ensures same { HasCleanDisk (state S.Store conn.new) → OnOk result (IsUnchanged (state S.Store conn.old) (state S.Store conn.new)) }
+    ensures damaged { HasCleanDisk (state S.Store conn.new) → result ≡ Err Fault.Damaged → (state S.Store conn.old).step_limit ≡ None → (b : Tables) → Has (state S.Store conn.old) b → ¬ All IsLotRow b.lot }
+    ensures device { HasCleanDisk (state S.Store conn.new) → result ≡ Err Fault.Device → DiskFailed (state S.Store conn.old) (state S.Store conn.new) }
+    ensures err { HasCleanDisk (state S.Store conn.new) → OnErr result (IsUndone (state S.Store conn.old) (state S.Store conn.new)) }
+    ensures crash { Survives (state S.Store conn.old) (state S.Store conn.new) (λ _. ⊥) }
+{
+    select(
+        alloc,
+        conn,
+        "SELECT account, commodity, cost_day, cost_currency, cost_number, cost_label, units FROM lot ORDER BY account, commodity, cost_day, cost_currency, cost_number, cost_label",
+        &[],
+    )
+}

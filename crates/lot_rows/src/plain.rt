@@ -1,0 +1,142 @@
+ghost use Rattle.std.specs.Prelude.{◌≡◌, ◌∷◌, [], All, IfOk, IfSome, IsTrue, None, OnErr, OnOk, map, pos, slice_get};
+ghost use Rattle.lot_rows.specs.Plain.{IsPlainRow, plain_cells};
+ghost use Rattle.lot_rows.specs.Tables.{Has, Tables, layout};
+ghost use Rattle.lot_table.specs.Book.{IsUndone, StaysInside, Turns, always};
+ghost use Rattle.lot_table.specs.Rows.{put_in, with_key, without_key};
+ghost use Rattle.lot_table.specs.Statement.{DiskFailed};
+ghost use Rattle.sqlite.specs.Held.{state};
+ghost use Rattle.sqlite.specs.State.{HasCleanDisk, IsUnchanged, Survives};
+ghost use Rattle.sqlite.specs.declared.types.Value.TheVariants.{Text};
+
+use lot_base::{Account, Commodity};
+use lot_table::{Cell, Fault, Sum, TableRow, change, column, find as find_row, select};
+use sqlite::{Alter, Connection, Row, Transaction};
+use std::alloc::Global;
+
+/// A row of the table `plain`: the units of a commodity that an account has without a cost.
+#[derive(Debug, PartialEq, Eq, Drop)]
+pub struct PlainRow {
+    pub account: Account,
+    pub commodity: Commodity,
+    pub units: Sum,
+}
+
+impl TableRow for PlainRow {
+    ghost encode = { plain_cells };
+
+    ghost IsGood = { IsPlainRow };
+
+    fn read(alloc: Global, row: &Row) -> Result<PlainRow, Fault> {
+        if row.column_count() != 3 {
+            return Err(Fault::Damaged);
+        }
+        Ok(PlainRow {
+            account: column(alloc, row, 0)?,
+            commodity: column(alloc, row, 1)?,
+            units: column(alloc, row, 2)?,
+        })
+    }
+}
+
+/// Puts a row, instead of the row of its key.
+pub fn put<S: Alter>(tx: &mut Transaction<'_, S>, row: &PlainRow) -> Result<(), Fault>
+    requires { HasCleanDisk (state S.Store tx.old.conn.now) → IsTrue (state S.Store tx.old.conn.now).in_transaction }
+    ensures same_reference { tx.new.conn.ghost_name ≡ tx.old.conn.ghost_name }
+    ensures inside { HasCleanDisk (state S.Store tx.new.conn.now) → OnOk result (StaysInside (state S.Store tx.old.conn.now) (state S.Store tx.new.conn.now)) }
+    ensures put { HasCleanDisk (state S.Store tx.new.conn.now) → OnOk result (Turns layout always (λ b. record b { plain = put_in plain_cells 2 row.now b.plain }) (state S.Store tx.old.conn.now) (state S.Store tx.new.conn.now)) }
+    ensures err { HasCleanDisk (state S.Store tx.new.conn.now) → OnErr result (IsUndone (state S.Store tx.old.conn.now) (state S.Store tx.new.conn.now)) }
+    ensures crash { Survives (state S.Store tx.old.conn.now) (state S.Store tx.new.conn.now) (λ _. ⊥) }
+{
+    change(
+        tx,
+        "INSERT OR REPLACE INTO plain (account, commodity, units) VALUES (?1, ?2, ?3)",
+        &[
+            row.account.to_cell(),
+            row.commodity.to_cell(),
+            row.units.to_cell(),
+        ],
+    )
+}
+
+/// Deletes the row of an account and a commodity, if there is one.
+pub fn delete<S: Alter>(
+    tx: &mut Transaction<'_, S>,
+    account: &Account,
+    commodity: &Commodity,
+) -> Result<(), Fault>
+    requires { HasCleanDisk (state S.Store tx.old.conn.now) → IsTrue (state S.Store tx.old.conn.now).in_transaction }
+    ensures same_reference { tx.new.conn.ghost_name ≡ tx.old.conn.ghost_name }
+    ensures inside { HasCleanDisk (state S.Store tx.new.conn.now) → OnOk result (StaysInside (state S.Store tx.old.conn.now) (state S.Store tx.new.conn.now)) }
+    ensures deleted { HasCleanDisk (state S.Store tx.new.conn.now) → OnOk result (Turns layout always (λ b. record b { plain = without_key plain_cells 2 (Text account.now ∷ Text commodity.now ∷ []) b.plain }) (state S.Store tx.old.conn.now) (state S.Store tx.new.conn.now)) }
+    ensures err { HasCleanDisk (state S.Store tx.new.conn.now) → OnErr result (IsUndone (state S.Store tx.old.conn.now) (state S.Store tx.new.conn.now)) }
+    ensures crash { Survives (state S.Store tx.old.conn.now) (state S.Store tx.new.conn.now) (λ _. ⊥) }
+{
+    change(
+        tx,
+        "DELETE FROM plain WHERE account = ?1 AND commodity = ?2",
+        &[account.to_cell(), commodity.to_cell()],
+    )
+}
+
+/// Returns the row of an account and a commodity, or `None` where there is none.
+pub fn find<S: Alter>(
+    alloc: Global,
+    conn: &mut Connection<S>,
+    account: &Account,
+    commodity: &Commodity,
+) -> Result<Option<PlainRow>, Fault>
+    ensures found { HasCleanDisk (state S.Store conn.new) → IfOk result (λ row. (b : Tables) → Has (state S.Store conn.old) b → row ≡ slice_get (with_key plain_cells 2 (Text account.now ∷ Text commodity.now ∷ []) b.plain) 0) }
+    ensures good { IfOk result (λ row. IfSome row IsPlainRow) }
+    ensures same { HasCleanDisk (state S.Store conn.new) → OnOk result (IsUnchanged (state S.Store conn.old) (state S.Store conn.new)) }
+    ensures damaged { HasCleanDisk (state S.Store conn.new) → result ≡ Err Fault.Damaged → (state S.Store conn.old).step_limit ≡ None → (b : Tables) → Has (state S.Store conn.old) b → ¬ All IsPlainRow (with_key plain_cells 2 (Text account.now ∷ Text commodity.now ∷ []) b.plain) }
+    ensures device { HasCleanDisk (state S.Store conn.new) → result ≡ Err Fault.Device → DiskFailed (state S.Store conn.old) (state S.Store conn.new) }
+    ensures err { HasCleanDisk (state S.Store conn.new) → OnErr result (IsUndone (state S.Store conn.old) (state S.Store conn.new)) }
+    ensures crash { Survives (state S.Store conn.old) (state S.Store conn.new) (λ _. ⊥) }
+{
+    find_row(
+        alloc,
+        conn,
+        "SELECT account, commodity, units FROM plain WHERE account = ?1 AND commodity = ?2 ORDER BY account, commodity",
+        &[account.to_cell(), commodity.to_cell()],
+    )
+}
+
+/// Returns the rows of an account, by commodity.
+pub fn list_of<S: Alter>(
+    alloc: Global,
+    conn: &mut Connection<S>,
+    account: &Account,
+) -> Result<Vec<PlainRow>, Fault>
+    ensures listed { HasCleanDisk (state S.Store conn.new) → IfOk result (λ rows. (b : Tables) → Has (state S.Store conn.old) b → rows.items ≡ with_key plain_cells 1 (Text account.now ∷ []) b.plain) }
+    ensures good { IfOk result (λ rows. All IsPlainRow rows.items) }
+    ensures same { HasCleanDisk (state S.Store conn.new) → OnOk result (IsUnchanged (state S.Store conn.old) (state S.Store conn.new)) }
+    ensures damaged { HasCleanDisk (state S.Store conn.new) → result ≡ Err Fault.Damaged → (state S.Store conn.old).step_limit ≡ None → (b : Tables) → Has (state S.Store conn.old) b → ¬ All IsPlainRow (with_key plain_cells 1 (Text account.now ∷ []) b.plain) }
+    ensures device { HasCleanDisk (state S.Store conn.new) → result ≡ Err Fault.Device → DiskFailed (state S.Store conn.old) (state S.Store conn.new) }
+    ensures err { HasCleanDisk (state S.Store conn.new) → OnErr result (IsUndone (state S.Store conn.old) (state S.Store conn.new)) }
+    ensures crash { Survives (state S.Store conn.old) (state S.Store conn.new) (λ _. ⊥) }
+{
+    select(
+        alloc,
+        conn,
+        "SELECT account, commodity, units FROM plain WHERE account = ?1 ORDER BY account, commodity",
+        &[account.to_cell()],
+    )
+}
+
+/// Returns all rows, by account and commodity.
+pub fn list<S: Alter>(alloc: Global, conn: &mut Connection<S>) -> Result<Vec<PlainRow>, Fault>
+    ensures listed { HasCleanDisk (state S.Store conn.new) → IfOk result (λ rows. (b : Tables) → Has (state S.Store conn.old) b → rows.items ≡ b.plain) }
+    ensures good { IfOk result (λ rows. All IsPlainRow rows.items) }
+    ensures same { HasCleanDisk (state S.Store conn.new) → OnOk result (IsUnchanged (state S.Store conn.old) (state S.Store conn.new)) }
+    ensures damaged { HasCleanDisk (state S.Store conn.new) → result ≡ Err Fault.Damaged → (state S.Store conn.old).step_limit ≡ None → (b : Tables) → Has (state S.Store conn.old) b → ¬ All IsPlainRow b.plain }
+    ensures device { HasCleanDisk (state S.Store conn.new) → result ≡ Err Fault.Device → DiskFailed (state S.Store conn.old) (state S.Store conn.new) }
+    ensures err { HasCleanDisk (state S.Store conn.new) → OnErr result (IsUndone (state S.Store conn.old) (state S.Store conn.new)) }
+    ensures crash { Survives (state S.Store conn.old) (state S.Store conn.new) (λ _. ⊥) }
+{
+    select(
+        alloc,
+        conn,
+        "SELECT account, commodity, units FROM plain ORDER BY account, commodity",
+        &[],
+    )
+}

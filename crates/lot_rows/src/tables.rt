@@ -1,0 +1,40 @@
+ghost use Rattle.std.specs.Prelude.{◌≡◌, [], IsTrue, OnOk};
+ghost use Rattle.lot_rows.specs.Tables.{Has, no_rows_yet};
+ghost use Rattle.lot_table.specs.Shape.{schema_of};
+ghost use Rattle.sqlite.specs.Held.{state};
+ghost use Rattle.sqlite.specs.State.{HasCleanDisk, KeepsCommit, Survives};
+ghost use Rattle.sqlite_catalog.specs.Listing.{IsSound};
+
+use lot_table::{MakeFault, make_each};
+use sqlite::{Alter, Transaction};
+
+/// Makes the eleven tables of a book.
+///
+/// The error is `Taken` where the name of one is taken. After an error the last commit stands, and the caller drops the
+/// transaction, which rolls back the tables that were made.
+pub fn make<S: Alter>(tx: &mut Transaction<'_, S>) -> Result<(), MakeFault>
+    requires { HasCleanDisk (state S.Store tx.old.conn.now) → IsTrue (state S.Store tx.old.conn.now).in_transaction }
+    ensures same_reference { tx.new.conn.ghost_name ≡ tx.old.conn.ghost_name }
+    ensures inside { HasCleanDisk (state S.Store tx.new.conn.now) → OnOk result (IsTrue (state S.Store tx.new.conn.now).in_transaction) }
+    ensures made { HasCleanDisk (state S.Store tx.new.conn.now) → OnOk result ((state S.Store tx.old.conn.now).now.schema ≡ schema_of []
+        → IsSound (schema_of []) (state S.Store tx.old.conn.now).now.trees → Has (state S.Store tx.new.conn.now) no_rows_yet) }
+    ensures kept { HasCleanDisk (state S.Store tx.new.conn.now) → KeepsCommit (state S.Store tx.old.conn.now) (state S.Store tx.new.conn.now) }
+    ensures crash { Survives (state S.Store tx.old.conn.now) (state S.Store tx.new.conn.now) (λ _. ⊥) }
+{
+    make_each(
+        tx,
+        &[
+            "CREATE TABLE book (mark TEXT NOT NULL, edition INTEGER NOT NULL, UNIQUE (mark)) STRICT",
+            "CREATE TABLE account (name TEXT NOT NULL, opened INTEGER NOT NULL, closed INTEGER, method TEXT NOT NULL, UNIQUE (name)) STRICT",
+            "CREATE TABLE allowed (account TEXT NOT NULL, place INTEGER NOT NULL, commodity TEXT NOT NULL, UNIQUE (account, place)) STRICT",
+            "CREATE TABLE commodity (name TEXT NOT NULL, day INTEGER NOT NULL, UNIQUE (name)) STRICT",
+            "CREATE TABLE price (base TEXT NOT NULL, quote TEXT NOT NULL, day INTEGER NOT NULL, rate INTEGER NOT NULL, UNIQUE (base, quote, day)) STRICT",
+            "CREATE TABLE entry (number INTEGER NOT NULL, source TEXT NOT NULL, name TEXT NOT NULL, body TEXT NOT NULL, UNIQUE (number), UNIQUE (source, name)) STRICT",
+            "CREATE TABLE leg (entry INTEGER NOT NULL, posting INTEGER NOT NULL, place INTEGER NOT NULL, account TEXT NOT NULL, commodity TEXT NOT NULL, units INTEGER NOT NULL, cost_number INTEGER, cost_currency TEXT, cost_day INTEGER, cost_label TEXT, UNIQUE (entry, posting, place)) STRICT",
+            "CREATE TABLE sale (entry INTEGER NOT NULL, posting INTEGER NOT NULL, day INTEGER NOT NULL, account TEXT NOT NULL, commodity TEXT NOT NULL, units INTEGER NOT NULL, kind INTEGER NOT NULL, amount INTEGER, currency TEXT, UNIQUE (entry, posting)) STRICT",
+            "CREATE TABLE lot (account TEXT NOT NULL, commodity TEXT NOT NULL, cost_day INTEGER NOT NULL, cost_currency TEXT NOT NULL, cost_number INTEGER NOT NULL, cost_label TEXT NOT NULL, units INTEGER NOT NULL, UNIQUE (account, commodity, cost_day, cost_currency, cost_number, cost_label)) STRICT",
+            "CREATE TABLE plain (account TEXT NOT NULL, commodity TEXT NOT NULL, units INTEGER NOT NULL, UNIQUE (account, commodity)) STRICT",
+            "CREATE TABLE head (account TEXT NOT NULL, commodity TEXT NOT NULL, day INTEGER NOT NULL, UNIQUE (account, commodity)) STRICT",
+        ],
+    )
+}

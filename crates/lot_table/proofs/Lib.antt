@@ -1,0 +1,15 @@
+pub mod BookLemmas
+pub mod CastLemmas
+pub mod CellLemmas
+pub mod DeleteLemmas
+pub mod GreatestLemmas
+pub mod KeyLemmas
+pub mod MakeLemmas
+pub mod QueryLemmas
+pub mod ReadLemmas
+pub mod RefusalLemmas
+pub mod SelectLemmas
+pub mod SpreadLemmas
+pub mod StatementLemmas
+pub mod TableLemmas
+pub mod WriteLemmas

@@ -1,0 +1,113 @@
+-- CREATE TABLE adds an empty table to those that are there, whatever its shape.
+use Rattle.std.proofs.Common.{◌≡◌, ◌<◌, ◌+◌, ◌⊎◌, Bool, inl, inr, add-one, false, get_or, length, map, take, ℕ, None, Option, Ok, List, [], ◌∷◌, ◌++◌, refl, sym, ap, subst, ◌∙◌}
+use Rattle.std.proofs.Math.Seq.{take-suc}
+use Rattle.std.proofs.lemmas.List.Sorted.{IsPermutation-refl}
+use Rattle.std.proofs.lemmas.List.{map-append}
+use Rattle.std.specs.List.{AllByRecursion}
+use Rattle.lot_table.proofs.WriteLemmas.{same_value, went}
+use Rattle.lot_table.specs.Book.{IsUndone}
+use Rattle.lot_table.specs.Make.{AreEmpty, RanEach}
+use Rattle.lot_table.specs.Rows.{HasRows}
+use Rattle.sqlite.proofs.Callers.{IsPlain, command_of, runs_as, statement_of}
+use Rattle.sqlite.specs.Change.{created, next_tree}
+use Rattle.sqlite.specs.Command.TheVariants.{CreateTable}
+use Rattle.sqlite.specs.Compile.{table_defined_by}
+use Rattle.sqlite.specs.Does.{Tally, lacks_sequence}
+use Rattle.sqlite.specs.Effect.{Database, IsDatabase}
+use Rattle.sqlite.specs.Held.{Held, state}
+use Rattle.sqlite.specs.Listing.{understood}
+use Rattle.sqlite.specs.Order.{Row}
+use Rattle.sqlite.specs.Schema.{Schema}
+use Rattle.sqlite.specs.State.{Executes, KeepsCommit, Shows, State, Writes}
+use Rattle.sqlite.specs.Store.{Ghosts}
+use Rattle.sqlite.specs.Table.{Table}
+use Rattle.sqlite.specs.Tree.{Trees}
+use Rattle.sqlite.specs.declared.error.Error.{Error}
+use Rattle.sqlite_catalog.specs.Change.{KeepsRows}
+
+-- ---- what a transaction keeps of the last commit
+
+pub keeps_shown : (a b : State) (now : Database) (inside : Bool) → Shows a b now a.committed inside → KeepsCommit a b
+keeps_shown a b now inside shows = record { was_open = λ _. shows.was_open; committed = λ _. shows.committed_is }
+
+pub keeps_undone : (a b : State) → IsUndone a b → KeepsCommit a b
+keeps_undone a b (inl same) = keeps_shown a b a.now a.in_transaction same.0
+keeps_undone a b (inr undone) = record { was_open = undone.was_open; committed = λ live. (undone.undone live).1 }
+
+pub keeps_then : (a b c : State) → KeepsCommit a b → KeepsCommit b c → KeepsCommit a c
+keeps_then a b c first second = record { was_open = λ live. first.was_open (second.was_open live); committed = λ live. second.committed live ∙ first.committed (second.was_open live) }
+
+-- ---- texts in their order
+
+pub taken : {X : Type 0} (f : X → List ℕ) (xs : List X) (n : ℕ) (d : X) → n < length xs → map f (take (n + 1) xs) ≡ map f (take n xs) ++ f (get_or xs n d) ∷ []
+taken f xs n d low = rw add-one (ap (map f) (take-suc xs n d low) ∙ map-append f (take n xs) (get_or xs n d ∷ []))
+
+pub ran_then : {S : Type 0} (g : Ghosts S) (done : List (List ℕ)) (text : List ℕ) (a b c : Held S) (changed : ℕ) → RanEach g done a b → Executes text [] (state g b) (state g c) (Ok changed) → RanEach g (done ++ text ∷ []) a c
+ran_then g [] text a b c changed ran last = (c, changed, subst (λ h. Executes text [] (state g h) (state g c) (Ok changed)) (sym ran) last, refl)
+ran_then g (t ∷ done) text a b c changed ran last = (ran.0, ran.1, ran.2, ran_then g done text ran.0 b c changed ran.3 last)
+
+-- ---- one more table
+
+all_push : {X : Type 0} (P : X → Type 0) (xs : List X) (x : X) → AllByRecursion P xs → P x → AllByRecursion P (xs ++ x ∷ [])
+all_push P [] x all last = (last, tt)
+all_push P (y ∷ ys) x all last = (all.0, all_push P ys x all.1 last)
+
+still_empty : (tables : List Table) (old new : Trees) → KeepsRows tables old new → AreEmpty tables old → AreEmpty tables new
+still_empty [] old new kept all = tt
+still_empty (t ∷ more) old new kept all = (kept.0 ∙ all.0, still_empty more old new kept.1 all.1)
+
+-- the text makes a table of this schema, and that is the schema afterwards
+pub record Makes (before after : Schema) (text : List ℕ) : Type 0 where
+  pub table : Table
+  pub means : command_of (understood before text) ≡ CreateTable
+  pub bare : IsPlain (understood before text)
+  pub whole : statement_of text (understood before text) ≡ text
+  pub defined : table_defined_by text ≡ Ok table
+  pub made : created before table ≡ after
+  pub uncounted : lacks_sequence after ≡ false
+
+pub record IsEmpty (schema : Schema) (s : State) : Type 0 where
+  pub tables : s.now.schema ≡ schema
+  pub empty : AreEmpty schema.tables s.now.trees
+  pub sound : IsDatabase s.now
+
+pub makes_one : (old new : State) (before after : Schema) (text : List ℕ) → Makes before after text → (changed : ℕ) → old.now.schema ≡ before → AreEmpty before.tables old.now.trees
+    → Executes text [] old new (Ok changed) → IsEmpty after new
+makes_one old new before after text is changed had empty ran =
+    let w = subst (λ t. Writes old new None CreateTable t [] changed) is.whole (runs_as text [] old new before had CreateTable is.means is.bare changed ran) in
+    let all = went w.changed in
+    let first = went all.1 in
+    let made = first.1 in
+    let both : Ok made.table ≡ Ok is.table = sym made.defined ∙ is.defined in
+    let same : made.table ≡ is.table = cc in
+    let schema : first.0.schema ≡ after = made.is ∙ ap (λ s. created s made.table) had ∙ ap (created before) same ∙ is.made in
+    let counted : lacks_sequence first.0.schema ≡ false = ap lacks_sequence schema ∙ is.uncounted in
+    let now : new.now ≡ first.0 = ap (λ (o : Tally × Database). o.1) (same_value {E = Option Error} all.2) ∙ same_value {E = Option Error} (rw counted at first.2) in
+    let last : first.0.trees (next_tree before) ≡ [] = subst (λ s. first.0.trees (next_tree s) ≡ []) had made.empty in
+    let others : KeepsRows before.tables old.now.trees first.0.trees = subst (λ (s : Schema). KeepsRows s.tables old.now.trees first.0.trees) had made.others in
+    let new_table : Table = record is.table { tree = next_tree before } in
+    let pushed : AreEmpty (created before is.table).tables first.0.trees = all_push (λ t. first.0.trees t.tree ≡ []) before.tables new_table (still_empty before.tables old.now.trees first.0.trees others empty) last in
+    record {
+      tables = ap (λ (d : Database). d.schema) now ∙ schema;
+      empty = subst (λ (d : Database). AreEmpty after.tables d.trees) (sym now) (subst (λ (s : Schema). AreEmpty s.tables first.0.trees) is.made pushed);
+      sound = w.sound;
+    }
+
+-- one after another
+abbrev pub MakesEach : Schema → List (Schema × List ℕ) → Type 0
+MakesEach before [] = Unit {0}
+MakesEach before (step ∷ more) = Makes before step.0 step.1 × MakesEach step.0 more
+
+abbrev pub last_schema : Schema → List (Schema × List ℕ) → Schema
+last_schema before [] = before
+last_schema before (step ∷ more) = last_schema step.0 more
+
+pub makes_all : {S : Type 0} (g : Ghosts S) (before : Schema) (steps : List (Schema × List ℕ)) (a b : Held S) → MakesEach before steps → RanEach g (map (λ (step : Schema × List ℕ). step.1) steps) a b → IsEmpty before (state g a)
+    → IsEmpty (last_schema before steps) (state g b)
+makes_all g before [] a b each ran had = subst (λ h. IsEmpty before (state g h)) ran had
+makes_all g before (step ∷ more) a b each ran had =
+    makes_all g step.0 more ran.0 b each.1 ran.3 (makes_one (state g a) (state g ran.0) before step.0 step.1 each.0 ran.1 had.tables had.empty ran.2)
+
+-- a table with no stored row has no row
+pub no_rows : (width : ℕ) (stored : List Row) → stored ≡ [] → HasRows width stored []
+no_rows width stored empty = subst (λ s. HasRows width s []) (sym empty) (record { shaped = (tt, tt); same = IsPermutation-refl []; rises = tt })

@@ -1,0 +1,105 @@
+-- What a put and a delete by key make of a table whose key is its first columns.
+use Rattle.std.proofs.Common.{◌≡◌, ℕ, ◌/◌, ℤ, Bool, true, false, not, ◌||◌, ◌&&◌, IsTrue, true≢false, subst₂, None, Ok, List, [], ◌∷◌, length, map, refl, sym, ap, ap₂, subst, ◌∙◌, is_eq}
+use Rattle.sqlite.specs.Order.{Row}
+use Rattle.sqlite.specs.Table.{Table}
+use Rattle.sqlite_schema.specs.declared.schema.Index.{Index}
+use Rattle.sqlite_value.specs.declared.keys.Key.{Key}
+use Rattle.sqlite.specs.Tree.{Trees, rowid}
+use Rattle.sqlite.specs.View.{is_int}
+use Rattle.std.specs.List.{list_all}
+use Rattle.sqlite.specs.Term.{Term, col, holds}
+use Rattle.sqlite.specs.Ops.{is_null}
+use Rattle.sqlite.specs.Cast.{cast, cast_row}
+use Rattle.sqlite.specs.Kind.TheVariants.{Integer}
+use Rattle.sqlite.specs.Effect.{Database, value_rows}
+use Rattle.sqlite.specs.Rows.{Task, stamped, mended}
+use Rattle.sqlite.specs.Does.{Tally, OnRows}
+use Rattle.sqlite.specs.declared.run.Mode.{Mode}
+use Rattle.sqlite.specs.Source.TheVariants.{Values}
+use Rattle.sqlite.specs.Command.TheVariants.{InsertOr, Delete}
+use Rattle.sqlite.specs.declared.types.Value.{Value}
+use Rattle.sqlite.specs.declared.types.Value.TheVariants.{Null, Int}
+use Rattle.sqlite_schema.specs.declared.command.Conflict.TheVariants.{Replace}
+use Rattle.sqlite_schema.specs.Rules.{agree}
+use Rattle.sqlite_value.specs.Order.{value_cmp}
+use Rattle.sqlite_value.specs.Keys.{plain, first_key}
+use Rattle.sqlite_rules.specs.Action.{works}
+use Rattle.sqlite_rules.specs.Keys.{conflicts}
+use Rattle.sqlite_rules.specs.Lists.{Has}
+use Rattle.sqlite_rules.proofs.TableLemmas.{int_is}
+use Rattle.sqlite_rules.proofs.ListLemmas.{all_has}
+use Rattle.sqlite_keyed.specs.Lists.{insert_sorted}
+use Rattle.sqlite_keyed.proofs.ListLemmas.{filter-map}
+use Rattle.lot_table.specs.Rows.{columns, key_order, has_key, HasRows, put_in, without_key}
+use Rattle.lot_table.proofs.KeyLemmas.{kept_with, kept_without, has_mapped, mapped_has}
+use Rattle.lot_table.proofs.WriteLemmas.{KeepsOthers, replaces}
+use Rattle.lot_table.proofs.ReadLemmas.{compared, query, passes, IsPresent, key_terms, key_places, tests_are, agree_is}
+use Rattle.lot_table.proofs.DeleteLemmas.{deletes, has_permuted, insert_sorted-map}
+
+-- ---- the rows of a table whose key is its first columns
+
+and_true : (b : Bool) → (b && true) ≡ b
+and_true true = refl
+and_true false = refl
+
+pub or_false : (b : Bool) → (b || false) ≡ b
+or_false true = refl
+or_false false = refl
+
+stored_as : (r : Row) (row : Row) → IsTrue (is_int (rowid r)) → columns r ≡ row → r ≡ rowid r ∷ row
+stored_as [] row keyed e = absurd (true≢false (sym keyed))
+stored_as (v ∷ c) row keyed e = ap (λ l. v ∷ l) e
+
+module _ {X : Type 0} (encode : X → Row) (width : ℕ) (present : (x : X) → IsPresent width 0 (encode x)) where
+  -- a stored row is that of a value in the list, after its rowid
+  pub value_of_row : (stored : List Row) (xs : List X) → HasRows width stored (map encode xs) → (r : Row) → Has stored r → (x : X) × Has xs x × (r ≡ rowid r ∷ encode x)
+  value_of_row stored xs kept r h =
+      let m = has_mapped encode xs (columns r) (has_permuted _ _ (columns r) kept.same (mapped_has columns stored r h)) in
+      (m.0, m.1, stored_as r (encode m.0) (all_has (λ y. IsTrue (is_int (rowid y))) stored r kept.shaped.1 h) m.2)
+
+  -- the stored rows that tests pick, which say something of the columns
+  pub picked_rows : (tests : List Term) (params : Row) (p : Row → Bool) → ((v : Value) (x : X) → list_all (holds (params ∷ (v ∷ encode x) ∷ [])) tests ≡ p (encode x)) → (tree : ℕ) (shows : List Term)
+      (order : List (Term × Key)) (db : Trees) (xs : List X) → HasRows width (db tree) (map encode xs) → (r : Row) → Has (db tree) r → passes tree tests shows order params db r ≡ p (columns r)
+  picked_rows tests params p alike tree shows order db xs kept r h =
+      let k = value_of_row (db tree) xs kept r h in
+      subst (λ y. passes tree tests shows order params db y ≡ p (columns y)) (sym k.2) (alike (rowid r) k.0)
+
+  -- The rows that a new one conflicts with are those of its key, where its rowid is free and no row has one of its other
+  -- unique keys.
+  module _ (table : Table) (indexes : List Index) (x : X) (rest : Row → Bool)
+      (shape : (v : Value) (d : Row) (id : ℤ) → conflicts None indexes table (Int id ∷ encode x) (v ∷ d)
+      ≡ (agree plain (0 ∷ []) (v ∷ d) (0 ∷ []) (Int id ∷ encode x) || (agree plain (key_places width 0) (v ∷ d) (key_places width 0) (Int id ∷ encode x) || rest (v ∷ d)))) where
+    pub clash : (stored : List Row) (xs : List X) → ((v : Value) (y : X) → Has xs y → rest (v ∷ encode y) ≡ false) → HasRows width stored (map encode xs) → (r : Row) (id : ℤ) → Has stored r
+        → conflicts None indexes table (Int id ∷ encode x) r ≡ (is_eq (value_cmp (rowid r) (Int id)) || has_key width (encode x) (columns r))
+    unfolding first_key
+    clash stored xs apart kept r id h =
+        let k = value_of_row stored xs kept r h in
+        let keyed = ap is_null (int_is (rowid r) (all_has (λ y. IsTrue (is_int (rowid y))) stored r kept.shaped.1 h)) in
+        subst (λ y. conflicts None indexes table (Int id ∷ encode x) y ≡ (is_eq (value_cmp (rowid y) (Int id)) || has_key width (encode x) (columns y))) (sym k.2)
+        (shape (rowid r) (encode k.0) id ∙ ap₂ ◌||◌ (and_true _ ∙ compared (rowid r) (Int id) keyed refl)
+        (ap₂ ◌||◌ (agree_is width 0 (rowid r) (Int id) (encode k.0) (encode x) (present k.0) (present x)) (apart (rowid r) k.0 k.1) ∙ or_false _))
+
+  module _ (task : Task) (unreferred : (olds news : List Row) → works task.schema task.keys 0 task.table.tree olds news ≡ []) (db : Trees) (xs : List X) (kept : HasRows width (db task.table.tree) (map encode xs)) where
+    abbrev at : ℕ
+    at = task.table.tree
+
+    pub puts_row : (x : X) → task.table.is_counted ≡ false → mended Replace task.table (Null ∷ encode x) ≡ Null ∷ encode x → ((v : Value) → cast_row task.table (v ∷ encode x) ≡ cast Integer v ∷ encode x)
+        → ((r : Row) (id : ℤ) → Has (db at) r → conflicts None task.schema.indexes task.table (Int id ∷ encode x) r ≡ (is_eq (value_cmp (rowid r) (Int id)) || has_key width (encode x) (columns r)))
+        → (mode : Mode) (terms : List Term) (count place : ℕ) (out : Tally × Database) → value_rows (stamped task.table task.params) count (length terms / count) terms ≡ (Null ∷ encode x) ∷ []
+        → OnRows task mode None (InsertOr place Replace (Values terms count) []) db (Ok out)
+        → HasRows width (out.1.trees at) (map encode (put_in encode width x xs)) × KeepsOthers task.schema at db out.1.trees
+    puts_row x uncounted mends casts clashes mode terms count place out given ran =
+        let r = replaces task unreferred width (encode x) uncounted mends casts db clashes kept.shaped mode terms count place out given ran in
+        let all = kept_with width (db at) (map encode xs) (Int r.0.0 ∷ encode x) kept refl r.0.1 in
+        let set = ap (insert_sorted (key_order width) (encode x)) (filter-map (λ y. not (has_key width (encode x) y)) encode xs) ∙ insert_sorted-map (key_order width) encode x (without_key encode width (encode x) xs) in
+        (subst₂ (HasRows width) (sym r.0.2) set all, r.0.3)
+
+    pub deletes_row : (key : Row) → IsPresent width 0 key → task.params ≡ key → (mode : Mode) (place : ℕ) (out : Tally × Database)
+        → OnRows task mode None (Delete place (record { lets = []; body = query at (key_terms width 0) (col 1 0 ∷ []) [] })) db (Ok out)
+        → HasRows width (out.1.trees at) (map encode (without_key encode width key xs)) × KeepsOthers task.schema at db out.1.trees
+    deletes_row key some same mode place out ran =
+        let alike : (r : Row) → Has (db at) r → passes at (key_terms width 0) (col 1 0 ∷ []) [] task.params db r ≡ has_key width key (columns r) =
+        subst (λ p. (r : Row) → Has (db at) r → passes at (key_terms width 0) (col 1 0 ∷ []) [] p db r ≡ has_key width key (columns r)) (sym same) (picked_rows (key_terms width 0) key (has_key width key) (λ v x. tests_are width 0 v (encode x) key (present x) some) at (col 1 0 ∷ []) [] db xs kept) in
+        let r = deletes task unreferred width (key_terms width 0) key db kept.shaped alike mode place out ran in
+        let all = kept_without width (db at) (map encode xs) key kept in
+        (subst₂ (HasRows width) (sym r.0) (filter-map (λ y. not (has_key width key y)) encode xs) all, r.1)

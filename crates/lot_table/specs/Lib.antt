@@ -1,0 +1,7 @@
+pub mod Book
+pub mod Cell
+pub mod Fault
+pub mod Make
+pub mod Rows
+pub mod Shape
+pub mod Statement

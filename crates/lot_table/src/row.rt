@@ -1,0 +1,101 @@
+ghost use Rattle.std.specs.Prelude.{◌≡◌, ◌≢◌, ◌⊎◌, All, IfOk, IfSome, List, OnErr, OnOk, map, slice_get};
+ghost use Rattle.sqlite.specs.Held.{state};
+ghost use Rattle.sqlite.specs.Order.{Row as Cells};
+ghost use Rattle.sqlite.specs.State.{HasCleanDisk, IsUnchanged, Shown, Survives};
+ghost use Rattle.sqlite.specs.Values.{bound};
+ghost use Rattle.lot_table.specs.Book.{IsUndone};
+ghost use Rattle.lot_table.specs.Statement.{DiskFailed, IsSelect, Refused, ShowsDamage};
+
+use crate::fault::Fault;
+use crate::statement::ask;
+use sqlite::types::ValueRef;
+use sqlite::{Alter, Connection, Row};
+use std::alloc::Global;
+
+/// A row of one table.
+pub trait TableRow: Sized + Drop {
+    // The columns of the row, those of the key first, and which rows a book can have.
+    ghost encode: { Self → Cells };
+
+    ghost IsGood: { Self → Type 0 };
+
+    /// Returns the row that the columns say; each is tested.
+    ///
+    /// The error is `Damaged`, exactly where the columns are those of no row that a book can have, or `Memory`.
+    fn read(alloc: Global, row: &Row) -> Result<Self, Fault>
+        ensures ok { IfOk result (λ x. row.now ≡ Self.encode x) }
+        ensures good { IfOk result IsGood }
+        ensures damaged { result ≡ Err Fault.Damaged → (x : Self) → IsGood x → row.now ≢ Self.encode x }
+        ensures no_device { result ≢ Err Fault.Device };
+}
+
+/// Returns the rows that these say, in their order.
+///
+/// The error is `Damaged`, exactly where they aren't those of rows that a book can have, or `Memory`.
+pub fn read_all<R: TableRow>(alloc: Global, rows: &[Row]) -> Result<Vec<R>, Fault>
+    ensures ok { IfOk result (λ found. rows.now ≡ map R.TableRow.encode found.items) }
+    ensures good { IfOk result (λ found. All R.TableRow.IsGood found.items) }
+    ensures damaged { result ≡ Err Fault.Damaged → (xs : List R) → All R.TableRow.IsGood xs → rows.now ≢ map R.TableRow.encode xs }
+    ensures no_device { result ≢ Err Fault.Device }
+{
+    let mut found = Vec::new(alloc);
+    'rows: for row in rows {
+        found.push(R::read(alloc, row)?)?;
+    }
+    Ok(found)
+}
+
+/// Returns the rows that a query answers.
+///
+/// The query changes nothing. After an error nothing changed, or a transaction that was open is rolled back.
+pub fn select<S: Alter, R: TableRow>(
+    alloc: Global,
+    conn: &mut Connection<S>,
+    text: &str,
+    params: &[ValueRef<'_>],
+) -> Result<Vec<R>, Fault>
+    requires { IsSelect text.now }
+    ensures shown { HasCleanDisk (state S.Store conn.new) → IfOk result (λ found. Shown text.now (bound params.now) (state S.Store conn.old) (state S.Store conn.new) (map R.TableRow.encode found.items)) }
+    ensures good { IfOk result (λ found. All R.TableRow.IsGood found.items) }
+    ensures same { HasCleanDisk (state S.Store conn.new) → OnOk result (IsUnchanged (state S.Store conn.old) (state S.Store conn.new)) }
+    ensures damaged { HasCleanDisk (state S.Store conn.new) → result ≡ Err Fault.Damaged
+        → Refused text.now (bound params.now) (state S.Store conn.old) (state S.Store conn.new) Fault.Damaged
+        ⊎ ShowsDamage R.TableRow.encode R.TableRow.IsGood text.now (bound params.now) (state S.Store conn.old) (state S.Store conn.new) }
+    ensures device { HasCleanDisk (state S.Store conn.new) → result ≡ Err Fault.Device → DiskFailed (state S.Store conn.old) (state S.Store conn.new) }
+    ensures err { HasCleanDisk (state S.Store conn.new) → OnErr result (IsUndone (state S.Store conn.old) (state S.Store conn.new)) }
+    ensures crash { Survives (state S.Store conn.old) (state S.Store conn.new) (λ _. ⊥) }
+{
+    let rows = ask(conn, text, params)?;
+    read_all(alloc, &rows)
+}
+
+/// Returns the first row that a query answers, or `None` where it answers none.
+///
+/// The query changes nothing. After an error nothing changed, or a transaction that was open is rolled back.
+pub fn find<S: Alter, R: TableRow>(
+    alloc: Global,
+    conn: &mut Connection<S>,
+    text: &str,
+    params: &[ValueRef<'_>],
+) -> Result<Option<R>, Fault>
+    requires { IsSelect text.now }
+    ensures shown { HasCleanDisk (state S.Store conn.new) → IfOk result (λ found. (rows : List R) × Shown text.now (bound params.now) (state S.Store conn.old) (state S.Store conn.new) (map R.TableRow.encode rows) × (found ≡ slice_get rows 0)) }
+    ensures good { IfOk result (λ found. IfSome found R.TableRow.IsGood) }
+    ensures same { HasCleanDisk (state S.Store conn.new) → OnOk result (IsUnchanged (state S.Store conn.old) (state S.Store conn.new)) }
+    ensures damaged { HasCleanDisk (state S.Store conn.new) → result ≡ Err Fault.Damaged
+        → Refused text.now (bound params.now) (state S.Store conn.old) (state S.Store conn.new) Fault.Damaged
+        ⊎ ShowsDamage R.TableRow.encode R.TableRow.IsGood text.now (bound params.now) (state S.Store conn.old) (state S.Store conn.new) }
+    ensures device { HasCleanDisk (state S.Store conn.new) → result ≡ Err Fault.Device → DiskFailed (state S.Store conn.old) (state S.Store conn.new) }
+    ensures err { HasCleanDisk (state S.Store conn.new) → OnErr result (IsUndone (state S.Store conn.old) (state S.Store conn.new)) }
+    ensures crash { Survives (state S.Store conn.old) (state S.Store conn.new) (λ _. ⊥) }
+{
+    let rows = select(alloc, conn, text, params)?;
+    Ok(first(rows))
+}
+
+/// Returns the first of the rows.
+fn first<R: TableRow>(rows: Vec<R>) -> Option<R>
+    ensures { result ≡ slice_get rows.items 0 }
+{
+    rows.into_iter().next()
+}
