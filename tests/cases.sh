@@ -5,10 +5,12 @@ source "$(dirname "$(readlink -f "${BASH_SOURCE[0]}")")/lib/cases.sh"
 need_program
 
 shopt -s nullglob
-for folder in "$root"/tests/cases/*/; do
+for folder in "$root"/tests/cases/*/ "$root"/tests/cases/*/*/; do
+    ledgers=("$folder"*.ledger) expected=("$folder"*.expected) folders=("$folder"*/)
+    # A folder of folders needs no texts of its own.
+    if ((${#folders[@]} && !${#ledgers[@]} && !${#expected[@]})); then continue; fi
     wanted=0
     if [[ -f $folder/status ]]; then wanted=$(<"$folder/status"); fi
-    ledgers=("$folder"*.ledger) expected=("$folder"*.expected)
     for ledger in "${ledgers[@]}"; do
         name=${ledger#"$root/tests/cases/"}
         run <"$ledger"
@@ -16,7 +18,7 @@ for folder in "$root"/tests/cases/*/; do
     done
     # A text without expected output fails above; output without a text would otherwise go unnoticed.
     if ((${#ledgers[@]} == 0 || ${#ledgers[@]} != ${#expected[@]})); then
-        fail "$(basename "$folder")" "${#ledgers[@]} texts and ${#expected[@]} expected outputs"
+        fail "${folder#"$root/tests/cases/"}" "${#ledgers[@]} texts and ${#expected[@]} expected outputs"
     fi
 done
 finish

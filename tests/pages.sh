@@ -40,7 +40,7 @@ example 'The output:' "$examples/first-purchase.expected"
         echo "$file"
         cat "$file"
     done
-    ls crates crates/*/must-fail tests tests/cases
+    ls crates crates/*/must-fail tests tests/cases tests/cases/text
 } | grep -oE '[A-Za-z_][A-Za-z_0-9-]*' | sort -u >"$scratch/known"
 { cat "$scratch/known" && tr '-' '\n' <"$scratch/known"; } | sort -u >"$scratch/words"
 

@@ -10,6 +10,14 @@ run <"$examples/first-sale.ledger"
 expect "the first sale" 0 "$examples/first-sale.expected"
 run <"$examples/small-year.ledger"
 expect "a small year" 0 "$examples/small-year.expected"
+run <"$examples/year.ledger"
+expect "a year of every form" 0 "$examples/year.expected"
+for ledger in "$examples"/mistakes/*.ledger; do
+    name=${ledger##*/} expected=${ledger%.ledger}.expected wanted=0
+    if grep -q '^fault ' "$expected"; then wanted=3; elif grep -q ' refused ' "$expected"; then wanted=1; fi
+    run <"$ledger"
+    expect "the mistake ${name%.ledger}" "$wanted" "$expected"
+done
 
 # Input from elsewhere than a file.
 prints "no input at all" 0 "nothing held" </dev/null
@@ -27,12 +35,14 @@ yes | prints "an input without an end" 3 "fault K2 TooLong"
 {
     yes '2020-01-01 *' | head -n 1290554
     echo '2020-01-01 xx'
-} | prints "a fault in the last line of a full input" 3 "fault line 1290555 X2 Syntax"
+} | prints "a fault in the last line of a full input" 3 "fault line 1290555 X3 UnknownDirective"
 {
     printf '2020-01-01 open Assets:A\n2020-01-01 *\n  Assets:A '
     head -c 16777080 /dev/zero | tr '\0' 0
     printf '5 USD\n  Assets:A -5. USD\n'
-} | prints "a number of 16 million digits" 0 $'1 accepted\n2 accepted\nnothing held'
+} | prints "a number of 16 million digits" 3 "fault line 3 X7 LineTooLong"
+head -c 16777216 /dev/zero | tr '\0' '\n' | prints "a full input of line ends" 0 "nothing held"
+head -c 16777216 /dev/zero | tr '\0' ';' | prints "a full input of one line" 3 "fault line 1 X7 LineTooLong"
 
 # stops NAME: `run` ended with status 4, and wrote nothing to standard error.
 stops() {
@@ -92,7 +102,7 @@ mkdir "a folder" && ln -s ../by-link "a folder/again" && program="a folder/again
 run <"$examples/first-purchase.ledger"
 expect "called through a link to a link" 0 "$examples/first-purchase.expected"
 program=$root/lotbook
-printf x | prints "called with a faulty text" 3 "fault line 1 X2 Syntax"
+printf x | prints "called with a faulty text" 3 "fault line 1 X3 UnknownDirective"
 "$program" <"$examples/first-purchase.ledger" 2>"$scratch/err" >/dev/full && status=0 || status=$?
 stops "called with a full disk"
 

@@ -74,6 +74,38 @@ compared "notes of 0 to 1,000 bytes" 'BEGIN {
     }
     print "nothing held" >expected
 }'
+compared "notes of 0 to 1,000 escaped bytes" 'BEGIN {
+    for (n = 0; n <= 1000; n++) {
+        print "2020-01-01 ! \"" note "\" \"" note "\""
+        print n + 1 " accepted" >expected
+        note = note (n % 2 ? "\\\"" : "\\\\")
+    }
+    print "nothing held" >expected
+}'
+compared "labels of 1 to 64 bytes" 'BEGIN {
+    print "2020-01-01 open Assets:A"
+    print "1 accepted" >expected
+    for (n = 1; n <= 64; n++) {
+        label = label "L"
+        printf "2020-01-02 *\n  Assets:A 1 HOOL {%d USD, \"%s\"}\n  Assets:A\n", n, label
+        print n + 1 " accepted" >expected
+        rows = rows "Assets:A 1 HOOL {" n " USD, 2020-01-02, \"" label "\"}\n"
+    }
+    printf "%sAssets:A -2080.00 USD\ntotal cost 2080.00 USD\n", rows >expected
+}'
+compared "openings with 0 to 64 currencies" 'BEGIN {
+    print "2020-01-01 open Assets:A"
+    print "1 accepted" >expected
+    for (n = 1; n <= 64; n++) {
+        currencies = currencies (n > 1 ? "," : " ") sprintf("C%02d", n)
+        printf "2020-01-01 open Assets:A%02d%s \"FIFO\"\n", n, currencies
+        printf "2020-01-02 *\n  Assets:A%02d 1 C%02d\n  Assets:A\n", n, n
+        printf "%d accepted\n%d accepted\n", 2 * n, 2 * n + 1 >expected
+        fills = fills sprintf("Assets:A -1.00 C%02d\n", n)
+        rows = rows sprintf("Assets:A%02d 1.00 C%02d\n", n, n)
+    }
+    printf "%s%s", fills, rows >expected
+}'
 compared "transactions of 1 to 64 postings" 'BEGIN {
     print "2020-01-01 open Assets:A\n2020-01-01 open Equity:B"
     for (n = 1; n <= 64; n++) {
@@ -83,9 +115,11 @@ compared "transactions of 1 to 64 postings" 'BEGIN {
     for (n = 1; n <= 66; n++) print n " accepted" >expected
     print "Assets:A 2016.00 USD\nEquity:B -2016.00 USD" >expected
 }'
+{ printf '2020-01-01 open Assets:A\n2020-01-02 *\n' && yes '  Assets:A 0 USD' | head -n 2001; } |
+    prints "a transaction of 2,001 postings" 1 $'1 accepted\n2 refused L8 TooManyPostings\nnothing held'
 
-# Numbers, lines and lists of each length around a power of two.
-lengths="31 32 33 63 64 65 127 128 129 255 256 257 511 512 513 1023 1024 1025 2047 2048 2049 4095 4096 4097 5000"
+# Numbers and lists of each length around a power of two.
+lengths="31 32 33 63 64 65 127 128 129 255 256 257 511 512 513 1023 1024 1025 2047 2048 2049"
 for length in $lengths; do
     compared "a number of $length digits" 'BEGIN {
         for (n = 0; n < '"$length"' - 1; n++) zeros = zeros "0"
@@ -93,7 +127,13 @@ for length in $lengths; do
         print "1 accepted\n2 accepted\nnothing held" >expected
     }'
 done
-for length in $lengths; do
+compared "lines of 4,096 bytes, of a number each" 'BEGIN {
+    printf "2020-01-01 open Assets:A\n2020-01-01 *\n  Assets:A %04081d USD\n  Assets:A -7.%04078d USD\n", 7, 0
+    print "1 accepted\n2 accepted\nnothing held" >expected
+}'
+{ printf '2020-01-01 open Assets:A\n2020-01-01 *\n  Assets:A ' && printf '%04082d USD\n' 7; } |
+    prints "a line of 4,097 bytes" 3 "fault line 3 X7 LineTooLong"
+for length in $lengths 4095 4096 4097 5000; do
     compared "$length openings, and as many lots of one account" 'BEGIN {
         for (n = 1; n <= '"$length"'; n++) { printf "2020-01-01 open Assets:A%d\n", n; print n " accepted" >expected }
         for (n = 1; n <= '"$length"'; n++) {

@@ -1,33 +1,41 @@
-"""Compares the program with the plain judge, on ledgers drawn from seeds.
+"""Compares the program with the plain judge and the second reader, on ledgers drawn from seeds and on changed ones.
 
-    compare.py PROGRAM [--whole] [--first SEED] [--count N] [--crowded METHOD ..] [--changed N]
+    compare.py PROGRAM [--first SEED] [--count N] [--changed N] [--crowded METHOD ..]
 
-It prints a line `ok NAME` or `FAILED NAME: ..` for each case. A case is a hundred ledgers, one of 10,000 lots, or a kind of
-refusal or booking, which has to occur at least some times. For a ledger whose answer isn't the judge's, its seed and text and
-the two answers go to standard error. Without --whole the ledgers are such as today's program reads. --changed is for a program
-that reads the whole text: so many texts are changed at random, and read here by the second reader.
+Each seed gives a ledger of commands, whose answer is the judge's, and so many changed texts of it, whose answer is that of
+the reader and the judge. It prints a line `ok NAME` or `FAILED NAME: ..` for each case. A case is the texts of a hundred
+seeds, a ledger of 10,000 lots, or something that has to occur at least some times: a refusal, a booking, a form or a fault of
+text. For a text whose answer is another one, its seed, the text and the two answers go to standard error; to repeat that seed
+alone: --first SEED --count 1 --crowded.
 """
 
 import argparse
 import collections
+import concurrent.futures
+import functools
+import os
 import subprocess
 import sys
+from typing import NamedTuple
 
 import draw
+import forms
 import model
 import mutate
 import spell
 import text as second
 
-A_CASE = 100  # ledgers
+A_CASE = 100  # seeds
 AT_LEAST = 3  # times that each kind occurs
 
-TODAY = (
+KINDS = (
     ["opening accepted", "opening refused L2 AlreadyOpen", "transaction accepted"]
+    + ["closing accepted", "declaring accepted", "quoting accepted", "closing refused L3 UnknownAccount"]
+    + ["closing refused L4 NotOpenYet", "closing refused L5 Closed", "declaring refused L6 AlreadyDeclared"]
     + ["transaction refused " + code for code in (
-        "L3 UnknownAccount", "L4 NotOpenYet", "L8 TooManyPostings", "L9 TwoElided", "L10 BackDated", "L11 Range",
-        "L12 InexactFill", "L14 NotBalanced", "L15 TooManyLots", "B1 NoMatch", "B2 Ambiguous", "B3 NotEnough",
-        "B4 IncompleteCost", "B6 ZeroUnits",
+        "L3 UnknownAccount", "L4 NotOpenYet", "L5 Closed", "L7 CurrencyNotAllowed", "L8 TooManyPostings", "L9 TwoElided",
+        "L10 BackDated", "L11 Range", "L12 InexactFill", "L13 FillNotAllowed", "L14 NotBalanced", "L15 TooManyLots",
+        "B1 NoMatch", "B2 Ambiguous", "B3 NotEnough", "B4 IncompleteCost", "B5 InexactCost", "B6 ZeroUnits",
     )]
     + [f"{method} opens a {lot}" for method in model.METHODS for lot in ("lot", "short")]
     + [f"{method} takes {lots} of {sign}" for method in model.METHODS[:-1]
@@ -35,15 +43,14 @@ TODAY = (
     + ["a lot taken in the transaction that opened it", "lots of both signs under NONE", "L11 Range of a fill"]
     + [f"a fill of {legs}" for legs in ("no leg", "one leg", "several legs")]
     + ["braces and a price", "a price without braces", "units of zero", "no postings"]
-)
-WHOLE = TODAY + (
-    ["closing accepted", "declaring accepted", "quoting accepted", "closing refused L3 UnknownAccount"]
-    + ["closing refused L4 NotOpenYet", "closing refused L5 Closed", "declaring refused L6 AlreadyDeclared"]
-    + ["transaction refused " + code for code in (
-        "L5 Closed", "L7 CurrencyNotAllowed", "L13 FillNotAllowed", "B5 InexactCost",
-    )]
     + ["a whole cost opens", "a whole cost takes", "braces and a whole price", "a whole price without braces"]
     + ["a part of a specification: " + part for part in ("number", "currency", "day", "label")]
+    + ["the form " + form for form in forms.ALL]
+    + ["changed, read", "changed, X1 NotUtf8", "changed, X3 UnknownDirective", "changed, X6 BadDay of day"]
+    + ["changed, X2 Syntax of " + place for place in ("tokens", "form", "transaction")]
+    + ["changed, X4 BadNumber of " + place for place in ("units", "rate", "total")]
+    + ["changed, X5 BadName of " + place for place in ("account", "commodity", "method", "label", "note")]
+    + ["changed, X7 LineTooLong"]
 )
 
 
@@ -105,23 +112,64 @@ def run(program, text):
 
 
 def answer_to(text):
-    """What the program prints on this text, as bytes, and its status, by the second reader and the plain judge."""
+    """What the program prints on this text and its status, by the second reader and the plain judge; and what became of it."""
     try:
-        return model.answer(*model.run(second.read(text)))
+        return model.answer(*model.run(second.read(text))), "read"
     except second.Fault as fault:
-        return f"fault line {fault.line} {fault.code}\n".encode(), 3
+        place = f" of {fault.place}" if fault.place else ""
+        return (f"fault line {fault.line} {fault.code}\n".encode(), 3), fault.code + place
 
 
-def differs(program, text, answer):
+def difference(program, text, answer):
     """How the program's answer to this text differs from this one, or nothing."""
     wanted = (*answer, b"")
     got = run(program, text)
     if got == wanted:
-        return None
-    return "".join(
+        return ""
+    shown = text.decode(errors="replace") if len(text) < 20000 else f"{len(text)} bytes\n"
+    return shown + "".join(
         f"--- {whose}, status {status}\n{out.decode(errors='replace')}{err.decode(errors='replace')}"
         for whose, (out, status, err) in (("wanted", wanted), ("got", got))
     )
+
+
+class Compared(NamedTuple):
+    """What came of the texts of some seeds: those with another answer, with how it differs; and what occurred."""
+
+    differing: dict
+    census: collections.Counter
+
+
+def compare(program, drawing, changed):
+    """The differences on the text of a drawing and on so many changed ones, and what occurs in them."""
+    text = spell.Speller(drawing.rng).ledger([it.command for it in drawing.judged])
+    census = collections.Counter("the form " + form for form in forms.of(text))
+    for it in drawing.judged:
+        census.update(kinds(drawing.book, it))
+    census["lots of both signs under NONE"] += both_signs(drawing.book)
+    differences = [difference(program, text, model.answer(drawing.book, drawing.judged))]
+    for _ in range(changed):
+        other = mutate.mutated(drawing.rng, text)
+        answer, outcome = answer_to(other)
+        census["changed, " + outcome] += 1
+        differences.append(difference(program, other, answer))
+    return "".join(differences), census
+
+
+def compare_seeds(program, changed, seeds):
+    differing = {}
+    census = collections.Counter()
+    for seed in seeds:
+        found, occurring = compare(program, draw.small(seed), changed)
+        census += occurring
+        if found:
+            differing[seed] = found
+    return Compared(differing, census)
+
+
+def compare_crowded(program, seed, method):
+    found, census = compare(program, draw.crowded(seed, method), 0)
+    return Compared({seed: found} if found else {}, census)
 
 
 def in_cases(first, count):
@@ -133,60 +181,33 @@ def in_cases(first, count):
 def main():
     words = argparse.ArgumentParser()
     words.add_argument("program")
-    words.add_argument("--whole", action="store_true")
     words.add_argument("--first", type=int, default=1)
-    words.add_argument("--count", type=int, default=2500)
+    words.add_argument("--count", type=int, default=2000)
+    words.add_argument("--changed", type=int, default=4)
     words.add_argument("--crowded", nargs="*", default=["NONE", "FIFO"], choices=model.METHODS)
-    words.add_argument("--changed", type=int, default=0)
     words = words.parse_args()
-    today = not words.whole
-    census = collections.Counter()
-    failing = []
-    commands = 0
-
-    def compare(seed, drawing):
-        nonlocal commands
-        text = spell.Speller(drawing.rng, today).ledger([it.command for it in drawing.judged])
-        commands += len(drawing.judged)
-        for it in drawing.judged:
-            census.update(kinds(drawing.book, it))
-        census["lots of both signs under NONE"] += both_signs(drawing.book)
-        note(seed, text, model.answer(drawing.book, drawing.judged))
-
-    def compare_changed(seed):
-        drawing = draw.small(seed, False)
-        text = spell.Speller(drawing.rng, False).ledger([it.command for it in drawing.judged])
-        text = mutate.mutated(drawing.rng, text)
-        note(seed, text, answer_to(text))
-
-    def note(seed, text, answer):
-        difference = differs(words.program, text, answer)
-        if difference:
-            failing.append(seed)
-            shown = text.decode(errors="replace") if len(text) < 20000 else f"{len(text)} bytes\n"
-            print(f"=== seed {seed}\n{shown}{difference}", file=sys.stderr)
-
-    def case(name):
-        if failing:
-            print(f"FAILED {name}: seeds {' '.join(map(str, failing[:10]))}, {len(failing)} in all", flush=True)
-        else:
-            print(f"ok {name}", flush=True)
-        failing.clear()
-
+    cases = {
+        f"a ledger of 10,000 lots under {method}": functools.partial(compare_crowded, words.program, words.first, method)
+        for method in words.crowded
+    }
     for seeds in in_cases(words.first, words.count):
-        for seed in seeds:
-            compare(seed, draw.small(seed, today))
-        case(f"ledgers of the seeds {seeds[0]} to {seeds[-1]}")
-    for seeds in in_cases(words.first, words.changed):
-        for seed in seeds:
-            compare_changed(seed)
-        case(f"changed texts of the seeds {seeds[0]} to {seeds[-1]}")
-    for method in words.crowded:
-        compare(words.first, draw.crowded(words.first, today, method))
-        case(f"a ledger of 10,000 lots under {method}")
-    for kind in TODAY if today else WHOLE:
+        name = f"the texts of the seeds {seeds[0]} to {seeds[-1]}"
+        cases[name] = functools.partial(compare_seeds, words.program, words.changed, seeds)
+    census = collections.Counter()
+    with concurrent.futures.ProcessPoolExecutor(os.cpu_count()) as processes:
+        for name, case in [(name, processes.submit(case)) for name, case in cases.items()]:
+            compared = case.result()
+            census += compared.census
+            for seed, found in compared.differing.items():
+                print(f"=== seed {seed}\n{found}", file=sys.stderr)
+            if compared.differing:
+                seeds = list(compared.differing)
+                print(f"FAILED {name}: seeds {' '.join(map(str, seeds[:10]))}, {len(seeds)} in all", flush=True)
+            else:
+                print(f"ok {name}", flush=True)
+    for kind in KINDS:
         if census[kind] < AT_LEAST:
-            print(f"FAILED {kind}: {census[kind]} times in {commands} commands")
+            print(f"FAILED {kind}: it occurs {census[kind]} times")
         else:
             print(f"ok {kind}: {census[kind]} times")
 

@@ -1,6 +1,5 @@
 """Draws small ledgers from a seed: few accounts and commodities, so that commands meet each other often.
 
-`today` keeps to what docs/FORMATS.md, 'What is read today', can say; otherwise every kind of command, cost and price comes.
 The drawing follows the book by the plain judge: a sale can then be drawn to take exactly what is held, and postings to
 balance.
 """
@@ -14,8 +13,8 @@ from model import Amount, Booked, Cost, Leg, LotKey, Posting, Price
 ACCOUNTS = ("Assets:Broker", "Assets:Broker:B", "Assets:Cash", "Income:Gains", "Equity:Start", "Liabilities:2nd-Loan")
 NAMES = ("HOOL", "ABC", "V", "X'Y_Z-1", "HOOL.B", "USD", "EUR", "CHF")
 LABELS = (None, None, None, "a", "b", "é", "a lot; {}", "L" * 64)
-NOTES = ("", "Buy", "Zürich", "{1 USD} ; * @ 5", "a\tb", "N" * 1000)
-NOTES_NOT_READ_TODAY = ('say "x"', "a\\b", '"' * 1000, "\\" * 1000)
+PLAIN_NOTES = ("", "Buy", "Zürich", "{1 USD} ; * @ 5", "a\tb", "N" * 1000)
+NOTES_WITH_ESCAPES = ('say "x"', "a\\b", '"' * 1000, "\\" * 1000)
 STARTS = ("2020-02-25", "2020-02-25", "2020-02-25", "0001-01-01", "9999-12-20", "1999-12-28", "2100-02-26")
 
 UNITS = tuple(
@@ -28,9 +27,8 @@ GREAT_RATES = (model.RATE_LIMIT - 1, model.RATE_LIMIT - model.ONE, model.RATE_LI
 
 
 class Drawing:
-    def __init__(self, seed, today):
+    def __init__(self, seed):
         self.rng = random.Random(seed)
-        self.today = today
         self.book = []
         self.judged = []
         self.day = datetime.date.fromisoformat(self.rng.choice(STARTS))
@@ -93,7 +91,7 @@ class Drawing:
         if self.chance(0.5):
             return None
         currency = currency if currency and self.chance(0.8) else self.pick(self.names)
-        if self.today or self.chance(0.6):
+        if self.chance(0.6):
             return Price(False, self.rate(), currency)
         return Price(True, self.pick((0, 1, 100 * model.ONE, self.rate(), model.UNITS_LIMIT - 1)), currency)
 
@@ -102,10 +100,6 @@ class Drawing:
     def opening_cost(self, units):
         """A cost as for a new lot, mostly complete."""
         number, currency = self.rate(), self.pick(self.names[1:3])
-        if self.today:
-            if self.chance((1 - self.tidy) / 3):
-                return Cost(False, None, None, None, None)
-            return Cost(False, number, currency, None, None)
         day = self.next_day() if self.chance(0.2) else None
         label = self.pick(LABELS)
         if self.chance((1 - self.tidy) / 3):
@@ -121,8 +115,6 @@ class Drawing:
         """A specification that this key fits, of some of its parts."""
         if self.chance(0.6):
             return Cost(False, None, None, None, None)
-        if self.today:
-            return Cost(False, key.number, key.currency, None, None)
         parts = [part if self.chance(0.4) else None for part in (key.number, key.currency, key.day, key.label)]
         return Cost(False, *parts)
 
@@ -134,7 +126,7 @@ class Drawing:
         units = self.pick((sum(fitting), sum(fitting), lots[key], lots[key], lots[key] // 2, self.units(), 2 * sum(fitting)))
         if abs(units) >= model.UNITS_LIMIT:
             units = lots[key]
-        if not self.today and self.chance(0.2):
+        if self.chance(0.2):
             total = key.number * abs(units) // model.ONE
             if total < model.UNITS_LIMIT:
                 cost = cost._replace(whole=True, number=total)
@@ -168,7 +160,7 @@ class Drawing:
     def weightless(self):
         """A posting whose weight is zero, so that a currency appears before it counts."""
         units = self.pick((0, 0, model.ONE))
-        price = Price(not self.today and self.chance(0.5), 0, self.pick(self.names)) if units else self.price(None)
+        price = Price(self.chance(0.5), 0, self.pick(self.names)) if units else self.price(None)
         return Posting(self.account(), Amount(units, self.pick(self.names), None, price))
 
     def scattered(self):
@@ -185,7 +177,7 @@ class Drawing:
 
     def opening(self, account):
         currencies = ()
-        if not self.today and self.chance(0.2):
+        if self.chance(0.2):
             currencies = tuple(self.pick(self.names) for _ in range(self.pick((1, 2, 3, 3, 64))))
         day = self.next_day()
         if self.chance(0.06) and day < (9999, 12, 1):  # some days from now
@@ -205,15 +197,14 @@ class Drawing:
         if self.chance(0.01):
             postings += [self.weightless()] * (self.pick((63, 64, 64, 65, 66)) - len(postings))
         day = self.next_day()
-        flag, payee, narration = "*", None, None
+        payee, narration = None, None
         if self.chance(0.3):
-            narration = self.pick(NOTES)
-        if not self.today:
-            flag = self.pick("*!")
-            if narration is not None and self.chance(0.4):
-                narration = self.pick(NOTES_NOT_READ_TODAY)
-            if narration is not None and self.chance(0.3):
-                payee = self.pick(NOTES + NOTES_NOT_READ_TODAY)
+            narration = self.pick(PLAIN_NOTES)
+        flag = self.pick("*!")
+        if narration is not None and self.chance(0.4):
+            narration = self.pick(NOTES_WITH_ESCAPES)
+        if narration is not None and self.chance(0.3):
+            payee = self.pick(PLAIN_NOTES + NOTES_WITH_ESCAPES)
 
         def of(postings):
             return model.Transaction(day, flag, payee, narration, tuple(postings))
@@ -247,7 +238,7 @@ class Drawing:
         kind = self.rng.random()
         if kind < 0.04:
             return self.opening(self.account())
-        if self.today or kind > 0.18:
+        if kind > 0.18:
             return self.transaction()
         if kind < 0.06:
             return model.Closing(self.next_day(), self.account())
@@ -299,15 +290,15 @@ class Drawing:
             self.judge(paid(postings))
 
 
-def small(seed, today):
+def small(seed):
     """The drawing of this seed: its `judged` commands and its `book`."""
-    drawing = Drawing(seed, today)
+    drawing = Drawing(seed)
     drawing.small()
     return drawing
 
 
-def crowded(seed, today, method):
+def crowded(seed, method):
     """Likewise, of an account of this method that holds some 10,000 lots."""
-    drawing = Drawing(seed, today)
+    drawing = Drawing(seed)
     drawing.crowded(method)
     return drawing

@@ -1,7 +1,5 @@
-"""Writes commands as ledger text, each in a spelling of its own.
-
-`today` keeps to the text of docs/FORMATS.md, 'What is read today'; otherwise every form, blank, comment, heading and line
-end of the page may come.
+"""Writes commands as ledger text, each in a spelling of its own: every form, blank, comment, heading and line end of
+docs/FORMATS.md, 'Ledger text', may come.
 """
 
 import model
@@ -13,11 +11,11 @@ SKIPPED = ("", " ", "\t", "; alone", "  ; indented", "* a heading", '* "not clos
 
 
 class Token(str):
-    """The text of a token; `kind` is word, number, date, text or mark, and `before` stands before it in canonical text."""
+    """The text of a token; `kind` is word, number, date, text or mark."""
 
-    def __new__(cls, kind, text, before=" "):
+    def __new__(cls, kind, text):
         token = super().__new__(cls, text)
-        token.kind, token.before = kind, before
+        token.kind = kind
         return token
 
 
@@ -43,36 +41,36 @@ def date_of(rng, day):
 
 
 class Speller:
-    def __init__(self, rng, today):
-        self.rng, self.today = rng, today
+    def __init__(self, rng):
+        self.rng = rng
 
     # Tokens.
 
-    def word(self, text, before=" "):
-        return Token("word", text, before)
+    def word(self, text):
+        return Token("word", text)
 
-    def number(self, mantissa, before=" "):
-        return Token("number", number_of(self.rng, mantissa), before)
+    def number(self, mantissa):
+        return Token("number", number_of(self.rng, mantissa))
 
-    def date(self, day, before=" "):
-        return Token("date", date_of(self.rng, day), before)
+    def date(self, day):
+        return Token("date", date_of(self.rng, day))
 
     def text(self, text):
         return Token("text", '"' + text.replace("\\", "\\\\").replace('"', '\\"') + '"')
 
-    def mark(self, text, before=" "):
-        return Token("mark", text, before)
+    def mark(self, text):
+        return Token("mark", text)
 
     # Commands: the tokens of each line.
 
     def lines(self, command):
-        day = self.date(command.day, "")
+        day = self.date(command.day)
         if isinstance(command, model.Opening):
             line = [day, self.word("open"), self.word(command.account)]
             for nth, currency in enumerate(command.currencies):
                 if nth:
-                    line.append(self.mark(",", ""))
-                line.append(self.word(currency, "" if nth else " "))
+                    line.append(self.mark(","))
+                line.append(self.word(currency))
             if command.method != "STRICT" or self.rng.random() < 0.3:
                 line.append(self.text(command.method))
             return [line]
@@ -84,13 +82,13 @@ class Speller:
             rate = self.number(command.rate)
             return [[day, self.word("price"), self.word(command.base), rate, self.word(command.quote)]]
         flag = self.mark(command.flag)
-        if command.flag == "*" and not self.today and self.rng.random() < 0.2:
+        if command.flag == "*" and self.rng.random() < 0.2:
             flag = self.word("txn")
         notes = [self.text(note) for note in (command.payee, command.narration) if note is not None]
         return [[day, flag, *notes], *map(self.posting, command.postings)]
 
     def posting(self, posting):
-        line = [self.word(posting.account, "")]
+        line = [self.word(posting.account)]
         if posting.amount is not None:
             units, commodity, cost, price = posting.amount
             line += [self.number(units), self.word(commodity)]
@@ -116,18 +114,14 @@ class Speller:
         line = [self.mark("{{" if cost.whole else "{")]
         for nth, part in enumerate(parts):
             if nth:
-                line.append(self.mark(",", ""))
-            else:
-                part[0].before = ""
+                line.append(self.mark(","))
             line += part
-        return line + [self.mark("}}" if cost.whole else "}", "")]
+        return line + [self.mark("}}" if cost.whole else "}")]
 
     # Lines.
 
     def join(self, tokens):
         """A line of these tokens, without indentation and comment."""
-        if self.today:
-            return "".join(token.before + token for token in tokens)
         line = ""
         for nth, token in enumerate(tokens):
             blank = self.rng.choice(BLANKS) if nth else ""
@@ -147,21 +141,18 @@ class Speller:
             lines.append(self.join(first))
             for posting in postings:
                 self.skipped(lines)
-                lines.append(("  " if self.today else self.rng.choice(INDENTS)) + self.join(posting))
+                lines.append(self.rng.choice(INDENTS) + self.join(posting))
             self.skipped(lines)
-        if self.today:
-            text = "".join(line + "\n" for line in lines)
-        else:
-            crlf = self.rng.choice((0, 0, 0.2, 1))
-            text = "".join(line + ("\r\n" if self.rng.random() < crlf else "\n") for line in lines)
+        crlf = self.rng.choice((0, 0, 0.2, 1))
+        text = "".join(line + ("\r\n" if self.rng.random() < crlf else "\n") for line in lines)
         if self.rng.random() < 0.1:
             text = text[:-1]
-        if not self.today and self.rng.random() < 0.1:
+        if self.rng.random() < 0.1:
             text = "\ufeff" + text
         return text.encode()
 
     def skipped(self, lines):
-        while not self.today and self.rng.random() < 0.08:
+        while self.rng.random() < 0.08:
             lines.append(self.rng.choice(SKIPPED))
 
 

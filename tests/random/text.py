@@ -20,11 +20,12 @@ OF_WORDS = frozenset((*LETTERS, *DIGITS, *b":-._'", *range(128, 256)))
 
 
 class Fault(Exception):
-    """A code with its name; `line` is set once it is known."""
+    """A code with its name, and what it was found in; `line` is set once it is known."""
 
-    def __init__(self, code):
+    def __init__(self, code, place=None):
         super().__init__(code)
         self.code = code
+        self.place = place
         self.line = None
 
 
@@ -253,7 +254,14 @@ class Cursor:
             raise NoForm
 
     def values(self):
-        return [reader(token) if reader else None for token, reader in self.readers]
+        return [self.value(token, reader) if reader else None for token, reader in self.readers]
+
+    def value(self, token, reader):
+        try:
+            return reader(token)
+        except Fault as fault:
+            fault.place = reader.__name__[len("read_") :]
+            raise
 
 
 def value(values, place):
@@ -381,7 +389,7 @@ def read_line(line, commands):
     try:
         tokens = tokens_of(line)
     except CantBeCut:
-        raise Fault("X2 Syntax") from None
+        raise Fault("X2 Syntax", "tokens") from None
     if not tokens:
         return
     indented = line[:1] in (b" ", b"\t")
@@ -395,11 +403,11 @@ def read_line(line, commands):
         else:
             # The last line that wasn't indented and had tokens is the last command: else it was a fault.
             if not commands or not isinstance(commands[-1], model.Transaction):
-                raise NoForm
+                raise Fault("X2 Syntax", "transaction")
             postings = (*commands[-1].postings, posting(tokens))
             commands[-1] = commands[-1]._replace(postings=postings)
     except NoForm:
-        raise Fault("X2 Syntax") from None
+        raise Fault("X2 Syntax", "form") from None
 
 
 def read(data):

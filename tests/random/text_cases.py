@@ -1,13 +1,15 @@
-"""Tries the second reader on what docs/FORMATS.md and docs/RULES.md say, and on drawn texts. Prints a line for each case."""
+"""Tries the second reader on what docs/FORMATS.md and docs/RULES.md say, on drawn ledgers, and with the plain judge on the texts
+of tests/cases/ and examples/, whose stored answers it has to give. Prints a line for each case.
+"""
 
-import collections
-import random
+import pathlib
 
+import compare
 import draw
-import model
-import mutate
 import spell
 import text
+
+ROOT = pathlib.Path(__file__).resolve().parents[2]
 
 OPEN = b"2020-01-01 open Assets:A\n"
 DEAL = b"2020-01-01 *\n  Assets:A "
@@ -104,6 +106,22 @@ def units_of(number):
         return None
 
 
+def folders():
+    """The folders with stored answers."""
+    return sorted({path.parent for top in ("tests/cases", "examples") for path in (ROOT / top).rglob("*.ledger")})
+
+
+def other_answers(folder):
+    """The names of the texts in a folder whose stored answer, or status, is another one than that of reader and judge."""
+    statuses = folder / "status"  # of tests/cases/ alone: the examples have no such files
+    wanted = int(statuses.read_text()) if statuses.exists() else 0
+    is_example = ROOT / "examples" in (folder, *folder.parents)
+    for path in sorted(folder.glob("*.ledger")):
+        (answer, status), _ = compare.answer_to(path.read_bytes())
+        if answer != path.with_suffix(".expected").read_bytes() or (status != wanted and not is_example):
+            yield path.stem
+
+
 def say(name, good, why):
     print(f"ok {name}" if good else f"FAILED {name}: {why}")
 
@@ -115,25 +133,16 @@ def main():
     for number, wanted in NUMBERS.items():
         got = units_of(number)
         say(f"reader: the number '{number.decode()}'", got == wanted, f"{got} instead of {wanted}")
-    for today in (True, False):
-        wrong = []
-        for seed in range(1, 201):
-            drawing = draw.small(seed, today)
-            commands = [it.command for it in drawing.judged]
-            if text.read(spell.Speller(drawing.rng, today).ledger(commands)) != commands:
-                wrong.append(seed)
-        say(f"reader: {'ledgers of today' if today else 'whole ledgers'} read back", not wrong, f"seeds {wrong[:10]}")
-    census = collections.Counter()
-    for seed in range(1, 1501):
-        drawing = draw.small(seed, False)
-        data = spell.Speller(drawing.rng, False).ledger([it.command for it in drawing.judged])
-        got = outcome(mutate.mutated(random.Random(seed), data))
-        census[got if isinstance(got, int) else got.split(maxsplit=2)[2]] += 1
-    codes = ("X1 NotUtf8", "X2 Syntax", "X3 UnknownDirective", "X4 BadNumber", "X5 BadName", "X6 BadDay", "X7 LineTooLong")
-    for code in codes:
-        say(f"reader: {code}: {census[code]} of 1500 changed texts", census[code] >= 3, "too few")
-    faulty = sum(census[code] for code in codes)
-    say(f"reader: {1500 - faulty} of 1500 changed texts are read", 150 < faulty < 1350, "too few or too many are faulty")
+    wrong = []
+    for seed in range(1, 201):
+        drawing = draw.small(seed)
+        commands = [it.command for it in drawing.judged]
+        if text.read(spell.Speller(drawing.rng).ledger(commands)) != commands:
+            wrong.append(seed)
+    say("reader: drawn ledgers read back", not wrong, f"seeds {wrong[:10]}")
+    for folder in folders():
+        wrong = list(other_answers(folder))
+        say(f"reader and judge: the answers of {folder.relative_to(ROOT)}", not wrong, " ".join(wrong[:10]))
 
 
 if __name__ == "__main__":

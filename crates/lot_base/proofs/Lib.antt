@@ -5,5 +5,6 @@ pub mod DayTextLemmas
 pub mod MapLemmas
 pub mod NameLemmas
 pub mod OrderLemmas
+pub mod ReadBackLemmas
 pub mod SplitLemmas
 pub mod TextLemmas

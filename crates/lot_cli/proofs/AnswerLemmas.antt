@@ -60,7 +60,7 @@ run_stopped input commands old new (Fault.MemoryAt number) short reads (done, co
 )
 run_stopped input commands old new Fault.Memory short reads none = absurd none
 run_stopped input commands old new Fault.Range short reads none = absurd none
-run_stopped input commands old new (Fault.Syntax line) short reads none = absurd none
+run_stopped input commands old new (Fault.Text line fault) short reads none = absurd none
 run_stopped input commands old new Fault.TooLong short reads none = absurd none
 run_stopped input commands old new Fault.Read short reads none = absurd none
 
@@ -161,8 +161,8 @@ outcome input old mid new (Err Fault.Read) concluded end nothing reported ends =
     with_line input [] Fault.Read old mid new concluded end (inr (inl (refl, refl))) nothing reported ends
 outcome input old mid new (Err Fault.TooLong) concluded end (long, nothing) reported ends =
     with_line input [] Fault.TooLong old mid new concluded end (inl (inl (long, refl, refl))) nothing reported ends
-outcome input old mid new (Err (Fault.Syntax number)) concluded end (short, fault, nothing) reported ends =
-    with_line input [] (Fault.Syntax number) old mid new concluded end (inl (inr (inl (short, number, fault, refl, refl)))) nothing reported ends
+outcome input old mid new (Err (Fault.Text number fault)) concluded end (short, faulty, nothing) reported ends =
+    with_line input [] (Fault.Text number fault) old mid new concluded end (inl (inr (inl (short, number, fault, faulty, refl, refl)))) nothing reported ends
 outcome input old mid new (Err Fault.Range) concluded end (verdicts, rows, report, judged, broken, before) reported ends =
     with_line input (replies 1 verdicts ++ report) Fault.Range old mid new concluded end
     (inl (inr (inr (inr (verdicts, rows, report, judged, broken, append_assoc (replies 1 verdicts) report (fault_line Fault.Range), refl)))))

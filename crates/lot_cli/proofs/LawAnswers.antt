@@ -16,10 +16,11 @@ use Rattle.lot_cli.specs.Key.{key_of}
 use Rattle.lot_report.specs.Report.{IsReport, IsReportToFault, AreFirstLines}
 use Rattle.lot_cli.specs.Status.{code_of}
 use Rattle.lot_text.specs.Text.{IsFaultAt, Reads}
+use Rattle.lot_text.specs.declared.fault.LineFault.{LineFault}
 use Rattle.lot_report.specs.Written.{IsPrefixOf}
 use Rattle.lot_cli.proofs.LawAnswersReports.{one_report, one_report_to_fault, whole_or_to_fault, lines_of_report, lines_of_report_to_fault, kept_are_first}
 use Rattle.lot_laws.proofs.JudgedLaws.{judged_alike, one_holdings}
-use Rattle.lot_text.proofs.TextLaws.{reads_one, fault_one, not_both}
+use Rattle.lot_text.proofs.TextLaws.{reads_one, line_one, fault_one, not_both}
 use Rattle.lot_book.specs.Recorded.{facts_in}
 
 -- ---- Prefixes of texts.
@@ -78,16 +79,20 @@ too_long input a b s t h (inr (inr (inl k))) = apart (length input) longest_inpu
 too_long input a b s t h (inr (inr (inr k))) = apart (length input) longest_input h.0 k.3.short
 
 -- no input has a faulty line and is judged
-no_verdicts : {P : Type 0} → (input : List ℕ) (number : ℕ) (verdicts : List Verdict) (rows : List Holding)
-    → IsFaultAt input number → IsJudged input verdicts rows → P
-no_verdicts input number verdicts rows h k = absurd (not_both input k.commands number k.reads h)
+no_verdicts : {P : Type 0} → (input : List ℕ) (number : ℕ) (fault : LineFault) (verdicts : List Verdict) (rows : List Holding)
+    → IsFaultAt input number fault → IsJudged input verdicts rows → P
+no_verdicts input number fault verdicts rows h k = absurd (not_both input k.commands number fault k.reads h)
 
 no_text : (input a b : List ℕ) (s t : ℕ) → IsNoText input a s → IsAnswer input b t → (a ≡ b) × (s ≡ t)
 no_text input a b s t h (inl k) = apart (length input) longest_input k.0 h.0
 no_text input a b s t h (inr (inl k)) =
-    (h.3 ∙ ap (λ number. fault_line (Fault.Syntax number)) (fault_one input h.1 k.1 h.2 k.2) ∙ sym k.3, h.4 ∙ sym k.4)
-no_text input a b s t h (inr (inr (inl k))) = no_verdicts input h.1 k.0 k.1 h.2 k.3
-no_text input a b s t h (inr (inr (inr k))) = no_verdicts input h.1 k.0 k.1 h.2 k.3
+    let line = line_one input h.1 k.1 h.2 k.2 h.3 k.3 in
+    let same = fault_one input h.1 k.1 h.2 k.2 h.3 k.3 in (
+      h.4 ∙ ap (λ number. fault_line (Fault.Text number h.2)) line ∙ ap (λ fault. fault_line (Fault.Text k.1 fault)) same ∙ sym k.4,
+      h.5 ∙ sym k.5,
+    )
+no_text input a b s t h (inr (inr (inl k))) = no_verdicts input h.1 h.2 k.0 k.1 h.3 k.3
+no_text input a b s t h (inr (inr (inr k))) = no_verdicts input h.1 h.2 k.0 k.1 h.3 k.3
 
 whole_alike : (input a b : List ℕ) (s t : ℕ) → IsWhole input a s → IsWhole input b t → (a ≡ b) × (s ≡ t)
 whole_alike input a b s t h k =
@@ -113,13 +118,13 @@ whole_or_broken input a b s t h k =
 
 whole : (input a b : List ℕ) (s t : ℕ) → IsWhole input a s → IsAnswer input b t → (a ≡ b) × (s ≡ t)
 whole input a b s t h (inl k) = apart (length input) longest_input k.0 h.3.short
-whole input a b s t h (inr (inl k)) = no_verdicts input k.1 h.0 h.1 k.2 h.3
+whole input a b s t h (inr (inl k)) = no_verdicts input k.1 k.2 h.0 h.1 k.3 h.3
 whole input a b s t h (inr (inr (inl k))) = whole_alike input a b s t h k
 whole input a b s t h (inr (inr (inr k))) = whole_or_broken input a b s t h k
 
 broken : (input a b : List ℕ) (s t : ℕ) → IsBroken input a s → IsAnswer input b t → (a ≡ b) × (s ≡ t)
 broken input a b s t h (inl k) = apart (length input) longest_input k.0 h.3.short
-broken input a b s t h (inr (inl k)) = no_verdicts input k.1 h.0 h.1 k.2 h.3
+broken input a b s t h (inr (inl k)) = no_verdicts input k.1 k.2 h.0 h.1 k.3 h.3
 broken input a b s t h (inr (inr (inl k))) = whole_or_broken input b a t s k h
 broken input a b s t h (inr (inr (inr k))) = broken_alike input a b s t h k
 
@@ -131,12 +136,12 @@ one_answer input a b s t (inr (inr (inr h))) k = broken input a b s t h k
 
 -- ---- Prefixes of the answer.
 
-no_replies : {P : Type 0} → (input text : List ℕ) (number : ℕ) → AreReplies input text → IsFaultAt input number → P
-no_replies input text number h k = absurd (not_both input (h.0 ++ h.1) number h.5 k)
+no_replies : {P : Type 0} → (input text : List ℕ) (number : ℕ) (fault : LineFault) → AreReplies input text → IsFaultAt input number fault → P
+no_replies input text number fault h k = absurd (not_both input (h.0 ++ h.1) number fault h.5 k)
 
 pub replies_begin : (input part text : List ℕ) (status : ℕ) → AreReplies input part → IsAnswer input text status → IsPrefixOf part text
 replies_begin input part text status h (inl k) = apart (length input) longest_input k.0 h.4
-replies_begin input part text status h (inr (inl k)) = no_replies input part k.1 h k.2
+replies_begin input part text status h (inr (inl k)) = no_replies input part k.1 k.2 h k.3
 replies_begin input part text status h (inr (inr (inl k))) =
     subst (IsPrefixOf part) (sym k.5) (prefix_of_more part (replies 1 k.0) k.2 (prefix_of_replies input part k.0 k.1 h k.3))
 replies_begin input part text status h (inr (inr (inr k))) =
@@ -151,7 +156,7 @@ prefix_behind_replies verdicts others lines part report text same is answered fi
 
 pub lines_begin : (input part text : List ℕ) (status : ℕ) → AreLines input part → IsAnswer input text status → IsPrefixOf part text
 lines_begin input part text status h (inl k) = apart (length input) longest_input k.0 h.3.short
-lines_begin input part text status h (inr (inl k)) = no_verdicts input k.1 h.0 h.1 k.2 h.3
+lines_begin input part text status h (inr (inl k)) = no_verdicts input k.1 k.2 h.0 h.1 k.3 h.3
 lines_begin input part text status h (inr (inr (inl k))) =
     let same = one_judgement input h.0 k.0 h.1 k.1 h.3 k.3 in
     prefix_behind_replies h.0 k.0 h.2 part k.2 text same.0 h.5 k.5

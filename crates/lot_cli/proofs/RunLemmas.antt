@@ -164,6 +164,6 @@ run_stops commands left rest command count number view status (Fault.MemoryAt st
     )
 run_stops commands left rest command count number view status Fault.Memory old mid new so_far is numbered small none = none
 run_stops commands left rest command count number view status Fault.Range old mid new so_far is numbered small none = none
-run_stops commands left rest command count number view status (Fault.Syntax line) old mid new so_far is numbered small none = none
+run_stops commands left rest command count number view status (Fault.Text line fault) old mid new so_far is numbered small none = none
 run_stops commands left rest command count number view status Fault.TooLong old mid new so_far is numbered small none = none
 run_stops commands left rest command count number view status Fault.Read old mid new so_far is numbered small none = none

@@ -6,6 +6,7 @@ use Rattle.lot_command.specs.declared.command.Command.{Command}
 use Rattle.lot_book.specs.declared.holding.Holding.{Holding}
 use Rattle.lot_book.specs.declared.verdict.Verdict.{Verdict}
 use Rattle.lot_text.specs.Text.{Reads, IsFaultAt}
+use Rattle.lot_text.specs.declared.fault.LineFault.{LineFault}
 use Rattle.lot_book.specs.Facts.{Entry}
 use Rattle.lot_book.specs.Holding.{ListsHoldings}
 use Rattle.lot_book.specs.Judged.{JudgesAll}
@@ -40,10 +41,11 @@ pub record IsJudged (input : List ℕ) (verdicts : List Verdict) (rows : List Ho
 abbrev pub IsTooLong : List ℕ → List ℕ → ℕ → Type 0
 IsTooLong input text status = (longest_input < length input) × (text ≡ fault_line Fault.TooLong) × (status ≡ 3)
 
--- an input that no commands fit: one line reports the first faulty line
+-- an input that no commands fit: one line reports the first faulty line and its fault
 abbrev pub IsNoText : List ℕ → List ℕ → ℕ → Type 0
 IsNoText input text status =
-    (length input ≤ longest_input) × (number : ℕ) × IsFaultAt input number × (text ≡ fault_line (Fault.Syntax number)) × (status ≡ 3)
+    (length input ≤ longest_input) × (number : ℕ) × (fault : LineFault) × IsFaultAt input number fault
+    × (text ≡ fault_line (Fault.Text number fault)) × (status ≡ 3)
 
 -- the replies and the holdings
 abbrev pub IsWhole : List ℕ → List ℕ → ℕ → Type 0

@@ -2,10 +2,10 @@
 use Rattle.std.specs.Prelude.{◌≡◌, ◌⊎◌, ℕ, Result, Ok, Err}
 use Rattle.std.specs.declared.io.Error.{Error}
 use Rattle.lot_cli.specs.declared.batch.fault.Fault.{Fault}
-use Rattle.lot_cli.specs.declared.batch.fault.Fault.TheVariants.{Read, TooLong, Syntax, Range, Write, Memory, MemoryAt}
+use Rattle.lot_cli.specs.declared.batch.fault.Fault.TheVariants.{Read, TooLong, Text, Range, Write, Memory, MemoryAt}
 use Rattle.lot_book.specs.declared.verdict.Verdict.{Verdict}
 use Rattle.lot_cli.specs.declared.input.SlurpFault.{SlurpFault}
-use Rattle.lot_text.specs.declared.reader.TextFault.{TextFault}
+use Rattle.lot_text.specs.declared.fault.TextFault.{TextFault}
 use Rattle.lot_report.specs.declared.holdings.ReportFault.{ReportFault}
 use Rattle.lot_report.specs.declared.line.PrintFault.{PrintFault}
 use Rattle.lot_cli.specs.declared.batch.status.Status.{Status}
@@ -49,7 +49,7 @@ fault_at number PrintFault.Memory = MemoryAt number
 abbrev pub status_of : Fault → Status
 status_of Read = BadInput
 status_of TooLong = BadInput
-status_of (Syntax line) = BadInput
+status_of (Text line fault) = BadInput
 status_of Range = Stopped
 status_of Write = Stopped
 status_of Memory = Stopped
@@ -62,7 +62,7 @@ fault_of_input SlurpFault.TooLong = TooLong
 fault_of_input SlurpFault.Memory = Memory
 
 abbrev pub fault_of_text : TextFault → Fault
-fault_of_text (TextFault.Syntax number) = Syntax number
+fault_of_text (TextFault.Line number fault) = Text number fault
 fault_of_text (TextFault.Memory number) = Memory
 
 abbrev pub fault_of_report : ReportFault → Fault

@@ -9,7 +9,7 @@ use Rattle.lot_book.specs.declared.change.Change.{Change}
 use Rattle.lot_book.specs.declared.holding.Holding.{Holding}
 use Rattle.lot_book.specs.declared.verdict.Verdict.{Verdict}
 use Rattle.lot_view.specs.declared.view.View.{View}
-use Rattle.lot_text.specs.Text.{IsFaultAt}
+use Rattle.lot_text.specs.Text.{IsFaultAt, Reads, RunsOutAt}
 use Rattle.lot_ledger.specs.Decide.{Lists}
 use Rattle.lot_book.specs.Facts.{Entry, Facts}
 use Rattle.lot_book.specs.Judged.{JudgesAll}
@@ -46,7 +46,7 @@ Replies before command number old new (Err Fault.Write) =
 Replies before command number old new (Err (Fault.MemoryAt stopped)) = (stopped ≡ number) × Appends old new []
 Replies before command number old new (Err Fault.Memory) = ⊥
 Replies before command number old new (Err Fault.Range) = ⊥
-Replies before command number old new (Err (Fault.Syntax line)) = ⊥
+Replies before command number old new (Err (Fault.Text line fault)) = ⊥
 Replies before command number old new (Err Fault.TooLong) = ⊥
 Replies before command number old new (Err Fault.Read) = ⊥
 
@@ -74,7 +74,7 @@ Runs commands old new (Err Fault.Write) = IsCutInRun commands old new
 Runs commands old new (Err (Fault.MemoryAt number)) = RunsOutInRun commands number old new
 Runs commands old new (Err Fault.Memory) = ⊥
 Runs commands old new (Err Fault.Range) = ⊥
-Runs commands old new (Err (Fault.Syntax line)) = ⊥
+Runs commands old new (Err (Fault.Text line fault)) = ⊥
 Runs commands old new (Err Fault.TooLong) = ⊥
 Runs commands old new (Err Fault.Read) = ⊥
 
@@ -89,13 +89,17 @@ abbrev pub Reaches : List ℕ → Option (List ℕ) → Option (List ℕ) → Re
 Reaches input old new (Ok status) = (text : List ℕ) × IsWhole input text (code_of status) × Appends old new text
 Reaches input old new (Err Fault.Read) = Appends old new []
 Reaches input old new (Err Fault.TooLong) = (longest_input < length input) × Appends old new []
-Reaches input old new (Err (Fault.Syntax number)) = (length input ≤ longest_input) × IsFaultAt input number × Appends old new []
+Reaches input old new (Err (Fault.Text number fault)) = (length input ≤ longest_input) × IsFaultAt input number fault × Appends old new []
 Reaches input old new (Err Fault.Range) =
     (verdicts : List Verdict) × (rows : List Holding) × (report : List ℕ) × IsJudged input verdicts rows
     × IsReportToFault rows report × Appends old new (replies 1 verdicts ++ report)
 Reaches input old new (Err Fault.Write) = (text : List ℕ) × IsBegun input text × AppendsPrefix old new text
 Reaches input old new (Err Fault.Memory) = StopsForMemory input Fault.Memory old new
 Reaches input old new (Err (Fault.MemoryAt number)) = StopsForMemory input (Fault.MemoryAt number) old new
+
+-- its lines up to one, or all of them, say commands
+abbrev pub HasMeaning : List ℕ → Type 0
+HasMeaning text = ((number : ℕ) × RunsOutAt text number) ⊎ ((commands : List Command) × Reads text commands)
 
 -- the line of a fault is written, with its status; or the writer fails within it
 abbrev pub Reports : Fault → Option (List ℕ) → Option (List ℕ) → Result Status PrintFault → Type 0
@@ -110,7 +114,7 @@ Concludes old new (Err Fault.Write) (Ok end) = ⊥
 Concludes old new (Err Fault.Write) (Err cut) = Appends old new []
 Concludes old new (Err Fault.Read) concluded = Reports Fault.Read old new concluded
 Concludes old new (Err Fault.TooLong) concluded = Reports Fault.TooLong old new concluded
-Concludes old new (Err (Fault.Syntax number)) concluded = Reports (Fault.Syntax number) old new concluded
+Concludes old new (Err (Fault.Text number fault)) concluded = Reports (Fault.Text number fault) old new concluded
 Concludes old new (Err Fault.Range) concluded = Reports Fault.Range old new concluded
 Concludes old new (Err Fault.Memory) concluded = Reports Fault.Memory old new concluded
 Concludes old new (Err (Fault.MemoryAt number)) concluded = Reports (Fault.MemoryAt number) old new concluded

@@ -3,12 +3,13 @@
 //! - `fault`: why a run ends before its end.
 //! - `status`: how it ended.
 
-ghost use Rattle.std.specs.Prelude.{◌≡◌, ◌≤◌, ℕ, List, length, IfOk, IfSome};
+ghost use Rattle.std.specs.Prelude.{◌≡◌, ◌≤◌, ℕ, List, length, IfOk, IfSome, IsErrOf};
 ghost use Rattle.std.specs.Io.KnownBytes.{Appends, Keeps};
 ghost use Rattle.lot_cli.specs.Status.{IsStatus, after_flush};
 ghost use Rattle.lot_cli.specs.Answer.{IsOutcome};
 ghost use Rattle.lot_cli.specs.Input.{longest_input};
-ghost use Rattle.lot_cli.specs.Way.{Concludes, Ends, JudgesKnown, Reaches, Replies, Runs};
+ghost use Rattle.lot_cli.specs.Way.{Concludes, Ends, HasMeaning, JudgesKnown, Reaches, Replies, Runs};
+ghost use Rattle.lot_cli.specs.declared.batch.fault.Fault.TheVariants.{Memory};
 ghost use Rattle.lot_view.specs.View.{known};
 
 mod fault;
@@ -61,7 +62,9 @@ fn answer<R: Read, W: Write>(alloc: Global, reader: &mut R, writer: &mut W) -> R
 /// The same for a text that was read.
 fn answer_text<W: Write>(alloc: Global, text: &[u8], writer: &mut W) -> Result<Status, Fault>
     requires { length text.now ≤ longest_input }
-    ensures { Reaches text.now (W.contents writer.old) (W.contents writer.new) result }
+    ensures way { Reaches text.now (W.contents writer.old) (W.contents writer.new) result }
+    // Out of memory comes before a faulty line, never at one.
+    ensures memory { IsErrOf result Memory → HasMeaning text.now }
 {
     let commands = read(alloc, text)?;
     let (view, status) = run(alloc, commands, writer)?;

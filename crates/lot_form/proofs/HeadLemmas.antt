@@ -1,6 +1,6 @@
 -- The parts of a line that isn't indented are those whose form its tokens have.
 use Rattle.std.proofs.Common.{◌≡◌, inl, inr, ℕ, ◌≤◌, Bool, true, false, cond, List, [], ◌∷◌, ◌++◌, length, Option, Some, None, refl, ap, ◌∙◌, sym, subst}
-use Rattle.std.specs.Prelude.{◌⊎◌, MatchResult, IfOk, OnErr, IsErrOf, codes, Result, Ok, Err}
+use Rattle.std.specs.Prelude.{◌≢◌, ◌⊎◌, MatchResult, IfOk, OnErr, IsErrOf, codes, Result, Ok, Err}
 use Rattle.std.specs.Cmp.Lexicographic.{bytes_decides}
 use Rattle.std.proofs.lemmas.Option.{same_Some, none-some}
 use Rattle.lot_command.specs.Currencies.{most_currencies}
@@ -337,6 +337,11 @@ known_is (date d ∷ second ∷ rest) e h =
 known_is (text t ∷ rest) e h = cc
 known_is (mark m ∷ rest) e h = cc
 
+some_is : (tokens : List Lexeme) → head_of tokens ≡ Err Syntax → tokens ≢ []
+unfolding head_of
+some_is [] e none = cc
+some_is (token ∷ rest) e none = cc
+
 ok_or_err : (head : Head) (fault : FormFault) → Err fault ≡ Ok head → ⊥
 ok_or_err head fault e = cc
 
@@ -367,6 +372,11 @@ pub head_known : (tokens : List Lexeme) (r : Result HeadForm FormFault) → Retu
 head_known tokens (Ok form) e is = cc
 head_known tokens (Err UnknownDirective) e is = cc
 head_known tokens (Err Syntax) e is = known_is tokens e
+
+pub head_some : (tokens : List Lexeme) (r : Result HeadForm FormFault) → Returns tokens r → IsErrOf r Syntax → tokens ≢ []
+head_some tokens (Ok form) e is = cc
+head_some tokens (Err UnknownDirective) e is = cc
+head_some tokens (Err Syntax) e is = some_is tokens e
 
 pub head_none : (tokens : List Lexeme) (r : Result HeadForm FormFault) → Returns tokens r
     → OnErr r ((day : List ℕ) (directive : Directive) → IsHead tokens day directive → ⊥)

@@ -1,4 +1,4 @@
-ghost use Rattle.std.specs.Prelude.{◌≡◌, ◌⊎◌, ℕ, List, [], None, Some, MatchOption, MatchResult, Ok, Err, IfOk, OnErr, IsErrOf, map, option_map};
+ghost use Rattle.std.specs.Prelude.{◌≡◌, ◌≢◌, ◌⊎◌, ℕ, List, [], None, Some, MatchOption, MatchResult, Ok, Err, IfOk, OnErr, IsErrOf, map, option_map};
 ghost use Rattle.lot_form.specs.Form.{Directive, IsHead, IsUnknown};
 ghost use Rattle.lot_form.specs.Head.{closing_of, currencies_at, declaring_of, directive_of, directive_seen, fitting, head_of, head_seen, last_text, named, notes_of, notes_seen, opening_of, quoting_of, seen_text, transaction_of};
 
@@ -11,12 +11,13 @@ use lot_token::{Mark, Token, Tokens};
 
 /// Returns the parts of a line that isn't indented, by its tokens (docs/FORMATS.md, Forms).
 ///
-/// The error is `UnknownDirective` where the first token is no date or the second is no directive, else `Syntax` where the
-/// tokens have none of the forms.
+/// The error is `UnknownDirective` where the first token is no date or the second is no directive, and where there is no
+/// token, else `Syntax` where the tokens have none of the forms.
 pub fn head<'a>(tokens: &Tokens<'a>) -> Result<HeadForm<'a>, FormFault>
     ensures is { IfOk result (λ form. IsHead tokens.now form.day.now (directive_seen form.directive)) }
     ensures unknown { IsErrOf result FormFault.UnknownDirective → (tokens.now ≡ []) ⊎ IsUnknown tokens.now }
     ensures known { IsErrOf result FormFault.Syntax → IsUnknown tokens.now → ⊥ }
+    ensures some { IsErrOf result FormFault.Syntax → tokens.now ≢ [] }
     ensures none { OnErr result ((day : List ℕ) (directive : Directive) → IsHead tokens.now day directive → ⊥) }
 {
     written(tokens)

@@ -12,7 +12,7 @@ mod head_line;
 mod posting_line;
 mod take;
 
-pub use fault::{FormFault, ValueFault};
+pub use fault::FormFault;
 pub use form::{
     AmountForm, CostForm, CurrencyWords, DirectiveForm, HeadForm, NotesForm, Part, Parts,
     PostingForm, PriceForm,

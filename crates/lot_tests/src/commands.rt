@@ -8,11 +8,12 @@ use lot_command::{
     Amount, Closing, Command, Cost, Currencies, Declaring, Flag, Items, Key, Method, Narration,
     Opening, Posting, Price, Quoting, Transaction, UnitPrice, WholeCost, WholePrice,
 };
+use lot_print::print;
 use std::process::Abort;
 
-/// Asserts the canonical text of a command, and that of its copy.
+/// Asserts what is printed of a command, and the canonical text of its copy.
 fn assert_body(rt: &(impl Abort + AllocGlobal), command: &Command, want: &str) {
-    assert_written(rt, body(rt.alloc(), command), want);
+    assert_written(rt, print(rt.alloc(), command), want);
     let copy = command.copy(rt.alloc()).expect(rt, want);
     assert_written(rt, body(rt.alloc(), &copy), want);
 }
@@ -60,34 +61,44 @@ const OPENINGS: &[(&[&str], Method, &str)] = &[
     ),
 ];
 
+pub(crate) fn opening(
+    rt: &(impl Abort + AllocGlobal),
+    date: &str,
+    name: &str,
+    texts: &[&str],
+    method: Method,
+) -> Command {
+    Command::Opening(Opening {
+        day: day(rt, date),
+        account: account(rt, name),
+        currencies: currencies(rt, texts),
+        method,
+    })
+}
+
 #[test]
 fn openings_have_a_text(rt: HostRuntime) {
     for (texts, method, want) in OPENINGS {
-        let opening = Command::Opening(Opening {
-            day: day(&rt, "2020/1/5"),
-            account: account(&rt, "Assets:Broker"),
-            currencies: currencies(&rt, texts),
-            method: *method,
-        });
+        let opening = opening(&rt, "2020/1/5", "Assets:Broker", texts, *method);
         assert_body(&rt, &opening, want);
     }
 }
 
-fn closing(rt: &(impl Abort + AllocGlobal)) -> Command {
+pub(crate) fn closing(rt: &(impl Abort + AllocGlobal), date: &str, name: &str) -> Command {
     Command::Closing(Closing {
-        day: day(rt, "9999-12-31"),
-        account: account(rt, "Expenses:0"),
+        day: day(rt, date),
+        account: account(rt, name),
     })
 }
 
-fn declaring(rt: &(impl Abort + AllocGlobal)) -> Command {
+pub(crate) fn declaring(rt: &(impl Abort + AllocGlobal)) -> Command {
     Command::Declaring(Declaring {
         day: day(rt, "0001-01-01"),
         commodity: commodity(rt, "HOOL.B"),
     })
 }
 
-fn quoting(rt: &(impl Abort + AllocGlobal)) -> Command {
+pub(crate) fn quoting(rt: &(impl Abort + AllocGlobal)) -> Command {
     Command::Quoting(Quoting {
         day: day(rt, "2020-02-29"),
         base: commodity(rt, "HOOL"),
@@ -98,7 +109,8 @@ fn quoting(rt: &(impl Abort + AllocGlobal)) -> Command {
 
 #[test]
 fn commands_without_postings_have_a_text(rt: HostRuntime) {
-    assert_body(&rt, &closing(&rt), "9999-12-31 close Expenses:0\n");
+    let closing = closing(&rt, "9999-12-31", "Expenses:0");
+    assert_body(&rt, &closing, "9999-12-31 close Expenses:0\n");
     assert_body(&rt, &declaring(&rt), "0001-01-01 commodity HOOL.B\n");
     assert_body(&rt, &quoting(&rt), "2020-02-29 price HOOL 1502.12 USD\n");
 }
@@ -155,7 +167,7 @@ fn transactions_begin_with_their_notes(rt: HostRuntime) {
 }
 
 /// A posting: account, units and commodity (none where it is elided), cost and price.
-type Row<'a> = [&'a str; 4];
+pub(crate) type Row<'a> = [&'a str; 4];
 
 const ROWS: &[Row<'_>] = &[
     ["Assets:A", "10 HOOL", "", ""],
@@ -201,7 +213,7 @@ const LINES: &str = "2020-03-15 * \"Buy\"
 ";
 
 /// The cost of that total and the parts in a text.
-pub(crate) fn whole_cost(rt: &(impl Abort + AllocGlobal), total: &str, parts: &str) -> Cost {
+fn whole_cost(rt: &(impl Abort + AllocGlobal), total: &str, parts: &str) -> Cost {
     let spec = spec(rt, parts);
     let total = units(rt, total);
     Cost::Whole(WholeCost::new(total, spec.currency, spec.day, spec.label).expect(rt, parts))
@@ -253,15 +265,23 @@ fn postings(rt: &(impl Abort + AllocGlobal), rows: &[Row<'_>]) -> Items<Posting>
     postings
 }
 
+/// A transaction of 2020-03-15 with these notes and postings.
+pub(crate) fn transaction(
+    rt: &(impl Abort + AllocGlobal),
+    notes: &[&str],
+    rows: &[Row<'_>],
+) -> Command {
+    Command::Transaction(Transaction {
+        day: day(rt, "2020-03-15"),
+        flag: Flag::Complete,
+        narration: narration(rt, notes),
+        postings: postings(rt, rows),
+    })
+}
+
 #[test]
 fn postings_have_a_line_each(rt: HostRuntime) {
-    let transaction = Command::Transaction(Transaction {
-        day: day(&rt, "2020-03-15"),
-        flag: Flag::Complete,
-        narration: narration(&rt, &["Buy"]),
-        postings: postings(&rt, ROWS),
-    });
-    assert_body(&rt, &transaction, LINES);
+    assert_body(&rt, &transaction(&rt, &["Buy"], ROWS), LINES);
 }
 
 /// Currencies and a commodity, with whether they allow it.

@@ -1,81 +1,122 @@
-//! Commands judged one after another on a book that grows, each with its reply; then what is held and what was sold.
+//! Commands judged on a view of a book, as far as the text of a ledger can't show it: what text shows stands below
+//! `tests/cases/`.
 
-mod accounts;
-mod book;
-mod fills;
-mod limits;
-mod order_of_refusals;
+mod changes;
+mod first_and_last;
+mod repeats;
 mod sales;
-mod script;
-mod several;
 
-use book::Book;
+use crate::assertions::{assert_is, assert_text};
+use crate::make::{account, commodity, day, place, units};
+use lot_command::{Command, Currencies, Method};
+use lot_ledger::{Change, Leg, Outcome, Position, Standing, Stop, View, decide};
+use lot_num::Units;
 use std::process::Abort;
 
-/// A command and its reply.
-type Step<'a> = (&'a str, &'a str);
+/// An account, and units, a commodity and the parts of a lot key or an empty text.
+type Held<'a> = [&'a str; 4];
 
-/// Commands in several parts, what is held after them, and what was sold.
-struct Story<'a> {
-    parts: &'a [&'a [Step<'a>]],
-    held: &'a [&'a str],
-    sold: &'a [&'a str],
-}
-
-/// Openings of a cash account and of those that a purchase and a sale are balanced by.
-const OTHERS: &[Step<'_>] = &[
-    ("2020-01-01 open Assets:Cash", "accepted"),
-    ("2020-01-01 open Income:Gains", "accepted"),
-    ("2020-01-01 open Equity:Start", "accepted"),
+/// Accounts that were opened with no currencies.
+const OPEN: &[&str] = &[
+    "Assets:Broker",
+    "Assets:Cash",
+    "Equity:Start",
+    "Income:Gains",
 ];
 
-const STRICT: &[Step<'_>] = &[("2020-01-01 open Assets:Broker =STRICT", "accepted")];
-
-const FIFO: &[Step<'_>] = &[("2020-01-01 open Assets:Broker =FIFO", "accepted")];
-
-const LIFO: &[Step<'_>] = &[("2020-01-01 open Assets:Broker =LIFO", "accepted")];
-
-const HIFO: &[Step<'_>] = &[("2020-01-01 open Assets:Broker =HIFO", "accepted")];
-
-const NONE: &[Step<'_>] = &[("2020-01-01 open Assets:Broker =NONE", "accepted")];
-
-/// Two purchases.
-const BUYS: &[Step<'_>] = &[
-    (
-        "2020-01-01 * Assets:Broker 10 HOOL {100 USD}; Equity:Start",
-        "accepted",
-    ),
-    (
-        "2020-02-01 * Assets:Broker 10 HOOL {120 USD}; Equity:Start",
-        "accepted",
-    ),
-];
-
-/// What is held after the two purchases.
-const BOUGHT: &[&str] = &[
-    "Assets:Broker 10 HOOL {100 USD, 2020-01-01}",
-    "Assets:Broker 10 HOOL {120 USD, 2020-02-01}",
-    "Equity:Start -2200 USD",
-];
-
-/// The book after all parts of a story.
-fn told(rt: &(impl Abort + AllocGlobal), parts: &[&[Step<'_>]]) -> Book {
-    let mut book = Book::new(rt, 0);
-    for steps in parts {
-        book = book.judged_all(rt, steps);
+/// An account of 2020-01-01 that allows every commodity.
+fn opened(rt: &(impl Abort + AllocGlobal), method: Method) -> Standing {
+    Standing {
+        opened: day(rt, "2020-01-01"),
+        closed: None,
+        method,
+        allowed: Currencies::none(rt.alloc()),
     }
-    book
 }
 
-/// Asserts each reply of a story, and what is held and sold at its end.
-fn assert_story(rt: &(impl Abort + AllocGlobal), story: &Story<'_>) {
-    let book = told(rt, story.parts);
-    book.assert_held(rt, story.held);
-    book.assert_sold(rt, story.sold);
+/// Puts how an account stands.
+fn put_account(rt: &(impl Abort + AllocGlobal), view: &mut View, name: &str, standing: Standing) {
+    view.put_account(&account(rt, name), standing)
+        .expect(rt, name);
 }
 
-fn assert_stories(rt: &(impl Abort + AllocGlobal), stories: &[Story<'_>]) {
-    for story in stories {
-        assert_story(rt, story);
+/// Puts what accounts hold.
+fn put_held(rt: &(impl Abort + AllocGlobal), view: &mut View, rows: &[Held<'_>]) {
+    for [name, number, what, parts] in rows {
+        let (account, what) = (account(rt, name), commodity(rt, what));
+        let lot = place(rt, parts);
+        view.put_position(&account, &what, lot.as_ref(), units(rt, number))
+            .expect(rt, name);
     }
+}
+
+/// A view of so many entries, with accounts of that method that hold units.
+fn view_of(
+    rt: &(impl Abort + AllocGlobal),
+    entries: u32,
+    method: Method,
+    held: &[Held<'_>],
+) -> View {
+    let mut view = View::new(rt.alloc(), entries);
+    for name in OPEN {
+        put_account(rt, &mut view, name, opened(rt, method));
+    }
+    put_held(rt, &mut view, held);
+    view
+}
+
+/// What becomes of a command: `accepted`, `repeat`, or the refusal.
+fn reply(rt: &(impl Abort + AllocGlobal), decided: &Result<Outcome, Stop>) -> String {
+    let text = match decided {
+        Ok(Outcome::Accept(_)) => String::from_str(rt.alloc(), "accepted"),
+        Ok(Outcome::Repeat) => String::from_str(rt.alloc(), "repeat"),
+        Err(stop) => format!(in rt.alloc(); "{stop:?}"),
+    };
+    text.expect(rt, "reply")
+}
+
+/// Asserts what becomes of a command.
+fn assert_reply(rt: &(impl Abort + AllocGlobal), view: &View, command: &Command, want: &str) {
+    let decided = decide(rt.alloc(), view, command);
+    assert_text(rt, reply(rt, &decided).as_str(), want);
+}
+
+/// What a command changes, which has to be accepted.
+fn changed(rt: &(impl Abort + AllocGlobal), view: &View, command: &Command) -> Change {
+    let decided = decide(rt.alloc(), view, command);
+    let change = change_in(decided).expect(rt, "accepted");
+    assert_adds_up(rt, view, &change);
+    change
+}
+
+/// The change of a command that is accepted.
+fn change_in(decided: Result<Outcome, Stop>) -> Option<Change> {
+    match decided {
+        Ok(Outcome::Accept(change)) => Some(change),
+        _ => None,
+    }
+}
+
+/// Asserts that a change lists the position of each leg, and of each what it holds after all legs.
+fn assert_adds_up(rt: &impl Abort, view: &View, change: &Change) {
+    let legs = change.legs.as_slice();
+    for leg in legs {
+        assert!(rt; change.positions.contains_key(&leg.position));
+    }
+    for (position, units) in &change.positions {
+        let sum = sum_at(rt, view, legs, position);
+        assert_is(rt, &sum, units, position.account.as_str());
+    }
+}
+
+/// What a position of a view holds after some legs.
+fn sum_at(rt: &impl Abort, view: &View, legs: &[Leg], position: &Position) -> Units {
+    let lot = position.lot.as_ref();
+    let mut sum = view.units(&position.account, &position.commodity, lot);
+    for leg in legs {
+        if leg.position == *position {
+            sum = sum.checked_add(leg.units).expect(rt, "sum");
+        }
+    }
+    sum
 }

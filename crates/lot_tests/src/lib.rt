@@ -12,7 +12,7 @@
 //! - `booking`: postings with braces, with what becomes of each.
 //! - `commands`: the canonical texts of commands and of their copies, and the currencies of an opening.
 //! - `gains`: sales, with the gain of each.
-//! - `judge`: commands judged one after another, with what is held and sold then, and the order of refusals.
+//! - `judge`: commands judged on a view of a book: what they change, their sales, and the refusals that no text shows.
 //!
 //! What keeps the proofs of tests short: no `?`, which adds a path on which all that lives is dropped; tables that are
 //! slices, and not arrays that a loop takes by value; assertions in functions of their own.

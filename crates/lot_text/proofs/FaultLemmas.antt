@@ -1,129 +1,163 @@
--- When out of memory is reported: only where a line says something, and fits behind those before it.
-use Rattle.std.proofs.Common.{◌≡◌, ◌⊎◌, ℕ, true, false, List, Option, Some, None, Err, ℤ, inl, inr, refl, ap}
-use Rattle.std.specs.Prelude.{◌==◌, option_map, option_and_then, IsSome, ⊤, codes}
-use Rattle.std.specs.Cmp.Lexicographic.{pointwise}
-use Rattle.std.specs.Option.{is_some}
-use Rattle.std.specs.Str.{is_utf8}
-use Rattle.std.proofs.lemmas.Bool.{cases_Bool}
-use Rattle.lot_command.specs.declared.command.Command.{Command}
-use Rattle.lot_command.specs.declared.command.Opening.{Opening as OpeningOf}
-use Rattle.lot_command.specs.declared.transaction.Narration.{Narration}
-use Rattle.lot_command.specs.declared.transaction.Transaction.{Transaction as TransactionOf}
-use Rattle.lot_base.specs.Day.{named_day}
-use Rattle.lot_text.specs.declared.line.Line.{Line}
-use Rattle.lot_text.specs.declared.line.Line.TheVariants.{Opening as SaysOpening, Transaction as SaysHead, Posting as SaysPosting}
-use Rattle.lot_text.specs.declared.line.LineFault.{LineFault}
-use Rattle.lot_text.specs.declared.line.LineFault.TheVariants.{Syntax, Memory}
-use Rattle.lot_text.specs.Reading.{◌>>=◌, Gives, cut, note_of, opening_of, begun, done_by, done_of, head_of, indented, posting_of, line_of, put, take_line}
+-- The first cause that holds of a line.
+use Rattle.std.proofs.Common.{◌≡◌, inl, inr, ℕ, ◌<◌, ◌≤◌, Bool, true, false, List, ◌∷◌, length, refl, subst, arith, lit≤}
+use Rattle.std.specs.Prelude.{IsTrue, IsFalse}
+use Rattle.std.specs.Str.{IsUtf8}
+use Rattle.std.proofs.lemmas.Bool.{both_ways}
+use Rattle.lot_token.specs.Token.{Lexeme, Cuts, date}
+use Rattle.lot_token.proofs.CutLemmas.{one_cut}
+use Rattle.lot_form.specs.Form.{Directive, opening, closing, declaring, quoting, transaction, IsDirective, IsFlag, IsHead, IsPosting, IsUnknown, NamesDirective, WrittenPosting}
+use Rattle.lot_command.specs.declared.transaction.Flag.{Flag}
+use Rattle.lot_command.specs.declared.transaction.Flag.TheVariants.{Complete, Incomplete}
+use Rattle.lot_meaning.specs.Meaning.{FirstOutside, Item, head_items, posting_items}
+use Rattle.lot_meaning.specs.declared.fault.ValueFault.{ValueFault}
+use Rattle.lot_text.specs.declared.fault.LineFault.TheVariants as Faults
+use Rattle.lot_text.specs.Line.{longest_line, is_heading, is_indented, IsReadable, Cause, not_utf8, too_long, uncut, unknown_directive, no_form, outside, order, HasTokens, HasForm, Holds, IsFaulty, fault_by}
+use Rattle.lot_text.specs.Reading.{IsLineOf}
 
--- a fault of what a part says is one of what is made of it
-pub gives_mapped : {X Y : Type 0} (f : X → Y) (said : Option X) (fault : LineFault) → Gives said (Err fault) → Gives (option_map f said) (Err fault)
-gives_mapped f None Syntax none = refl
-gives_mapped f (Some x) Syntax none = absurd cc
-gives_mapped f None Memory some = some
-gives_mapped f (Some x) Memory some = some
+-- ---- A line that isn't indented and has a form is a directive.
 
--- ---- a line behind those before it
+flag_names : (token : Lexeme) (flag : Flag) → IsFlag token flag → NamesDirective token
+flag_names token Complete (inl e) = inr (inr (inr (inr (inl e))))
+flag_names token Complete (inr e) = inr (inr (inr (inr (inr (inr e)))))
+flag_names token Incomplete e = inr (inr (inr (inr (inr (inl e)))))
 
--- an indented line fits only behind a transaction
-pub none_taken : (commands : List Command) (line posting : List ℕ) → indented line ≡ Some posting → take_line commands None line ≡ None
-unfolding take_line line_of
-none_taken commands line posting is = elim (cases_Bool (is_utf8 line)) [
-  | inl good ↦ rw (good, is) (by (posting_of posting))
-  | inr bad ↦ rw bad refl
-]
+known_by : (when : List ℕ) (rest : List Lexeme) (directive : Directive) → IsDirective rest directive → IsUnknown (date when ∷ rest) → ⊥
+known_by when rest (opening account currencies method) (most, e) unknown = (subst (λ (ts : List Lexeme). IsUnknown (date when ∷ ts)) e unknown) (inl refl)
+known_by when rest (closing account) e unknown = (subst (λ (ts : List Lexeme). IsUnknown (date when ∷ ts)) e unknown) (inr (inl refl))
+known_by when rest (declaring commodity) e unknown = (subst (λ (ts : List Lexeme). IsUnknown (date when ∷ ts)) e unknown) (inr (inr (inl refl)))
+known_by when rest (quoting base rate quote) e unknown =
+    (subst (λ (ts : List Lexeme). IsUnknown (date when ∷ ts)) e unknown) (inr (inr (inr (inl refl))))
+known_by when rest (transaction flag notes) (token, is, e) unknown =
+    (subst (λ (ts : List Lexeme). IsUnknown (date when ∷ ts)) e unknown) (flag_names token flag is)
+
+known : (tokens : List Lexeme) (day : List ℕ) (directive : Directive) → IsHead tokens day directive → IsUnknown tokens → ⊥
+known tokens day directive (rest, is, e) unknown = known_by day rest directive is (subst IsUnknown e unknown)
+
+-- ---- Causes that are ruled out.
+
+past_length : (may_post : Bool) (line : List ℕ) → IsReadable line → (other : Cause) → Holds may_post line other → 3 ≤ order other
+past_length may_post line readable not_utf8 h = absurd (h readable.utf8)
+past_length may_post line readable too_long h = let short = readable.short in absurd (omega arith)
+past_length may_post line readable _ h = lit≤ tt
+
+past_cut : (may_post : Bool) (line : List ℕ) (tokens : List Lexeme) → IsReadable line → HasTokens line tokens
+    → (other : Cause) → Holds may_post line other → 4 ≤ order other
+past_cut may_post line tokens readable has not_utf8 h = absurd (h readable.utf8)
+past_cut may_post line tokens readable has too_long h = let short = readable.short in absurd (omega arith)
+past_cut may_post line tokens readable has uncut (plain, none) = absurd (none tokens has.cuts)
+past_cut may_post line tokens readable has _ h = lit≤ tt
+
+past_directive : (may_post : Bool) (line : List ℕ) (tokens : List Lexeme) → IsReadable line → HasTokens line tokens
+    → (IsFalse (is_indented line) → IsUnknown tokens → ⊥) → (other : Cause) → Holds may_post line other → 5 ≤ order other
+past_directive may_post line tokens readable has known not_utf8 h = absurd (h readable.utf8)
+past_directive may_post line tokens readable has known too_long h = let short = readable.short in absurd (omega arith)
+past_directive may_post line tokens readable has known uncut (plain, none) = absurd (none tokens has.cuts)
+past_directive may_post line tokens readable has known unknown_directive (others, has', flat, unknown) =
+    absurd (known flat (subst IsUnknown (one_cut line others tokens has'.cuts has.cuts) unknown))
+past_directive may_post line tokens readable has known _ h = lit≤ tt
+
+pub form_known : (may_post : Bool) (line : List ℕ) (tokens : List Lexeme) (items : List Item) → HasForm may_post line tokens items
+    → IsFalse (is_indented line) → IsUnknown tokens → ⊥
+form_known may_post line tokens items (inl (flat, day, directive, is, e)) flat' unknown = known tokens day directive is unknown
+form_known may_post line tokens items (inr (indented, may, written, is, e)) flat unknown = both_ways (is_indented line) flat indented
+
+past_form : (may_post : Bool) (line : List ℕ) (tokens : List Lexeme) (items : List Item) → IsReadable line → HasTokens line tokens
+    → HasForm may_post line tokens items → (other : Cause) → Holds may_post line other → 6 ≤ order other
+past_form may_post line tokens items readable has form (outside fault) h = lit≤ tt
+past_form may_post line tokens items readable has form no_form (others, has', none) =
+    absurd (none items (subst (λ (ts : List Lexeme). HasForm may_post line ts items) (one_cut line tokens others has.cuts has'.cuts) form))
+past_form may_post line tokens items readable has form unknown_directive h =
+    absurd (lit_no (past_directive may_post line tokens readable has (form_known may_post line tokens items form) unknown_directive h))
   where
-    by : (said : Option _) → option_and_then (put commands None) (option_map SaysPosting said) ≡ None
-    by None = refl
-    by (Some p) = refl
-
--- what a line that isn't indented says is no posting
-abbrev IsNoPosting : Option Line → Type 0
-IsNoPosting None = ⊤
-IsNoPosting (Some (SaysOpening o)) = ⊤
-IsNoPosting (Some (SaysHead t)) = ⊤
-IsNoPosting (Some (SaysPosting p)) = ⊥
-
-no_posting_by : (day : ℤ) (word text : List ℕ) → IsNoPosting (done_by day word text)
-no_posting_by day word text = elim (cases_Bool (pointwise ◌==◌ word (codes "*"))) [
-  | inl star ↦ rw star (note (note_of text))
-  | inr other ↦ elim (cases_Bool (pointwise ◌==◌ word (codes "open"))) [
-    | inl opens ↦ rw (other, opens) (opening (opening_of day text))
-    | inr unknown ↦ rw (other, unknown) tt
-  ]
-]
+    lit_no : 5 ≤ 4 → ⊥
+    lit_no h = omega arith
+past_form may_post line tokens items readable has form uncut h =
+    absurd (lit_no (past_cut may_post line tokens readable has uncut h))
   where
-    note : (o : Option Narration) → IsNoPosting (o >>= λ narration. Some (SaysHead (begun day (Some narration))))
-    note None = tt
-    note (Some n) = tt
+    lit_no : 4 ≤ 3 → ⊥
+    lit_no h = omega arith
+past_form may_post line tokens items readable has form not_utf8 h = absurd (h readable.utf8)
+past_form may_post line tokens items readable has form too_long h = let short = readable.short in absurd (omega arith)
 
-    opening : (o : Option OpeningOf) → IsNoPosting (o >>= λ opening. Some (SaysOpening opening))
-    opening None = tt
-    opening (Some o) = tt
+-- ---- The fault of a line, by what is found of it.
 
-no_posting_done : (day : ℤ) (text : List ℕ) → IsNoPosting (done_of day text)
-unfolding done_of
-no_posting_done day text = elim (cases_Bool (pointwise ◌==◌ text (codes "*"))) [
-  | inl star ↦ rw star tt
-  | inr other ↦ rw other (by (cut 32 text))
-]
+pub bad_utf8 : (may_post : Bool) (line : List ℕ) → (IsUtf8 line → ⊥) → IsFaulty may_post line Faults.NotUtf8
+bad_utf8 may_post line bad = (not_utf8, record { holds = bad; first = λ other h. least other }, refl)
   where
-    by : (o : Option (List ℕ × List ℕ)) → IsNoPosting (o >>= λ parts. done_by day parts.0 parts.1)
-    by None = tt
-    by (Some parts) = no_posting_by day parts.0 parts.1
+    least : (other : Cause) → 1 ≤ order other
+    least not_utf8 = lit≤ tt
+    least _ = lit≤ tt
 
-no_posting_head : (text : List ℕ) → IsNoPosting (head_of text)
-unfolding head_of
-no_posting_head text = by (cut 32 text)
+pub bad_length : (may_post : Bool) (line : List ℕ) → IsUtf8 line → longest_line < length line → IsFaulty may_post line Faults.TooLong
+bad_length may_post line utf8 long = (too_long, record { holds = long; first = λ other h. least other h }, refl)
   where
-    on : (o : Option ℤ) (rest : List ℕ) → IsNoPosting (o >>= λ day. done_of day rest)
-    on None rest = tt
-    on (Some day) rest = no_posting_done day rest
+    least : (other : Cause) → Holds may_post line other → 2 ≤ order other
+    least not_utf8 h = absurd (h utf8)
+    least _ h = lit≤ tt
 
-    by : (o : Option (List ℕ × List ℕ)) → IsNoPosting (o >>= λ parts. (named_day parts.0 >>= λ day. done_of day parts.1))
-    by None = tt
-    by (Some parts) = on (named_day parts.0) parts.1
+pub bad_cut : (may_post : Bool) (line : List ℕ) → IsReadable line → is_heading line ≡ false → ((tokens : List Lexeme) → Cuts tokens line → ⊥)
+    → IsFaulty may_post line Faults.Syntax
+bad_cut may_post line readable plain none =
+    (uncut, record { holds = (plain, none); first = past_length may_post line readable }, refl)
 
-no_posting_line : (line : List ℕ) → indented line ≡ None → IsNoPosting (line_of line)
-unfolding line_of
-no_posting_line line none = elim (cases_Bool (is_utf8 line)) [
-  | inl good ↦ rw (good, none) (no_posting_head line)
-  | inr bad ↦ rw bad tt
-]
+pub bad_directive : (may_post : Bool) (line : List ℕ) (tokens : List Lexeme) → IsLineOf false tokens line → IsUnknown tokens
+    → IsFaulty may_post line Faults.UnknownDirective
+bad_directive may_post line tokens of unknown = (
+  unknown_directive,
+  record { holds = (tokens, of.has, of.indent, unknown); first = past_cut may_post line tokens of.readable of.has },
+  refl,
+)
 
-taken_in : (commands : List Command) (pending : Option TransactionOf) (said : Option Line) → (pending ≡ None → IsNoPosting said) → IsSome said
-    → IsSome (said >>= put commands pending)
-taken_in commands pending None fits some = some
-taken_in commands pending (Some (SaysOpening o)) fits some = refl
-taken_in commands pending (Some (SaysHead t)) fits some = refl
-taken_in commands None (Some (SaysPosting p)) fits some = absurd (fits refl)
-taken_in commands (Some t) (Some (SaysPosting p)) fits some = refl
-
--- a line that says something fits, unless it is indented and no transaction stands before it
-pub some_taken : (commands : List Command) (pending : Option TransactionOf) (line : List ℕ) → (pending ≡ None → indented line ≡ None)
-    → IsSome (line_of line) → IsSome (take_line commands pending line)
-unfolding take_line
-some_taken commands pending line fits some = taken_in commands pending (line_of line) (λ e. no_posting_line line (fits e)) some
-
--- ---- what the reader finds of a line
-
-pub none_behind : (commands : List Command) (pending : Option TransactionOf) (line : List ℕ) → is_some pending ≡ false → is_some (indented line) ≡ true
-    → take_line commands pending line ≡ None
-none_behind commands (Some t) line none is = absurd cc
-none_behind commands None line none is = by (indented line) refl is
+-- none of the forms of a line that isn't indented
+pub bad_head : (may_post : Bool) (line : List ℕ) (tokens : List Lexeme) → IsLineOf false tokens line → (IsUnknown tokens → ⊥)
+    → ((day : List ℕ) (directive : Directive) → IsHead tokens day directive → ⊥) → IsFaulty may_post line Faults.Syntax
+bad_head may_post line tokens of known none = (
+  no_form,
+  record {
+    holds = (tokens, of.has, by);
+    first = past_directive may_post line tokens of.readable of.has (λ flat unknown. known unknown);
+  },
+  refl,
+)
   where
-    by : (o : Option (List ℕ)) → indented line ≡ o → is_some o ≡ true → take_line commands None line ≡ None
-    by None e f = absurd cc
-    by (Some posting) e f = none_taken commands line posting e
+    by : (items : List Item) → HasForm may_post line tokens items → ⊥
+    by items (inl (flat, day, directive, is, e)) = none day directive is
+    by items (inr (indented, may, written, is, e)) = both_ways (is_indented line) of.indent indented
 
-pub fits_behind : (pending : Option TransactionOf) (line : List ℕ) → (is_some pending ≡ true) ⊎ (is_some (indented line) ≡ false) → pending ≡ None → indented line ≡ None
-fits_behind pending line (inl some) none = let is = ap is_some none in absurd cc
-fits_behind pending line (inr unindented) none = by (indented line) refl
+-- a posting where none may stand, or none
+pub bad_posting : (may_post : Bool) (line : List ℕ) (tokens : List Lexeme) → IsLineOf true tokens line
+    → (IsTrue may_post → (written : WrittenPosting) → IsPosting tokens written → ⊥) → IsFaulty may_post line Faults.Syntax
+bad_posting may_post line tokens of none = (
+  no_form,
+  record {
+    holds = (tokens, of.has, by);
+    first = past_directive may_post line tokens of.readable of.has (λ flat unknown. both_ways (is_indented line) flat of.indent);
+  },
+  refl,
+)
   where
-    by : (o : Option (List ℕ)) → indented line ≡ o → indented line ≡ None
-    by None e = e
-    by (Some posting) e = let is = ap is_some e in absurd cc
+    by : (items : List Item) → HasForm may_post line tokens items → ⊥
+    by items (inl (flat, day, directive, is, e)) = both_ways (is_indented line) flat of.indent
+    by items (inr (indented, may, written, is, e)) = none may written is
 
-pub gives_memory : {X : Type 0} (said : Option X) (fault : LineFault) → Gives said (Err fault) → fault ≡ Memory → IsSome said
-gives_memory said Memory some e = some
-gives_memory said Syntax none e = absurd cc
+-- a part outside its rule
+bad_value : (may_post : Bool) (line : List ℕ) (tokens : List Lexeme) (items : List Item) (fault : ValueFault) → IsReadable line
+    → HasTokens line tokens → HasForm may_post line tokens items → FirstOutside items fault
+    → IsFaulty may_post line (fault_by (outside fault))
+bad_value may_post line tokens items fault readable has form first = (
+  outside fault,
+  record { holds = (tokens, items, has, form, first); first = past_form may_post line tokens items readable has form },
+  refl,
+)
+
+pub bad_head_value : (may_post : Bool) (line : List ℕ) (tokens : List Lexeme) (day : List ℕ) (directive : Directive) (fault : ValueFault)
+    → IsLineOf false tokens line → IsHead tokens day directive → FirstOutside (head_items day directive) fault
+    → IsFaulty may_post line (fault_by (outside fault))
+bad_head_value may_post line tokens day directive fault of is first =
+    bad_value may_post line tokens (head_items day directive) fault of.readable of.has (inl (of.indent, day, directive, is, refl)) first
+
+pub bad_posting_value : (may_post : Bool) (line : List ℕ) (tokens : List Lexeme) (written : WrittenPosting) (fault : ValueFault)
+    → IsTrue may_post → IsLineOf true tokens line → IsPosting tokens written → FirstOutside (posting_items written) fault
+    → IsFaulty may_post line (fault_by (outside fault))
+bad_posting_value may_post line tokens written fault may of is first =
+    bad_value may_post line tokens (posting_items written) fault of.readable of.has (inr (of.indent, may, written, is, refl)) first

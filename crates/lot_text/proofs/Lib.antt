@@ -1,6 +1,8 @@
 pub mod FaultLemmas
-pub mod TextCuts
-pub mod TextPostings
-pub mod TextForms
+pub mod LastLemmas
+pub mod SaidLemmas
+pub mod StatementLemmas
 pub mod TextLemmas
+pub mod LineLaws
+pub mod CommandLaws
 pub mod TextLaws

@@ -1,12 +1,12 @@
 ghost use Rattle.std.specs.Prelude.{◌≡◌};
-ghost use Rattle.lot_cli.specs.FaultLine.{fault_line};
+ghost use Rattle.lot_cli.specs.FaultLine.{fault_line, name_text};
 ghost use Rattle.lot_cli.specs.Status.{fault_at, status_of};
 ghost use Rattle.lot_report.specs.Written.{WritesLine};
 
 use super::status::Status;
 use crate::input::SlurpFault;
 use lot_report::{PrintFault, ReportFault, print_line};
-use lot_text::TextFault;
+use lot_text::{LineFault, TextFault};
 use std::alloc::AllocError;
 use std::io::Write;
 use thiserror::Error;
@@ -21,8 +21,8 @@ pub(super) enum Fault {
     #[error("the input is longer than 16 MiB")]
     TooLong,
     /// A line, counted from 1, isn't ledger text.
-    #[error("line {line} is not understood")]
-    Syntax { line: u64 },
+    #[error("line {line}: {fault}")]
+    Text { line: u64, fault: LineFault },
     /// A total leaves the range of weights.
     #[error("a total is too large")]
     Range,
@@ -71,7 +71,7 @@ impl From<TextFault> for Fault {
 
     fn from(fault: TextFault) -> Fault {
         match fault {
-            TextFault::Syntax { line } => Fault::Syntax { line },
+            TextFault::Line { line, fault } => Fault::Text { line, fault },
             TextFault::Memory { .. } => Fault::Memory,
         }
     }
@@ -108,7 +108,7 @@ impl Fault {
         ensures { result ≡ status_of self }
     {
         match self {
-            Fault::Read | Fault::TooLong | Fault::Syntax { .. } => Status::BadInput,
+            Fault::Read | Fault::TooLong | Fault::Text { .. } => Status::BadInput,
             _ => Status::Stopped,
         }
     }
@@ -121,10 +121,28 @@ pub(super) fn print_fault<W: Write>(writer: &mut W, fault: Fault) -> Result<(), 
     match fault {
         Fault::Read => print_line(writer, "fault K1 Read"),
         Fault::TooLong => print_line(writer, "fault K2 TooLong"),
-        Fault::Syntax { line } => print_line(writer, format_args!("fault line {line} X2 Syntax")),
+        Fault::Text { line, fault } => {
+            let name = name(fault);
+            print_line(writer, format_args!("fault line {line} {name}"))
+        }
         Fault::Range => print_line(writer, "fault P1 Range"),
         Fault::Write => Ok(()),
         Fault::Memory => print_line(writer, "fault Memory"),
         Fault::MemoryAt { number } => print_line(writer, format_args!("{number} fault Memory")),
+    }
+}
+
+/// Returns the code and the name of a fault of ledger text.
+fn name(fault: LineFault) -> &'static str
+    ensures { result.now ≡ name_text fault }
+{
+    match fault {
+        LineFault::NotUtf8 => "X1 NotUtf8",
+        LineFault::Syntax => "X2 Syntax",
+        LineFault::UnknownDirective => "X3 UnknownDirective",
+        LineFault::BadNumber => "X4 BadNumber",
+        LineFault::BadName => "X5 BadName",
+        LineFault::BadDay => "X6 BadDay",
+        LineFault::TooLong => "X7 LineTooLong",
     }
 }

@@ -4,6 +4,7 @@
 use super::fault::Fault;
 use super::{check, conclude};
 use crate::fakes::{Flush, Script, ScriptedReader, ScriptedWriter, Trouble, When};
+use lot_text::LineFault;
 use std::alloc::{AllocError, Global};
 use std::test::Fail;
 
@@ -36,7 +37,7 @@ const LONGEST: Case = (
     0,
 );
 
-const FAULTY: Case = (b"x", b"fault line 1 X2 Syntax\n", 3);
+const FAULTY: Case = (b"x", b"fault line 1 X3 UnknownDirective\n", 3);
 
 const EMPTY: Case = (b"", b"nothing held\n", 0);
 
@@ -157,9 +158,12 @@ fn lines_and_texts_of_faults(rt: HostRuntime) -> Result<(), Fail> {
             3,
         ),
         (
-            Fault::Syntax { line: 1_000 },
-            "fault line 1000 X2 Syntax\n",
-            "Syntax { line: 1000 }: line 1000 is not understood: Ok(BadInput)",
+            Fault::Text {
+                line: 1_000,
+                fault: LineFault::TooLong,
+            },
+            "fault line 1000 X7 LineTooLong\n",
+            "Text { line: 1000, fault: TooLong }: line 1000: longer than 4,096 bytes: Ok(BadInput)",
             3,
         ),
         (

@@ -1,7 +1,8 @@
+use Rattle.std.proofs.Common.{sym}
 use Rattle.lot_cli.proofs.batch.fault.print_fault.Goals as goal
 
-pub returns-in-Syntax : goal.returns-in-Syntax
-returns-in-Syntax g c = rw (c.in-Syntax.is) c.print_line-in-Syntax.ensures.bytes
+pub returns-in-Text : goal.returns-in-Text
+returns-in-Text g c = rw (c.in-Text.is) (rw (sym c.name-name.ensures) c.print_line-in-Text.ensures.bytes)
 
 pub returns-in-Range : goal.returns-in-Range
 returns-in-Range g c = rw (c.in-Range.is) c.print_line-in-Range.ensures.bytes

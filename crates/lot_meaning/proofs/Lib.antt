@@ -1,0 +1,10 @@
+pub mod ItemLemmas
+pub mod PartLemmas
+pub mod EscapeLemmas
+pub mod DecisionLemmas
+pub mod OneLemmas
+pub mod GivenLemmas
+pub mod CostLemmas
+pub mod PostingLemmas
+pub mod DirectiveLemmas
+pub mod HeadLemmas

@@ -1,0 +1,4 @@
+pub mod Meaning
+pub mod Outside
+pub mod Refusal
+pub mod Checked

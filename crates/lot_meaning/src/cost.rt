@@ -1,0 +1,77 @@
+//! What the parts of a cost mean.
+ghost use Rattle.std.specs.Prelude.{◌≡◌, option_map, IfErr, IfOk, OnOk};
+ghost use Rattle.lot_form.specs.Form.{FitsCost, FitsPerhaps};
+ghost use Rattle.lot_form.specs.Shape.{cost_seen};
+ghost use Rattle.lot_meaning.specs.Meaning.{AreInside, FirstOutside, MeansCost, MeansPerhaps, cost_items, listed_by};
+ghost use Rattle.lot_meaning.specs.Checked.{cost_of};
+
+use crate::fault::ValueFault;
+use crate::given::Given;
+use crate::value::Total;
+use lot_booking::{Cost, WholeCost};
+use lot_form::CostForm;
+use lot_num::Rate;
+use std::alloc::{AllocError, Global};
+
+/// A cost whose parts are within their rules. Nothing of it is kept yet.
+#[derive(Drop)]
+pub(crate) enum CheckedCost<'a> {
+    /// In single braces.
+    Each(Given<'a, Rate>),
+    /// In double braces: the total, and what is given beside it.
+    Whole(Total, Given<'a, Total>),
+}
+
+impl<'a> CheckedCost<'a> {
+    /// Returns what a cost means. The error is the fault of its first part that is outside its rule.
+    pub(crate) fn new(form: &CostForm<'a>) -> Result<CheckedCost<'a>, ValueFault>
+        requires { FitsCost (cost_seen form.now) }
+        ensures means { IfOk result (λ cost. MeansCost (cost_seen form.now) (cost_of cost)) }
+        ensures inside { OnOk result (AreInside (cost_items (cost_seen form.now))) }
+        ensures outside { IfErr result (λ fault. FirstOutside (cost_items (cost_seen form.now)) fault) }
+    {
+        match form {
+            CostForm::Each(parts) => Ok(CheckedCost::Each(Given::new(parts)?)),
+            CostForm::Whole(parts) => {
+                let given: Given<'_, Total> = Given::new(parts)?;
+                match given.number {
+                    Some(total) => Ok(CheckedCost::Whole(total, given)),
+                    // One of the parts is a number.
+                    None => unreachable!(),
+                }
+            }
+        }
+    }
+
+    /// Returns the same, where there is a cost.
+    pub(crate) fn perhaps(
+        form: &Option<CostForm<'a>>,
+    ) -> Result<Option<CheckedCost<'a>>, ValueFault>
+        requires { FitsPerhaps FitsCost (option_map cost_seen form.now) }
+        ensures means { IfOk result (λ cost. MeansPerhaps MeansCost (option_map cost_seen form.now) (option_map cost_of cost)) }
+        ensures inside { OnOk result (AreInside (listed_by cost_items (option_map cost_seen form.now))) }
+        ensures outside { IfErr result (λ fault. FirstOutside (listed_by cost_items (option_map cost_seen form.now)) fault) }
+    {
+        match form {
+            Some(cost) => Ok(Some(CheckedCost::new(cost)?)),
+            None => Ok(None),
+        }
+    }
+
+    /// Returns the cost, which is kept. The only error is out of memory.
+    pub(crate) fn keep(&self, alloc: Global) -> Result<Cost, AllocError>
+        ensures { IfOk result (λ cost. cost ≡ cost_of self.now) }
+    {
+        match self {
+            CheckedCost::Each(given) => Ok(Cost::Each(given.keep(alloc, given.number)?)),
+            CheckedCost::Whole(total, given) => {
+                let spec = given.keep(alloc, None)?;
+                match WholeCost::new(total.units(), spec.currency, spec.day, spec.label) {
+                    Some(cost) => Ok(Cost::Whole(cost)),
+                    // A total isn't below zero.
+                    None => unreachable!(),
+                }
+            }
+        }
+    }
+}
