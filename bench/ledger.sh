@@ -5,12 +5,8 @@
 # interest are the ratios to a tenth of the commands, not the times of this machine.
 set -u -o pipefail
 
-cd "$(dirname "$(readlink -f "${BASH_SOURCE[0]}")")/.." || exit 1
-program=crates/lotbook/out/lotbook
-./lotbook </dev/null >/dev/null || exit 1
-
-scratch=$(mktemp -d) || exit 1
-trap 'rm -rf "$scratch"' EXIT
+cd "$(dirname "$(readlink -f "${BASH_SOURCE[0]}")")" || exit 1
+. lib/runs.sh
 
 # ledger METHOD KEPT COMMANDS: rounds of three purchases and three sales of one commodity in one account. KEPT is 1 where the
 # lot of the third purchase is to stay, else 0: then the second and the third are at one cost, on different days.
@@ -39,28 +35,6 @@ ledger() {
                 post(2 * turn + 1, strict ? (kept ? -2 : -4) : -1, strict ? second : "")
             }
         }'
-}
-
-# seconds FILE RUNS: the processor time of a run on a file, as the mean of so many one after another, the least of some such.
-seconds() {
-    local TIMEFORMAT=%U turn run
-    for turn in 1 2 3 4 5; do
-        { time for ((run = 0; run < $2; run++)); do "$program" <"$1" >"$scratch/out"; done; } 2>&1
-    done | sort -n | awk -v runs="$2" 'NR == 1 { printf "%.5f\n", $1 / runs }'
-}
-
-# The most memory of a run on a file, in KiB.
-memory() {
-    local pid key value rest peak=0
-    "$program" <"$1" >/dev/null &
-    pid=$!
-    while [[ -e /proc/$pid/exe ]]; do
-        while read -r key value rest; do
-            if [[ $key == VmHWM: ]] && ((value > peak)); then peak=$value; fi
-        done 2>/dev/null <"/proc/$pid/status"
-    done
-    wait "$pid"
-    echo "$peak"
 }
 
 # table KEPT: for each method and size the seconds and MiB, and their ratios to those of the size before.

@@ -1,0 +1,31 @@
+# What the scripts here share that run the program on texts. It is sourced by them, in their own folder.
+
+cd .. || exit 1
+program=crates/lotbook/out/lotbook
+./lotbook </dev/null >/dev/null || exit 1
+
+scratch=$(mktemp -d) || exit 1
+trap 'rm -rf "$scratch"' EXIT
+
+# seconds FILE RUNS: the processor time of a run on a file, as the mean of so many one after another, the least of some such.
+# The output of the last run is kept.
+seconds() {
+    local TIMEFORMAT=%U turn run
+    for turn in 1 2 3 4 5; do
+        { time for ((run = 0; run < $2; run++)); do "$program" <"$1" >"$scratch/out"; done; } 2>&1
+    done | sort -n | awk -v runs="$2" 'NR == 1 { printf "%.5f\n", $1 / runs }'
+}
+
+# The most memory of a run on a file, in KiB.
+memory() {
+    local pid key value rest peak=0
+    "$program" <"$1" >/dev/null &
+    pid=$!
+    while [[ -e /proc/$pid/exe ]]; do
+        while read -r key value rest; do
+            if [[ $key == VmHWM: ]] && ((value > peak)); then peak=$value; fi
+        done 2>/dev/null <"/proc/$pid/status"
+    done
+    wait "$pid"
+    echo "$peak"
+}
