@@ -1,57 +1,35 @@
 -- The statements on the table `account`.
-use Rattle.std.proofs.Common.{◌≡◌, ◌⊎◌, ℕ, ℤ, None, All, List, [], ◌∷◌, map, codes, refl, sym, ap, subst, ◌∙◌, arith}
+use Rattle.std.proofs.Common.{if◌then◌else◌, Result, Vec, slice_get, IfSome, true, ◌≡◌, ℕ, ℤ, None, All, List, [], ◌∷◌, codes, refl, sym, ap, ◌∙◌, arith}
 use Rattle.sqlite.specs.Collation.TheVariants.{Binary}
-use Rattle.sqlite.specs.Command.TheVariants.{InsertOr}
 use Rattle.sqlite.specs.Listing.{understood}
-use Rattle.sqlite.specs.Order.{Row}
-use Rattle.sqlite.specs.Source.TheVariants.{Values}
-use Rattle.sqlite.specs.State.{State, Shown}
-use Rattle.sqlite.specs.Table.{Table}
+use Rattle.sqlite.specs.State.{State}
 use Rattle.sqlite.specs.Term.{Term, col, lit}
 use Rattle.sqlite.specs.declared.types.Value.TheVariants.{Int, Null, Text}
-use Rattle.sqlite_schema.specs.declared.command.Conflict.TheVariants.{Replace}
 use Rattle.sqlite_tied.specs.Compute.{everything}
 use Rattle.sqlite_value.specs.Keys.{ascending}
 use Rattle.sqlite_value.specs.declared.keys.Key.{Key}
-use Rattle.sqlite.proofs.Callers.{IsPlain, command_of}
-use Rattle.lot_table.specs.Book.{Turns, always}
-use Rattle.lot_table.specs.Rows.{has_key, put_in, with_key}
-use Rattle.lot_table.specs.Shape.{table}
-use Rattle.lot_table.specs.Statement.{IsSelect, Ran, Refused, ShowsDamage}
-use Rattle.lot_table.specs.declared.fault.Fault.TheVariants.{Damaged}
+use Rattle.lot_table.specs.Rows.{has_key, with_key}
 use Rattle.lot_table.proofs.CastLemmas.{cast_maybe_int}
-use Rattle.lot_table.proofs.QueryLemmas.{IsQuery, every_one, finds_damage, keyed, selects_where}
 use Rattle.lot_table.proofs.ReadLemmas.{key_terms}
-use Rattle.lot_table.proofs.StatementLemmas.{IsTable, turns_put}
 use Rattle.lot_table.proofs.WriteLemmas.{cast_int}
 use Rattle.lot_rows.specs.Account.{IsAccountRow, account_cells}
-use Rattle.lot_rows.specs.Tables.{Has, Tables, account_shape, layout}
+use Rattle.lot_rows.specs.Tables.{account_table, shapes, layout}
 use Rattle.lot_rows.specs.declared.account.AccountRow.{AccountRow}
-use Rattle.std.proofs.Common.{Option, Some, slice_index, ◌==◌, if◌then◌else◌}
+use Rattle.std.proofs.Common.{Option, Some, slice_index, ◌==◌}
 use Rattle.sqlite.specs.Values.{or_null}
 use Rattle.lot_booking.specs.Method.{word_of}
 use Rattle.lot_booking.specs.declared.method.Method.TheVariants.{Strict, Fifo, Lifo, Hifo, Unmatched}
 use Rattle.lot_booking.specs.declared.method.Method.{Method}
-
-abbrev account_table : Table
-account_table = table 2 account_shape
-
-abbrev rows_of : Tables → List AccountRow
-rows_of b = b.account
-
-abbrev with_rows : List AccountRow → Tables → Tables
-with_rows rows b = record b { account = rows }
-
-abbrev is_table : IsTable layout account_table account_cells 1 rows_of with_rows
-is_table = record {
-  aligned = λ _. refl;
-  held = λ _ _ h. h.1.0;
-  is_set = λ _ _. refl;
-  present = λ _. (refl, tt);
-  place = 1;
-  placed = refl;
-  unreferred = λ _ _. refl;
-}
+use Rattle.lot_table.specs.Call.{Finds, Lists, Puts, Runs, Selects}
+use Rattle.lot_table.specs.declared.fault.Fault.{Fault}
+use Rattle.lot_table.proofs.ShapeLemmas.{free}
+use Rattle.lot_table.proofs.StatementLemmas.{IsPut, IsTable, puts}
+use Rattle.lot_table.proofs.QueryLemmas.{Asks, IsQuery, every_one, finds, keyed, lists}
+use Rattle.sqlite_rules.proofs.ListLemmas.{has_got}
+use Rattle.sqlite_rules.specs.Steps.{is_typed}
+use Rattle.sqlite_typing.specs.Types.{accepts_terms}
+use Rattle.std.specs.declared.alloc.Global.{Global}
+use Rattle.std.proofs.Common.{pos}
 
 same_days : (a b : Option ℤ) → or_null Int a ≡ or_null Int b → a ≡ b
 same_days None None e = refl
@@ -88,14 +66,32 @@ put_text = codes "INSERT OR REPLACE INTO account (name, opened, closed, method) 
 abbrev put_terms : List Term
 put_terms = lit Null ∷ col 0 0 ∷ col 0 1 ∷ col 0 2 ∷ col 0 3 ∷ []
 
-put_is : (command_of (understood layout.schema put_text) ≡ InsertOr 1 Replace (Values put_terms 5) []) × IsPlain (understood layout.schema put_text)
-unfolding understood everything
-put_is = (refl, (refl, refl))
+-- each value is of its column, whichever is there
+typed : (name : List ℕ) (opened : ℤ) (closed : Option ℤ) (method : List ℕ) (id : ℤ) → (is_typed account_table.table (Int id ∷ Text name ∷ Int opened ∷ or_null Int closed ∷ Text method ∷ []) ≡ true) × (accepts_terms put_terms (Text name ∷ Int opened ∷ or_null Int closed ∷ Text method ∷ []) ≡ true)
+typed name opened None method id = (refl, refl)
+typed name opened (Some day) method id = (refl, refl)
 
-pub puts : (old new : State) (x : AccountRow) → Ran put_text (account_cells x) old new → Turns layout always (λ b. record b { account = put_in account_cells 1 x b.account }) old new
-puts old new x ran =
-    turns_put layout account_table account_cells 1 rows_of with_rows is_table old new put_text put_is.1 5 put_terms put_is.0 x refl refl
-    (refl, (cast_int x.opened, (cast_maybe_int (λ day. day) x.closed, (refl, tt)))) refl (λ _ _ _. refl) ran.0 ran.1
+abbrev is_table : IsTable layout account_table
+is_table = record {
+  aligned = λ _. refl;
+  held = λ _ _ h. h.1.0;
+  is_set = λ _ _. refl;
+  present = λ _. (refl, tt);
+  place = 1;
+  placed = refl;
+  free = free shapes account_table.table (has_got layout.schema.tables 1 account_table.table refl) refl;
+  uncounted = refl;
+  mends = λ _. refl;
+  stored = λ x. (refl, (cast_int x.opened, (cast_maybe_int (λ day. day) x.closed, (refl, tt))));
+  judged = λ x id. (refl, (typed x.name x.opened x.closed (word_of x.method) id).0, refl, refl);
+}
+
+put_is : (x : AccountRow) → IsPut layout account_table is_table x put_text
+unfolding understood everything
+put_is x = record { count = 5; terms = put_terms; means = refl; bare = (refl, refl); whole = (omega arith, refl); given = refl; typed = (typed x.name x.opened x.closed (word_of x.method) (pos 0)).1 }
+
+pub puts_row : (old new : State) (x : AccountRow) {A : Type 0} (result : Result A Fault) → Runs put_text (account_cells x) old new result → Puts layout account_table x old new result
+puts_row old new x = puts layout account_table is_table old new put_text x (put_is x) (λ _ _ _. refl)
 
 -- ---- find and list
 
@@ -111,47 +107,41 @@ names = codes "name" ∷ codes "opened" ∷ codes "closed" ∷ codes "method" �
 abbrev find_text : List ℕ
 find_text = codes "SELECT name, opened, closed, method FROM account WHERE name = ?1 ORDER BY name"
 
-find_is : IsQuery layout.schema 2 (key_terms 1 0) shows order names 1 find_text
+pub find_is : IsQuery layout.schema 2 (key_terms 1 0) shows order names 1 find_text
 unfolding understood everything
-find_is = record { means = refl; unlisted = refl; bare = (refl, refl); whole = (omega arith, refl) }
+find_is = record { means = refl; unlisted = refl; bare = (refl, refl); whole = (omega arith, refl); selects = (_, refl, refl) }
 
-pub find_selects : IsSelect find_text
-unfolding everything
-find_selects = (_, refl, refl)
+find_asks : (name : List ℕ) → Asks layout account_table (Text name ∷ []) (has_key 1 (Text name ∷ [])) find_text
+find_asks name = record {
+  tests = (key_terms 1 0);
+  shows = shows;
+  order = order;
+  names = names;
+  is = find_is;
+  picks = record { alike = keyed account_cells 1 (Text name ∷ []) (refl, tt) (λ _. (refl, tt)); blind = λ _ _ _. refl; shown = λ _. refl; sorts = λ _ _ _. refl; typed = refl };
+}
 
-module _ (name : List ℕ) (old new : State) where
-  abbrev find_key : Row
-  find_key = Text name ∷ []
-
-  pub finds : (rows : List Row) → Shown find_text find_key old new rows → (b : Tables) → Has old b → rows ≡ map account_cells (with_key account_cells 1 find_key b.account)
-  finds =
-      selects_where layout account_table account_cells 1 rows_of with_rows is_table (key_terms 1 0) shows order names find_key find_text find_is old new (has_key 1 find_key)
-      (keyed account_cells 1 find_key (refl, tt) (λ _. (refl, tt))) (λ _ _. refl) (λ _. refl) (λ _ _. refl)
-
-  pub find_damage : Refused find_text find_key old new Damaged ⊎ ShowsDamage account_cells IsAccountRow find_text find_key old new → old.step_limit ≡ None → (b : Tables) → Has old b
-      → All IsAccountRow (with_key account_cells 1 find_key b.account) → ⊥
-  find_damage =
-      finds_damage layout account_table account_cells 1 rows_of with_rows is_table (key_terms 1 0) shows order names find_key find_text find_is old new (has_key 1 find_key)
-      (keyed account_cells 1 find_key (refl, tt) (λ _. (refl, tt))) (λ _ _. refl) (λ _. refl) (λ _ _. refl) IsAccountRow refl
+pub find_rows : (old new : State) (name : List ℕ) (result : Result (Option AccountRow) Fault)
+    → Selects account_cells IsAccountRow (λ rows found. found ≡ slice_get rows 0) (λ found. IfSome found IsAccountRow) find_text (Text name ∷ []) old new result → Finds layout IsAccountRow (λ b. with_key account_cells 1 (Text name ∷ []) b.account) old new result
+find_rows old new name = finds layout account_table is_table (Text name ∷ []) (has_key 1 (Text name ∷ [])) find_text (find_asks name) old new IsAccountRow (λ b. with_key account_cells 1 (Text name ∷ []) b.account) (λ _. refl) same_row
 
 abbrev list_text : List ℕ
 list_text = codes "SELECT name, opened, closed, method FROM account ORDER BY name"
 
-list_is : IsQuery layout.schema 2 (key_terms 0 0) shows order names 0 list_text
+pub list_is : IsQuery layout.schema 2 (key_terms 0 0) shows order names 0 list_text
 unfolding understood everything
-list_is = record { means = refl; unlisted = refl; bare = (refl, refl); whole = (omega arith, refl) }
+list_is = record { means = refl; unlisted = refl; bare = (refl, refl); whole = (omega arith, refl); selects = (_, refl, refl) }
 
-pub list_selects : IsSelect list_text
-unfolding everything
-list_selects = (_, refl, refl)
+list_asks : Asks layout account_table [] (has_key 0 []) list_text
+list_asks = record {
+  tests = (key_terms 0 0);
+  shows = shows;
+  order = order;
+  names = names;
+  is = list_is;
+  picks = record { alike = λ _ _. refl; blind = λ _ _ _. refl; shown = λ _. refl; sorts = λ _ _ _. refl; typed = refl };
+}
 
-module _ (old new : State) where
-  pub lists : (rows : List Row) → Shown list_text [] old new rows → (b : Tables) → Has old b → rows ≡ map account_cells b.account
-  lists rows told b has =
-      selects_where layout account_table account_cells 1 rows_of with_rows is_table [] shows order names [] list_text list_is old new (has_key 0 []) (λ _ _. refl) (λ _ _. refl) (λ _. refl) (λ _ _. refl) rows told b has
-      ∙ ap (map account_cells) (every_one account_cells [] b.account)
-
-  pub list_damage : Refused list_text [] old new Damaged ⊎ ShowsDamage account_cells IsAccountRow list_text [] old new → old.step_limit ≡ None → (b : Tables) → Has old b → All IsAccountRow b.account → ⊥
-  list_damage told unlimited b has all =
-      finds_damage layout account_table account_cells 1 rows_of with_rows is_table [] shows order names [] list_text list_is old new (has_key 0 []) (λ _ _. refl) (λ _ _. refl) (λ _. refl) (λ _ _. refl)
-      IsAccountRow refl told unlimited b has (subst (All IsAccountRow) (sym (every_one account_cells [] b.account)) all)
+pub list_rows : (old new : State) (result : Result (Vec AccountRow Global) Fault)
+    → Selects account_cells IsAccountRow (λ rows found. found.items ≡ rows) (λ found. All IsAccountRow found.items) list_text [] old new result → Lists layout IsAccountRow (λ b. b.account) old new result
+list_rows old new = lists layout account_table is_table [] (has_key 0 []) list_text list_asks old new IsAccountRow (λ b. b.account) (λ b. every_one account_cells [] b.account) same_row

@@ -1,51 +1,26 @@
 -- The statements on the table `commodity`.
-use Rattle.std.proofs.Common.{◌≡◌, ◌⊎◌, ℕ, None, All, List, [], ◌∷◌, map, codes, refl, sym, ap, subst, ◌∙◌, arith}
+use Rattle.std.proofs.Common.{Option, Result, Vec, slice_get, IfSome, ◌≡◌, ℕ, All, List, [], ◌∷◌, codes, refl, arith}
 use Rattle.sqlite.specs.Collation.TheVariants.{Binary}
-use Rattle.sqlite.specs.Command.TheVariants.{InsertOr}
 use Rattle.sqlite.specs.Listing.{understood}
-use Rattle.sqlite.specs.Order.{Row}
-use Rattle.sqlite.specs.Source.TheVariants.{Values}
-use Rattle.sqlite.specs.State.{State, Shown}
-use Rattle.sqlite.specs.Table.{Table}
+use Rattle.sqlite.specs.State.{State}
 use Rattle.sqlite.specs.Term.{Term, col, lit}
 use Rattle.sqlite.specs.declared.types.Value.TheVariants.{Null, Text}
-use Rattle.sqlite_schema.specs.declared.command.Conflict.TheVariants.{Replace}
 use Rattle.sqlite_tied.specs.Compute.{everything}
 use Rattle.sqlite_value.specs.Keys.{ascending}
 use Rattle.sqlite_value.specs.declared.keys.Key.{Key}
-use Rattle.sqlite.proofs.Callers.{IsPlain, command_of}
-use Rattle.lot_table.specs.Book.{Turns, always}
-use Rattle.lot_table.specs.Rows.{has_key, put_in, with_key}
-use Rattle.lot_table.specs.Shape.{table}
-use Rattle.lot_table.specs.Statement.{IsSelect, Ran, Refused, ShowsDamage}
-use Rattle.lot_table.specs.declared.fault.Fault.TheVariants.{Damaged}
-use Rattle.lot_table.proofs.QueryLemmas.{IsQuery, every_one, finds_damage, keyed, selects_where}
+use Rattle.lot_table.specs.Rows.{has_key, with_key}
 use Rattle.lot_table.proofs.ReadLemmas.{key_terms}
-use Rattle.lot_table.proofs.StatementLemmas.{IsTable, turns_put}
 use Rattle.lot_table.proofs.WriteLemmas.{cast_int}
 use Rattle.lot_rows.specs.Commodity.{IsCommodityRow, commodity_cells}
-use Rattle.lot_rows.specs.Tables.{Has, Tables, commodity_shape, layout}
+use Rattle.lot_rows.specs.Tables.{commodity_table, shapes, layout}
 use Rattle.lot_rows.specs.declared.commodity.CommodityRow.{CommodityRow}
-
-abbrev commodity_table : Table
-commodity_table = table 6 commodity_shape
-
-abbrev rows_of : Tables → List CommodityRow
-rows_of b = b.commodity
-
-abbrev with_rows : List CommodityRow → Tables → Tables
-with_rows rows b = record b { commodity = rows }
-
-abbrev is_table : IsTable layout commodity_table commodity_cells 1 rows_of with_rows
-is_table = record {
-  aligned = λ _. refl;
-  held = λ _ _ h. h.1.1.1.0;
-  is_set = λ _ _. refl;
-  present = λ _. (refl, tt);
-  place = 3;
-  placed = refl;
-  unreferred = λ _ _. refl;
-}
+use Rattle.lot_table.specs.Call.{Finds, Lists, Puts, Runs, Selects}
+use Rattle.lot_table.specs.declared.fault.Fault.{Fault}
+use Rattle.lot_table.proofs.ShapeLemmas.{free}
+use Rattle.lot_table.proofs.StatementLemmas.{IsPut, IsTable, puts}
+use Rattle.lot_table.proofs.QueryLemmas.{Asks, IsQuery, every_one, finds, keyed, lists}
+use Rattle.sqlite_rules.proofs.ListLemmas.{has_got}
+use Rattle.std.specs.declared.alloc.Global.{Global}
 
 pub same_row : (x y : CommodityRow) → commodity_cells x ≡ commodity_cells y → x ≡ y
 same_row x y same =
@@ -60,14 +35,27 @@ put_text = codes "INSERT OR REPLACE INTO commodity (name, day) VALUES (?1, ?2)"
 abbrev put_terms : List Term
 put_terms = lit Null ∷ col 0 0 ∷ col 0 1 ∷ []
 
-put_is : (command_of (understood layout.schema put_text) ≡ InsertOr 3 Replace (Values put_terms 3) []) × IsPlain (understood layout.schema put_text)
-unfolding understood everything
-put_is = (refl, (refl, refl))
+abbrev is_table : IsTable layout commodity_table
+is_table = record {
+  aligned = λ _. refl;
+  held = λ _ _ h. h.1.1.1.0;
+  is_set = λ _ _. refl;
+  present = λ _. (refl, tt);
+  place = 3;
+  placed = refl;
+  free = free shapes commodity_table.table (has_got layout.schema.tables 3 commodity_table.table refl) refl;
+  uncounted = refl;
+  mends = λ _. refl;
+  stored = λ x. (refl, (cast_int x.day, tt));
+  judged = λ _ _. (refl, refl, refl, refl);
+}
 
-pub puts : (old new : State) (x : CommodityRow) → Ran put_text (commodity_cells x) old new → Turns layout always (λ b. record b { commodity = put_in commodity_cells 1 x b.commodity }) old new
-puts old new x ran =
-    turns_put layout commodity_table commodity_cells 1 rows_of with_rows is_table old new put_text put_is.1 3 put_terms put_is.0 x refl refl
-    (refl, (cast_int x.day, tt)) refl (λ _ _ _. refl) ran.0 ran.1
+put_is : (x : CommodityRow) → IsPut layout commodity_table is_table x put_text
+unfolding understood everything
+put_is x = record { count = 3; terms = put_terms; means = refl; bare = (refl, refl); whole = (omega arith, refl); given = refl; typed = refl }
+
+pub puts_row : (old new : State) (x : CommodityRow) {A : Type 0} (result : Result A Fault) → Runs put_text (commodity_cells x) old new result → Puts layout commodity_table x old new result
+puts_row old new x = puts layout commodity_table is_table old new put_text x (put_is x) (λ _ _ _. refl)
 
 -- ---- find and list
 
@@ -83,47 +71,41 @@ names = codes "name" ∷ codes "day" ∷ []
 abbrev find_text : List ℕ
 find_text = codes "SELECT name, day FROM commodity WHERE name = ?1 ORDER BY name"
 
-find_is : IsQuery layout.schema 6 (key_terms 1 0) shows order names 1 find_text
+pub find_is : IsQuery layout.schema 6 (key_terms 1 0) shows order names 1 find_text
 unfolding understood everything
-find_is = record { means = refl; unlisted = refl; bare = (refl, refl); whole = (omega arith, refl) }
+find_is = record { means = refl; unlisted = refl; bare = (refl, refl); whole = (omega arith, refl); selects = (_, refl, refl) }
 
-pub find_selects : IsSelect find_text
-unfolding everything
-find_selects = (_, refl, refl)
+find_asks : (name : List ℕ) → Asks layout commodity_table (Text name ∷ []) (has_key 1 (Text name ∷ [])) find_text
+find_asks name = record {
+  tests = (key_terms 1 0);
+  shows = shows;
+  order = order;
+  names = names;
+  is = find_is;
+  picks = record { alike = keyed commodity_cells 1 (Text name ∷ []) (refl, tt) (λ _. (refl, tt)); blind = λ _ _ _. refl; shown = λ _. refl; sorts = λ _ _ _. refl; typed = refl };
+}
 
-module _ (name : List ℕ) (old new : State) where
-  abbrev find_key : Row
-  find_key = Text name ∷ []
-
-  pub finds : (rows : List Row) → Shown find_text find_key old new rows → (b : Tables) → Has old b → rows ≡ map commodity_cells (with_key commodity_cells 1 find_key b.commodity)
-  finds =
-      selects_where layout commodity_table commodity_cells 1 rows_of with_rows is_table (key_terms 1 0) shows order names find_key find_text find_is old new (has_key 1 find_key)
-      (keyed commodity_cells 1 find_key (refl, tt) (λ _. (refl, tt))) (λ _ _. refl) (λ _. refl) (λ _ _. refl)
-
-  pub find_damage : Refused find_text find_key old new Damaged ⊎ ShowsDamage commodity_cells IsCommodityRow find_text find_key old new → old.step_limit ≡ None → (b : Tables) → Has old b
-      → All IsCommodityRow (with_key commodity_cells 1 find_key b.commodity) → ⊥
-  find_damage =
-      finds_damage layout commodity_table commodity_cells 1 rows_of with_rows is_table (key_terms 1 0) shows order names find_key find_text find_is old new (has_key 1 find_key)
-      (keyed commodity_cells 1 find_key (refl, tt) (λ _. (refl, tt))) (λ _ _. refl) (λ _. refl) (λ _ _. refl) IsCommodityRow refl
+pub find_rows : (old new : State) (name : List ℕ) (result : Result (Option CommodityRow) Fault)
+    → Selects commodity_cells IsCommodityRow (λ rows found. found ≡ slice_get rows 0) (λ found. IfSome found IsCommodityRow) find_text (Text name ∷ []) old new result → Finds layout IsCommodityRow (λ b. with_key commodity_cells 1 (Text name ∷ []) b.commodity) old new result
+find_rows old new name = finds layout commodity_table is_table (Text name ∷ []) (has_key 1 (Text name ∷ [])) find_text (find_asks name) old new IsCommodityRow (λ b. with_key commodity_cells 1 (Text name ∷ []) b.commodity) (λ _. refl) same_row
 
 abbrev list_text : List ℕ
 list_text = codes "SELECT name, day FROM commodity ORDER BY name"
 
-list_is : IsQuery layout.schema 6 (key_terms 0 0) shows order names 0 list_text
+pub list_is : IsQuery layout.schema 6 (key_terms 0 0) shows order names 0 list_text
 unfolding understood everything
-list_is = record { means = refl; unlisted = refl; bare = (refl, refl); whole = (omega arith, refl) }
+list_is = record { means = refl; unlisted = refl; bare = (refl, refl); whole = (omega arith, refl); selects = (_, refl, refl) }
 
-pub list_selects : IsSelect list_text
-unfolding everything
-list_selects = (_, refl, refl)
+list_asks : Asks layout commodity_table [] (has_key 0 []) list_text
+list_asks = record {
+  tests = (key_terms 0 0);
+  shows = shows;
+  order = order;
+  names = names;
+  is = list_is;
+  picks = record { alike = λ _ _. refl; blind = λ _ _ _. refl; shown = λ _. refl; sorts = λ _ _ _. refl; typed = refl };
+}
 
-module _ (old new : State) where
-  pub lists : (rows : List Row) → Shown list_text [] old new rows → (b : Tables) → Has old b → rows ≡ map commodity_cells b.commodity
-  lists rows told b has =
-      selects_where layout commodity_table commodity_cells 1 rows_of with_rows is_table [] shows order names [] list_text list_is old new (has_key 0 []) (λ _ _. refl) (λ _ _. refl) (λ _. refl) (λ _ _. refl) rows told b has
-      ∙ ap (map commodity_cells) (every_one commodity_cells [] b.commodity)
-
-  pub list_damage : Refused list_text [] old new Damaged ⊎ ShowsDamage commodity_cells IsCommodityRow list_text [] old new → old.step_limit ≡ None → (b : Tables) → Has old b → All IsCommodityRow b.commodity → ⊥
-  list_damage told unlimited b has all =
-      finds_damage layout commodity_table commodity_cells 1 rows_of with_rows is_table [] shows order names [] list_text list_is old new (has_key 0 []) (λ _ _. refl) (λ _ _. refl) (λ _. refl) (λ _ _. refl)
-      IsCommodityRow refl told unlimited b has (subst (All IsCommodityRow) (sym (every_one commodity_cells [] b.commodity)) all)
+pub list_rows : (old new : State) (result : Result (Vec CommodityRow Global) Fault)
+    → Selects commodity_cells IsCommodityRow (λ rows found. found.items ≡ rows) (λ found. All IsCommodityRow found.items) list_text [] old new result → Lists layout IsCommodityRow (λ b. b.commodity) old new result
+list_rows old new = lists layout commodity_table is_table [] (has_key 0 []) list_text list_asks old new IsCommodityRow (λ b. b.commodity) (λ b. every_one commodity_cells [] b.commodity) same_row

@@ -1,51 +1,26 @@
 -- The statements on the table `head`.
-use Rattle.std.proofs.Common.{◌≡◌, ◌⊎◌, ℕ, None, All, List, [], ◌∷◌, map, codes, refl, sym, ap, subst, ◌∙◌, arith}
+use Rattle.std.proofs.Common.{Option, Result, Vec, slice_get, IfSome, ◌≡◌, ℕ, All, List, [], ◌∷◌, codes, refl, arith}
 use Rattle.sqlite.specs.Collation.TheVariants.{Binary}
-use Rattle.sqlite.specs.Command.TheVariants.{InsertOr}
 use Rattle.sqlite.specs.Listing.{understood}
-use Rattle.sqlite.specs.Order.{Row}
-use Rattle.sqlite.specs.Source.TheVariants.{Values}
-use Rattle.sqlite.specs.State.{State, Shown}
-use Rattle.sqlite.specs.Table.{Table}
+use Rattle.sqlite.specs.State.{State}
 use Rattle.sqlite.specs.Term.{Term, col, lit}
 use Rattle.sqlite.specs.declared.types.Value.TheVariants.{Null, Text}
-use Rattle.sqlite_schema.specs.declared.command.Conflict.TheVariants.{Replace}
 use Rattle.sqlite_tied.specs.Compute.{everything}
 use Rattle.sqlite_value.specs.Keys.{ascending}
 use Rattle.sqlite_value.specs.declared.keys.Key.{Key}
-use Rattle.sqlite.proofs.Callers.{IsPlain, command_of}
-use Rattle.lot_table.specs.Book.{Turns, always}
-use Rattle.lot_table.specs.Rows.{has_key, put_in, with_key}
-use Rattle.lot_table.specs.Shape.{table}
-use Rattle.lot_table.specs.Statement.{IsSelect, Ran, Refused, ShowsDamage}
-use Rattle.lot_table.specs.declared.fault.Fault.TheVariants.{Damaged}
-use Rattle.lot_table.proofs.QueryLemmas.{IsQuery, every_one, finds_damage, keyed, selects_where}
+use Rattle.lot_table.specs.Rows.{has_key, with_key}
 use Rattle.lot_table.proofs.ReadLemmas.{key_terms}
-use Rattle.lot_table.proofs.StatementLemmas.{IsTable, turns_put}
 use Rattle.lot_table.proofs.WriteLemmas.{cast_int}
 use Rattle.lot_rows.specs.Head.{IsHeadRow, head_cells}
-use Rattle.lot_rows.specs.Tables.{Has, Tables, head_shape, layout}
+use Rattle.lot_rows.specs.Tables.{head_table, shapes, layout}
 use Rattle.lot_rows.specs.declared.head.HeadRow.{HeadRow}
-
-abbrev head_table : Table
-head_table = table 21 head_shape
-
-abbrev rows_of : Tables → List HeadRow
-rows_of b = b.head
-
-abbrev with_rows : List HeadRow → Tables → Tables
-with_rows rows b = record b { head = rows }
-
-abbrev is_table : IsTable layout head_table head_cells 2 rows_of with_rows
-is_table = record {
-  aligned = λ _. refl;
-  held = λ _ _ h. h.1.1.1.1.1.1.1.1.1.1.0;
-  is_set = λ _ _. refl;
-  present = λ _. (refl, (refl, tt));
-  place = 10;
-  placed = refl;
-  unreferred = λ _ _. refl;
-}
+use Rattle.lot_table.specs.Call.{Finds, Lists, Puts, Runs, Selects}
+use Rattle.lot_table.specs.declared.fault.Fault.{Fault}
+use Rattle.lot_table.proofs.ShapeLemmas.{free}
+use Rattle.lot_table.proofs.StatementLemmas.{IsPut, IsTable, puts}
+use Rattle.lot_table.proofs.QueryLemmas.{Asks, IsQuery, every_one, finds, keyed, lists}
+use Rattle.sqlite_rules.proofs.ListLemmas.{has_got}
+use Rattle.std.specs.declared.alloc.Global.{Global}
 
 pub same_row : (x y : HeadRow) → head_cells x ≡ head_cells y → x ≡ y
 same_row x y same =
@@ -60,14 +35,27 @@ put_text = codes "INSERT OR REPLACE INTO head (account, commodity, day) VALUES (
 abbrev put_terms : List Term
 put_terms = lit Null ∷ col 0 0 ∷ col 0 1 ∷ col 0 2 ∷ []
 
-put_is : (command_of (understood layout.schema put_text) ≡ InsertOr 10 Replace (Values put_terms 4) []) × IsPlain (understood layout.schema put_text)
-unfolding understood everything
-put_is = (refl, (refl, refl))
+abbrev is_table : IsTable layout head_table
+is_table = record {
+  aligned = λ _. refl;
+  held = λ _ _ h. h.1.1.1.1.1.1.1.1.1.1.0;
+  is_set = λ _ _. refl;
+  present = λ _. (refl, (refl, tt));
+  place = 10;
+  placed = refl;
+  free = free shapes head_table.table (has_got layout.schema.tables 10 head_table.table refl) refl;
+  uncounted = refl;
+  mends = λ _. refl;
+  stored = λ x. (refl, (refl, (cast_int x.day, tt)));
+  judged = λ _ _. (refl, refl, refl, refl);
+}
 
-pub puts : (old new : State) (x : HeadRow) → Ran put_text (head_cells x) old new → Turns layout always (λ b. record b { head = put_in head_cells 2 x b.head }) old new
-puts old new x ran =
-    turns_put layout head_table head_cells 2 rows_of with_rows is_table old new put_text put_is.1 4 put_terms put_is.0 x refl refl
-    (refl, (refl, (cast_int x.day, tt))) refl (λ _ _ _. refl) ran.0 ran.1
+put_is : (x : HeadRow) → IsPut layout head_table is_table x put_text
+unfolding understood everything
+put_is x = record { count = 4; terms = put_terms; means = refl; bare = (refl, refl); whole = (omega arith, refl); given = refl; typed = refl }
+
+pub puts_row : (old new : State) (x : HeadRow) {A : Type 0} (result : Result A Fault) → Runs put_text (head_cells x) old new result → Puts layout head_table x old new result
+puts_row old new x = puts layout head_table is_table old new put_text x (put_is x) (λ _ _ _. refl)
 
 -- ---- find and list
 
@@ -83,47 +71,41 @@ names = codes "account" ∷ codes "commodity" ∷ codes "day" ∷ []
 abbrev find_text : List ℕ
 find_text = codes "SELECT account, commodity, day FROM head WHERE account = ?1 AND commodity = ?2 ORDER BY account, commodity"
 
-find_is : IsQuery layout.schema 21 (key_terms 2 0) shows order names 2 find_text
+pub find_is : IsQuery layout.schema 21 (key_terms 2 0) shows order names 2 find_text
 unfolding understood everything
-find_is = record { means = refl; unlisted = refl; bare = (refl, refl); whole = (omega arith, refl) }
+find_is = record { means = refl; unlisted = refl; bare = (refl, refl); whole = (omega arith, refl); selects = (_, refl, refl) }
 
-pub find_selects : IsSelect find_text
-unfolding everything
-find_selects = (_, refl, refl)
+find_asks : (account commodity : List ℕ) → Asks layout head_table (Text account ∷ Text commodity ∷ []) (has_key 2 (Text account ∷ Text commodity ∷ [])) find_text
+find_asks account commodity = record {
+  tests = (key_terms 2 0);
+  shows = shows;
+  order = order;
+  names = names;
+  is = find_is;
+  picks = record { alike = keyed head_cells 2 (Text account ∷ Text commodity ∷ []) (refl, (refl, tt)) (λ _. (refl, (refl, tt))); blind = λ _ _ _. refl; shown = λ _. refl; sorts = λ _ _ _. refl; typed = refl };
+}
 
-module _ (account : List ℕ) (commodity : List ℕ) (old new : State) where
-  abbrev find_key : Row
-  find_key = Text account ∷ Text commodity ∷ []
-
-  pub finds : (rows : List Row) → Shown find_text find_key old new rows → (b : Tables) → Has old b → rows ≡ map head_cells (with_key head_cells 2 find_key b.head)
-  finds =
-      selects_where layout head_table head_cells 2 rows_of with_rows is_table (key_terms 2 0) shows order names find_key find_text find_is old new (has_key 2 find_key)
-      (keyed head_cells 2 find_key (refl, (refl, tt)) (λ _. (refl, (refl, tt)))) (λ _ _. refl) (λ _. refl) (λ _ _. refl)
-
-  pub find_damage : Refused find_text find_key old new Damaged ⊎ ShowsDamage head_cells IsHeadRow find_text find_key old new → old.step_limit ≡ None → (b : Tables) → Has old b
-      → All IsHeadRow (with_key head_cells 2 find_key b.head) → ⊥
-  find_damage =
-      finds_damage layout head_table head_cells 2 rows_of with_rows is_table (key_terms 2 0) shows order names find_key find_text find_is old new (has_key 2 find_key)
-      (keyed head_cells 2 find_key (refl, (refl, tt)) (λ _. (refl, (refl, tt)))) (λ _ _. refl) (λ _. refl) (λ _ _. refl) IsHeadRow refl
+pub find_rows : (old new : State) (account commodity : List ℕ) (result : Result (Option HeadRow) Fault)
+    → Selects head_cells IsHeadRow (λ rows found. found ≡ slice_get rows 0) (λ found. IfSome found IsHeadRow) find_text (Text account ∷ Text commodity ∷ []) old new result → Finds layout IsHeadRow (λ b. with_key head_cells 2 (Text account ∷ Text commodity ∷ []) b.head) old new result
+find_rows old new account commodity = finds layout head_table is_table (Text account ∷ Text commodity ∷ []) (has_key 2 (Text account ∷ Text commodity ∷ [])) find_text (find_asks account commodity) old new IsHeadRow (λ b. with_key head_cells 2 (Text account ∷ Text commodity ∷ []) b.head) (λ _. refl) same_row
 
 abbrev list_text : List ℕ
 list_text = codes "SELECT account, commodity, day FROM head ORDER BY account, commodity"
 
-list_is : IsQuery layout.schema 21 (key_terms 0 0) shows order names 0 list_text
+pub list_is : IsQuery layout.schema 21 (key_terms 0 0) shows order names 0 list_text
 unfolding understood everything
-list_is = record { means = refl; unlisted = refl; bare = (refl, refl); whole = (omega arith, refl) }
+list_is = record { means = refl; unlisted = refl; bare = (refl, refl); whole = (omega arith, refl); selects = (_, refl, refl) }
 
-pub list_selects : IsSelect list_text
-unfolding everything
-list_selects = (_, refl, refl)
+list_asks : Asks layout head_table [] (has_key 0 []) list_text
+list_asks = record {
+  tests = (key_terms 0 0);
+  shows = shows;
+  order = order;
+  names = names;
+  is = list_is;
+  picks = record { alike = λ _ _. refl; blind = λ _ _ _. refl; shown = λ _. refl; sorts = λ _ _ _. refl; typed = refl };
+}
 
-module _ (old new : State) where
-  pub lists : (rows : List Row) → Shown list_text [] old new rows → (b : Tables) → Has old b → rows ≡ map head_cells b.head
-  lists rows told b has =
-      selects_where layout head_table head_cells 2 rows_of with_rows is_table [] shows order names [] list_text list_is old new (has_key 0 []) (λ _ _. refl) (λ _ _. refl) (λ _. refl) (λ _ _. refl) rows told b has
-      ∙ ap (map head_cells) (every_one head_cells [] b.head)
-
-  pub list_damage : Refused list_text [] old new Damaged ⊎ ShowsDamage head_cells IsHeadRow list_text [] old new → old.step_limit ≡ None → (b : Tables) → Has old b → All IsHeadRow b.head → ⊥
-  list_damage told unlimited b has all =
-      finds_damage layout head_table head_cells 2 rows_of with_rows is_table [] shows order names [] list_text list_is old new (has_key 0 []) (λ _ _. refl) (λ _ _. refl) (λ _. refl) (λ _ _. refl)
-      IsHeadRow refl told unlimited b has (subst (All IsHeadRow) (sym (every_one head_cells [] b.head)) all)
+pub list_rows : (old new : State) (result : Result (Vec HeadRow Global) Fault)
+    → Selects head_cells IsHeadRow (λ rows found. found.items ≡ rows) (λ found. All IsHeadRow found.items) list_text [] old new result → Lists layout IsHeadRow (λ b. b.head) old new result
+list_rows old new = lists layout head_table is_table [] (has_key 0 []) list_text list_asks old new IsHeadRow (λ b. b.head) (λ b. every_one head_cells [] b.head) same_row

@@ -1,54 +1,34 @@
 -- The statements on the table `leg`.
-use Rattle.std.proofs.Common.{◌≡◌, ◌⊎◌, ℕ, pos, None, All, List, [], ◌∷◌, map, codes, refl, sym, ap, subst, ◌∙◌, arith}
+use Rattle.std.proofs.Common.{Result, Vec, true, ◌≡◌, ℕ, pos, None, All, List, [], ◌∷◌, codes, refl, arith}
 use Rattle.sqlite.specs.Collation.TheVariants.{Binary}
-use Rattle.sqlite.specs.Command.TheVariants.{InsertOr}
 use Rattle.sqlite.specs.Listing.{understood}
-use Rattle.sqlite.specs.Order.{Row}
-use Rattle.sqlite.specs.Source.TheVariants.{Values}
-use Rattle.sqlite.specs.State.{State, Shown}
-use Rattle.sqlite.specs.Table.{Table}
+use Rattle.sqlite.specs.State.{State}
 use Rattle.sqlite.specs.Term.{Term, col, lit}
 use Rattle.sqlite.specs.declared.types.Value.TheVariants.{Int, Null}
-use Rattle.sqlite_schema.specs.declared.command.Conflict.TheVariants.{Replace}
 use Rattle.sqlite_tied.specs.Compute.{everything}
 use Rattle.sqlite_value.specs.Keys.{ascending}
 use Rattle.sqlite_value.specs.declared.keys.Key.{Key}
-use Rattle.sqlite.proofs.Callers.{IsPlain, command_of}
-use Rattle.lot_table.specs.Book.{Turns, always}
-use Rattle.lot_table.specs.Rows.{has_key, put_in, with_key}
-use Rattle.lot_table.specs.Shape.{table}
-use Rattle.lot_table.specs.Statement.{IsSelect, Ran, Refused, ShowsDamage}
-use Rattle.lot_table.specs.declared.fault.Fault.TheVariants.{Damaged}
+use Rattle.lot_table.specs.Rows.{has_key, with_key}
 use Rattle.lot_table.proofs.CastLemmas.{cast_maybe_int, cast_maybe_text}
-use Rattle.lot_table.proofs.QueryLemmas.{IsQuery, every_one, finds_damage, keyed, selects_where}
 use Rattle.lot_table.proofs.ReadLemmas.{key_terms}
-use Rattle.lot_table.proofs.StatementLemmas.{IsTable, turns_put}
 use Rattle.lot_table.proofs.WriteLemmas.{cast_int}
 use Rattle.lot_rows.specs.Leg.{IsLegRow, leg_cells}
-use Rattle.lot_rows.specs.Tables.{Has, Tables, leg_shape, layout}
+use Rattle.lot_rows.specs.Tables.{leg_table, shapes, layout}
 use Rattle.lot_rows.specs.declared.leg.LegRow.{LegRow}
 use Rattle.lot_inv.specs.declared.lot_key.LotKey.{LotKey}
 use Rattle.lot_table.specs.Cell.{label_text}
-
-abbrev leg_table : Table
-leg_table = table 13 leg_shape
-
-abbrev rows_of : Tables → List LegRow
-rows_of b = b.leg
-
-abbrev with_rows : List LegRow → Tables → Tables
-with_rows rows b = record b { leg = rows }
-
-abbrev is_table : IsTable layout leg_table leg_cells 3 rows_of with_rows
-is_table = record {
-  aligned = λ _. refl;
-  held = λ _ _ h. h.1.1.1.1.1.1.0;
-  is_set = λ _ _. refl;
-  present = λ _. (refl, (refl, (refl, tt)));
-  place = 6;
-  placed = refl;
-  unreferred = λ _ _. refl;
-}
+use Rattle.lot_table.specs.Call.{ListsColumns, Puts, Runs, Selects}
+use Rattle.lot_table.specs.declared.fault.Fault.{Fault}
+use Rattle.lot_table.proofs.ShapeLemmas.{free}
+use Rattle.lot_table.proofs.StatementLemmas.{IsPut, IsTable, puts}
+use Rattle.lot_table.proofs.QueryLemmas.{Asks, IsQuery, every_one, keyed, lists_columns}
+use Rattle.sqlite_rules.proofs.ListLemmas.{has_got}
+use Rattle.sqlite_rules.specs.Steps.{is_typed}
+use Rattle.sqlite_typing.specs.Types.{accepts_terms}
+use Rattle.std.specs.declared.alloc.Global.{Global}
+use Rattle.std.proofs.Common.{Option, Some, ℤ}
+use Rattle.lot_rows.specs.LotKey.{cost_currency, cost_day, cost_label, cost_number}
+use Rattle.sqlite.specs.declared.types.Value.TheVariants.{Text}
 
 -- ---- put
 
@@ -58,14 +38,33 @@ put_text = codes "INSERT OR REPLACE INTO leg (entry, posting, place, account, co
 abbrev put_terms : List Term
 put_terms = lit Null ∷ col 0 0 ∷ col 0 1 ∷ col 0 2 ∷ col 0 3 ∷ col 0 4 ∷ col 0 5 ∷ col 0 6 ∷ col 0 7 ∷ col 0 8 ∷ col 0 9 ∷ []
 
-put_is : (command_of (understood layout.schema put_text) ≡ InsertOr 6 Replace (Values put_terms 11) []) × IsPlain (understood layout.schema put_text)
-unfolding understood everything
-put_is = (refl, (refl, refl))
+-- each value is of its column, whichever is there
+typed : (entry posting place : ℤ) (account commodity : List ℕ) (units : ℤ) (lot : Option LotKey) (id : ℤ)
+    → (is_typed leg_table.table (Int id ∷ Int entry ∷ Int posting ∷ Int place ∷ Text account ∷ Text commodity ∷ Int units ∷ cost_number lot ∷ cost_currency lot ∷ cost_day lot ∷ cost_label lot ∷ []) ≡ true) × (accepts_terms put_terms (Int entry ∷ Int posting ∷ Int place ∷ Text account ∷ Text commodity ∷ Int units ∷ cost_number lot ∷ cost_currency lot ∷ cost_day lot ∷ cost_label lot ∷ []) ≡ true)
+typed entry posting place account commodity units None id = (refl, refl)
+typed entry posting place account commodity units (Some lot) id = (refl, refl)
 
-pub puts : (old new : State) (x : LegRow) → Ran put_text (leg_cells x) old new → Turns layout always (λ b. record b { leg = put_in leg_cells 3 x b.leg }) old new
-puts old new x ran =
-    turns_put layout leg_table leg_cells 3 rows_of with_rows is_table old new put_text put_is.1 11 put_terms put_is.0 x refl refl
-    (cast_int (pos x.entry), (cast_int (pos x.posting), (cast_int (pos x.place), (refl, (refl, (cast_int x.units, (cast_maybe_int (λ (lot : LotKey). pos lot.number) x.lot, (cast_maybe_text (λ (lot : LotKey). lot.currency) x.lot, (cast_maybe_int (λ (lot : LotKey). lot.day) x.lot, (cast_maybe_text (λ (lot : LotKey). label_text lot.label) x.lot, tt)))))))))) refl (λ _ _ _. refl) ran.0 ran.1
+abbrev is_table : IsTable layout leg_table
+is_table = record {
+  aligned = λ _. refl;
+  held = λ _ _ h. h.1.1.1.1.1.1.0;
+  is_set = λ _ _. refl;
+  present = λ _. (refl, (refl, (refl, tt)));
+  place = 6;
+  placed = refl;
+  free = free shapes leg_table.table (has_got layout.schema.tables 6 leg_table.table refl) refl;
+  uncounted = refl;
+  mends = λ _. refl;
+  stored = λ x. (cast_int (pos x.entry), (cast_int (pos x.posting), (cast_int (pos x.place), (refl, (refl, (cast_int x.units, (cast_maybe_int (λ (lot : LotKey). pos lot.number) x.lot, (cast_maybe_text (λ (lot : LotKey). lot.currency) x.lot, (cast_maybe_int (λ (lot : LotKey). lot.day) x.lot, (cast_maybe_text (λ (lot : LotKey). label_text lot.label) x.lot, tt))))))))));
+  judged = λ x id. (refl, (typed (pos x.entry) (pos x.posting) (pos x.place) x.account x.commodity x.units x.lot id).0, refl, refl);
+}
+
+put_is : (x : LegRow) → IsPut layout leg_table is_table x put_text
+unfolding understood everything
+put_is x = record { count = 11; terms = put_terms; means = refl; bare = (refl, refl); whole = (omega arith, refl); given = refl; typed = (typed (pos x.entry) (pos x.posting) (pos x.place) x.account x.commodity x.units x.lot (pos 0)).1 }
+
+pub puts_row : (old new : State) (x : LegRow) {A : Type 0} (result : Result A Fault) → Runs put_text (leg_cells x) old new result → Puts layout leg_table x old new result
+puts_row old new x = puts layout leg_table is_table old new put_text x (put_is x) (λ _ _ _. refl)
 
 -- ---- find and list
 
@@ -81,47 +80,41 @@ names = codes "entry" ∷ codes "posting" ∷ codes "place" ∷ codes "account" 
 abbrev posting_text : List ℕ
 posting_text = codes "SELECT entry, posting, place, account, commodity, units, cost_number, cost_currency, cost_day, cost_label FROM leg WHERE entry = ?1 AND posting = ?2 ORDER BY entry, posting, place"
 
-posting_is : IsQuery layout.schema 13 (key_terms 2 0) shows order names 2 posting_text
+pub posting_is : IsQuery layout.schema 13 (key_terms 2 0) shows order names 2 posting_text
 unfolding understood everything
-posting_is = record { means = refl; unlisted = refl; bare = (refl, refl); whole = (omega arith, refl) }
+posting_is = record { means = refl; unlisted = refl; bare = (refl, refl); whole = (omega arith, refl); selects = (_, refl, refl) }
 
-pub posting_selects : IsSelect posting_text
-unfolding everything
-posting_selects = (_, refl, refl)
+posting_asks : (entry : ℕ) (posting : ℕ) → Asks layout leg_table (Int (pos entry) ∷ Int (pos posting) ∷ []) (has_key 2 (Int (pos entry) ∷ Int (pos posting) ∷ [])) posting_text
+posting_asks entry posting = record {
+  tests = (key_terms 2 0);
+  shows = shows;
+  order = order;
+  names = names;
+  is = posting_is;
+  picks = record { alike = keyed leg_cells 2 (Int (pos entry) ∷ Int (pos posting) ∷ []) (refl, (refl, tt)) (λ _. (refl, (refl, tt))); blind = λ _ _ _. refl; shown = λ _. refl; sorts = λ _ _ _. refl; typed = refl };
+}
 
-module _ (entry : ℕ) (posting : ℕ) (old new : State) where
-  abbrev posting_key : Row
-  posting_key = Int (pos entry) ∷ Int (pos posting) ∷ []
-
-  pub postings : (rows : List Row) → Shown posting_text posting_key old new rows → (b : Tables) → Has old b → rows ≡ map leg_cells (with_key leg_cells 2 posting_key b.leg)
-  postings =
-      selects_where layout leg_table leg_cells 3 rows_of with_rows is_table (key_terms 2 0) shows order names posting_key posting_text posting_is old new (has_key 2 posting_key)
-      (keyed leg_cells 2 posting_key (refl, (refl, tt)) (λ _. (refl, (refl, tt)))) (λ _ _. refl) (λ _. refl) (λ _ _. refl)
-
-  pub posting_damage : Refused posting_text posting_key old new Damaged ⊎ ShowsDamage leg_cells IsLegRow posting_text posting_key old new → old.step_limit ≡ None → (b : Tables) → Has old b
-      → All IsLegRow (with_key leg_cells 2 posting_key b.leg) → ⊥
-  posting_damage =
-      finds_damage layout leg_table leg_cells 3 rows_of with_rows is_table (key_terms 2 0) shows order names posting_key posting_text posting_is old new (has_key 2 posting_key)
-      (keyed leg_cells 2 posting_key (refl, (refl, tt)) (λ _. (refl, (refl, tt)))) (λ _ _. refl) (λ _. refl) (λ _ _. refl) IsLegRow refl
+pub posting_rows : (old new : State) (entry : ℕ) (posting : ℕ) (result : Result (Vec LegRow Global) Fault)
+    → Selects leg_cells IsLegRow (λ rows found. found.items ≡ rows) (λ found. All IsLegRow found.items) posting_text (Int (pos entry) ∷ Int (pos posting) ∷ []) old new result → ListsColumns layout leg_cells IsLegRow (λ b. with_key leg_cells 2 (Int (pos entry) ∷ Int (pos posting) ∷ []) b.leg) old new result
+posting_rows old new entry posting = lists_columns layout leg_table is_table (Int (pos entry) ∷ Int (pos posting) ∷ []) (has_key 2 (Int (pos entry) ∷ Int (pos posting) ∷ [])) posting_text (posting_asks entry posting) old new IsLegRow (λ b. with_key leg_cells 2 (Int (pos entry) ∷ Int (pos posting) ∷ []) b.leg) (λ _. refl)
 
 abbrev list_text : List ℕ
 list_text = codes "SELECT entry, posting, place, account, commodity, units, cost_number, cost_currency, cost_day, cost_label FROM leg ORDER BY entry, posting, place"
 
-list_is : IsQuery layout.schema 13 (key_terms 0 0) shows order names 0 list_text
+pub list_is : IsQuery layout.schema 13 (key_terms 0 0) shows order names 0 list_text
 unfolding understood everything
-list_is = record { means = refl; unlisted = refl; bare = (refl, refl); whole = (omega arith, refl) }
+list_is = record { means = refl; unlisted = refl; bare = (refl, refl); whole = (omega arith, refl); selects = (_, refl, refl) }
 
-pub list_selects : IsSelect list_text
-unfolding everything
-list_selects = (_, refl, refl)
+list_asks : Asks layout leg_table [] (has_key 0 []) list_text
+list_asks = record {
+  tests = (key_terms 0 0);
+  shows = shows;
+  order = order;
+  names = names;
+  is = list_is;
+  picks = record { alike = λ _ _. refl; blind = λ _ _ _. refl; shown = λ _. refl; sorts = λ _ _ _. refl; typed = refl };
+}
 
-module _ (old new : State) where
-  pub lists : (rows : List Row) → Shown list_text [] old new rows → (b : Tables) → Has old b → rows ≡ map leg_cells b.leg
-  lists rows told b has =
-      selects_where layout leg_table leg_cells 3 rows_of with_rows is_table [] shows order names [] list_text list_is old new (has_key 0 []) (λ _ _. refl) (λ _ _. refl) (λ _. refl) (λ _ _. refl) rows told b has
-      ∙ ap (map leg_cells) (every_one leg_cells [] b.leg)
-
-  pub list_damage : Refused list_text [] old new Damaged ⊎ ShowsDamage leg_cells IsLegRow list_text [] old new → old.step_limit ≡ None → (b : Tables) → Has old b → All IsLegRow b.leg → ⊥
-  list_damage told unlimited b has all =
-      finds_damage layout leg_table leg_cells 3 rows_of with_rows is_table [] shows order names [] list_text list_is old new (has_key 0 []) (λ _ _. refl) (λ _ _. refl) (λ _. refl) (λ _ _. refl)
-      IsLegRow refl told unlimited b has (subst (All IsLegRow) (sym (every_one leg_cells [] b.leg)) all)
+pub list_rows : (old new : State) (result : Result (Vec LegRow Global) Fault)
+    → Selects leg_cells IsLegRow (λ rows found. found.items ≡ rows) (λ found. All IsLegRow found.items) list_text [] old new result → ListsColumns layout leg_cells IsLegRow (λ b. b.leg) old new result
+list_rows old new = lists_columns layout leg_table is_table [] (has_key 0 []) list_text list_asks old new IsLegRow (λ b. b.leg) (λ b. every_one leg_cells [] b.leg)

@@ -1,51 +1,26 @@
 -- The statements on the table `plain`.
-use Rattle.std.proofs.Common.{◌≡◌, ◌⊎◌, ℕ, None, All, List, [], ◌∷◌, map, codes, refl, sym, ap, subst, ◌∙◌, arith}
+use Rattle.std.proofs.Common.{Option, Result, Vec, slice_get, IfSome, ◌≡◌, ℕ, All, List, [], ◌∷◌, codes, refl, arith}
 use Rattle.sqlite.specs.Collation.TheVariants.{Binary}
-use Rattle.sqlite.specs.Command.TheVariants.{Delete, InsertOr}
 use Rattle.sqlite.specs.Listing.{understood}
-use Rattle.sqlite.specs.Order.{Row}
-use Rattle.sqlite.specs.Source.TheVariants.{Values}
-use Rattle.sqlite.specs.State.{State, Shown}
-use Rattle.sqlite.specs.Table.{Table}
+use Rattle.sqlite.specs.State.{State}
 use Rattle.sqlite.specs.Term.{Term, col, lit}
 use Rattle.sqlite.specs.declared.types.Value.TheVariants.{Null, Text}
-use Rattle.sqlite_schema.specs.declared.command.Conflict.TheVariants.{Replace}
 use Rattle.sqlite_tied.specs.Compute.{everything}
 use Rattle.sqlite_value.specs.Keys.{ascending}
 use Rattle.sqlite_value.specs.declared.keys.Key.{Key}
-use Rattle.sqlite.proofs.Callers.{IsPlain, command_of}
-use Rattle.lot_table.specs.Book.{Turns, always}
-use Rattle.lot_table.specs.Rows.{has_key, put_in, with_key, without_key}
-use Rattle.lot_table.specs.Shape.{table}
-use Rattle.lot_table.specs.Statement.{IsSelect, Ran, Refused, ShowsDamage}
-use Rattle.lot_table.specs.declared.fault.Fault.TheVariants.{Damaged}
-use Rattle.lot_table.proofs.QueryLemmas.{IsQuery, every_one, finds_damage, keyed, selects_where}
-use Rattle.lot_table.proofs.ReadLemmas.{key_terms, query}
-use Rattle.lot_table.proofs.StatementLemmas.{IsTable, turns_delete, turns_put}
+use Rattle.lot_table.specs.Rows.{has_key, with_key}
+use Rattle.lot_table.proofs.ReadLemmas.{key_terms}
 use Rattle.lot_table.proofs.WriteLemmas.{cast_int}
 use Rattle.lot_rows.specs.Plain.{IsPlainRow, plain_cells}
-use Rattle.lot_rows.specs.Tables.{Has, Tables, plain_shape, layout}
+use Rattle.lot_rows.specs.Tables.{plain_table, shapes, layout}
 use Rattle.lot_rows.specs.declared.plain.PlainRow.{PlainRow}
-
-abbrev plain_table : Table
-plain_table = table 19 plain_shape
-
-abbrev rows_of : Tables → List PlainRow
-rows_of b = b.plain
-
-abbrev with_rows : List PlainRow → Tables → Tables
-with_rows rows b = record b { plain = rows }
-
-abbrev is_table : IsTable layout plain_table plain_cells 2 rows_of with_rows
-is_table = record {
-  aligned = λ _. refl;
-  held = λ _ _ h. h.1.1.1.1.1.1.1.1.1.0;
-  is_set = λ _ _. refl;
-  present = λ _. (refl, (refl, tt));
-  place = 9;
-  placed = refl;
-  unreferred = λ _ _. refl;
-}
+use Rattle.lot_table.specs.Call.{Deletes, Finds, Lists, Puts, Runs, Selects}
+use Rattle.lot_table.specs.declared.fault.Fault.{Fault}
+use Rattle.lot_table.proofs.ShapeLemmas.{free}
+use Rattle.lot_table.proofs.StatementLemmas.{IsDelete, IsPut, IsTable, deletes_key, puts}
+use Rattle.lot_table.proofs.QueryLemmas.{Asks, IsQuery, every_one, finds, keyed, lists}
+use Rattle.sqlite_rules.proofs.ListLemmas.{has_got}
+use Rattle.std.specs.declared.alloc.Global.{Global}
 
 pub same_row : (x y : PlainRow) → plain_cells x ≡ plain_cells y → x ≡ y
 same_row x y same =
@@ -60,27 +35,39 @@ put_text = codes "INSERT OR REPLACE INTO plain (account, commodity, units) VALUE
 abbrev put_terms : List Term
 put_terms = lit Null ∷ col 0 0 ∷ col 0 1 ∷ col 0 2 ∷ []
 
-put_is : (command_of (understood layout.schema put_text) ≡ InsertOr 9 Replace (Values put_terms 4) []) × IsPlain (understood layout.schema put_text)
-unfolding understood everything
-put_is = (refl, (refl, refl))
+abbrev is_table : IsTable layout plain_table
+is_table = record {
+  aligned = λ _. refl;
+  held = λ _ _ h. h.1.1.1.1.1.1.1.1.1.0;
+  is_set = λ _ _. refl;
+  present = λ _. (refl, (refl, tt));
+  place = 9;
+  placed = refl;
+  free = free shapes plain_table.table (has_got layout.schema.tables 9 plain_table.table refl) refl;
+  uncounted = refl;
+  mends = λ _. refl;
+  stored = λ x. (refl, (refl, (cast_int x.units, tt)));
+  judged = λ _ _. (refl, refl, refl, refl);
+}
 
-pub puts : (old new : State) (x : PlainRow) → Ran put_text (plain_cells x) old new → Turns layout always (λ b. record b { plain = put_in plain_cells 2 x b.plain }) old new
-puts old new x ran =
-    turns_put layout plain_table plain_cells 2 rows_of with_rows is_table old new put_text put_is.1 4 put_terms put_is.0 x refl refl
-    (refl, (refl, (cast_int x.units, tt))) refl (λ _ _ _. refl) ran.0 ran.1
+put_is : (x : PlainRow) → IsPut layout plain_table is_table x put_text
+unfolding understood everything
+put_is x = record { count = 4; terms = put_terms; means = refl; bare = (refl, refl); whole = (omega arith, refl); given = refl; typed = refl }
+
+pub puts_row : (old new : State) (x : PlainRow) {A : Type 0} (result : Result A Fault) → Runs put_text (plain_cells x) old new result → Puts layout plain_table x old new result
+puts_row old new x = puts layout plain_table is_table old new put_text x (put_is x) (λ _ _ _. refl)
 
 -- ---- delete
 
 abbrev delete_text : List ℕ
 delete_text = codes "DELETE FROM plain WHERE account = ?1 AND commodity = ?2"
 
-delete_is : (command_of (understood layout.schema delete_text) ≡ Delete 9 (record { lets = []; body = query 19 (key_terms 2 0) (col 1 0 ∷ []) [] })) × IsPlain (understood layout.schema delete_text)
+delete_is : (account commodity : List ℕ) → IsDelete layout plain_table is_table (Text account ∷ Text commodity ∷ []) delete_text
 unfolding understood everything
-delete_is = (refl, (refl, refl))
+delete_is account commodity = record { means = refl; bare = (refl, refl); whole = (omega arith, refl); some = (refl, (refl, tt)); typed = refl }
 
-pub deletes : (old new : State) (account commodity : List ℕ) → Ran delete_text (Text account ∷ Text commodity ∷ []) old new → Turns layout always (λ b. record b { plain = without_key plain_cells 2 (Text account ∷ Text commodity ∷ []) b.plain }) old new
-deletes old new account commodity ran =
-    turns_delete layout plain_table plain_cells 2 rows_of with_rows is_table old new delete_text delete_is.1 (Text account ∷ Text commodity ∷ []) (refl, (refl, tt)) delete_is.0 ran.0 ran.1
+pub deletes_row : (old new : State) (account commodity : List ℕ) {A : Type 0} (result : Result A Fault) → Runs delete_text (Text account ∷ Text commodity ∷ []) old new result → Deletes layout plain_table (Text account ∷ Text commodity ∷ []) old new result
+deletes_row old new account commodity = deletes_key layout plain_table is_table old new delete_text (Text account ∷ Text commodity ∷ []) (delete_is account commodity)
 
 -- ---- find and list
 
@@ -96,73 +83,62 @@ names = codes "account" ∷ codes "commodity" ∷ codes "units" ∷ []
 abbrev find_text : List ℕ
 find_text = codes "SELECT account, commodity, units FROM plain WHERE account = ?1 AND commodity = ?2 ORDER BY account, commodity"
 
-find_is : IsQuery layout.schema 19 (key_terms 2 0) shows order names 2 find_text
+pub find_is : IsQuery layout.schema 19 (key_terms 2 0) shows order names 2 find_text
 unfolding understood everything
-find_is = record { means = refl; unlisted = refl; bare = (refl, refl); whole = (omega arith, refl) }
+find_is = record { means = refl; unlisted = refl; bare = (refl, refl); whole = (omega arith, refl); selects = (_, refl, refl) }
 
-pub find_selects : IsSelect find_text
-unfolding everything
-find_selects = (_, refl, refl)
+find_asks : (account commodity : List ℕ) → Asks layout plain_table (Text account ∷ Text commodity ∷ []) (has_key 2 (Text account ∷ Text commodity ∷ [])) find_text
+find_asks account commodity = record {
+  tests = (key_terms 2 0);
+  shows = shows;
+  order = order;
+  names = names;
+  is = find_is;
+  picks = record { alike = keyed plain_cells 2 (Text account ∷ Text commodity ∷ []) (refl, (refl, tt)) (λ _. (refl, (refl, tt))); blind = λ _ _ _. refl; shown = λ _. refl; sorts = λ _ _ _. refl; typed = refl };
+}
 
-module _ (account : List ℕ) (commodity : List ℕ) (old new : State) where
-  abbrev find_key : Row
-  find_key = Text account ∷ Text commodity ∷ []
-
-  pub finds : (rows : List Row) → Shown find_text find_key old new rows → (b : Tables) → Has old b → rows ≡ map plain_cells (with_key plain_cells 2 find_key b.plain)
-  finds =
-      selects_where layout plain_table plain_cells 2 rows_of with_rows is_table (key_terms 2 0) shows order names find_key find_text find_is old new (has_key 2 find_key)
-      (keyed plain_cells 2 find_key (refl, (refl, tt)) (λ _. (refl, (refl, tt)))) (λ _ _. refl) (λ _. refl) (λ _ _. refl)
-
-  pub find_damage : Refused find_text find_key old new Damaged ⊎ ShowsDamage plain_cells IsPlainRow find_text find_key old new → old.step_limit ≡ None → (b : Tables) → Has old b
-      → All IsPlainRow (with_key plain_cells 2 find_key b.plain) → ⊥
-  find_damage =
-      finds_damage layout plain_table plain_cells 2 rows_of with_rows is_table (key_terms 2 0) shows order names find_key find_text find_is old new (has_key 2 find_key)
-      (keyed plain_cells 2 find_key (refl, (refl, tt)) (λ _. (refl, (refl, tt)))) (λ _ _. refl) (λ _. refl) (λ _ _. refl) IsPlainRow refl
+pub find_rows : (old new : State) (account commodity : List ℕ) (result : Result (Option PlainRow) Fault)
+    → Selects plain_cells IsPlainRow (λ rows found. found ≡ slice_get rows 0) (λ found. IfSome found IsPlainRow) find_text (Text account ∷ Text commodity ∷ []) old new result → Finds layout IsPlainRow (λ b. with_key plain_cells 2 (Text account ∷ Text commodity ∷ []) b.plain) old new result
+find_rows old new account commodity = finds layout plain_table is_table (Text account ∷ Text commodity ∷ []) (has_key 2 (Text account ∷ Text commodity ∷ [])) find_text (find_asks account commodity) old new IsPlainRow (λ b. with_key plain_cells 2 (Text account ∷ Text commodity ∷ []) b.plain) (λ _. refl) same_row
 
 abbrev account_text : List ℕ
 account_text = codes "SELECT account, commodity, units FROM plain WHERE account = ?1 ORDER BY account, commodity"
 
-account_is : IsQuery layout.schema 19 (key_terms 1 0) shows order names 1 account_text
+pub account_is : IsQuery layout.schema 19 (key_terms 1 0) shows order names 1 account_text
 unfolding understood everything
-account_is = record { means = refl; unlisted = refl; bare = (refl, refl); whole = (omega arith, refl) }
+account_is = record { means = refl; unlisted = refl; bare = (refl, refl); whole = (omega arith, refl); selects = (_, refl, refl) }
 
-pub account_selects : IsSelect account_text
-unfolding everything
-account_selects = (_, refl, refl)
+account_asks : (account : List ℕ) → Asks layout plain_table (Text account ∷ []) (has_key 1 (Text account ∷ [])) account_text
+account_asks account = record {
+  tests = (key_terms 1 0);
+  shows = shows;
+  order = order;
+  names = names;
+  is = account_is;
+  picks = record { alike = keyed plain_cells 1 (Text account ∷ []) (refl, tt) (λ _. (refl, tt)); blind = λ _ _ _. refl; shown = λ _. refl; sorts = λ _ _ _. refl; typed = refl };
+}
 
-module _ (account : List ℕ) (old new : State) where
-  abbrev account_key : Row
-  account_key = Text account ∷ []
-
-  pub accounts : (rows : List Row) → Shown account_text account_key old new rows → (b : Tables) → Has old b → rows ≡ map plain_cells (with_key plain_cells 1 account_key b.plain)
-  accounts =
-      selects_where layout plain_table plain_cells 2 rows_of with_rows is_table (key_terms 1 0) shows order names account_key account_text account_is old new (has_key 1 account_key)
-      (keyed plain_cells 1 account_key (refl, tt) (λ _. (refl, tt))) (λ _ _. refl) (λ _. refl) (λ _ _. refl)
-
-  pub account_damage : Refused account_text account_key old new Damaged ⊎ ShowsDamage plain_cells IsPlainRow account_text account_key old new → old.step_limit ≡ None → (b : Tables) → Has old b
-      → All IsPlainRow (with_key plain_cells 1 account_key b.plain) → ⊥
-  account_damage =
-      finds_damage layout plain_table plain_cells 2 rows_of with_rows is_table (key_terms 1 0) shows order names account_key account_text account_is old new (has_key 1 account_key)
-      (keyed plain_cells 1 account_key (refl, tt) (λ _. (refl, tt))) (λ _ _. refl) (λ _. refl) (λ _ _. refl) IsPlainRow refl
+pub account_rows : (old new : State) (account : List ℕ) (result : Result (Vec PlainRow Global) Fault)
+    → Selects plain_cells IsPlainRow (λ rows found. found.items ≡ rows) (λ found. All IsPlainRow found.items) account_text (Text account ∷ []) old new result → Lists layout IsPlainRow (λ b. with_key plain_cells 1 (Text account ∷ []) b.plain) old new result
+account_rows old new account = lists layout plain_table is_table (Text account ∷ []) (has_key 1 (Text account ∷ [])) account_text (account_asks account) old new IsPlainRow (λ b. with_key plain_cells 1 (Text account ∷ []) b.plain) (λ _. refl) same_row
 
 abbrev list_text : List ℕ
 list_text = codes "SELECT account, commodity, units FROM plain ORDER BY account, commodity"
 
-list_is : IsQuery layout.schema 19 (key_terms 0 0) shows order names 0 list_text
+pub list_is : IsQuery layout.schema 19 (key_terms 0 0) shows order names 0 list_text
 unfolding understood everything
-list_is = record { means = refl; unlisted = refl; bare = (refl, refl); whole = (omega arith, refl) }
+list_is = record { means = refl; unlisted = refl; bare = (refl, refl); whole = (omega arith, refl); selects = (_, refl, refl) }
 
-pub list_selects : IsSelect list_text
-unfolding everything
-list_selects = (_, refl, refl)
+list_asks : Asks layout plain_table [] (has_key 0 []) list_text
+list_asks = record {
+  tests = (key_terms 0 0);
+  shows = shows;
+  order = order;
+  names = names;
+  is = list_is;
+  picks = record { alike = λ _ _. refl; blind = λ _ _ _. refl; shown = λ _. refl; sorts = λ _ _ _. refl; typed = refl };
+}
 
-module _ (old new : State) where
-  pub lists : (rows : List Row) → Shown list_text [] old new rows → (b : Tables) → Has old b → rows ≡ map plain_cells b.plain
-  lists rows told b has =
-      selects_where layout plain_table plain_cells 2 rows_of with_rows is_table [] shows order names [] list_text list_is old new (has_key 0 []) (λ _ _. refl) (λ _ _. refl) (λ _. refl) (λ _ _. refl) rows told b has
-      ∙ ap (map plain_cells) (every_one plain_cells [] b.plain)
-
-  pub list_damage : Refused list_text [] old new Damaged ⊎ ShowsDamage plain_cells IsPlainRow list_text [] old new → old.step_limit ≡ None → (b : Tables) → Has old b → All IsPlainRow b.plain → ⊥
-  list_damage told unlimited b has all =
-      finds_damage layout plain_table plain_cells 2 rows_of with_rows is_table [] shows order names [] list_text list_is old new (has_key 0 []) (λ _ _. refl) (λ _ _. refl) (λ _. refl) (λ _ _. refl)
-      IsPlainRow refl told unlimited b has (subst (All IsPlainRow) (sym (every_one plain_cells [] b.plain)) all)
+pub list_rows : (old new : State) (result : Result (Vec PlainRow Global) Fault)
+    → Selects plain_cells IsPlainRow (λ rows found. found.items ≡ rows) (λ found. All IsPlainRow found.items) list_text [] old new result → Lists layout IsPlainRow (λ b. b.plain) old new result
+list_rows old new = lists layout plain_table is_table [] (has_key 0 []) list_text list_asks old new IsPlainRow (λ b. b.plain) (λ b. every_one plain_cells [] b.plain) same_row

@@ -1,30 +1,18 @@
 -- The statements on the table `sale`.
-use Rattle.std.proofs.Common.{◌≡◌, ◌⊎◌, ℕ, pos, None, All, List, [], ◌∷◌, map, codes, refl, sym, ap, subst, ◌∙◌, arith}
+use Rattle.std.proofs.Common.{Result, Vec, true, ◌≡◌, ℕ, pos, None, All, List, [], ◌∷◌, codes, refl, arith}
 use Rattle.sqlite.specs.Collation.TheVariants.{Binary}
-use Rattle.sqlite.specs.Command.TheVariants.{InsertOr}
 use Rattle.sqlite.specs.Listing.{understood}
-use Rattle.sqlite.specs.Order.{Row}
-use Rattle.sqlite.specs.Source.TheVariants.{Values}
-use Rattle.sqlite.specs.State.{State, Shown}
-use Rattle.sqlite.specs.Table.{Table}
+use Rattle.sqlite.specs.State.{State}
 use Rattle.sqlite.specs.Term.{Term, col, lit}
 use Rattle.sqlite.specs.declared.types.Value.TheVariants.{Null}
-use Rattle.sqlite_schema.specs.declared.command.Conflict.TheVariants.{Replace}
 use Rattle.sqlite_tied.specs.Compute.{everything}
 use Rattle.sqlite_value.specs.Keys.{ascending}
 use Rattle.sqlite_value.specs.declared.keys.Key.{Key}
-use Rattle.sqlite.proofs.Callers.{IsPlain, command_of}
-use Rattle.lot_table.specs.Book.{Turns, always}
-use Rattle.lot_table.specs.Rows.{has_key, put_in}
-use Rattle.lot_table.specs.Shape.{table}
-use Rattle.lot_table.specs.Statement.{IsSelect, Ran, Refused, ShowsDamage}
-use Rattle.lot_table.specs.declared.fault.Fault.TheVariants.{Damaged}
-use Rattle.lot_table.proofs.QueryLemmas.{IsQuery, every_one, finds_damage, selects_where}
+use Rattle.lot_table.specs.Rows.{has_key}
 use Rattle.lot_table.proofs.ReadLemmas.{key_terms}
-use Rattle.lot_table.proofs.StatementLemmas.{IsTable, turns_put}
 use Rattle.lot_table.proofs.WriteLemmas.{cast_int}
 use Rattle.lot_rows.specs.Sale.{IsSaleRow, sale_cells}
-use Rattle.lot_rows.specs.Tables.{Has, Tables, sale_shape, layout}
+use Rattle.lot_rows.specs.Tables.{sale_table, shapes, layout}
 use Rattle.lot_rows.specs.declared.sale.SaleRow.{SaleRow}
 use Rattle.std.proofs.Common.{Option, Some}
 use Rattle.sqlite.specs.Cast.{cast}
@@ -34,26 +22,18 @@ use Rattle.lot_command.specs.declared.price.Price.TheVariants.{Each, Whole}
 use Rattle.lot_command.specs.declared.price.Price.{Price}
 use Rattle.lot_rows.specs.Sale.{amount_of, currency_of, kind_of}
 use Rattle.lot_table.proofs.WriteLemmas.{cast_null}
-
-abbrev sale_table : Table
-sale_table = table 15 sale_shape
-
-abbrev rows_of : Tables → List SaleRow
-rows_of b = b.sale
-
-abbrev with_rows : List SaleRow → Tables → Tables
-with_rows rows b = record b { sale = rows }
-
-abbrev is_table : IsTable layout sale_table sale_cells 2 rows_of with_rows
-is_table = record {
-  aligned = λ _. refl;
-  held = λ _ _ h. h.1.1.1.1.1.1.1.0;
-  is_set = λ _ _. refl;
-  present = λ _. (refl, (refl, tt));
-  place = 7;
-  placed = refl;
-  unreferred = λ _ _. refl;
-}
+use Rattle.lot_table.specs.Call.{ListsColumns, Puts, Runs, Selects}
+use Rattle.lot_table.specs.declared.fault.Fault.{Fault}
+use Rattle.lot_table.proofs.ShapeLemmas.{free}
+use Rattle.lot_table.proofs.StatementLemmas.{IsPut, IsTable, puts}
+use Rattle.lot_table.proofs.QueryLemmas.{Asks, IsQuery, every_one, lists_columns}
+use Rattle.sqlite_rules.proofs.ListLemmas.{has_got}
+use Rattle.sqlite_rules.specs.Steps.{is_typed}
+use Rattle.sqlite_typing.specs.Types.{accepts_terms}
+use Rattle.std.specs.declared.alloc.Global.{Global}
+use Rattle.std.proofs.Common.{ℤ}
+use Rattle.sqlite.specs.declared.types.Value.TheVariants.{Text}
+use Rattle.sqlite.specs.declared.types.Value.TheVariants.{Int}
 
 -- ---- the columns of a price are stored and bound as they are
 
@@ -85,14 +65,34 @@ put_text = codes "INSERT OR REPLACE INTO sale (entry, posting, day, account, com
 abbrev put_terms : List Term
 put_terms = lit Null ∷ col 0 0 ∷ col 0 1 ∷ col 0 2 ∷ col 0 3 ∷ col 0 4 ∷ col 0 5 ∷ col 0 6 ∷ col 0 7 ∷ col 0 8 ∷ []
 
-put_is : (command_of (understood layout.schema put_text) ≡ InsertOr 7 Replace (Values put_terms 10) []) × IsPlain (understood layout.schema put_text)
-unfolding understood everything
-put_is = (refl, (refl, refl))
+-- each value is of its column, whichever is there
+typed : (entry posting day : ℤ) (account commodity : List ℕ) (units : ℤ) (price : Option Price) (id : ℤ)
+    → (is_typed sale_table.table (Int id ∷ Int entry ∷ Int posting ∷ Int day ∷ Text account ∷ Text commodity ∷ Int units ∷ Int (kind_of price) ∷ amount_of price ∷ currency_of price ∷ []) ≡ true) × (accepts_terms put_terms (Int entry ∷ Int posting ∷ Int day ∷ Text account ∷ Text commodity ∷ Int units ∷ Int (kind_of price) ∷ amount_of price ∷ currency_of price ∷ []) ≡ true)
+typed entry posting day account commodity units None id = (refl, refl)
+typed entry posting day account commodity units (Some (Each price)) id = (refl, refl)
+typed entry posting day account commodity units (Some (Whole price)) id = (refl, refl)
 
-pub puts : (old new : State) (x : SaleRow) → Ran put_text (sale_cells x) old new → Turns layout always (λ b. record b { sale = put_in sale_cells 2 x b.sale }) old new
-puts old new x ran =
-    turns_put layout sale_table sale_cells 2 rows_of with_rows is_table old new put_text put_is.1 10 put_terms put_is.0 x refl refl
-    (cast_int (pos x.entry), (cast_int (pos x.posting), (cast_int x.day, (refl, (refl, (cast_int x.units, (cast_int (kind_of x.price), (amount_stored x.price, (currency_stored x.price, tt))))))))) refl (λ _ _ _. refl) ran.0 ran.1
+abbrev is_table : IsTable layout sale_table
+is_table = record {
+  aligned = λ _. refl;
+  held = λ _ _ h. h.1.1.1.1.1.1.1.0;
+  is_set = λ _ _. refl;
+  present = λ _. (refl, (refl, tt));
+  place = 7;
+  placed = refl;
+  free = free shapes sale_table.table (has_got layout.schema.tables 7 sale_table.table refl) refl;
+  uncounted = refl;
+  mends = λ _. refl;
+  stored = λ x. (cast_int (pos x.entry), (cast_int (pos x.posting), (cast_int x.day, (refl, (refl, (cast_int x.units, (cast_int (kind_of x.price), (amount_stored x.price, (currency_stored x.price, tt)))))))));
+  judged = λ x id. (refl, (typed (pos x.entry) (pos x.posting) x.day x.account x.commodity x.units x.price id).0, refl, refl);
+}
+
+put_is : (x : SaleRow) → IsPut layout sale_table is_table x put_text
+unfolding understood everything
+put_is x = record { count = 10; terms = put_terms; means = refl; bare = (refl, refl); whole = (omega arith, refl); given = refl; typed = (typed (pos x.entry) (pos x.posting) x.day x.account x.commodity x.units x.price (pos 0)).1 }
+
+pub puts_row : (old new : State) (x : SaleRow) {A : Type 0} (result : Result A Fault) → Runs put_text (sale_cells x) old new result → Puts layout sale_table x old new result
+puts_row old new x = puts layout sale_table is_table old new put_text x (put_is x) (λ _ _ _. refl)
 
 -- ---- find and list
 
@@ -108,21 +108,20 @@ names = codes "entry" ∷ codes "posting" ∷ codes "day" ∷ codes "account" �
 abbrev list_text : List ℕ
 list_text = codes "SELECT entry, posting, day, account, commodity, units, kind, amount, currency FROM sale ORDER BY entry, posting"
 
-list_is : IsQuery layout.schema 15 (key_terms 0 0) shows order names 0 list_text
+pub list_is : IsQuery layout.schema 15 (key_terms 0 0) shows order names 0 list_text
 unfolding understood everything
-list_is = record { means = refl; unlisted = refl; bare = (refl, refl); whole = (omega arith, refl) }
+list_is = record { means = refl; unlisted = refl; bare = (refl, refl); whole = (omega arith, refl); selects = (_, refl, refl) }
 
-pub list_selects : IsSelect list_text
-unfolding everything
-list_selects = (_, refl, refl)
+list_asks : Asks layout sale_table [] (has_key 0 []) list_text
+list_asks = record {
+  tests = (key_terms 0 0);
+  shows = shows;
+  order = order;
+  names = names;
+  is = list_is;
+  picks = record { alike = λ _ _. refl; blind = λ _ _ _. refl; shown = λ _. refl; sorts = λ _ _ _. refl; typed = refl };
+}
 
-module _ (old new : State) where
-  pub lists : (rows : List Row) → Shown list_text [] old new rows → (b : Tables) → Has old b → rows ≡ map sale_cells b.sale
-  lists rows told b has =
-      selects_where layout sale_table sale_cells 2 rows_of with_rows is_table [] shows order names [] list_text list_is old new (has_key 0 []) (λ _ _. refl) (λ _ _. refl) (λ _. refl) (λ _ _. refl) rows told b has
-      ∙ ap (map sale_cells) (every_one sale_cells [] b.sale)
-
-  pub list_damage : Refused list_text [] old new Damaged ⊎ ShowsDamage sale_cells IsSaleRow list_text [] old new → old.step_limit ≡ None → (b : Tables) → Has old b → All IsSaleRow b.sale → ⊥
-  list_damage told unlimited b has all =
-      finds_damage layout sale_table sale_cells 2 rows_of with_rows is_table [] shows order names [] list_text list_is old new (has_key 0 []) (λ _ _. refl) (λ _ _. refl) (λ _. refl) (λ _ _. refl)
-      IsSaleRow refl told unlimited b has (subst (All IsSaleRow) (sym (every_one sale_cells [] b.sale)) all)
+pub list_rows : (old new : State) (result : Result (Vec SaleRow Global) Fault)
+    → Selects sale_cells IsSaleRow (λ rows found. found.items ≡ rows) (λ found. All IsSaleRow found.items) list_text [] old new result → ListsColumns layout sale_cells IsSaleRow (λ b. b.sale) old new result
+list_rows old new = lists_columns layout sale_table is_table [] (has_key 0 []) list_text list_asks old new IsSaleRow (λ b. b.sale) (λ b. every_one sale_cells [] b.sale)

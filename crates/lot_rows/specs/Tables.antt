@@ -1,10 +1,9 @@
 -- The tables of a book, as the lists of their rows in the order of their keys (docs/FORMATS.md, Tables).
 use Rattle.std.specs.Prelude.{ℕ, List, [], ◌∷◌, map, codes}
-use Rattle.sqlite.specs.Order.{Row}
 use Rattle.sqlite.specs.State.{State}
 use Rattle.sqlite_schema.specs.declared.schema.Column.{Column}
-use Rattle.lot_table.specs.Book.{Has as HasLists, Layout, Slot}
-use Rattle.lot_table.specs.Shape.{Shape, maybe_number, maybe_text, number, schema_of, text}
+use Rattle.lot_table.specs.Book.{BookTable, Has as HasLists, Layout, Slot}
+use Rattle.lot_table.specs.Shape.{Shape, maybe_number, maybe_text, number, schema_of, table, text}
 use Rattle.lot_rows.specs.Account.{account_cells}
 use Rattle.lot_rows.specs.Allowed.{allowed_cells}
 use Rattle.lot_rows.specs.Book.{book_cells}
@@ -98,16 +97,50 @@ abbrev pub shapes : List Shape
 shapes =
     book_shape ∷ account_shape ∷ allowed_shape ∷ commodity_shape ∷ price_shape ∷ entry_shape ∷ leg_shape ∷ sale_shape ∷ lot_shape ∷ plain_shape ∷ head_shape ∷ []
 
+-- ---- the tables, each in its tree; its indexes are in the trees after it
+
+abbrev pub book_table : BookTable Tables BookRow
+book_table = record { table = table 0 book_shape; encode = book_cells; width = 1; rows = λ b. b.book; with_rows = λ rows b. record b { book = rows } }
+
+abbrev pub account_table : BookTable Tables AccountRow
+account_table = record { table = table 2 account_shape; encode = account_cells; width = 1; rows = λ b. b.account; with_rows = λ rows b. record b { account = rows } }
+
+abbrev pub allowed_table : BookTable Tables AllowedRow
+allowed_table = record { table = table 4 allowed_shape; encode = allowed_cells; width = 2; rows = λ b. b.allowed; with_rows = λ rows b. record b { allowed = rows } }
+
+abbrev pub commodity_table : BookTable Tables CommodityRow
+commodity_table = record { table = table 6 commodity_shape; encode = commodity_cells; width = 1; rows = λ b. b.commodity; with_rows = λ rows b. record b { commodity = rows } }
+
+abbrev pub price_table : BookTable Tables PriceRow
+price_table = record { table = table 8 price_shape; encode = price_cells; width = 3; rows = λ b. b.price; with_rows = λ rows b. record b { price = rows } }
+
+abbrev pub entry_table : BookTable Tables EntryRow
+entry_table = record { table = table 10 entry_shape; encode = entry_cells; width = 1; rows = λ b. b.entry; with_rows = λ rows b. record b { entry = rows } }
+
+abbrev pub leg_table : BookTable Tables LegRow
+leg_table = record { table = table 13 leg_shape; encode = leg_cells; width = 3; rows = λ b. b.leg; with_rows = λ rows b. record b { leg = rows } }
+
+abbrev pub sale_table : BookTable Tables SaleRow
+sale_table = record { table = table 15 sale_shape; encode = sale_cells; width = 2; rows = λ b. b.sale; with_rows = λ rows b. record b { sale = rows } }
+
+abbrev pub lot_table : BookTable Tables LotRow
+lot_table = record { table = table 17 lot_shape; encode = lot_cells; width = 6; rows = λ b. b.lot; with_rows = λ rows b. record b { lot = rows } }
+
+abbrev pub plain_table : BookTable Tables PlainRow
+plain_table = record { table = table 19 plain_shape; encode = plain_cells; width = 2; rows = λ b. b.plain; with_rows = λ rows b. record b { plain = rows } }
+
+abbrev pub head_table : BookTable Tables HeadRow
+head_table = record { table = table 21 head_shape; encode = head_cells; width = 2; rows = λ b. b.head; with_rows = λ rows b. record b { head = rows } }
+
 -- ---- the layout
 
-abbrev pub slot : ℕ → ℕ → List Row → Slot
-slot tree width rows = record { tree = tree; width = width; rows = rows }
+abbrev slot : {X : Type 0} → BookTable Tables X → Tables → Slot
+slot t b = record { tree = t.table.tree; width = t.width; rows = map t.encode (t.rows b) }
 
-abbrev pub slots : Tables → List Slot
+abbrev slots : Tables → List Slot
 slots b =
-    slot 0 1 (map book_cells b.book) ∷ slot 2 1 (map account_cells b.account) ∷ slot 4 2 (map allowed_cells b.allowed) ∷ slot 6 1 (map commodity_cells b.commodity)
-    ∷ slot 8 3 (map price_cells b.price) ∷ slot 10 1 (map entry_cells b.entry) ∷ slot 13 3 (map leg_cells b.leg) ∷ slot 15 2 (map sale_cells b.sale)
-    ∷ slot 17 6 (map lot_cells b.lot) ∷ slot 19 2 (map plain_cells b.plain) ∷ slot 21 2 (map head_cells b.head) ∷ []
+    slot book_table b ∷ slot account_table b ∷ slot allowed_table b ∷ slot commodity_table b ∷ slot price_table b ∷ slot entry_table b
+    ∷ slot leg_table b ∷ slot sale_table b ∷ slot lot_table b ∷ slot plain_table b ∷ slot head_table b ∷ []
 
 abbrev pub layout : Layout Tables
 layout = record { schema = schema_of shapes; slots = slots }

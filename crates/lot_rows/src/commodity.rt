@@ -1,11 +1,10 @@
-ghost use Rattle.std.specs.Prelude.{◌≡◌, ◌∷◌, [], All, IfOk, IfSome, IsTrue, None, OnErr, OnOk, map, pos, slice_get};
+ghost use Rattle.std.specs.Prelude.{◌≡◌, ◌∷◌, [], IsTrue};
 ghost use Rattle.lot_rows.specs.Commodity.{IsCommodityRow, commodity_cells};
-ghost use Rattle.lot_rows.specs.Tables.{Has, Tables, layout};
-ghost use Rattle.lot_table.specs.Book.{IsUndone, StaysInside, Turns, always};
-ghost use Rattle.lot_table.specs.Rows.{put_in, with_key};
-ghost use Rattle.lot_table.specs.Statement.{DiskFailed};
+ghost use Rattle.lot_rows.specs.Tables.{layout, commodity_table};
+ghost use Rattle.lot_table.specs.Call.{Finds, Lists, Puts};
+ghost use Rattle.lot_table.specs.Rows.{with_key};
 ghost use Rattle.sqlite.specs.Held.{state};
-ghost use Rattle.sqlite.specs.State.{HasCleanDisk, IsUnchanged, Survives};
+ghost use Rattle.sqlite.specs.State.{HasCleanDisk};
 ghost use Rattle.sqlite.specs.declared.types.Value.TheVariants.{Text};
 
 use lot_base::{Commodity, Day};
@@ -40,10 +39,8 @@ impl TableRow for CommodityRow {
 pub fn put<S: Alter>(tx: &mut Transaction<'_, S>, row: &CommodityRow) -> Result<(), Fault>
     requires { HasCleanDisk (state S.Store tx.old.conn.now) → IsTrue (state S.Store tx.old.conn.now).in_transaction }
     ensures same_reference { tx.new.conn.ghost_name ≡ tx.old.conn.ghost_name }
-    ensures inside { HasCleanDisk (state S.Store tx.new.conn.now) → OnOk result (StaysInside (state S.Store tx.old.conn.now) (state S.Store tx.new.conn.now)) }
-    ensures put { HasCleanDisk (state S.Store tx.new.conn.now) → OnOk result (Turns layout always (λ b. record b { commodity = put_in commodity_cells 1 row.now b.commodity }) (state S.Store tx.old.conn.now) (state S.Store tx.new.conn.now)) }
-    ensures err { HasCleanDisk (state S.Store tx.new.conn.now) → OnErr result (IsUndone (state S.Store tx.old.conn.now) (state S.Store tx.new.conn.now)) }
-    ensures crash { Survives (state S.Store tx.old.conn.now) (state S.Store tx.new.conn.now) (λ _. ⊥) }
+    ensures puts { Puts layout commodity_table row.now
+        (state S.Store tx.old.conn.now) (state S.Store tx.new.conn.now) result }
 {
     change(
         tx,
@@ -58,13 +55,8 @@ pub fn find<S: Alter>(
     conn: &mut Connection<S>,
     name: &Commodity,
 ) -> Result<Option<CommodityRow>, Fault>
-    ensures found { HasCleanDisk (state S.Store conn.new) → IfOk result (λ row. (b : Tables) → Has (state S.Store conn.old) b → row ≡ slice_get (with_key commodity_cells 1 (Text name.now ∷ []) b.commodity) 0) }
-    ensures good { IfOk result (λ row. IfSome row IsCommodityRow) }
-    ensures same { HasCleanDisk (state S.Store conn.new) → OnOk result (IsUnchanged (state S.Store conn.old) (state S.Store conn.new)) }
-    ensures damaged { HasCleanDisk (state S.Store conn.new) → result ≡ Err Fault.Damaged → (state S.Store conn.old).step_limit ≡ None → (b : Tables) → Has (state S.Store conn.old) b → ¬ All IsCommodityRow (with_key commodity_cells 1 (Text name.now ∷ []) b.commodity) }
-    ensures device { HasCleanDisk (state S.Store conn.new) → result ≡ Err Fault.Device → DiskFailed (state S.Store conn.old) (state S.Store conn.new) }
-    ensures err { HasCleanDisk (state S.Store conn.new) → OnErr result (IsUndone (state S.Store conn.old) (state S.Store conn.new)) }
-    ensures crash { Survives (state S.Store conn.old) (state S.Store conn.new) (λ _. ⊥) }
+    ensures finds { Finds layout IsCommodityRow (λ b. with_key commodity_cells 1 (Text name.now ∷ []) b.commodity)
+        (state S.Store conn.old) (state S.Store conn.new) result }
 {
     find_row(
         alloc,
@@ -76,13 +68,8 @@ pub fn find<S: Alter>(
 
 /// Returns all rows, by name.
 pub fn list<S: Alter>(alloc: Global, conn: &mut Connection<S>) -> Result<Vec<CommodityRow>, Fault>
-    ensures listed { HasCleanDisk (state S.Store conn.new) → IfOk result (λ rows. (b : Tables) → Has (state S.Store conn.old) b → rows.items ≡ b.commodity) }
-    ensures good { IfOk result (λ rows. All IsCommodityRow rows.items) }
-    ensures same { HasCleanDisk (state S.Store conn.new) → OnOk result (IsUnchanged (state S.Store conn.old) (state S.Store conn.new)) }
-    ensures damaged { HasCleanDisk (state S.Store conn.new) → result ≡ Err Fault.Damaged → (state S.Store conn.old).step_limit ≡ None → (b : Tables) → Has (state S.Store conn.old) b → ¬ All IsCommodityRow b.commodity }
-    ensures device { HasCleanDisk (state S.Store conn.new) → result ≡ Err Fault.Device → DiskFailed (state S.Store conn.old) (state S.Store conn.new) }
-    ensures err { HasCleanDisk (state S.Store conn.new) → OnErr result (IsUndone (state S.Store conn.old) (state S.Store conn.new)) }
-    ensures crash { Survives (state S.Store conn.old) (state S.Store conn.new) (λ _. ⊥) }
+    ensures lists { Lists layout IsCommodityRow (λ b. b.commodity)
+        (state S.Store conn.old) (state S.Store conn.new) result }
 {
     select(
         alloc,

@@ -1,12 +1,11 @@
-ghost use Rattle.std.specs.Prelude.{◌≡◌, ◌∷◌, [], All, IfOk, IfSome, IsTrue, None, OnErr, OnOk, map, option_map, pos, slice_get};
+ghost use Rattle.std.specs.Prelude.{◌≡◌, All, IsTrue, option_map};
 ghost use Rattle.lot_rows.specs.Entry.{IsEntryRow, IsNumberRow, IsUnnamed, entry_cells, greatest_number, named, number_cells};
-ghost use Rattle.lot_rows.specs.declared.entry.NumberRow.{NumberRow};
-ghost use Rattle.lot_rows.specs.Tables.{Has, Tables, layout};
-ghost use Rattle.lot_table.specs.Book.{IsUndone, StaysInside, Turns};
-ghost use Rattle.lot_table.specs.Rows.{put_in};
-ghost use Rattle.lot_table.specs.Statement.{DiskFailed};
+ghost use Rattle.lot_rows.specs.Tables.{layout, entry_table};
+ghost use Rattle.lot_table.specs.Book.{always};
+ghost use Rattle.lot_table.specs.Call.{Answers, Finds, Lists, PutsWhere};
 ghost use Rattle.sqlite.specs.Held.{state};
-ghost use Rattle.sqlite.specs.State.{HasCleanDisk, IsUnchanged, Survives};
+ghost use Rattle.sqlite.specs.State.{HasCleanDisk};
+ghost use Rattle.lot_rows.specs.declared.entry.NumberRow.{NumberRow};
 
 use lot_base::Label;
 use lot_table::{
@@ -46,10 +45,8 @@ impl TableRow for EntryRow {
 pub fn put<S: Alter>(tx: &mut Transaction<'_, S>, row: &EntryRow) -> Result<(), Fault>
     requires { HasCleanDisk (state S.Store tx.old.conn.now) → IsTrue (state S.Store tx.old.conn.now).in_transaction }
     ensures same_reference { tx.new.conn.ghost_name ≡ tx.old.conn.ghost_name }
-    ensures inside { HasCleanDisk (state S.Store tx.new.conn.now) → OnOk result (StaysInside (state S.Store tx.old.conn.now) (state S.Store tx.new.conn.now)) }
-    ensures put { HasCleanDisk (state S.Store tx.new.conn.now) → OnOk result (Turns layout (λ b. IsUnnamed row.now b.entry) (λ b. record b { entry = put_in entry_cells 1 row.now b.entry }) (state S.Store tx.old.conn.now) (state S.Store tx.new.conn.now)) }
-    ensures err { HasCleanDisk (state S.Store tx.new.conn.now) → OnErr result (IsUndone (state S.Store tx.old.conn.now) (state S.Store tx.new.conn.now)) }
-    ensures crash { Survives (state S.Store tx.old.conn.now) (state S.Store tx.new.conn.now) (λ _. ⊥) }
+    ensures puts { PutsWhere layout entry_table (λ b. IsUnnamed row.now b.entry) row.now
+        (state S.Store tx.old.conn.now) (state S.Store tx.new.conn.now) result }
 {
     change(
         tx,
@@ -65,13 +62,7 @@ pub fn put<S: Alter>(tx: &mut Transaction<'_, S>, row: &EntryRow) -> Result<(), 
 
 /// Returns all rows, by number.
 pub fn list<S: Alter>(alloc: Global, conn: &mut Connection<S>) -> Result<Vec<EntryRow>, Fault>
-    ensures listed { HasCleanDisk (state S.Store conn.new) → IfOk result (λ rows. (b : Tables) → Has (state S.Store conn.old) b → rows.items ≡ b.entry) }
-    ensures good { IfOk result (λ rows. All IsEntryRow rows.items) }
-    ensures same { HasCleanDisk (state S.Store conn.new) → OnOk result (IsUnchanged (state S.Store conn.old) (state S.Store conn.new)) }
-    ensures damaged { HasCleanDisk (state S.Store conn.new) → result ≡ Err Fault.Damaged → (state S.Store conn.old).step_limit ≡ None → (b : Tables) → Has (state S.Store conn.old) b → ¬ All IsEntryRow b.entry }
-    ensures device { HasCleanDisk (state S.Store conn.new) → result ≡ Err Fault.Device → DiskFailed (state S.Store conn.old) (state S.Store conn.new) }
-    ensures err { HasCleanDisk (state S.Store conn.new) → OnErr result (IsUndone (state S.Store conn.old) (state S.Store conn.new)) }
-    ensures crash { Survives (state S.Store conn.old) (state S.Store conn.new) (λ _. ⊥) }
+    ensures lists { Lists layout IsEntryRow (λ b. b.entry) (state S.Store conn.old) (state S.Store conn.new) result }
 {
     select(
         alloc,
@@ -88,13 +79,8 @@ pub fn find<S: Alter>(
     source: &Label,
     name: &Label,
 ) -> Result<Option<EntryRow>, Fault>
-    ensures found { HasCleanDisk (state S.Store conn.new) → IfOk result (λ row. (b : Tables) → Has (state S.Store conn.old) b → row ≡ slice_get (named source.now name.now b.entry) 0) }
-    ensures good { IfOk result (λ row. IfSome row IsEntryRow) }
-    ensures same { HasCleanDisk (state S.Store conn.new) → OnOk result (IsUnchanged (state S.Store conn.old) (state S.Store conn.new)) }
-    ensures damaged { HasCleanDisk (state S.Store conn.new) → result ≡ Err Fault.Damaged → (state S.Store conn.old).step_limit ≡ None → (b : Tables) → Has (state S.Store conn.old) b → ¬ All IsEntryRow (named source.now name.now b.entry) }
-    ensures device { HasCleanDisk (state S.Store conn.new) → result ≡ Err Fault.Device → DiskFailed (state S.Store conn.old) (state S.Store conn.new) }
-    ensures err { HasCleanDisk (state S.Store conn.new) → OnErr result (IsUndone (state S.Store conn.old) (state S.Store conn.new)) }
-    ensures crash { Survives (state S.Store conn.old) (state S.Store conn.new) (λ _. ⊥) }
+    ensures finds { Finds layout IsEntryRow (λ b. named source.now name.now b.entry)
+        (state S.Store conn.old) (state S.Store conn.new) result }
 {
     find_row(
         alloc,
@@ -106,12 +92,8 @@ pub fn find<S: Alter>(
 
 /// Returns the greatest number, which is that of the last row, or `None` where there is no row.
 pub fn greatest<S: Alter>(alloc: Global, conn: &mut Connection<S>) -> Result<Option<Ordinal>, Fault>
-    ensures greatest { HasCleanDisk (state S.Store conn.new) → IfOk result (λ number. (b : Tables) → Has (state S.Store conn.old) b → number ≡ greatest_number b.entry) }
-    ensures same { HasCleanDisk (state S.Store conn.new) → OnOk result (IsUnchanged (state S.Store conn.old) (state S.Store conn.new)) }
-    ensures damaged { HasCleanDisk (state S.Store conn.new) → result ≡ Err Fault.Damaged → (state S.Store conn.old).step_limit ≡ None → (b : Tables) → Has (state S.Store conn.old) b → ¬ All IsEntryRow b.entry }
-    ensures device { HasCleanDisk (state S.Store conn.new) → result ≡ Err Fault.Device → DiskFailed (state S.Store conn.old) (state S.Store conn.new) }
-    ensures err { HasCleanDisk (state S.Store conn.new) → OnErr result (IsUndone (state S.Store conn.old) (state S.Store conn.new)) }
-    ensures crash { Survives (state S.Store conn.old) (state S.Store conn.new) (λ _. ⊥) }
+    ensures answers { Answers layout (λ number b. number ≡ greatest_number b.entry) always (λ b. All IsEntryRow b.entry)
+        (state S.Store conn.old) (state S.Store conn.new) result }
 {
     let row = greatest_row(alloc, conn)?;
     Ok(row.map(|row| row.number))
@@ -143,12 +125,8 @@ fn greatest_row<S: Alter>(
     alloc: Global,
     conn: &mut Connection<S>,
 ) -> Result<Option<NumberRow>, Fault>
-    ensures greatest { HasCleanDisk (state S.Store conn.new) → IfOk result (λ row. (b : Tables) → Has (state S.Store conn.old) b → option_map (λ (n : NumberRow). n.number) row ≡ greatest_number b.entry) }
-    ensures same { HasCleanDisk (state S.Store conn.new) → OnOk result (IsUnchanged (state S.Store conn.old) (state S.Store conn.new)) }
-    ensures damaged { HasCleanDisk (state S.Store conn.new) → result ≡ Err Fault.Damaged → (state S.Store conn.old).step_limit ≡ None → (b : Tables) → Has (state S.Store conn.old) b → ¬ All IsEntryRow b.entry }
-    ensures device { HasCleanDisk (state S.Store conn.new) → result ≡ Err Fault.Device → DiskFailed (state S.Store conn.old) (state S.Store conn.new) }
-    ensures err { HasCleanDisk (state S.Store conn.new) → OnErr result (IsUndone (state S.Store conn.old) (state S.Store conn.new)) }
-    ensures crash { Survives (state S.Store conn.old) (state S.Store conn.new) (λ _. ⊥) }
+    ensures answers { Answers layout (λ row b. option_map (λ (n : NumberRow). n.number) row ≡ greatest_number b.entry) always (λ b. All IsEntryRow b.entry)
+        (state S.Store conn.old) (state S.Store conn.new) result }
 {
     find_row(
         alloc,

@@ -1,12 +1,11 @@
-ghost use Rattle.lot_table.specs.Cell.{label_text};
-ghost use Rattle.std.specs.Prelude.{◌≡◌, ◌∷◌, [], All, IfOk, IfSome, IsTrue, None, OnErr, OnOk, map, pos, slice_get};
+ghost use Rattle.std.specs.Prelude.{◌≡◌, ◌∷◌, [], IsTrue, pos};
 ghost use Rattle.lot_rows.specs.Lot.{IsLotRow, lot_cells};
-ghost use Rattle.lot_rows.specs.Tables.{Has, Tables, layout};
-ghost use Rattle.lot_table.specs.Book.{IsUndone, StaysInside, Turns, always};
-ghost use Rattle.lot_table.specs.Rows.{put_in, with_key, without_key};
-ghost use Rattle.lot_table.specs.Statement.{DiskFailed};
+ghost use Rattle.lot_rows.specs.Tables.{layout, lot_table};
+ghost use Rattle.lot_table.specs.Call.{Deletes, ListsColumns, Puts};
+ghost use Rattle.lot_table.specs.Cell.{label_text};
+ghost use Rattle.lot_table.specs.Rows.{with_key};
 ghost use Rattle.sqlite.specs.Held.{state};
-ghost use Rattle.sqlite.specs.State.{HasCleanDisk, IsUnchanged, Survives};
+ghost use Rattle.sqlite.specs.State.{HasCleanDisk};
 ghost use Rattle.sqlite.specs.declared.types.Value.TheVariants.{Int, Text};
 
 use lot_base::{Account, Commodity};
@@ -51,10 +50,8 @@ impl TableRow for LotRow {
 pub fn put<S: Alter>(tx: &mut Transaction<'_, S>, row: &LotRow) -> Result<(), Fault>
     requires { HasCleanDisk (state S.Store tx.old.conn.now) → IsTrue (state S.Store tx.old.conn.now).in_transaction }
     ensures same_reference { tx.new.conn.ghost_name ≡ tx.old.conn.ghost_name }
-    ensures inside { HasCleanDisk (state S.Store tx.new.conn.now) → OnOk result (StaysInside (state S.Store tx.old.conn.now) (state S.Store tx.new.conn.now)) }
-    ensures put { HasCleanDisk (state S.Store tx.new.conn.now) → OnOk result (Turns layout always (λ b. record b { lot = put_in lot_cells 6 row.now b.lot }) (state S.Store tx.old.conn.now) (state S.Store tx.new.conn.now)) }
-    ensures err { HasCleanDisk (state S.Store tx.new.conn.now) → OnErr result (IsUndone (state S.Store tx.old.conn.now) (state S.Store tx.new.conn.now)) }
-    ensures crash { Survives (state S.Store tx.old.conn.now) (state S.Store tx.new.conn.now) (λ _. ⊥) }
+    ensures puts { Puts layout lot_table row.now
+        (state S.Store tx.old.conn.now) (state S.Store tx.new.conn.now) result }
 {
     change(
         tx,
@@ -80,10 +77,8 @@ pub fn delete<S: Alter>(
 ) -> Result<(), Fault>
     requires { HasCleanDisk (state S.Store tx.old.conn.now) → IsTrue (state S.Store tx.old.conn.now).in_transaction }
     ensures same_reference { tx.new.conn.ghost_name ≡ tx.old.conn.ghost_name }
-    ensures inside { HasCleanDisk (state S.Store tx.new.conn.now) → OnOk result (StaysInside (state S.Store tx.old.conn.now) (state S.Store tx.new.conn.now)) }
-    ensures deleted { HasCleanDisk (state S.Store tx.new.conn.now) → OnOk result (Turns layout always (λ b. record b { lot = without_key lot_cells 6 (Text account.now ∷ Text commodity.now ∷ Int lot.now.day ∷ Text lot.now.currency ∷ Int (pos lot.now.number) ∷ Text (label_text lot.now.label) ∷ []) b.lot }) (state S.Store tx.old.conn.now) (state S.Store tx.new.conn.now)) }
-    ensures err { HasCleanDisk (state S.Store tx.new.conn.now) → OnErr result (IsUndone (state S.Store tx.old.conn.now) (state S.Store tx.new.conn.now)) }
-    ensures crash { Survives (state S.Store tx.old.conn.now) (state S.Store tx.new.conn.now) (λ _. ⊥) }
+    ensures deletes { Deletes layout lot_table (Text account.now ∷ Text commodity.now ∷ Int lot.now.day ∷ Text lot.now.currency ∷ Int (pos lot.now.number) ∷ Text (label_text lot.now.label) ∷ [])
+        (state S.Store tx.old.conn.now) (state S.Store tx.new.conn.now) result }
 {
     change(
         tx,
@@ -106,13 +101,8 @@ pub fn list_of<S: Alter>(
     account: &Account,
     commodity: &Commodity,
 ) -> Result<Vec<LotRow>, Fault>
-    ensures listed { HasCleanDisk (state S.Store conn.new) → IfOk result (λ rows. (b : Tables) → Has (state S.Store conn.old) b → map lot_cells rows.items ≡ map lot_cells (with_key lot_cells 2 (Text account.now ∷ Text commodity.now ∷ []) b.lot)) }
-    ensures good { IfOk result (λ rows. All IsLotRow rows.items) }
-    ensures same { HasCleanDisk (state S.Store conn.new) → OnOk result (IsUnchanged (state S.Store conn.old) (state S.Store conn.new)) }
-    ensures damaged { HasCleanDisk (state S.Store conn.new) → result ≡ Err Fault.Damaged → (state S.Store conn.old).step_limit ≡ None → (b : Tables) → Has (state S.Store conn.old) b → ¬ All IsLotRow (with_key lot_cells 2 (Text account.now ∷ Text commodity.now ∷ []) b.lot) }
-    ensures device { HasCleanDisk (state S.Store conn.new) → result ≡ Err Fault.Device → DiskFailed (state S.Store conn.old) (state S.Store conn.new) }
-    ensures err { HasCleanDisk (state S.Store conn.new) → OnErr result (IsUndone (state S.Store conn.old) (state S.Store conn.new)) }
-    ensures crash { Survives (state S.Store conn.old) (state S.Store conn.new) (λ _. ⊥) }
+    ensures lists { ListsColumns layout lot_cells IsLotRow (λ b. with_key lot_cells 2 (Text account.now ∷ Text commodity.now ∷ []) b.lot)
+        (state S.Store conn.old) (state S.Store conn.new) result }
 {
     select(
         alloc,
@@ -124,13 +114,8 @@ pub fn list_of<S: Alter>(
 
 /// Returns all rows, by account, commodity and lot.
 pub fn list<S: Alter>(alloc: Global, conn: &mut Connection<S>) -> Result<Vec<LotRow>, Fault>
-    ensures listed { HasCleanDisk (state S.Store conn.new) → IfOk result (λ rows. (b : Tables) → Has (state S.Store conn.old) b → map lot_cells rows.items ≡ map lot_cells b.lot) }
-    ensures good { IfOk result (λ rows. All IsLotRow rows.items) }
-    ensures same { HasCleanDisk (state S.Store conn.new) → OnOk result (IsUnchanged (state S.Store conn.old) (state S.Store conn.new)) }
-    ensures damaged { HasCleanDisk (state S.Store conn.new) → result ≡ Err Fault.Damaged → (state S.Store conn.old).step_limit ≡ None → (b : Tables) → Has (state S.Store conn.old) b → ¬ All IsLotRow b.lot }
-    ensures device { HasCleanDisk (state S.Store conn.new) → result ≡ Err Fault.Device → DiskFailed (state S.Store conn.old) (state S.Store conn.new) }
-    ensures err { HasCleanDisk (state S.Store conn.new) → OnErr result (IsUndone (state S.Store conn.old) (state S.Store conn.new)) }
-    ensures crash { Survives (state S.Store conn.old) (state S.Store conn.new) (λ _. ⊥) }
+    ensures lists { ListsColumns layout lot_cells IsLotRow (λ b. b.lot)
+        (state S.Store conn.old) (state S.Store conn.new) result }
 {
     select(
         alloc,

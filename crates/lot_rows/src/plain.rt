@@ -1,11 +1,10 @@
-ghost use Rattle.std.specs.Prelude.{◌≡◌, ◌∷◌, [], All, IfOk, IfSome, IsTrue, None, OnErr, OnOk, map, pos, slice_get};
+ghost use Rattle.std.specs.Prelude.{◌≡◌, ◌∷◌, [], IsTrue};
 ghost use Rattle.lot_rows.specs.Plain.{IsPlainRow, plain_cells};
-ghost use Rattle.lot_rows.specs.Tables.{Has, Tables, layout};
-ghost use Rattle.lot_table.specs.Book.{IsUndone, StaysInside, Turns, always};
-ghost use Rattle.lot_table.specs.Rows.{put_in, with_key, without_key};
-ghost use Rattle.lot_table.specs.Statement.{DiskFailed};
+ghost use Rattle.lot_rows.specs.Tables.{layout, plain_table};
+ghost use Rattle.lot_table.specs.Call.{Deletes, Finds, Lists, Puts};
+ghost use Rattle.lot_table.specs.Rows.{with_key};
 ghost use Rattle.sqlite.specs.Held.{state};
-ghost use Rattle.sqlite.specs.State.{HasCleanDisk, IsUnchanged, Survives};
+ghost use Rattle.sqlite.specs.State.{HasCleanDisk};
 ghost use Rattle.sqlite.specs.declared.types.Value.TheVariants.{Text};
 
 use lot_base::{Account, Commodity};
@@ -42,10 +41,8 @@ impl TableRow for PlainRow {
 pub fn put<S: Alter>(tx: &mut Transaction<'_, S>, row: &PlainRow) -> Result<(), Fault>
     requires { HasCleanDisk (state S.Store tx.old.conn.now) → IsTrue (state S.Store tx.old.conn.now).in_transaction }
     ensures same_reference { tx.new.conn.ghost_name ≡ tx.old.conn.ghost_name }
-    ensures inside { HasCleanDisk (state S.Store tx.new.conn.now) → OnOk result (StaysInside (state S.Store tx.old.conn.now) (state S.Store tx.new.conn.now)) }
-    ensures put { HasCleanDisk (state S.Store tx.new.conn.now) → OnOk result (Turns layout always (λ b. record b { plain = put_in plain_cells 2 row.now b.plain }) (state S.Store tx.old.conn.now) (state S.Store tx.new.conn.now)) }
-    ensures err { HasCleanDisk (state S.Store tx.new.conn.now) → OnErr result (IsUndone (state S.Store tx.old.conn.now) (state S.Store tx.new.conn.now)) }
-    ensures crash { Survives (state S.Store tx.old.conn.now) (state S.Store tx.new.conn.now) (λ _. ⊥) }
+    ensures puts { Puts layout plain_table row.now
+        (state S.Store tx.old.conn.now) (state S.Store tx.new.conn.now) result }
 {
     change(
         tx,
@@ -66,10 +63,8 @@ pub fn delete<S: Alter>(
 ) -> Result<(), Fault>
     requires { HasCleanDisk (state S.Store tx.old.conn.now) → IsTrue (state S.Store tx.old.conn.now).in_transaction }
     ensures same_reference { tx.new.conn.ghost_name ≡ tx.old.conn.ghost_name }
-    ensures inside { HasCleanDisk (state S.Store tx.new.conn.now) → OnOk result (StaysInside (state S.Store tx.old.conn.now) (state S.Store tx.new.conn.now)) }
-    ensures deleted { HasCleanDisk (state S.Store tx.new.conn.now) → OnOk result (Turns layout always (λ b. record b { plain = without_key plain_cells 2 (Text account.now ∷ Text commodity.now ∷ []) b.plain }) (state S.Store tx.old.conn.now) (state S.Store tx.new.conn.now)) }
-    ensures err { HasCleanDisk (state S.Store tx.new.conn.now) → OnErr result (IsUndone (state S.Store tx.old.conn.now) (state S.Store tx.new.conn.now)) }
-    ensures crash { Survives (state S.Store tx.old.conn.now) (state S.Store tx.new.conn.now) (λ _. ⊥) }
+    ensures deletes { Deletes layout plain_table (Text account.now ∷ Text commodity.now ∷ [])
+        (state S.Store tx.old.conn.now) (state S.Store tx.new.conn.now) result }
 {
     change(
         tx,
@@ -85,13 +80,8 @@ pub fn find<S: Alter>(
     account: &Account,
     commodity: &Commodity,
 ) -> Result<Option<PlainRow>, Fault>
-    ensures found { HasCleanDisk (state S.Store conn.new) → IfOk result (λ row. (b : Tables) → Has (state S.Store conn.old) b → row ≡ slice_get (with_key plain_cells 2 (Text account.now ∷ Text commodity.now ∷ []) b.plain) 0) }
-    ensures good { IfOk result (λ row. IfSome row IsPlainRow) }
-    ensures same { HasCleanDisk (state S.Store conn.new) → OnOk result (IsUnchanged (state S.Store conn.old) (state S.Store conn.new)) }
-    ensures damaged { HasCleanDisk (state S.Store conn.new) → result ≡ Err Fault.Damaged → (state S.Store conn.old).step_limit ≡ None → (b : Tables) → Has (state S.Store conn.old) b → ¬ All IsPlainRow (with_key plain_cells 2 (Text account.now ∷ Text commodity.now ∷ []) b.plain) }
-    ensures device { HasCleanDisk (state S.Store conn.new) → result ≡ Err Fault.Device → DiskFailed (state S.Store conn.old) (state S.Store conn.new) }
-    ensures err { HasCleanDisk (state S.Store conn.new) → OnErr result (IsUndone (state S.Store conn.old) (state S.Store conn.new)) }
-    ensures crash { Survives (state S.Store conn.old) (state S.Store conn.new) (λ _. ⊥) }
+    ensures finds { Finds layout IsPlainRow (λ b. with_key plain_cells 2 (Text account.now ∷ Text commodity.now ∷ []) b.plain)
+        (state S.Store conn.old) (state S.Store conn.new) result }
 {
     find_row(
         alloc,
@@ -107,13 +97,8 @@ pub fn list_of<S: Alter>(
     conn: &mut Connection<S>,
     account: &Account,
 ) -> Result<Vec<PlainRow>, Fault>
-    ensures listed { HasCleanDisk (state S.Store conn.new) → IfOk result (λ rows. (b : Tables) → Has (state S.Store conn.old) b → rows.items ≡ with_key plain_cells 1 (Text account.now ∷ []) b.plain) }
-    ensures good { IfOk result (λ rows. All IsPlainRow rows.items) }
-    ensures same { HasCleanDisk (state S.Store conn.new) → OnOk result (IsUnchanged (state S.Store conn.old) (state S.Store conn.new)) }
-    ensures damaged { HasCleanDisk (state S.Store conn.new) → result ≡ Err Fault.Damaged → (state S.Store conn.old).step_limit ≡ None → (b : Tables) → Has (state S.Store conn.old) b → ¬ All IsPlainRow (with_key plain_cells 1 (Text account.now ∷ []) b.plain) }
-    ensures device { HasCleanDisk (state S.Store conn.new) → result ≡ Err Fault.Device → DiskFailed (state S.Store conn.old) (state S.Store conn.new) }
-    ensures err { HasCleanDisk (state S.Store conn.new) → OnErr result (IsUndone (state S.Store conn.old) (state S.Store conn.new)) }
-    ensures crash { Survives (state S.Store conn.old) (state S.Store conn.new) (λ _. ⊥) }
+    ensures lists { Lists layout IsPlainRow (λ b. with_key plain_cells 1 (Text account.now ∷ []) b.plain)
+        (state S.Store conn.old) (state S.Store conn.new) result }
 {
     select(
         alloc,
@@ -125,13 +110,7 @@ pub fn list_of<S: Alter>(
 
 /// Returns all rows, by account and commodity.
 pub fn list<S: Alter>(alloc: Global, conn: &mut Connection<S>) -> Result<Vec<PlainRow>, Fault>
-    ensures listed { HasCleanDisk (state S.Store conn.new) → IfOk result (λ rows. (b : Tables) → Has (state S.Store conn.old) b → rows.items ≡ b.plain) }
-    ensures good { IfOk result (λ rows. All IsPlainRow rows.items) }
-    ensures same { HasCleanDisk (state S.Store conn.new) → OnOk result (IsUnchanged (state S.Store conn.old) (state S.Store conn.new)) }
-    ensures damaged { HasCleanDisk (state S.Store conn.new) → result ≡ Err Fault.Damaged → (state S.Store conn.old).step_limit ≡ None → (b : Tables) → Has (state S.Store conn.old) b → ¬ All IsPlainRow b.plain }
-    ensures device { HasCleanDisk (state S.Store conn.new) → result ≡ Err Fault.Device → DiskFailed (state S.Store conn.old) (state S.Store conn.new) }
-    ensures err { HasCleanDisk (state S.Store conn.new) → OnErr result (IsUndone (state S.Store conn.old) (state S.Store conn.new)) }
-    ensures crash { Survives (state S.Store conn.old) (state S.Store conn.new) (λ _. ⊥) }
+    ensures lists { Lists layout IsPlainRow (λ b. b.plain) (state S.Store conn.old) (state S.Store conn.new) result }
 {
     select(
         alloc,

@@ -1,11 +1,9 @@
-ghost use Rattle.std.specs.Prelude.{◌≡◌, ◌∷◌, [], All, IfOk, IfSome, IsTrue, None, OnErr, OnOk, map, pos, slice_get};
+ghost use Rattle.std.specs.Prelude.{◌≡◌, IsTrue};
 ghost use Rattle.lot_rows.specs.Sale.{IsSaleRow, sale_cells};
-ghost use Rattle.lot_rows.specs.Tables.{Has, Tables, layout};
-ghost use Rattle.lot_table.specs.Book.{IsUndone, StaysInside, Turns, always};
-ghost use Rattle.lot_table.specs.Rows.{put_in};
-ghost use Rattle.lot_table.specs.Statement.{DiskFailed};
+ghost use Rattle.lot_rows.specs.Tables.{layout, sale_table};
+ghost use Rattle.lot_table.specs.Call.{ListsColumns, Puts};
 ghost use Rattle.sqlite.specs.Held.{state};
-ghost use Rattle.sqlite.specs.State.{HasCleanDisk, IsUnchanged, Survives};
+ghost use Rattle.sqlite.specs.State.{HasCleanDisk};
 
 use crate::sale_price;
 use lot_base::{Account, Commodity, Day};
@@ -51,10 +49,8 @@ impl TableRow for SaleRow {
 pub fn put<S: Alter>(tx: &mut Transaction<'_, S>, row: &SaleRow) -> Result<(), Fault>
     requires { HasCleanDisk (state S.Store tx.old.conn.now) → IsTrue (state S.Store tx.old.conn.now).in_transaction }
     ensures same_reference { tx.new.conn.ghost_name ≡ tx.old.conn.ghost_name }
-    ensures inside { HasCleanDisk (state S.Store tx.new.conn.now) → OnOk result (StaysInside (state S.Store tx.old.conn.now) (state S.Store tx.new.conn.now)) }
-    ensures put { HasCleanDisk (state S.Store tx.new.conn.now) → OnOk result (Turns layout always (λ b. record b { sale = put_in sale_cells 2 row.now b.sale }) (state S.Store tx.old.conn.now) (state S.Store tx.new.conn.now)) }
-    ensures err { HasCleanDisk (state S.Store tx.new.conn.now) → OnErr result (IsUndone (state S.Store tx.old.conn.now) (state S.Store tx.new.conn.now)) }
-    ensures crash { Survives (state S.Store tx.old.conn.now) (state S.Store tx.new.conn.now) (λ _. ⊥) }
+    ensures puts { Puts layout sale_table row.now
+        (state S.Store tx.old.conn.now) (state S.Store tx.new.conn.now) result }
 {
     change(
         tx,
@@ -75,13 +71,8 @@ pub fn put<S: Alter>(tx: &mut Transaction<'_, S>, row: &SaleRow) -> Result<(), F
 
 /// Returns all rows, by entry and posting.
 pub fn list<S: Alter>(alloc: Global, conn: &mut Connection<S>) -> Result<Vec<SaleRow>, Fault>
-    ensures listed { HasCleanDisk (state S.Store conn.new) → IfOk result (λ rows. (b : Tables) → Has (state S.Store conn.old) b → map sale_cells rows.items ≡ map sale_cells b.sale) }
-    ensures good { IfOk result (λ rows. All IsSaleRow rows.items) }
-    ensures same { HasCleanDisk (state S.Store conn.new) → OnOk result (IsUnchanged (state S.Store conn.old) (state S.Store conn.new)) }
-    ensures damaged { HasCleanDisk (state S.Store conn.new) → result ≡ Err Fault.Damaged → (state S.Store conn.old).step_limit ≡ None → (b : Tables) → Has (state S.Store conn.old) b → ¬ All IsSaleRow b.sale }
-    ensures device { HasCleanDisk (state S.Store conn.new) → result ≡ Err Fault.Device → DiskFailed (state S.Store conn.old) (state S.Store conn.new) }
-    ensures err { HasCleanDisk (state S.Store conn.new) → OnErr result (IsUndone (state S.Store conn.old) (state S.Store conn.new)) }
-    ensures crash { Survives (state S.Store conn.old) (state S.Store conn.new) (λ _. ⊥) }
+    ensures lists { ListsColumns layout sale_cells IsSaleRow (λ b. b.sale)
+        (state S.Store conn.old) (state S.Store conn.new) result }
 {
     select(
         alloc,

@@ -1,5 +1,5 @@
 -- What a write to one table makes of a book, and writes one after another.
-use Rattle.std.proofs.Common.{◌≡◌, ◌≢◌, inl, inr, ℕ, true, true≢false, List, [], ◌∷◌, map, sym, subst, ◌∙◌, eqb, eq-eqb}
+use Rattle.std.proofs.Common.{◌≡◌, ◌≢◌, inl, inr, ℕ, true, true≢false, Result, Ok, Err, IfOk, OnOk, List, [], ◌∷◌, map, sym, subst, ◌∙◌, eqb, eq-eqb}
 use Rattle.std.specs.List.{AllByRecursion}
 use Rattle.std.proofs.lemmas.Bool.{cases_Bool}
 use Rattle.sqlite.specs.Held.{Held, state}
@@ -56,3 +56,13 @@ module _ {B : Type 0} (layout : Layout B) where
       → Turns layout p f (state g begun) new → Turns layout p f (state g old) new
   turns_begun g old begun p f new is turns =
       let t = subst (λ h. Turns layout p f (state g h) new) is turns in record { book = t.book; lists = t.lists }
+
+-- ---- what a call says in every case
+
+pub on_ok : {A E : Type 0} (result : Result A E) (P Q : Type 0) → (P → Q) → OnOk result P → OnOk result Q
+on_ok (Ok a) P Q f h = f h
+on_ok (Err e) P Q f h = h
+
+pub if_ok : {A E : Type 0} (result : Result A E) (P Q : A → Type 0) → ((a : A) → P a → Q a) → IfOk result P → IfOk result Q
+if_ok (Ok a) P Q f h = f a h
+if_ok (Err e) P Q f h = h

@@ -1,5 +1,5 @@
 -- ORDER BY the key DESC LIMIT 1 answers the greatest key of a table whose key is one column.
-use Rattle.std.proofs.Common.{◌≡◌, ◌++◌, ℕ, pos, true, true≢false, IsTrue, List, [], ◌∷◌, drop, filter, map, reverse, take, refl, sym, ap, ap₂, subst, ◌∙◌, Less, IsPermutation, Option, Some, None}
+use Rattle.std.proofs.Common.{◌≡◌, ◌++◌, ℕ, pos, true, true≢false, IsTrue, List, [], ◌∷◌, drop, filter, map, reverse, take, refl, sym, ap, ap₂, subst, ◌∙◌, Less, IsPermutation}
 use Rattle.std.proofs.lemmas.List.Sorted.{IsPermutation-map, IsPermutation-reverse, IsPermutation-sym, IsPermutation-trans}
 use Rattle.std.proofs.lemmas.List.{map-append, reverse-append}
 use Rattle.std.specs.List.{AllByRecursion}

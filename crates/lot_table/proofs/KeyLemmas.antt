@@ -123,7 +123,7 @@ taken_out tree p found shaped named =
 filter-passes : {X : Type 0} (p : X → Bool) (xs : List X) → AllByRecursion (λ x. p x ≡ true) (filter p xs)
 filter-passes p xs = all_from _ (filter p xs) (λ x h. (has_filtered p xs x h).1)
 
-not_passed : (b : Bool) → not b ≡ true → b ≡ false
+pub not_passed : (b : Bool) → not b ≡ true → b ≡ false
 not_passed true h = absurd (true≢false (sym h))
 not_passed false h = refl
 

@@ -1,5 +1,5 @@
 -- CREATE TABLE adds an empty table to those that are there, whatever its shape.
-use Rattle.std.proofs.Common.{◌≡◌, ◌<◌, ◌+◌, ◌⊎◌, Bool, inl, inr, add-one, false, get_or, length, map, take, ℕ, None, Option, Ok, List, [], ◌∷◌, ◌++◌, refl, sym, ap, subst, ◌∙◌}
+use Rattle.std.proofs.Common.{◌≡◌, ◌<◌, ◌+◌, Bool, inl, inr, add-one, false, get_or, length, map, take, ℕ, None, Option, Ok, List, [], ◌∷◌, ◌++◌, refl, sym, ap, subst, ◌∙◌}
 use Rattle.std.proofs.Math.Seq.{take-suc}
 use Rattle.std.proofs.lemmas.List.Sorted.{IsPermutation-refl}
 use Rattle.std.proofs.lemmas.List.{map-append}

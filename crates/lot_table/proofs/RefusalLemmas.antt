@@ -1,5 +1,5 @@
 -- A query of one table of a book is refused for want of memory, and by the disk, but for no other cause.
-use Rattle.std.proofs.Common.{◌≡◌, ◌≢◌, ◌⊎◌, inl, inr, ℕ, ◌≤◌, Bool, true, false, true≢false, Option, Some, None, IsSome, Ok, Err, Result, List, [], ◌∷◌, length, All, Any, map, append-nil, refl, sym, ap, subst, ◌∙◌}
+use Rattle.std.proofs.Common.{◌≡◌, ◌≢◌, ◌⊎◌, inl, inr, ℕ, ◌≤◌, true, false, true≢false, Option, None, IsSome, Ok, Err, Result, List, [], length, All, map, append-nil, sym, ap, subst, ◌∙◌}
 use Rattle.sqlite.specs.Clock.{timed}
 use Rattle.sqlite.specs.Command.TheVariants.{Select, Rows}
 use Rattle.sqlite.specs.Command.{Command}
@@ -7,7 +7,7 @@ use Rattle.sqlite.specs.Effect.{Database, RefusesToRead}
 use Rattle.sqlite.specs.Listing.{understood, reads_listing, IsSourceOf}
 use Rattle.sqlite.specs.Order.{Row}
 use Rattle.sqlite.specs.Schema.{Schema}
-use Rattle.sqlite.specs.State.{State, Fails, FailsToQuery, FailsToShow, IsNotRun, Shown, store_error}
+use Rattle.sqlite.specs.State.{State, Fails, FailsToQuery, IsNoStatement, IsNotRun, Shown, store_error}
 use Rattle.sqlite.specs.Term.{Term}
 use Rattle.sqlite.specs.declared.error.Error.{Error}
 use Rattle.sqlite_resolve.specs.declared.compiled.Compiled.{Compiled}
@@ -43,11 +43,10 @@ not_failed : (old new : State) (big : Type 0) (e : Error) → Fails old new big 
 not_failed old new big e fails damaged = none_fails fails.0 (sym (damaged ∙ ap fault_of fails.1))
 
 module _ (text : List ℕ) (params : Row) (old new : State) (schema : Schema) (has : old.now.schema ≡ schema) (bare : IsPlain (understood schema text)) (whole : IsWhole text (length params) (understood schema text)) where
-  not_unrun : (e : Error) → IsNotRun old new text params e → Damaged ≢ fault_of e
-  unfolding IsNotRun
-  not_unrun e (inr fails) damaged = not_failed old new ⊥ e fails damaged
-  not_unrun e (inl (inl unread, same)) damaged = subst (IsWhole text (length params)) (ap (λ s. understood s text) (sym has) ∙ unread.1) whole
-  not_unrun e (inl (inr read, same)) damaged =
+  -- the text is a statement
+  pub is_statement : (e : Error) → IsNoStatement old text params e → ⊥
+  is_statement e (inl unread) = subst (IsWhole text (length params)) (ap (λ s. understood s text) (sym has) ∙ unread.1) whole
+  is_statement e (inr read) =
       let known = ap (λ s. understood s text) (sym has) ∙ read.1 in
       let one = subst (IsWhole text (length params)) known whole in
       let plain = subst IsPlain known bare in
@@ -55,6 +54,11 @@ module _ (text : List ℕ) (params : Row) (old new : State) (schema : Schema) (h
         | inl many ↦ many.0 one.0
         | inr other ↦ elim other [ inl miscounted ↦ miscounted.0 (sym one.1) | inr clock ↦ clock.0 plain.1 ]
       ]
+
+  not_unrun : (e : Error) → IsNotRun old new text params e → Damaged ≢ fault_of e
+  unfolding IsNotRun
+  not_unrun e (inr fails) damaged = not_failed old new ⊥ e fails damaged
+  not_unrun e (inl (none, same)) damaged = is_statement e none
 
   module _ (body : Query) (names : List (List ℕ)) (means : command_of (understood schema text) ≡ Select (record { lets = []; body = body }) names) (unlisted : reads_listing schema text ≡ false)
       (typed : accepts_program schema [] body params ≡ true) (steady : (db : Trees) → QueryOverflows body db params → ⊥) (unlimited : old.step_limit ≡ None) where

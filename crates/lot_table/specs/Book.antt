@@ -4,6 +4,7 @@ use Rattle.std.specs.List.{AllByRecursion}
 use Rattle.sqlite.specs.Order.{Row}
 use Rattle.sqlite.specs.Schema.{Schema}
 use Rattle.sqlite.specs.State.{State, Shows, IsUnchanged, IsRolledBack}
+use Rattle.sqlite.specs.Table.{Table}
 use Rattle.sqlite.specs.Tree.{Trees}
 use Rattle.sqlite_catalog.specs.Listing.{IsSound}
 use Rattle.lot_table.specs.Rows.{HasRows}
@@ -30,6 +31,15 @@ with_rows tree width rows slot = if slot.tree == tree then record { tree = tree;
 pub record Layout (B : Type 0) : Type 0 where
   pub schema : Schema
   pub slots : B → List Slot
+
+-- One table of books of this kind: its declaration, its rows as columns, how many of them are its key, and its list in a
+-- book.
+pub record BookTable (B X : Type 0) : Type 0 where
+  pub table : Table
+  pub encode : X → Row
+  pub width : ℕ
+  pub rows : B → List X
+  pub with_rows : List X → B → B
 
 -- a file of these trees is sound, has the tables of a book and no others, and they have the lists of this book
 pub record Holds {B : Type 0} (layout : Layout B) (trees : Trees) (book : B) : Type 0 where

@@ -7,13 +7,15 @@ use Rattle.sqlite.specs.declared.error.Error.{Error}
 use Rattle.sqlite.specs.declared.error.Error.TheVariants.{SqliteFailure}
 use Rattle.sqlite.specs.declared.error.ErrorCode.TheVariants as code
 
--- of the database: the disk and the size of the database are the device, and every refusal of a statement is damage
+-- of the database: the disk and each limit of the database's size are the device, and every other refusal is damage
 abbrev pub fault_of : Error → Fault
 fault_of (SqliteFailure code.OutOfMemory) = Memory
 fault_of (SqliteFailure code.SystemIoFailure) = Device
 fault_of (SqliteFailure code.DatabaseCorrupt) = Device
 fault_of (SqliteFailure code.DiskFull) = Device
 fault_of (SqliteFailure code.TooBig) = Device
+fault_of (SqliteFailure code.SchemaTooBig) = Device
+fault_of (SqliteFailure code.NoRowid) = Device
 fault_of (SqliteFailure code.Closed) = Device
 fault_of _ = Damaged
 

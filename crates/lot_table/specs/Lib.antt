@@ -1,4 +1,5 @@
 pub mod Book
+pub mod Call
 pub mod Cell
 pub mod Fault
 pub mod Make

@@ -1,8 +1,8 @@
 -- What a text is, and what one statement does.
-use Rattle.std.specs.Prelude.{◌≡◌, ◌≢◌, ◌⊎◌, ℕ, Bool, true, false, All, List, map, Ok}
+use Rattle.std.specs.Prelude.{◌≡◌, ◌≢◌, ◌⊎◌, ℕ, Bool, true, false, All, List, map, Ok, Err}
 use Rattle.sqlite.specs.Compile.{first}
 use Rattle.sqlite.specs.Order.{Row}
-use Rattle.sqlite.specs.State.{State, Executes, FailsToQuery, Shown}
+use Rattle.sqlite.specs.State.{State, Executes, ExecutesInside, FailsToQuery, Shown}
 use Rattle.sqlite.specs.declared.error.Error.{Error}
 use Rattle.sqlite_disk.specs.Disk.{MoreFaults}
 use Rattle.sqlite_ast.specs.declared.Statement.{Statement}
@@ -22,6 +22,10 @@ IsSelect text = (parsed : Parsed) × (first text ≡ Ok parsed) × (is_select pa
 -- the statement ran with these parameters, whatever it changed
 abbrev pub Ran : List ℕ → Row → State → State → Type 0
 Ran text params old new = (changed : ℕ) × Executes text params old new (Ok changed)
+
+-- the database refused the change, in a transaction, and that is the fault
+abbrev pub RefusedChange : List ℕ → Row → State → State → Fault → Type 0
+RefusedChange text params old new fault = (error : Error) × (fault ≡ fault_of error) × ExecutesInside 0 text params old new (Err error)
 
 -- the database refused the query, and that is the fault
 abbrev pub Refused : List ℕ → Row → State → State → Fault → Type 0

@@ -32,6 +32,8 @@ impl From<Error> for Fault {
                 | ErrorCode::DatabaseCorrupt
                 | ErrorCode::DiskFull
                 | ErrorCode::TooBig
+                | ErrorCode::SchemaTooBig
+                | ErrorCode::NoRowid
                 | ErrorCode::Closed,
             ) => Fault::Device,
             _ => Fault::Damaged,

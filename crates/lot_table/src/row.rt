@@ -1,10 +1,9 @@
-ghost use Rattle.std.specs.Prelude.{◌≡◌, ◌≢◌, ◌⊎◌, All, IfOk, IfSome, List, OnErr, OnOk, map, slice_get};
+ghost use Rattle.std.specs.Prelude.{◌≡◌, ◌≢◌, All, IfOk, IfSome, List, map, slice_get};
 ghost use Rattle.sqlite.specs.Held.{state};
 ghost use Rattle.sqlite.specs.Order.{Row as Cells};
-ghost use Rattle.sqlite.specs.State.{HasCleanDisk, IsUnchanged, Shown, Survives};
 ghost use Rattle.sqlite.specs.Values.{bound};
-ghost use Rattle.lot_table.specs.Book.{IsUndone};
-ghost use Rattle.lot_table.specs.Statement.{DiskFailed, IsSelect, Refused, ShowsDamage};
+ghost use Rattle.lot_table.specs.Call.{Selects};
+ghost use Rattle.lot_table.specs.Statement.{IsSelect};
 
 use crate::fault::Fault;
 use crate::statement::ask;
@@ -55,15 +54,8 @@ pub fn select<S: Alter, R: TableRow>(
     params: &[ValueRef<'_>],
 ) -> Result<Vec<R>, Fault>
     requires { IsSelect text.now }
-    ensures shown { HasCleanDisk (state S.Store conn.new) → IfOk result (λ found. Shown text.now (bound params.now) (state S.Store conn.old) (state S.Store conn.new) (map R.TableRow.encode found.items)) }
-    ensures good { IfOk result (λ found. All R.TableRow.IsGood found.items) }
-    ensures same { HasCleanDisk (state S.Store conn.new) → OnOk result (IsUnchanged (state S.Store conn.old) (state S.Store conn.new)) }
-    ensures damaged { HasCleanDisk (state S.Store conn.new) → result ≡ Err Fault.Damaged
-        → Refused text.now (bound params.now) (state S.Store conn.old) (state S.Store conn.new) Fault.Damaged
-        ⊎ ShowsDamage R.TableRow.encode R.TableRow.IsGood text.now (bound params.now) (state S.Store conn.old) (state S.Store conn.new) }
-    ensures device { HasCleanDisk (state S.Store conn.new) → result ≡ Err Fault.Device → DiskFailed (state S.Store conn.old) (state S.Store conn.new) }
-    ensures err { HasCleanDisk (state S.Store conn.new) → OnErr result (IsUndone (state S.Store conn.old) (state S.Store conn.new)) }
-    ensures crash { Survives (state S.Store conn.old) (state S.Store conn.new) (λ _. ⊥) }
+    ensures selects { Selects R.TableRow.encode R.TableRow.IsGood (λ rows found. found.items ≡ rows) (λ found. All R.TableRow.IsGood found.items)
+        text.now (bound params.now) (state S.Store conn.old) (state S.Store conn.new) result }
 {
     let rows = ask(conn, text, params)?;
     read_all(alloc, &rows)
@@ -79,15 +71,8 @@ pub fn find<S: Alter, R: TableRow>(
     params: &[ValueRef<'_>],
 ) -> Result<Option<R>, Fault>
     requires { IsSelect text.now }
-    ensures shown { HasCleanDisk (state S.Store conn.new) → IfOk result (λ found. (rows : List R) × Shown text.now (bound params.now) (state S.Store conn.old) (state S.Store conn.new) (map R.TableRow.encode rows) × (found ≡ slice_get rows 0)) }
-    ensures good { IfOk result (λ found. IfSome found R.TableRow.IsGood) }
-    ensures same { HasCleanDisk (state S.Store conn.new) → OnOk result (IsUnchanged (state S.Store conn.old) (state S.Store conn.new)) }
-    ensures damaged { HasCleanDisk (state S.Store conn.new) → result ≡ Err Fault.Damaged
-        → Refused text.now (bound params.now) (state S.Store conn.old) (state S.Store conn.new) Fault.Damaged
-        ⊎ ShowsDamage R.TableRow.encode R.TableRow.IsGood text.now (bound params.now) (state S.Store conn.old) (state S.Store conn.new) }
-    ensures device { HasCleanDisk (state S.Store conn.new) → result ≡ Err Fault.Device → DiskFailed (state S.Store conn.old) (state S.Store conn.new) }
-    ensures err { HasCleanDisk (state S.Store conn.new) → OnErr result (IsUndone (state S.Store conn.old) (state S.Store conn.new)) }
-    ensures crash { Survives (state S.Store conn.old) (state S.Store conn.new) (λ _. ⊥) }
+    ensures selects { Selects R.TableRow.encode R.TableRow.IsGood (λ rows found. found ≡ slice_get rows 0) (λ found. IfSome found R.TableRow.IsGood)
+        text.now (bound params.now) (state S.Store conn.old) (state S.Store conn.new) result }
 {
     let rows = select(alloc, conn, text, params)?;
     Ok(first(rows))

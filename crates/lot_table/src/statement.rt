@@ -2,8 +2,9 @@ ghost use Rattle.std.specs.Prelude.{◌≡◌, IsTrue, IfOk, IfErr, OnOk, OnErr}
 ghost use Rattle.sqlite.specs.Held.{state};
 ghost use Rattle.sqlite.specs.State.{HasCleanDisk, IsUnchanged, Shown, Survives};
 ghost use Rattle.sqlite.specs.Values.{bound};
-ghost use Rattle.lot_table.specs.Book.{IsUndone, StaysInside};
-ghost use Rattle.lot_table.specs.Statement.{DiskFailed, IsSelect, Ran, Refused};
+ghost use Rattle.lot_table.specs.Book.{IsUndone};
+ghost use Rattle.lot_table.specs.Call.{Runs};
+ghost use Rattle.lot_table.specs.Statement.{DiskFailed, IsSelect, Refused};
 
 use crate::fault::Fault;
 use sqlite::types::ValueRef;
@@ -20,10 +21,7 @@ pub fn change<S: Alter>(
 ) -> Result<(), Fault>
     requires { HasCleanDisk (state S.Store tx.old.conn.now) → IsTrue (state S.Store tx.old.conn.now).in_transaction }
     ensures same_reference { tx.new.conn.ghost_name ≡ tx.old.conn.ghost_name }
-    ensures inside { HasCleanDisk (state S.Store tx.new.conn.now) → OnOk result (StaysInside (state S.Store tx.old.conn.now) (state S.Store tx.new.conn.now)) }
-    ensures ran { HasCleanDisk (state S.Store tx.new.conn.now) → OnOk result (Ran text.now (bound params.now) (state S.Store tx.old.conn.now) (state S.Store tx.new.conn.now)) }
-    ensures err { HasCleanDisk (state S.Store tx.new.conn.now) → OnErr result (IsUndone (state S.Store tx.old.conn.now) (state S.Store tx.new.conn.now)) }
-    ensures crash { Survives (state S.Store tx.old.conn.now) (state S.Store tx.new.conn.now) (λ _. ⊥) }
+    ensures runs { Runs text.now (bound params.now) (state S.Store tx.old.conn.now) (state S.Store tx.new.conn.now) result }
 {
     tx.execute(text, params)?;
     Ok(())

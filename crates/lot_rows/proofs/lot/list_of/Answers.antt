@@ -1,22 +1,10 @@
 use Rattle.sqlite.specs.Held.{state}
-use Rattle.lot_table.proofs.QueryLemmas.{if_ok}
-use Rattle.lot_rows.proofs.LotLemmas.{pair_damage, pair_selects, pairs}
+use Rattle.lot_rows.proofs.LotLemmas.{pair_is, pair_rows}
 use Rattle.lot_rows.proofs.lot.list_of.Goals as goal
 
 pub select-requires : goal.select-requires
-select-requires g c = pair_selects
+select-requires g c = pair_is.selects
 
-pub returns-clause-listed : goal.returns-clause-listed
-returns-clause-listed g c clean =
-    let old = state g.S.Store c.args.conn.now in
-    let new = state g.S.Store c.select.new.conn in
-    if_ok c.select.result _ _
-    (λ rows told b has.
-    let shown = rw (c.to_cell.ensures, c.to_cell-2.ensures) at told in
-    pairs c.args.account.now c.args.commodity.now old new _ shown b has)
-    (c.select.ensures.shown clean)
-
-pub returns-clause-damaged : goal.returns-clause-damaged
-returns-clause-damaged g c clean damaged =
-    let told = rw (c.to_cell.ensures, c.to_cell-2.ensures) at (c.select.ensures.damaged clean damaged) in
-    pair_damage c.args.account.now c.args.commodity.now (state g.S.Store c.args.conn.now) (state g.S.Store c.select.new.conn) told
+pub returns : goal.returns
+returns g c =
+    record { lists = pair_rows (state g.S.Store c.args.conn.now) (state g.S.Store c.select.new.conn) c.args.account.now c.args.commodity.now c.select.result (rw (c.to_cell.ensures, c.to_cell-2.ensures) at c.select.ensures.selects) }

@@ -1,16 +1,10 @@
 use Rattle.sqlite.specs.Held.{state}
-use Rattle.lot_table.proofs.QueryLemmas.{if_ok, same_rows}
-use Rattle.lot_rows.proofs.PriceLemmas.{list_damage, list_selects, lists, same_row}
-use Rattle.lot_rows.specs.Price.{price_cells}
+use Rattle.lot_rows.proofs.PriceLemmas.{list_is, list_rows}
 use Rattle.lot_rows.proofs.price.list.Goals as goal
 
 pub select-requires : goal.select-requires
-select-requires g c = list_selects
+select-requires g c = list_is.selects
 
-pub returns-clause-listed : goal.returns-clause-listed
-returns-clause-listed g c clean =
-    if_ok c.select.result _ _ (λ rows told b has. same_rows price_cells same_row rows.items b.price (lists (state g.S.Store c.args.conn.now) (state g.S.Store c.select.new.conn) _ told b has)) (c.select.ensures.shown clean)
-
-pub returns-clause-damaged : goal.returns-clause-damaged
-returns-clause-damaged g c clean damaged =
-    list_damage (state g.S.Store c.args.conn.now) (state g.S.Store c.select.new.conn) (c.select.ensures.damaged clean damaged)
+pub returns : goal.returns
+returns g c =
+    record { lists = list_rows (state g.S.Store c.args.conn.now) (state g.S.Store c.select.new.conn) c.select.result c.select.ensures.selects }

@@ -1,5 +1,5 @@
 use Rattle.lot_rows.proofs.MakeLemmas.{all_made}
-use Rattle.lot_table.proofs.QueryLemmas.{on_ok}
+use Rattle.lot_table.proofs.BookLemmas.{on_ok}
 use Rattle.lot_rows.proofs.tables.make.Goals as goal
 
 pub returns-clause-made : goal.returns-clause-made
