@@ -35,6 +35,7 @@ watch() {
         for pid in $(pgrep -s "$(<"$1/session")" -x rattle); do
             { stat=$(<"/proc/$pid/stat"); } 2>/dev/null || continue
             read -ra fields <<<"${stat##*) }"
+            ((${#fields[@]} > 19)) || continue # it has just ended
             key=$pid.${fields[19]} # with the time of its start, since numbers of processes come again
             if [[ -z ${work[$key]:-} ]]; then work[$key]=$(work_of "$pid") || continue; fi
             spent[$key]=$((fields[11] + fields[12]))
