@@ -97,6 +97,9 @@ abbrev pub shapes : List Shape
 shapes =
     book_shape ∷ account_shape ∷ allowed_shape ∷ commodity_shape ∷ price_shape ∷ entry_shape ∷ leg_shape ∷ sale_shape ∷ lot_shape ∷ plain_shape ∷ head_shape ∷ []
 
+abbrev pub table_names : List (List ℕ)
+table_names = map (λ s. s.name) shapes
+
 -- ---- the tables, each in its tree; its indexes are in the trees after it
 
 abbrev pub book_table : BookTable Tables BookRow

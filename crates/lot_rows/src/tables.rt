@@ -1,23 +1,30 @@
-ghost use Rattle.std.specs.Prelude.{◌≡◌, [], IsTrue, OnOk};
-ghost use Rattle.lot_rows.specs.Tables.{Has, no_rows_yet};
+ghost use Rattle.std.specs.Prelude.{◌≡◌, ◌≢◌, [], false, true, IsTrue, OnOk};
+ghost use Rattle.lot_rows.specs.Tables.{Has, no_rows_yet, table_names};
+ghost use Rattle.lot_table.specs.Make.{is_taken};
 ghost use Rattle.lot_table.specs.Shape.{schema_of};
+ghost use Rattle.lot_table.specs.Statement.{DiskFailed};
 ghost use Rattle.sqlite.specs.Held.{state};
 ghost use Rattle.sqlite.specs.State.{HasCleanDisk, KeepsCommit, Survives};
 ghost use Rattle.sqlite_catalog.specs.Listing.{IsSound};
 
-use lot_table::{MakeFault, make_each};
+use lot_table::{Fault, MakeFault, make_each};
 use sqlite::{Alter, Transaction};
 
 /// Makes the eleven tables of a book.
 ///
-/// The error is `Taken` where the name of one is taken. After an error the last commit stands, and the caller drops the
-/// transaction, which rolls back the tables that were made.
+/// None is made where a table, an index or a view has the name of one, without regard to the case of ASCII letters. The error
+/// is `Taken` only there. In a file without tables it is `Memory`, or `Device` where the disk failed or had failed before. After
+/// an error the last commit stands, and the caller drops the transaction, which rolls back the tables that were made.
 pub fn make<S: Alter>(tx: &mut Transaction<'_, S>) -> Result<(), MakeFault>
     requires { HasCleanDisk (state S.Store tx.old.conn.now) → IsTrue (state S.Store tx.old.conn.now).in_transaction }
     ensures same_reference { tx.new.conn.ghost_name ≡ tx.old.conn.ghost_name }
     ensures inside { HasCleanDisk (state S.Store tx.new.conn.now) → OnOk result (IsTrue (state S.Store tx.new.conn.now).in_transaction) }
     ensures made { HasCleanDisk (state S.Store tx.new.conn.now) → OnOk result ((state S.Store tx.old.conn.now).now.schema ≡ schema_of []
         → IsSound (schema_of []) (state S.Store tx.old.conn.now).now.trees → Has (state S.Store tx.new.conn.now) no_rows_yet) }
+    ensures free { HasCleanDisk (state S.Store tx.new.conn.now) → OnOk result (is_taken table_names (state S.Store tx.old.conn.now).now.schema ≡ false) }
+    ensures taken { HasCleanDisk (state S.Store tx.new.conn.now) → result ≡ Err MakeFault.Taken → is_taken table_names (state S.Store tx.old.conn.now).now.schema ≡ true }
+    ensures damaged { HasCleanDisk (state S.Store tx.new.conn.now) → result ≡ Err (MakeFault.Failed Fault.Damaged) → (state S.Store tx.old.conn.now).now.schema ≢ schema_of [] }
+    ensures device { HasCleanDisk (state S.Store tx.new.conn.now) → result ≡ Err (MakeFault.Failed Fault.Device) → (state S.Store tx.old.conn.now).now.schema ≡ schema_of [] → DiskFailed (state S.Store tx.old.conn.now) (state S.Store tx.new.conn.now) }
     ensures kept { HasCleanDisk (state S.Store tx.new.conn.now) → KeepsCommit (state S.Store tx.old.conn.now) (state S.Store tx.new.conn.now) }
     ensures crash { Survives (state S.Store tx.old.conn.now) (state S.Store tx.new.conn.now) (λ _. ⊥) }
 {

@@ -1,8 +1,10 @@
 pub mod BookLemmas
 pub mod CastLemmas
 pub mod CellLemmas
+pub mod CreateLemmas
 pub mod DeleteLemmas
 pub mod EditLemmas
+pub mod FreshLemmas
 pub mod GreatestLemmas
 pub mod HaltLemmas
 pub mod KeyLemmas

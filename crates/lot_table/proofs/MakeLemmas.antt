@@ -1,8 +1,8 @@
 -- CREATE TABLE adds an empty table to those that are there, whatever its shape.
-use Rattle.std.proofs.Common.{◌≡◌, ◌<◌, ◌+◌, Bool, inl, inr, add-one, false, get_or, length, map, take, ℕ, None, Option, Ok, List, [], ◌∷◌, ◌++◌, refl, sym, ap, subst, ◌∙◌}
-use Rattle.std.proofs.Math.Seq.{take-suc}
+use Rattle.std.proofs.Common.{◌≡◌, ◌<◌, ◌+◌, Bool, inl, inr, add-one, drop, suc, false, get_or, length, map, take, ℕ, None, Option, Result, Ok, Err, IfErr, IsErrAnd, List, [], ◌∷◌, ◌++◌, refl, sym, ap, subst, ◌∙◌}
+use Rattle.std.proofs.Math.Seq.{drop-cons, take-suc}
 use Rattle.std.proofs.lemmas.List.Sorted.{IsPermutation-refl}
-use Rattle.std.proofs.lemmas.List.{map-append}
+use Rattle.std.proofs.lemmas.List.{map-append, take-append-drop}
 use Rattle.std.specs.List.{AllByRecursion}
 use Rattle.lot_table.proofs.WriteLemmas.{same_value, went}
 use Rattle.lot_table.specs.Book.{IsUndone}
@@ -41,6 +41,14 @@ keeps_then a b c first second = record { was_open = λ live. first.was_open (sec
 
 pub taken : {X : Type 0} (f : X → List ℕ) (xs : List X) (n : ℕ) (d : X) → n < length xs → map f (take (n + 1) xs) ≡ map f (take n xs) ++ f (get_or xs n d) ∷ []
 taken f xs n d low = rw add-one (ap (map f) (take-suc xs n d low) ∙ map-append f (take n xs) (get_or xs n d ∷ []))
+
+pub told_on : {T E : Type 0} (r : Result T E) (error : E) (P : E → Type 0) → IsErrAnd r (λ e. e ≡ error) → P error → IfErr r P
+told_on (Ok x) error P is h = tt
+told_on (Err e) error P is h = subst P (sym is) h
+
+-- those before a place, the one there and those behind it
+pub split_at : {X : Type 0} (f : X → List ℕ) (xs : List X) (n : ℕ) (d : X) → n < length xs → map f xs ≡ map f (take n xs) ++ f (get_or xs n d) ∷ map f (drop (suc n) xs)
+split_at f xs n d low = ap (map f) (sym (take-append-drop n xs) ∙ ap (λ l. take n xs ++ l) (drop-cons xs n d low)) ∙ map-append f (take n xs) (get_or xs n d ∷ drop (suc n) xs)
 
 pub ran_then : {S : Type 0} (g : Ghosts S) (done : List (List ℕ)) (text : List ℕ) (a b c : Held S) (changed : ℕ) → RanEach g done a b → Executes text [] (state g b) (state g c) (Ok changed) → RanEach g (done ++ text ∷ []) a c
 ran_then g [] text a b c changed ran last = (c, changed, subst (λ h. Executes text [] (state g h) (state g c) (Ok changed)) (sym ran) last, refl)
@@ -92,21 +100,6 @@ makes_one old new before after text is changed had empty ran =
       empty = subst (λ (d : Database). AreEmpty after.tables d.trees) (sym now) (subst (λ (s : Schema). AreEmpty s.tables first.0.trees) is.made pushed);
       sound = w.sound;
     }
-
--- one after another
-abbrev pub MakesEach : Schema → List (Schema × List ℕ) → Type 0
-MakesEach before [] = Unit {0}
-MakesEach before (step ∷ more) = Makes before step.0 step.1 × MakesEach step.0 more
-
-abbrev pub last_schema : Schema → List (Schema × List ℕ) → Schema
-last_schema before [] = before
-last_schema before (step ∷ more) = last_schema step.0 more
-
-pub makes_all : {S : Type 0} (g : Ghosts S) (before : Schema) (steps : List (Schema × List ℕ)) (a b : Held S) → MakesEach before steps → RanEach g (map (λ (step : Schema × List ℕ). step.1) steps) a b → IsEmpty before (state g a)
-    → IsEmpty (last_schema before steps) (state g b)
-makes_all g before [] a b each ran had = subst (λ h. IsEmpty before (state g h)) ran had
-makes_all g before (step ∷ more) a b each ran had =
-    makes_all g step.0 more ran.0 b each.1 ran.3 (makes_one (state g a) (state g ran.0) before step.0 step.1 each.0 ran.1 had.tables had.empty ran.2)
 
 -- a table with no stored row has no row
 pub no_rows : (width : ℕ) (stored : List Row) → stored ≡ [] → HasRows width stored []

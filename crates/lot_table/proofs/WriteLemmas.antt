@@ -50,7 +50,7 @@ pub went : {B E R : Type 0} {b : B} {Stops : E → Type 0} → ((stop : E) × St
 went (inl stopped) = absurd (let e = stopped.2 in cc)
 went (inr on) = on
 
-fails_here : {X : Type 0} (p : X → Bool) (xs : List X) (x : X) → list_any p xs ≡ false → Has xs x → p x ≡ false
+pub fails_here : {X : Type 0} (p : X → Bool) (xs : List X) (x : X) → list_any p xs ≡ false → Has xs x → p x ≡ false
 fails_here p xs x none h = elim (cases_Bool (p x)) [ inl here ↦ absurd (true≢false (sym (some_from p xs x h here) ∙ none)) | inr fails ↦ fails ]
 
 pub same_value : {B E : Type 0} {a b : B} → ◌≡◌ {A = Rattle.std.proofs.Common.Result B E} (Ok a) (Ok b) → a ≡ b

@@ -1,6 +1,6 @@
-ghost use Rattle.std.specs.Prelude.{◌≡◌, ◌⊎◌, [], IfOk, IsTrue, Ok, OnErr, OnOk, map};
+ghost use Rattle.std.specs.Prelude.{◌≡◌, ◌⊎◌, [], IfErr, IfOk, IsTrue, Ok, OnErr, OnOk, map};
 ghost use Rattle.lot_table.specs.Book.{IsUndone, StaysInside};
-ghost use Rattle.lot_table.specs.Make.{RanEach};
+ghost use Rattle.lot_table.specs.Make.{HaltedIn, RanEach, RefusedMaking};
 ghost use Rattle.sqlite.specs.Held.{state};
 ghost use Rattle.sqlite.specs.State.{Executes, HasCleanDisk, KeepsCommit, Survives};
 
@@ -41,6 +41,7 @@ pub fn make_each<S: Alter>(tx: &mut Transaction<'_, S>, texts: &[&str]) -> Resul
     ensures same_reference { tx.new.conn.ghost_name ≡ tx.old.conn.ghost_name }
     ensures inside { HasCleanDisk (state S.Store tx.new.conn.now) → OnOk result (IsTrue (state S.Store tx.new.conn.now).in_transaction) }
     ensures ran { HasCleanDisk (state S.Store tx.new.conn.now) → OnOk result (RanEach S.Store (map (λ t. t.now) texts.now) tx.old.conn.now tx.new.conn.now) }
+    ensures halted { HasCleanDisk (state S.Store tx.new.conn.now) → IfErr result (HaltedIn S.Store (map (λ t. t.now) texts.now) tx.old.conn.now tx.new.conn.now) }
     ensures kept { HasCleanDisk (state S.Store tx.new.conn.now) → KeepsCommit (state S.Store tx.old.conn.now) (state S.Store tx.new.conn.now) }
     ensures crash { Survives (state S.Store tx.old.conn.now) (state S.Store tx.new.conn.now) (λ _. ⊥) }
 {
@@ -56,6 +57,7 @@ fn make_one<S: Alter>(tx: &mut Transaction<'_, S>, text: &str) -> Result<usize, 
     ensures same_reference { tx.new.conn.ghost_name ≡ tx.old.conn.ghost_name }
     ensures inside { HasCleanDisk (state S.Store tx.new.conn.now) → OnOk result (StaysInside (state S.Store tx.old.conn.now) (state S.Store tx.new.conn.now)) }
     ensures ran { HasCleanDisk (state S.Store tx.new.conn.now) → IfOk result (λ changed. Executes text.now [] (state S.Store tx.old.conn.now) (state S.Store tx.new.conn.now) (Ok changed)) }
+    ensures refused { HasCleanDisk (state S.Store tx.new.conn.now) → IfErr result (RefusedMaking text.now (state S.Store tx.old.conn.now) (state S.Store tx.new.conn.now)) }
     ensures err { HasCleanDisk (state S.Store tx.new.conn.now) → OnErr result (IsUndone (state S.Store tx.old.conn.now) (state S.Store tx.new.conn.now)) }
     ensures crash { Survives (state S.Store tx.old.conn.now) (state S.Store tx.new.conn.now) (λ _. ⊥) }
 {

@@ -1,6 +1,6 @@
-use Rattle.std.proofs.Common.{ℕ, ◌∙◌, arith, Bor, List, map, subst, sym, take}
-use Rattle.lot_table.proofs.MakeLemmas.{keeps_shown, keeps_then, ran_then, taken}
-use Rattle.lot_table.specs.Make.{RanEach}
+use Rattle.std.proofs.Common.{ℕ, ◌∙◌, arith, Bor, List, map, subst, sym, take, drop, suc}
+use Rattle.lot_table.proofs.MakeLemmas.{keeps_shown, keeps_then, ran_then, split_at, taken, told_on}
+use Rattle.lot_table.specs.Make.{HaltedIn, RanEach}
 use Rattle.sqlite.proofs.StateLemmas.{survives_then}
 use Rattle.sqlite.specs.Held.{state}
 use Rattle.lot_table.proofs.make.make_each.Goals as goal
@@ -23,3 +23,20 @@ each-preserved g c =
             subst (λ l. RanEach g.S.Store l old new) (sym (taken bytes c.args.texts.now c.each.text-index _ c.each-test.true)) (ran_then g.S.Store (map bytes (take c.each.text-index c.args.texts.now)) _ old now new c.in_ok-make_one.field-0 early.2 ran),
           ),
     )
+
+pub returns-in_err-make_one-clause-halted : goal.returns-in_err-make_one-clause-halted
+returns-in_err-make_one-clause-halted g c =
+    λ clean.
+    let bytes : Bor (List ℕ) → List ℕ = λ t. t.now in
+    let was = c.each.invariant in
+    let early = was.2 (omega (arith, c.make_one.ensures.crash.clean)) in
+    told_on c.from_residual.result c.in_err-make_one.field-0.0 (HaltedIn g.S.Store (map bytes c.args.texts.now) c.args.tx.now.conn.now c.make_one.new.tx.conn.now) c.from_residual.ensures.1 (record {
+      done = map bytes (take c.each.text-index c.args.texts.now);
+      text = _;
+      left = map bytes (drop (suc c.each.text-index) c.args.texts.now);
+      order = split_at bytes c.args.texts.now c.each.text-index _ c.each-test.true;
+      mid = c.each.tx.conn.now;
+      ran = early.2;
+      counts = was.1.counts;
+      refused = c.in_err-make_one.ensures.refused clean;
+    })
