@@ -1,0 +1,98 @@
+-- How the rows of a file, or its fault, follow from the records that are read one after another.
+use Rattle.std.proofs.Common.{◌≡◌, ℕ, ◌+◌, ◌<◌, ◌≤◌, List, [], ◌∷◌, ◌++◌, length, get_or, sym, ◌∙◌, ap, arith}
+use Rattle.std.proofs.lemmas.List.{append-nil, append_assoc}
+use Rattle.std.proofs.lemmas.Slice.Zip.{AllZip-long}
+use Rattle.lot_import.specs.File.{HasBadRecord, HasExtraRecord, HasFault, HasNoHeader, HasRecords, SayRows, file_records, most_rows}
+use Rattle.lot_import.specs.Column.{IsRowFault}
+use Rattle.lot_import.specs.Reading.{HasRecordFault, of_row}
+use Rattle.lot_import.specs.Row.{IsFaulty, IsRow, columns}
+use Rattle.lot_import.specs.declared.fault.Cause.{Cause}
+use Rattle.lot_import.specs.declared.fault.RowFault.{RowFault}
+use Rattle.lot_import.specs.declared.fault.RowFault.TheVariants.{Bad, Memory}
+use Rattle.lot_import.specs.declared.fault.RowsFault.{RowsFault}
+use Rattle.lot_import.specs.declared.fault.RowsFault.TheVariants as Faults
+use Rattle.lot_import.specs.declared.row.Row.{Row}
+use Rattle.lot_import.specs.declared.version.Version.{Version}
+
+-- ---- Records behind the header.
+
+-- a further record that says a row
+pub more_rows : (version : Version) (done : List (List (List ℕ))) (rows : List Row) (written : List (List ℕ)) (row : Row)
+    → SayRows version done rows → IsRow version written row → SayRows version (done ++ written ∷ []) (rows ++ row ∷ [])
+more_rows version [] [] written row h k = (k, tt)
+more_rows version [] (x ∷ xs) written row h k = absurd h
+more_rows version (d ∷ ds) [] written row h k = absurd h
+more_rows version (d ∷ ds) (x ∷ xs) written row h k = (h.0, more_rows version ds xs written row h.1 k)
+
+-- the records, where one more is read
+pub split : (all done left more : List (List (List ℕ))) (written : List (List ℕ)) → all ≡ done ++ left → left ≡ written ∷ more → all ≡ done ++ written ∷ more
+split all done left more written e f = e ∙ ap (λ (xs : List (List (List ℕ))). done ++ xs) f
+
+pub moved : (all done left more : List (List (List ℕ))) (written : List (List ℕ)) → all ≡ done ++ left → left ≡ written ∷ more → all ≡ (done ++ written ∷ []) ++ more
+moved all done left more written e f = split all done left more written e f ∙ sym (append_assoc done (written ∷ []) more)
+
+pub bad_record : (version : Version) (all done left more : List (List (List ℕ))) (written : List (List ℕ)) (rows : List Row) (cause : Cause)
+    → all ≡ done ++ left → left ≡ written ∷ more → SayRows version done rows → IsFaulty version written cause → length rows < most_rows
+    → HasBadRecord version all (length rows + 1) cause
+bad_record version all done left more written rows cause e f said why few =
+    record {
+      before = done;
+      faulty = written;
+      after = more;
+      all = split all done left more written e f;
+      rows = rows;
+      said = said;
+      why = why;
+      place = ap (λ (n : ℕ). n + 1) (AllZip-long (IsRow version) done rows said);
+      few = omega (arith, few);
+    }
+
+pub extra_record : (version : Version) (all done left more : List (List (List ℕ))) (written : List (List ℕ)) (rows : List Row)
+    → all ≡ done ++ left → left ≡ written ∷ more → SayRows version done rows → length rows ≡ most_rows → HasExtraRecord version all
+extra_record version all done left more written rows e f said many =
+    record {
+      before = done;
+      extra = written;
+      after = more;
+      all = split all done left more written e f;
+      rows = rows;
+      said = said;
+      many = sym (AllZip-long (IsRow version) done rows said) ∙ many;
+    }
+
+-- the fault of a record, which is that of the file
+pub at_record : (version : Version) (all done left more : List (List (List ℕ))) (written : List (List ℕ)) (rows : List Row) (fault : RowFault)
+    → all ≡ done ++ left → left ≡ written ∷ more → SayRows version done rows → IsRowFault version written fault → length rows < most_rows
+    → HasRecordFault version all (of_row (length rows + 1) fault)
+at_record version all done left more written rows (Bad cause) e f said why few = bad_record version all done left more written rows cause e f said why few
+at_record version all done left more written rows Memory e f said why few = tt
+
+-- no record is left
+pub all_read : (version : Version) (all done left : List (List (List ℕ))) (rows : List Row)
+    → all ≡ done ++ left → left ≡ [] → SayRows version done rows → length rows ≤ most_rows → length all ≤ most_rows
+all_read version all done left rows e none said few =
+    let same : all ≡ done = e ∙ ap (λ (xs : List (List (List ℕ))). done ++ xs) none ∙ append-nil done in
+    let long = AllZip-long (IsRow version) done rows said in
+    let lengths : length all ≡ length done = ap length same in
+    omega (arith, long, lengths, few)
+
+-- ---- The file.
+
+pub file_fault : (bytes : List ℕ) (version : Version) (written : List (List (List ℕ))) (fault : RowsFault) → HasRecords version bytes written
+    → HasRecordFault version written fault → HasFault bytes fault
+file_fault bytes version written Faults.BadHeader file h = absurd h
+file_fault bytes version written (Faults.BadRow number cause) file h = (version, written, file, h)
+file_fault bytes version written Faults.TooManyRows file h = (version, written, file, h)
+file_fault bytes version written Faults.Memory file h = tt
+
+-- a file without records
+pub no_records : (bytes : List ℕ) → file_records bytes ≡ [] → HasNoHeader bytes
+no_records bytes e version written file =
+    let lengths : length (columns version ∷ written) ≡ 0 = ap length (sym file ∙ e) in
+    omega (arith, lengths)
+
+-- a file whose first record is no header
+pub other_header : (bytes : List ℕ) (header : List (List ℕ)) (others : List (List (List ℕ))) → file_records bytes ≡ header ∷ others
+    → ((version : Version) → header ≡ columns version → ⊥) → HasNoHeader bytes
+other_header bytes header others e other version written file =
+    other version (ap (λ (xs : List (List (List ℕ))). get_or xs 0 []) (sym e ∙ file))

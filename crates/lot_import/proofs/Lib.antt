@@ -1,0 +1,10 @@
+pub mod ColumnLaws
+pub mod DealLaws
+pub mod FileLaws
+pub mod FileLemmas
+pub mod HeaderLemmas
+pub mod LotLaws
+pub mod NoteLemmas
+pub mod ReadLemmas
+pub mod RecordLaws
+pub mod RowLemmas

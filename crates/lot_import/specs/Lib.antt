@@ -1,0 +1,5 @@
+pub mod Column
+pub mod Deal
+pub mod File
+pub mod Reading
+pub mod Row

@@ -1,0 +1,107 @@
+use std::alloc::{AllocError, AllocFailed};
+use thiserror::Error;
+
+/// Why a file has no rows. The first fault of this order is reported, and of two rows the first.
+#[derive(Clone, Copy, Debug, PartialEq, Eq, Error)]
+pub enum RowsFault {
+    /// There is no header, or it isn't that of a version.
+    #[error("not the header of a broker file")]
+    BadHeader,
+    /// A row is faulty: its number, from 1, and the cause.
+    #[error("row {row}: {cause}")]
+    BadRow { row: usize, cause: Cause },
+    /// There are more than 100,000 rows.
+    #[error("more than 100,000 rows")]
+    TooManyRows,
+    /// Out of memory.
+    #[error("out of memory")]
+    Memory,
+}
+
+/// Why a row is faulty: the first column that is outside its rule. Where several are, the first in this order is reported.
+#[derive(Clone, Copy, Debug, PartialEq, Eq, Error)]
+pub enum Cause {
+    /// The record hasn't as many fields as the header.
+    #[error("another number of fields than the header")]
+    Length,
+    /// `ref` isn't a label.
+    #[error("ref isn't a label")]
+    Ref,
+    /// `date` isn't a day.
+    #[error("date isn't a day")]
+    Date,
+    /// `action` is neither `BUY` nor `SELL`.
+    #[error("action is neither BUY nor SELL")]
+    Action,
+    /// `symbol` isn't a commodity.
+    #[error("symbol isn't a commodity")]
+    Symbol,
+    /// `units` isn't units, or is below zero.
+    #[error("units isn't a number of units, or is below zero")]
+    Units,
+    /// `price` isn't a rate.
+    #[error("price isn't a rate")]
+    Price,
+    /// `currency` isn't a commodity.
+    #[error("currency isn't a commodity")]
+    Currency,
+    /// `fee` is neither empty nor a rate.
+    #[error("fee is neither empty nor a rate")]
+    Fee,
+    /// `lot` is neither empty nor a label, or, for a purchase, neither empty nor its `ref`.
+    #[error("lot isn't the label of a lot")]
+    Lot,
+}
+
+/// Why a record gives no row.
+#[derive(Clone, Copy, Debug, PartialEq, Eq)]
+pub(crate) enum RowFault {
+    /// It is faulty, by that cause.
+    Bad(Cause),
+    /// Out of memory.
+    Memory,
+}
+
+impl<T: Drop> From<AllocFailed<T>> for RowsFault {
+    ghost use Rattle.std.specs.Prelude.{◌≡◌};
+    ghost use Rattle.lot_import.specs.declared.fault.RowsFault.TheVariants.{Memory};
+
+    ghost from_gives = { λ _ e. e ≡ Memory };
+
+    fn from(_failed: AllocFailed<T>) -> RowsFault {
+        RowsFault::Memory
+    }
+}
+
+/// Why a row has no command.
+#[derive(Clone, Copy, Debug, PartialEq, Eq, Error)]
+pub enum CommandFault {
+    /// The cash amount isn't units: it has a decimal past the eighth, or is out of range.
+    #[error("the cash amount isn't exact at eight decimals, or too large")]
+    InexactAmount,
+    /// Out of memory.
+    #[error("out of memory")]
+    Memory,
+}
+
+impl From<AllocError> for CommandFault {
+    ghost use Rattle.std.specs.Prelude.{◌≡◌};
+    ghost use Rattle.lot_import.specs.declared.fault.CommandFault.TheVariants.{Memory};
+
+    ghost from_gives = { λ _ e. e ≡ Memory };
+
+    fn from(_error: AllocError) -> CommandFault {
+        CommandFault::Memory
+    }
+}
+
+impl<T: Drop> From<AllocFailed<T>> for CommandFault {
+    ghost use Rattle.std.specs.Prelude.{◌≡◌};
+    ghost use Rattle.lot_import.specs.declared.fault.CommandFault.TheVariants.{Memory};
+
+    ghost from_gives = { λ _ e. e ≡ Memory };
+
+    fn from(_failed: AllocFailed<T>) -> CommandFault {
+        CommandFault::Memory
+    }
+}

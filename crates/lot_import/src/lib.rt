@@ -1,0 +1,28 @@
+//! Broker files: the rows of a file in CSV, and the command that a row stands for (docs/FORMATS.md, Broker files).
+//!
+//! - `row`: `Row`, one deal, and `Action`.
+//! - `accounts`: `Accounts`, those that a row is posted to.
+//! - `deal`: the command of a row (`command`).
+//! - `file`: the rows of a file (`read_rows`).
+//! - `written`: the row that a record of the file says, by its columns (`column`) in that version of the file (`version`).
+//! - `fault`: why there are no rows, or no command.
+//! - `laws`: laws of the definitions that the contracts of `read_rows` and `command` cite.
+#![tactic(auto)]
+
+mod accounts;
+mod column;
+mod deal;
+mod fault;
+mod file;
+pub mod laws;
+mod row;
+#[cfg(test)]
+mod tests;
+mod version;
+mod written;
+
+pub use accounts::Accounts;
+pub use deal::command;
+pub use fault::{Cause, CommandFault, RowsFault};
+pub use file::read_rows;
+pub use row::{Action, Row};
