@@ -8,7 +8,7 @@ use Rattle.lot_cli.specs.declared.batch.status.Status.{Status}
 use Rattle.lot_book.specs.declared.holding.Holding.{Holding}
 use Rattle.lot_book.specs.declared.verdict.Verdict.{Verdict}
 use Rattle.lot_view.specs.declared.view.View.{View}
-use Rattle.lot_report.specs.declared.holdings.ReportFault.{ReportFault}
+use Rattle.lot_report.specs.declared.fault.ReportFault.{ReportFault}
 use Rattle.lot_report.specs.declared.line.PrintFault.{PrintFault}
 use Rattle.lot_command.specs.declared.command.Command.{Command}
 use Rattle.lot_text.specs.Text.{Reads}
@@ -18,7 +18,7 @@ use Rattle.lot_book.specs.Judged.{JudgesAll}
 use Rattle.lot_view.specs.View.{known}
 use Rattle.lot_report.specs.Printed.{replies}
 use Rattle.lot_report.specs.Written.{AppendsPrefix}
-use Rattle.lot_report.specs.Report.{WritesReport}
+use Rattle.lot_report.specs.Holdings.{WritesReport, unvalued}
 use Rattle.lot_cli.specs.FaultLine.{fault_line}
 use Rattle.lot_cli.specs.Key.{key_of}
 use Rattle.lot_cli.specs.Input.{longest_input}
@@ -73,7 +73,7 @@ judged_input input commands verdicts book rows short reads judged inventory =
 
 pub reaches_the_end : (input : List ℕ) (commands : List Command) (view : View) (rows : List Holding) (status : Status)
     (old mid new : Option (List ℕ)) (done : Unit {0}) → length input ≤ longest_input → Reads input commands
-    → Runs commands old mid (Ok (view, status)) → ListsHoldings (known view) rows → WritesReport rows mid new (Ok done)
+    → Runs commands old mid (Ok (view, status)) → ListsHoldings (known view) rows → WritesReport (unvalued rows) mid new (Ok done)
     → Reaches input old new (Ok status)
 reaches_the_end input commands view rows status old mid new done short reads (verdicts, book, judged, same, replied, said) inventory (report, is_report, reported) = (
   replies 1 verdicts ++ report,
@@ -89,7 +89,7 @@ rows_stopped input commands view status old new short reads (verdicts, book, jud
 
 pub report_stopped : (input : List ℕ) (commands : List Command) (view : View) (rows : List Holding) (status : Status)
     (old mid new : Option (List ℕ)) (fault : ReportFault) (result : Result Status Fault) → length input ≤ longest_input → Reads input commands
-    → Runs commands old mid (Ok (view, status)) → ListsHoldings (known view) rows → WritesReport rows mid new (Err fault)
+    → Runs commands old mid (Ok (view, status)) → ListsHoldings (known view) rows → WritesReport (unvalued rows) mid new (Err fault)
     → IsErrAnd result (λ e. e ≡ fault_of_report fault) → Reaches input old new result
 report_stopped input commands view rows status old mid new fault (Ok x) short reads ran inventory reported fails = absurd fails
 report_stopped input commands view rows status old mid new fault (Err e) short reads (verdicts, book, judged, same, replied, said) inventory reported fails =
@@ -98,7 +98,7 @@ report_stopped input commands view rows status old mid new fault (Err e) short r
     whole : IsJudged input verdicts rows
     whole = judged_input input commands verdicts book rows short reads judged (subst (λ (facts : Facts). ListsHoldings facts rows) same inventory)
 
-    at : (f : ReportFault) → WritesReport rows mid new (Err f) → Reaches input old new (Err (fault_of_report f))
+    at : (f : ReportFault) → WritesReport (unvalued rows) mid new (Err f) → Reaches input old new (Err (fault_of_report f))
     at ReportFault.Range (report, is_report, written) =
         (verdicts, rows, report, whole, is_report, Appends-trans old mid new (replies 1 verdicts) report replied written)
     at ReportFault.Write (text, inl first, part) = (

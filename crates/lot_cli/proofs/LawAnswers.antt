@@ -13,7 +13,7 @@ use Rattle.lot_book.specs.Judged.{JudgesAll}
 use Rattle.lot_report.specs.Printed.{replies, reply}
 use Rattle.lot_cli.specs.FaultLine.{fault_line}
 use Rattle.lot_cli.specs.Key.{key_of}
-use Rattle.lot_report.specs.Report.{IsReport, IsReportToFault, AreFirstLines}
+use Rattle.lot_report.specs.Holdings.{IsReport, IsReportToFault, AreFirstLines, unvalued}
 use Rattle.lot_cli.specs.Status.{code_of}
 use Rattle.lot_text.specs.Text.{IsFaultAt, Reads}
 use Rattle.lot_text.specs.declared.fault.LineFault.{LineFault}
@@ -97,7 +97,7 @@ no_text input a b s t h (inr (inr (inr k))) = no_verdicts input h.1 h.2 k.0 k.1 
 whole_alike : (input a b : List ℕ) (s t : ℕ) → IsWhole input a s → IsWhole input b t → (a ≡ b) × (s ≡ t)
 whole_alike input a b s t h k =
     let same = one_judgement input h.0 k.0 h.1 k.1 h.3 k.3 in
-    let report = one_report k.1 h.2 k.2 (subst (λ rows. IsReport rows h.2) same.1 h.4) k.4 in (
+    let report = one_report (unvalued k.1) h.2 k.2 (subst (λ (rows : List Holding). IsReport (unvalued rows) h.2) same.1 h.4) k.4 in (
       h.5 ∙ ap (λ vs. replies 1 vs ++ h.2) same.0 ∙ ap (λ text. replies 1 k.0 ++ text) report ∙ sym k.5,
       h.6 ∙ ap (λ vs. code_of (status_of_replies vs)) same.0 ∙ sym k.6,
     )
@@ -105,7 +105,7 @@ whole_alike input a b s t h k =
 broken_alike : (input a b : List ℕ) (s t : ℕ) → IsBroken input a s → IsBroken input b t → (a ≡ b) × (s ≡ t)
 broken_alike input a b s t h k =
     let same = one_judgement input h.0 k.0 h.1 k.1 h.3 k.3 in
-    let report = one_report_to_fault k.1 h.2 k.2 (subst (λ rows. IsReportToFault rows h.2) same.1 h.4) k.4 in (
+    let report = one_report_to_fault (unvalued k.1) h.2 k.2 (subst (λ (rows : List Holding). IsReportToFault (unvalued rows) h.2) same.1 h.4) k.4 in (
       h.5 ∙ ap (λ vs. replies 1 vs ++ (h.2 ++ fault_line Fault.Range)) same.0 ∙ ap (λ text. replies 1 k.0 ++ (text ++ fault_line Fault.Range)) report ∙ sym k.5,
       h.6 ∙ sym k.6,
     )
@@ -114,7 +114,7 @@ broken_alike input a b s t h k =
 whole_or_broken : {P : Type 0} → (input a b : List ℕ) (s t : ℕ) → IsWhole input a s → IsBroken input b t → P
 whole_or_broken input a b s t h k =
     let same = one_judgement input h.0 k.0 h.1 k.1 h.3 k.3 in
-    absurd (whole_or_to_fault k.1 h.2 k.2 (subst (λ rows. IsReport rows h.2) same.1 h.4) k.4)
+    absurd (whole_or_to_fault (unvalued k.1) h.2 k.2 (subst (λ (rows : List Holding). IsReport (unvalued rows) h.2) same.1 h.4) k.4)
 
 whole : (input a b : List ℕ) (s t : ℕ) → IsWhole input a s → IsAnswer input b t → (a ≡ b) × (s ≡ t)
 whole input a b s t h (inl k) = apart (length input) longest_input k.0 h.3.short
@@ -160,12 +160,12 @@ lines_begin input part text status h (inr (inl k)) = no_verdicts input k.1 k.2 h
 lines_begin input part text status h (inr (inr (inl k))) =
     let same = one_judgement input h.0 k.0 h.1 k.1 h.3 k.3 in
     prefix_behind_replies h.0 k.0 h.2 part k.2 text same.0 h.5 k.5
-    (lines_of_report k.1 h.2 k.2 (subst (λ rows. AreFirstLines rows h.2) same.1 h.4) k.4)
+    (lines_of_report (unvalued k.1) h.2 k.2 (subst (λ (rows : List Holding). AreFirstLines (unvalued rows) h.2) same.1 h.4) k.4)
 lines_begin input part text status h (inr (inr (inr k))) =
     let same = one_judgement input h.0 k.0 h.1 k.1 h.3 k.3 in
     prefix_behind_replies h.0 k.0 h.2 part (k.2 ++ fault_line Fault.Range) text same.0 h.5 k.5
     (prefix_of_more h.2 k.2 (fault_line Fault.Range)
-    (lines_of_report_to_fault k.1 h.2 k.2 (subst (λ rows. AreFirstLines rows h.2) same.1 h.4) k.4))
+    (lines_of_report_to_fault (unvalued k.1) h.2 k.2 (subst (λ (rows : List Holding). AreFirstLines (unvalued rows) h.2) same.1 h.4) k.4))
 
 -- the replies to the commands before one are those to the first commands
 replies_before : (input text : List ℕ) (number : ℕ) (verdicts : List Verdict) → IsJudgedBefore input number verdicts → text ≡ replies 1 verdicts
@@ -186,4 +186,4 @@ kept_begins input kept last text status (inr (inl h)) k =
 kept_begins input kept last text status (inr (inr (inl h))) k =
     replies_begin input kept text status (all_replies input kept h.0 h.1 h.2 h.3 h.4 h.5 h.6) k
 kept_begins input kept last text status (inr (inr (inr h))) k =
-    lines_begin input kept text status (h.0, h.1, h.2, h.3, kept_are_first h.1 h.2 h.4, h.5) k
+    lines_begin input kept text status (h.0, h.1, h.2, h.3, kept_are_first (unvalued h.1) h.2 h.4, h.5) k

@@ -5,3 +5,4 @@ pub mod FaultLemmas
 pub mod LawAnswersReports
 pub mod LawAnswers
 pub mod AnswerLemmas
+pub mod ReportLemmas

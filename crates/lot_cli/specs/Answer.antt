@@ -13,7 +13,7 @@ use Rattle.lot_book.specs.Judged.{JudgesAll}
 use Rattle.lot_report.specs.Printed.{replies}
 use Rattle.lot_cli.specs.FaultLine.{fault_line}
 use Rattle.lot_cli.specs.Key.{key_of}
-use Rattle.lot_report.specs.Report.{IsReport, IsReportToFault, AreFirstLines, AreKeptLines}
+use Rattle.lot_report.specs.Holdings.{IsReport, IsReportToFault, AreFirstLines, AreKeptLines, unvalued}
 use Rattle.lot_report.specs.Written.{IsProperPrefixOf}
 use Rattle.lot_cli.specs.Input.{longest_input}
 use Rattle.lot_cli.specs.Status.{code_of, status_of_verdict, status_after}
@@ -51,13 +51,13 @@ IsNoText input text status =
 abbrev pub IsWhole : List ℕ → List ℕ → ℕ → Type 0
 IsWhole input text status =
     (verdicts : List Verdict) × (rows : List Holding) × (report : List ℕ) × IsJudged input verdicts rows
-    × IsReport rows report × (text ≡ replies 1 verdicts ++ report) × (status ≡ code_of (status_of_replies verdicts))
+    × IsReport (unvalued rows) report × (text ≡ replies 1 verdicts ++ report) × (status ≡ code_of (status_of_replies verdicts))
 
 -- the replies, the rows before the one with which a total leaves the range, and the line that reports it
 abbrev pub IsBroken : List ℕ → List ℕ → ℕ → Type 0
 IsBroken input text status =
     (verdicts : List Verdict) × (rows : List Holding) × (report : List ℕ) × IsJudged input verdicts rows
-    × IsReportToFault rows report × (text ≡ replies 1 verdicts ++ (report ++ fault_line Fault.Range)) × (status ≡ 4)
+    × IsReportToFault (unvalued rows) report × (text ≡ replies 1 verdicts ++ (report ++ fault_line Fault.Range)) × (status ≡ 4)
 
 -- the text is the answer to the input, and the status goes with it
 abbrev pub IsAnswer : List ℕ → List ℕ → ℕ → Type 0
@@ -76,7 +76,7 @@ AreReplies input text =
 abbrev pub AreLines : List ℕ → List ℕ → Type 0
 AreLines input text =
     (verdicts : List Verdict) × (rows : List Holding) × (lines : List ℕ)
-    × IsJudged input verdicts rows × AreFirstLines rows lines × (text ≡ replies 1 verdicts ++ lines)
+    × IsJudged input verdicts rows × AreFirstLines (unvalued rows) lines × (text ≡ replies 1 verdicts ++ lines)
 
 -- ---- Out of memory: whole lines of the answer, and then the line that reports it.
 
@@ -112,7 +112,7 @@ RunsOutBeforeReport input kept last =
 abbrev pub RunsOutInReport : List ℕ → List ℕ → List ℕ → Type 0
 RunsOutInReport input kept last =
     (verdicts : List Verdict) × (rows : List Holding) × (lines : List ℕ) × IsJudged input verdicts rows
-    × AreKeptLines rows lines × (kept ≡ replies 1 verdicts ++ lines) × (last ≡ fault_line Fault.Memory)
+    × AreKeptLines (unvalued rows) lines × (kept ≡ replies 1 verdicts ++ lines) × (last ≡ fault_line Fault.Memory)
 
 abbrev pub RunsOut : List ℕ → List ℕ → List ℕ → Type 0
 RunsOut input kept last =

@@ -6,7 +6,7 @@ use Rattle.lot_cli.specs.declared.batch.fault.Fault.TheVariants.{Read, TooLong, 
 use Rattle.lot_book.specs.declared.verdict.Verdict.{Verdict}
 use Rattle.lot_cli.specs.declared.input.SlurpFault.{SlurpFault}
 use Rattle.lot_text.specs.declared.fault.TextFault.{TextFault}
-use Rattle.lot_report.specs.declared.holdings.ReportFault.{ReportFault}
+use Rattle.lot_report.specs.declared.fault.ReportFault.{ReportFault}
 use Rattle.lot_report.specs.declared.line.PrintFault.{PrintFault}
 use Rattle.lot_cli.specs.declared.batch.status.Status.{Status}
 use Rattle.lot_cli.specs.declared.batch.status.Status.TheVariants.{Accepted, Refused, BadInput, Stopped}

@@ -3,6 +3,8 @@ use Rattle.std.specs.Io.KnownBytes.{Appends}
 use Rattle.std.specs.Prelude.{◌≡◌, ◌⊎◌, Option, Result, Ok, Err, ℕ, ◌+◌, ◌<◌, ◌≤◌, List, [], ◌∷◌, ◌++◌, length}
 use Rattle.lot_cli.specs.declared.batch.fault.Fault.{Fault}
 use Rattle.lot_cli.specs.declared.batch.status.Status.{Status}
+use Rattle.lot_report.specs.declared.fault.ReportFault.{ReportFault}
+use Rattle.lot_report.specs.declared.fault.RowFault.{RowFault}
 use Rattle.lot_report.specs.declared.line.PrintFault.{PrintFault}
 use Rattle.lot_command.specs.declared.command.Command.{Command}
 use Rattle.lot_book.specs.declared.change.Change.{Change}
@@ -16,7 +18,7 @@ use Rattle.lot_book.specs.Judged.{JudgesAll}
 use Rattle.lot_book.specs.Step.{Accept, Decides, Refuse, Repeat}
 use Rattle.lot_view.specs.View.{known}
 use Rattle.lot_report.specs.Printed.{reply, replies}
-use Rattle.lot_report.specs.Report.{IsReportToFault}
+use Rattle.lot_report.specs.Holdings.{IsReportToFault, unvalued}
 use Rattle.lot_report.specs.Written.{AppendsPrefix}
 use Rattle.lot_cli.specs.FaultLine.{fault_line}
 use Rattle.lot_cli.specs.Key.{key_of}
@@ -92,7 +94,7 @@ Reaches input old new (Err Fault.TooLong) = (longest_input < length input) × Ap
 Reaches input old new (Err (Fault.Text number fault)) = (length input ≤ longest_input) × IsFaultAt input number fault × Appends old new []
 Reaches input old new (Err Fault.Range) =
     (verdicts : List Verdict) × (rows : List Holding) × (report : List ℕ) × IsJudged input verdicts rows
-    × IsReportToFault rows report × Appends old new (replies 1 verdicts ++ report)
+    × IsReportToFault (unvalued rows) report × Appends old new (replies 1 verdicts ++ report)
 Reaches input old new (Err Fault.Write) = (text : List ℕ) × IsBegun input text × AppendsPrefix old new text
 Reaches input old new (Err Fault.Memory) = StopsForMemory input Fault.Memory old new
 Reaches input old new (Err (Fault.MemoryAt number)) = StopsForMemory input (Fault.MemoryAt number) old new
@@ -123,3 +125,10 @@ Concludes old new (Err (Fault.MemoryAt number)) concluded = Reports (Fault.Memor
 abbrev pub Ends : Result Status PrintFault → Status → Type 0
 Ends (Ok status) end = (end ≡ status) ⊎ (end ≡ Status.Stopped)
 Ends (Err cut) end = end ≡ Status.Stopped
+
+-- ---- Reports.
+
+-- what comes of a row, or of the end, of a report that no fault has ended before
+abbrev pub in_row : Result (Unit {0}) ReportFault → Result (Unit {0}) RowFault
+in_row (Ok done) = Ok done
+in_row (Err fault) = Err (RowFault.Report fault)

@@ -1,6 +1,7 @@
 //! The whole way: a text is read, its commands are judged on a fresh book, and the replies and the report are written.
 //!
 //! - `fault`: why a run ends before its end.
+//! - `report`: what the book holds, as it is written.
 //! - `status`: how it ended.
 
 ghost use Rattle.std.specs.Prelude.{◌≡◌, ◌≤◌, ℕ, List, length, IfOk, IfSome, IsErrOf};
@@ -13,6 +14,7 @@ ghost use Rattle.lot_cli.specs.declared.batch.fault.Fault.TheVariants.{Memory};
 ghost use Rattle.lot_view.specs.View.{known};
 
 mod fault;
+mod report;
 mod status;
 #[cfg(test)]
 mod tests;
@@ -21,8 +23,9 @@ use crate::input::slurp;
 use fault::{Fault, print_fault};
 use lot_command::Command;
 use lot_ledger::{Outcome, Stop, Verdict, View, decide};
-use lot_report::{PrintFault, print_holdings, print_reply};
+use lot_report::{PrintFault, print_reply};
 use lot_text::read;
+use report::print_holdings;
 use status::Status;
 use std::alloc::{AllocError, Global};
 use std::io::{self, Read, Write};
@@ -69,7 +72,7 @@ fn answer_text<W: Write>(alloc: Global, text: &[u8], writer: &mut W) -> Result<S
     let commands = read(alloc, text)?;
     let (view, status) = run(alloc, commands, writer)?;
     let rows = view.holdings()?;
-    print_holdings(alloc, &rows, writer)?;
+    print_holdings(alloc, rows, writer)?;
     Ok(status)
 }
 

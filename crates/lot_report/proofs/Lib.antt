@@ -1,4 +1,7 @@
 pub mod PrintLemmas
-pub mod CostLemmas
-pub mod RowLemmas
+pub mod SumLemmas
 pub mod TotalLemmas
+pub mod EachLemmas
+pub mod FedLemmas
+pub mod GainLemmas
+pub mod HoldingLemmas

@@ -1,3 +1,7 @@
 pub mod Printed
 pub mod Report
 pub mod Written
+pub mod Journal
+pub mod Fed
+pub mod Gains
+pub mod Holdings

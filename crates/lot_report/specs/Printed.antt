@@ -1,14 +1,14 @@
 -- The lines that are printed (docs/FORMATS.md, Printed texts), each as a function of what it reports.
-use Rattle.std.specs.Prelude.{ℕ, suc, List, [], ◌∷◌, ◌++◌, ℤ, pos, codes, decimal, Bool, true, false, Option, Some, None}
-use Rattle.std.specs.List.{flat_map}
+use Rattle.std.specs.Prelude.{ℕ, suc, List, [], ◌∷◌, ◌++◌, ℤ, pos, ◌*ℤ◌, codes, decimal, Bool, true, false, Option, Some, None}
 use Rattle.lot_num.specs.AmountText.{amount_text}
 use Rattle.lot_base.specs.Day.{day_text}
 use Rattle.lot_inv.specs.declared.lot_key.LotKey.{LotKey}
-use Rattle.lot_book.specs.declared.holding.Holding.{Holding}
 use Rattle.lot_book.specs.declared.refusal.Refusal.{Refusal}
 use Rattle.lot_book.specs.declared.refusal.Refusal.TheVariants.{KeyReused, AlreadyOpen, UnknownAccount, NotOpenYet, Closed, AlreadyDeclared, CurrencyNotAllowed, TooManyPostings, TwoElided, BackDated, NoMatch, Ambiguous, NotEnough, IncompleteCost, InexactCost, ZeroUnits, Range, InexactFill, FillNotAllowed, NotBalanced, TooManyLots, BookFull}
 use Rattle.lot_book.specs.declared.verdict.Verdict.{Verdict}
 use Rattle.lot_book.specs.declared.verdict.Verdict.TheVariants.{Accepted, Repeated, Refused}
+use Rattle.lot_report.specs.declared.lot.Valuation.{Valuation}
+use Rattle.lot_report.specs.declared.lot.Valuation.TheVariants.{Unasked, Missing, At}
 
 abbrev pub line : List ℕ → List ℕ
 line text = text ++ 10 ∷ []
@@ -114,27 +114,28 @@ abbrev pub in_braces : List ℕ → LotKey → List ℕ
 in_braces number lot =
     codes "{" ++ number ++ codes " " ++ lot.currency ++ codes ", " ++ day_text lot.day ++ label_text lot.label ++ codes "}"
 
-abbrev pub lot_text : LotKey → List ℕ
-lot_text lot = in_braces (amount_text 0 8 (pos lot.number)) lot
+-- units in a lot, behind what stands at the front of their line, with the texts of the units and of the number of the lot
+abbrev pub row_with : List ℕ → List ℕ → List ℕ → List ℕ → LotKey → List ℕ
+row_with front units commodity number lot = front ++ codes " " ++ units ++ codes " " ++ commodity ++ codes " " ++ in_braces number lot
 
-abbrev pub lot_row : List ℕ → List ℕ → LotKey → ℤ → List ℕ
-lot_row account commodity lot units = line (account ++ codes " " ++ amount_text 0 8 units ++ codes " " ++ commodity ++ codes " " ++ lot_text lot)
+-- the price that a lot is valued at, if there is one
+abbrev pub price_of : Valuation → Option ℕ
+price_of Unasked = None
+price_of Missing = None
+price_of (At price) = Some price
 
--- the row of a holding, which is plain or in a lot
-abbrev pub row_of : List ℕ → List ℕ → Option LotKey → ℤ → List ℕ
-row_of account commodity None units = plain_row account commodity units
-row_of account commodity (Some lot) units = lot_row account commodity lot units
+-- the value of units of a lot, with the space before it: nothing where none is asked for
+abbrev pub value_text : Valuation → List ℕ → ℤ → List ℕ
+value_text Unasked currency units = []
+value_text Missing currency units = codes " value none"
+value_text (At price) currency units = codes " value " ++ amount_text 2 16 (units *ℤ pos price) ++ codes " " ++ currency
 
-abbrev pub holding_row : Holding → List ℕ
-holding_row holding = row_of holding.account holding.commodity holding.lot holding.units
+abbrev pub lot_row : List ℕ → List ℕ → LotKey → ℤ → Valuation → List ℕ
+lot_row front commodity lot units valuation =
+    line (row_with front (amount_text 0 8 units) commodity (amount_text 0 8 (pos lot.number)) lot ++ value_text valuation lot.currency units)
 
-abbrev pub total_line : List ℕ → ℤ → List ℕ
-total_line currency total = line (codes "total cost " ++ amount_text 2 16 total ++ codes " " ++ currency)
+-- ---- Totals
 
-abbrev pub total_lines : List (List ℕ × ℤ) → List ℕ
-total_lines costs = flat_map (λ (cost : List ℕ × ℤ). total_line cost.0 cost.1) costs
-
--- what stands behind the rows: that there were none, or what the lots cost in each currency
-abbrev pub totals : Bool → List (List ℕ × ℤ) → List ℕ
-totals true costs = line (codes "nothing held")
-totals false costs = total_lines costs
+-- a total in a currency, with the word that says of what it is
+abbrev pub total_of : List ℕ → List ℕ → ℤ → List ℕ
+total_of what currency total = line (codes "total " ++ what ++ codes " " ++ amount_text 2 16 total ++ codes " " ++ currency)

@@ -1,5 +1,5 @@
 -- What a call puts behind what a writer holds, and how far it comes where it fails.
-use Rattle.std.specs.Prelude.{◌≡◌, ◌≢◌, ℕ, ◌<◌, List, [], ◌∷◌, ◌++◌, Option, Result, Ok, Err}
+use Rattle.std.specs.Prelude.{◌≡◌, ◌≢◌, ℕ, ◌<◌, List, [], ◌∷◌, ◌++◌, flat_map, Option, Result, Ok, Err}
 use Rattle.std.specs.Io.KnownBytes.{Appends}
 use Rattle.std.specs.IoError.{error_kind}
 use Rattle.std.specs.declared.io.Error.{Error}
@@ -33,6 +33,14 @@ abbrev pub WritesLine : Option (List ℕ) → Option (List ℕ) → Result (Unit
 WritesLine old new (Ok done) line = Appends old new line
 WritesLine old new (Err Memory) line = Appends old new []
 WritesLine old new (Err Write) line = AppendsPrefix old new line
+
+-- the texts of items are put one behind another, behind what the writer held: all of them; out of memory, whole texts, but
+-- not all; where the writer fails, a prefix of them, but not all of it
+abbrev pub WritesEach : {X : Type 0} → (X → List ℕ) → List X → Option (List ℕ) → Option (List ℕ) → Result (Unit {0}) PrintFault → Type 0
+WritesEach text items old new (Ok done) = Appends old new (flat_map text items)
+WritesEach text items old new (Err Memory) =
+    (before : List _) × (next : _) × (after : List _) × (items ≡ before ++ next ∷ after) × Appends old new (flat_map text before)
+WritesEach text items old new (Err Write) = AppendsPrefix old new (flat_map text items)
 
 -- what one call of `write` comes to: how many bytes it took, none where it was interrupted, after which it is tried
 -- again; a call that took nothing, and one that failed otherwise, are a fault of the writer

@@ -1,194 +1,204 @@
-ghost use Rattle.std.specs.Prelude.{◌≡◌, ◌≢◌, ℕ, List, [], ◌∷◌, ◌++◌, ℤ, pos, ◌+ℤ◌, ◌*ℤ◌, SomeIff, OnOk, IfErr, IsErrOf};
-ghost use Rattle.lot_num.specs.Amount.{IsWide};
-ghost use Rattle.lot_book.specs.Currencies.{sum_in};
-ghost use Rattle.lot_book.specs.declared.holding.Holding.{Holding as HoldingValue};
-ghost use Rattle.lot_report.specs.Report.{AreSums, HasTaken, TakesCost, TakesRow, WritesReport, WritesTotals};
-ghost use Rattle.lot_report.specs.Printed.{plain_row, lot_row, holding_row, total_line};
-ghost use Rattle.lot_report.specs.Written.{WritesLine};
+ghost use Rattle.std.specs.Prelude.{◌≡◌, ◌↔◌, List, [], ◌∷◌, ℕ, ℤ, Option, Some, IsErr, IsErrOf, IsFalse, IsTrue};
+ghost use Rattle.std.specs.Io.KnownBytes.{Appends};
+ghost use Rattle.lot_report.specs.declared.holdings.ValuedHolding.{ValuedHolding as Row};
+ghost use Rattle.lot_report.specs.Holdings.{CountsBoth, CountsHolding, EndsHoldings, GrowsByHolding, HasTaken, IsFed, TakesHolding, cost_of, end_lines, holding_row, is_spent, rows_text, value_at};
+ghost use Rattle.lot_report.specs.Printed.{plain_row};
+ghost use Rattle.lot_report.specs.Report.{AreSums};
+ghost use Rattle.lot_report.specs.Written.{WritesEach, WritesLine};
 
 #[cfg(test)]
 mod tests;
 
+use crate::fault::{ReportFault, RowFault};
 use crate::line::{PrintFault, print_line};
-use lot_base::{Commodity, Label};
+use crate::lot::{Valuation, print_lot};
+use crate::totals::Totals;
+use lot_base::Commodity;
 use lot_book::{Holding, LotKey};
-use lot_num::{Units, Wide, weight};
-use std::alloc::{AllocError, AllocFailed, Global};
-use std::collections::BTreeMap;
-use std::fmt;
+use lot_num::{Rate, Units, Wide, weight};
+use std::alloc::Global;
 use std::io::Write;
-use thiserror::Error;
 
-/// Why a report ended before its end.
-#[derive(Clone, Copy, Debug, PartialEq, Eq, Error)]
-pub enum ReportFault {
-    /// A total leaves the range of weights.
-    #[error("a total is too large")]
-    Range,
-    /// The writer failed.
-    #[error("the output can't be written")]
-    Write,
-    /// There was no memory for a line or a total.
-    #[error("out of memory")]
-    Memory,
+/// A row of the report of what is held: what one position holds, and the price that it is valued at. The valuation of plain
+/// units isn't looked at.
+#[derive(Debug, Drop)]
+pub struct ValuedHolding {
+    pub holding: Holding,
+    pub valuation: Valuation,
 }
 
-impl From<PrintFault> for ReportFault {
-    ghost use Rattle.std.specs.Prelude.{◌≡◌};
-    ghost use Rattle.lot_report.specs.Report.{report_fault};
-
-    ghost from_gives = { λ fault e. e ≡ report_fault fault };
-
-    fn from(fault: PrintFault) -> ReportFault {
-        match fault {
-            PrintFault::Write => ReportFault::Write,
-            PrintFault::Memory => ReportFault::Memory,
-        }
-    }
-}
-
-impl From<AllocError> for ReportFault {
-    ghost use Rattle.std.specs.Prelude.{◌≡◌};
-    ghost use Rattle.lot_report.specs.declared.holdings.ReportFault.TheVariants.{Memory};
-
-    ghost from_gives = { λ _ e. e ≡ Memory };
-
-    fn from(_error: AllocError) -> ReportFault {
-        ReportFault::Memory
-    }
-}
-
-impl<T: Drop> From<AllocFailed<T>> for ReportFault {
-    ghost use Rattle.std.specs.Prelude.{◌≡◌};
-    ghost use Rattle.lot_report.specs.declared.holdings.ReportFault.TheVariants.{Memory};
-
-    ghost from_gives = { λ _ e. e ≡ Memory };
-
-    fn from(_failed: AllocFailed<T>) -> ReportFault {
-        ReportFault::Memory
-    }
-}
-
-/// Writes the report of what is held: a line for each row, in the order in which they are given, and then what the lots
-/// cost in each currency.
+/// The report of what is held, which takes rows one after another and writes each behind those before it.
 ///
-/// Returns `Range` at the first row with which a total leaves the range of weights: the rows before it are written, and
-/// no total is. Returns `Memory` where there is no memory for a line or a total: whole lines of the report are written.
-/// Returns `Write` where the writer fails: a prefix of the report is written, but not all of it.
-pub fn print_holdings<W: Write>(
-    alloc: Global,
-    rows: &[Holding],
-    writer: &mut W,
-) -> Result<(), ReportFault>
-    ensures { WritesReport rows.now (W.contents writer.old) (W.contents writer.new) result }
-{
-    let mut holdings = Holdings::new(alloc);
-    for holding in rows {
-        holdings.row(holding, writer)?;
-    }
-    holdings.end(writer)?;
-    Ok(())
-}
-
-/// The report of what is held: its rows in their order, and then what the lots cost in each currency.
+/// After a fault nothing more is written, and each call returns `Spent`.
 #[derive(Drop)]
-struct Holdings {
-    alloc: Global,
-    is_empty: bool,
-    /// What the lots so far cost.
-    costs: BTreeMap<Commodity, Wide>,
+pub struct Holdings {
+    /// None after a fault.
+    progress: Option<Progress>,
 }
 
 impl Holdings {
-    /// The report before its first row.
-    fn new(alloc: Global) -> Holdings
-        ensures { HasTaken [] result }
+    /// The report before its first row. It takes no memory.
+    pub fn new(alloc: Global) -> Holdings
+        ensures fed { IsFed [] result }
+        ensures spent { IsFalse (is_spent result) }
     {
         Holdings {
+            progress: Some(Progress::new(alloc)),
+        }
+    }
+
+    /// Writes one row: its line, with the value of a lot where one is asked for.
+    ///
+    /// Returns `Range` where it takes the total of the costs or that of the values out of the range of weights, and `Memory`
+    /// when out of memory: nothing of the row is written then. Returns `Write` where the writer fails: a prefix of the line is
+    /// written, but not all of it. Returns `Spent` after such a fault, and writes nothing.
+    pub fn row<W: Write>(&mut self, row: &ValuedHolding, writer: &mut W) -> Result<(), RowFault>
+        ensures text { (rows : List Row) (start : Option (List ℕ)) → IsFed rows self.old
+            → Appends start (W.contents writer.old) (rows_text rows)
+            → GrowsByHolding rows row.now self.new start (W.contents writer.new) result }
+        ensures spent { IsErrOf result RowFault.Spent ↔ IsTrue (is_spent self.old) }
+        ensures after { IsErr result ↔ IsTrue (is_spent self.new) }
+    {
+        let Some(mut progress) = self.progress.take() else {
+            return Err(RowFault::Spent);
+        };
+        progress.row(row, writer)?;
+        self.progress = Some(progress);
+        Ok(())
+    }
+
+    /// Writes the totals, by the bytes of their currencies, those of the costs first; or that nothing is held, where there was
+    /// no row.
+    ///
+    /// Returns `Memory` when out of memory: whole lines are written, but not all. Returns `Write` where the writer fails: a
+    /// prefix of the lines is written, but not all of them. Returns `Spent` after a fault of `row`, and writes nothing.
+    pub fn end<W: Write>(self, writer: &mut W) -> Result<(), RowFault>
+        ensures text { (rows : List Row) (start : Option (List ℕ)) → IsFed rows self
+            → Appends start (W.contents writer.old) (rows_text rows)
+            → EndsHoldings rows start (W.contents writer.new) result }
+        ensures spent { IsErrOf result RowFault.Spent ↔ IsTrue (is_spent self) }
+    {
+        let Some(progress) = &self.progress else {
+            return Err(RowFault::Spent);
+        };
+        match progress.end(writer) {
+            Ok(()) => Ok(()),
+            Err(fault) => Err(RowFault::Report(ReportFault::from(fault))),
+        }
+    }
+}
+
+/// What the rows so far come to.
+#[derive(Drop)]
+struct Progress {
+    alloc: Global,
+    is_empty: bool,
+    costs: Totals,
+    values: Totals,
+}
+
+impl Progress {
+    /// Before the first row.
+    fn new(alloc: Global) -> Progress
+        ensures { HasTaken [] result }
+    {
+        Progress {
             alloc,
             is_empty: true,
-            costs: BTreeMap::new(alloc),
+            costs: Totals::new(alloc),
+            values: Totals::new(alloc),
         }
     }
 
-    /// Writes one row.
-    ///
-    /// Returns `Range` where it takes a total out of the range of weights. Nothing of the row is written then, nor when
-    /// out of memory.
-    fn row<W: Write>(&mut self, holding: &Holding, writer: &mut W) -> Result<(), ReportFault>
-        ensures { (rows : List HoldingValue) → HasTaken rows self.old
-            → TakesRow rows holding.now self.new (W.contents writer.old) (W.contents writer.new) result }
+    /// Takes and writes one row.
+    fn row<W: Write>(&mut self, row: &ValuedHolding, writer: &mut W) -> Result<(), ReportFault>
+        ensures { (rows : List Row) → HasTaken rows self.old
+            → TakesHolding rows row.now self.new (W.contents writer.old) (W.contents writer.new) result }
     {
-        self.take_cost(holding)?;
-        print_row(self.alloc, writer, holding)?;
+        self.count(row)?;
+        print_row(self.alloc, writer, row)?;
         Ok(())
     }
 
-    /// Writes the totals, by the bytes of their currencies, or that nothing is held.
-    fn end<W: Write>(self, writer: &mut W) -> Result<(), PrintFault>
-        ensures { WritesTotals self.is_empty self.costs.entries (W.contents writer.old) (W.contents writer.new) result }
-    {
-        if self.is_empty {
-            return print_line(writer, "nothing held");
-        }
-        for (currency, total) in &self.costs {
-            print_total(self.alloc, writer, currency, *total)?;
-        }
-        Ok(())
-    }
-
-    /// Takes what the units of one more row cost; plain units cost nothing.
-    fn take_cost(&mut self, holding: &Holding) -> Result<(), ReportFault>
-        ensures { (rows : List HoldingValue) → HasTaken rows self.old → TakesCost rows holding.now self.new result }
+    /// Adds what one more row costs, and what it is worth; plain units have neither.
+    fn count(&mut self, row: &ValuedHolding) -> Result<(), ReportFault>
+        ensures { (rows : List Row) → HasTaken rows self.old → CountsHolding rows row.now self.new result }
     {
         self.is_empty = false;
-        match &holding.lot {
-            Some(lot) => self.add_cost(lot, holding.units),
+        match &row.holding.lot {
+            Some(lot) => self.count_lot(lot, row.holding.units, row.valuation.price()),
             None => Ok(()),
         }
     }
 
-    /// Adds what the units of one lot cost.
-    fn add_cost(&mut self, lot: &LotKey, units: Units) -> Result<(), ReportFault>
-        ensures taken { (costs : List (List ℕ × ℤ)) → AreSums costs self.old.costs.entries
-            → OnOk result (AreSums (costs ++ (lot.now.currency, units *ℤ pos lot.now.number) ∷ []) self.new.costs.entries) }
-        ensures fits { (costs : List (List ℕ × ℤ)) → AreSums costs self.old.costs.entries
-            → OnOk result (IsWide (sum_in costs lot.now.currency +ℤ units *ℤ pos lot.now.number)) }
-        ensures range { (costs : List (List ℕ × ℤ)) → AreSums costs self.old.costs.entries
-            → IsErrOf result ReportFault.Range → IsWide (sum_in costs lot.now.currency +ℤ units *ℤ pos lot.now.number) → ⊥ }
-        ensures memory { (costs : List (List ℕ × ℤ)) → AreSums costs self.old.costs.entries
-            → IsErrOf result ReportFault.Memory → IsWide (sum_in costs lot.now.currency +ℤ units *ℤ pos lot.now.number) }
-        ensures cause { IfErr result (λ fault. fault ≢ ReportFault.Write) }
+    /// Adds what units of a lot cost, and what they are worth at a price.
+    fn count_lot(
+        &mut self,
+        lot: &LotKey,
+        units: Units,
+        price: Option<Rate>,
+    ) -> Result<(), ReportFault>
+        ensures sums { (costs values : List (List ℕ × ℤ)) → AreSums costs self.old.costs.sums.entries
+            → AreSums values self.old.values.sums.entries
+            → CountsBoth costs values (cost_of (Some lot.now) units) (value_at price lot.now units) self.new.costs self.new.values result }
         ensures rest { self.new.is_empty ≡ self.old.is_empty }
     {
-        match self.total_with(&lot.currency, weight(units, lot.number)) {
-            Some(total) => {
-                self.costs.insert(lot.currency.copy()?, total)?;
-                Ok(())
-            }
-            None => Err(ReportFault::Range),
+        let cost = weight(units, lot.number);
+        match price {
+            Some(price) => self.add_both(&lot.currency, cost, weight(units, price)),
+            None => self.costs.add(&lot.currency, cost),
         }
     }
 
-    /// Returns the total in a currency with one more cost, where it is in range.
-    fn total_with(&self, currency: &Commodity, cost: Wide) -> Option<Wide>
-        ensures { (costs : List (List ℕ × ℤ)) → AreSums costs self.now.costs.entries
-            → SomeIff result (IsWide (sum_in costs currency.now +ℤ cost)) (sum_in costs currency.now +ℤ cost) }
+    /// Adds a cost and a value in a currency.
+    fn add_both(&mut self, currency: &Commodity, cost: Wide, value: Wide) -> Result<(), ReportFault>
+        ensures sums { (costs values : List (List ℕ × ℤ)) → AreSums costs self.old.costs.sums.entries
+            → AreSums values self.old.values.sums.entries
+            → CountsBoth costs values ((currency.now, cost) ∷ []) ((currency.now, value) ∷ []) self.new.costs self.new.values result }
+        ensures rest { self.new.is_empty ≡ self.old.is_empty }
     {
-        let total = self.costs.get(currency).copied().unwrap_or(Wide::ZERO);
-        total.checked_add(cost)
+        let Some(cost) = self.costs.sum_with(currency, cost) else {
+            return Err(ReportFault::Range);
+        };
+        let Some(value) = self.values.sum_with(currency, value) else {
+            return Err(ReportFault::Range);
+        };
+        self.costs.set(currency, cost)?;
+        self.values.set(currency, value)
+    }
+
+    /// Writes what stands behind the rows.
+    fn end<W: Write>(&self, writer: &mut W) -> Result<(), PrintFault>
+        ensures { WritesEach (λ text. text) (end_lines self.now.is_empty self.now.costs.sums.entries self.now.values.sums.entries)
+            (W.contents writer.old) (W.contents writer.new) result }
+    {
+        if self.is_empty {
+            return print_line(writer, "nothing held");
+        }
+        self.costs.print(self.alloc, writer, "cost")?;
+        self.values.print(self.alloc, writer, "value")
     }
 }
 
-fn print_row<W: Write>(alloc: Global, writer: &mut W, holding: &Holding) -> Result<(), PrintFault>
-    ensures { WritesLine (W.contents writer.old) (W.contents writer.new) result (holding_row holding.now) }
+fn print_row<W: Write>(alloc: Global, writer: &mut W, row: &ValuedHolding) -> Result<(), PrintFault>
+    ensures { WritesLine (W.contents writer.old) (W.contents writer.new) result (holding_row row.now) }
 {
+    let holding = &row.holding;
     match &holding.lot {
-        Some(lot) => print_lot(alloc, writer, holding, lot),
+        Some(lot) => print_lot(
+            alloc,
+            writer,
+            holding.account.as_str(),
+            holding.units,
+            &holding.commodity,
+            lot,
+            row.valuation,
+        ),
         None => print_plain(alloc, writer, holding),
     }
 }
 
+#[tactic(auto, using(crate::proofs::PrintLemmas::nothing_written))]
 fn print_plain<W: Write>(alloc: Global, writer: &mut W, holding: &Holding) -> Result<(), PrintFault>
     ensures { WritesLine (W.contents writer.old) (W.contents writer.new) result
         (plain_row holding.now.account holding.now.commodity holding.now.units) }
@@ -197,77 +207,4 @@ fn print_plain<W: Write>(alloc: Global, writer: &mut W, holding: &Holding) -> Re
     let units = holding.units.text_money(alloc)?;
     let commodity = &holding.commodity;
     print_line(writer, format_args!("{account} {units} {commodity}"))
-}
-
-#[tactic(auto, using(crate::proofs::PrintLemmas::nothing_written))]
-fn print_lot<W: Write>(
-    alloc: Global,
-    writer: &mut W,
-    holding: &Holding,
-    lot: &LotKey,
-) -> Result<(), PrintFault>
-    ensures { WritesLine (W.contents writer.old) (W.contents writer.new) result
-        (lot_row holding.now.account holding.now.commodity lot.now holding.now.units) }
-{
-    let account = &holding.account;
-    let units = holding.units.text(alloc)?;
-    let commodity = &holding.commodity;
-    let number = lot.number.text(alloc)?;
-    let lot = PrintedLot {
-        number: number.as_str(),
-        lot,
-    };
-    print_line(writer, format_args!("{account} {units} {commodity} {lot}"))
-}
-
-/// A lot as it is printed behind its units, in braces, with the text of its number.
-#[derive(Clone, Copy)]
-struct PrintedLot<'a> {
-    number: &'a str,
-    lot: &'a LotKey,
-}
-
-impl fmt::Display for PrintedLot<'_> {
-    ghost use Rattle.std.specs.Prelude.{Some};
-    ghost use Rattle.lot_report.specs.Printed.{in_braces};
-
-    ghost output = { λ printed. Some (in_braces printed.number.now printed.lot.now) };
-
-    fn fmt<W: fmt::Write>(&self, f: &mut fmt::Formatter<W>) -> fmt::Result {
-        let number = self.number;
-        let currency = &self.lot.currency;
-        let day = self.lot.day;
-        let label = PrintedLabel(&self.lot.label);
-        write!(f, "{{{number} {currency}, {day}{label}}}")
-    }
-}
-
-/// The label of a lot as it is printed behind its day: in quotes, or nothing where the lot has none.
-#[derive(Clone, Copy)]
-struct PrintedLabel<'a>(&'a Option<Label>);
-
-impl fmt::Display for PrintedLabel<'_> {
-    ghost use Rattle.std.specs.Prelude.{Some};
-    ghost use Rattle.lot_report.specs.Printed.{label_text};
-
-    ghost output = { λ label. Some (label_text label.0.now) };
-
-    fn fmt<W: fmt::Write>(&self, f: &mut fmt::Formatter<W>) -> fmt::Result {
-        let Some(label) = self.0 else {
-            return Ok(());
-        };
-        write!(f, ", \"{label}\"")
-    }
-}
-
-fn print_total<W: Write>(
-    alloc: Global,
-    writer: &mut W,
-    currency: &Commodity,
-    total: Wide,
-) -> Result<(), PrintFault>
-    ensures { WritesLine (W.contents writer.old) (W.contents writer.new) result (total_line currency.now total) }
-{
-    let total = total.text_money(alloc)?;
-    print_line(writer, format_args!("total cost {total} {currency}"))
 }

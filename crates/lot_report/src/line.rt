@@ -1,4 +1,4 @@
-ghost use Rattle.std.specs.Prelude.{◌≡◌, ◌≤◌, length, IfOk, IfErr, IsErrOf, IfSome};
+ghost use Rattle.std.specs.Prelude.{◌≡◌, ◌≤◌, length, flat_map, IfOk, IfErr, IsErrOf, IfSome};
 ghost use Rattle.std.specs.Fmt.{with_newline};
 ghost use Rattle.lot_report.specs.Written.{IsTaken, WritesLine, longest_line};
 
@@ -30,8 +30,8 @@ impl From<AllocError> for PrintFault {
     }
 }
 
-/// The most bytes that a line may have, its line end included. The longest line there is, a lot's row with the
-/// longest names, numbers and label, has 300.
+/// The most bytes that a line may have, its line end included. The longest line there is, a valued lot with the
+/// longest names, numbers and label, has 368.
 const LONGEST: usize = 512;
 
 /// Writes a text and a line end. It takes no memory.
@@ -63,6 +63,18 @@ fn line_of<T: Display + Drop>(text: T) -> Result<ArrayString<LONGEST>, PrintFaul
         Ok(()) => Ok(line),
         Err(_) => Err(PrintFault::Memory),
     }
+}
+
+/// Writes texts one behind another. It takes no memory: the only fault is that of the writer, after which a prefix of them is
+/// written, but not all.
+pub(crate) fn put_all<W: Write>(writer: &mut W, texts: &[&str]) -> Result<(), PrintFault>
+    ensures bytes { WritesLine (W.contents writer.old) (W.contents writer.new) result (flat_map (λ text. text.now) texts.now) }
+    ensures fault { IfErr result (λ fault. fault ≡ PrintFault.Write) }
+{
+    for text in texts {
+        put(writer, text.as_bytes())?;
+    }
+    Ok(())
 }
 
 /// Writes bytes. After a fault a prefix of them is written, but not all.

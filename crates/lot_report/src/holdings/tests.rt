@@ -1,5 +1,7 @@
-use super::{Holdings, ReportFault, print_row};
+use super::{Holdings, ValuedHolding};
+use crate::fault::{ReportFault, RowFault};
 use crate::line::PrintFault;
+use crate::lot::Valuation;
 use lot_base::{Account, Commodity, Day, Label};
 use lot_book::{Holding, LotKey};
 use lot_num::{Rate, Units};
@@ -9,24 +11,104 @@ use std::io;
 use std::process::Abort;
 use std::test::Fail;
 
-/// Units of a lot at that number.
-fn lot_at(alloc: Global, units: &str, number: &str) -> Result<Holding, Fail> {
+/// Units of HOOL in a lot of that day at that number of USD.
+fn lot_of(
+    alloc: Global,
+    units: &str,
+    number: &str,
+    day: &str,
+    valuation: Valuation,
+) -> Result<ValuedHolding, Fail> {
     let lot = LotKey {
-        day: Day::parse("2020-01-02")?,
+        day: Day::parse(day)?,
         currency: Commodity::new(alloc, "USD")?,
         number: Rate::parse(number)?,
         label: None,
     };
-    Ok(Holding {
-        account: Account::new(alloc, "Assets:Broker")?,
-        commodity: Commodity::new(alloc, "HOOL")?,
-        lot: Some(lot),
-        units: Units::parse(units)?,
+    Ok(ValuedHolding {
+        holding: Holding {
+            account: Account::new(alloc, "Assets:Broker")?,
+            commodity: Commodity::new(alloc, "HOOL")?,
+            lot: Some(lot),
+            units: Units::parse(units)?,
+        },
+        valuation,
     })
 }
 
+/// Plain units of USD, of whose valuation nothing is to be seen.
+fn plain(alloc: Global, account: &str, units: &str) -> Result<ValuedHolding, Fail> {
+    Ok(ValuedHolding {
+        holding: Holding {
+            account: Account::new(alloc, account)?,
+            commodity: Commodity::new(alloc, "USD")?,
+            lot: None,
+            units: Units::parse(units)?,
+        },
+        valuation: Valuation::At(Rate::parse("7")?),
+    })
+}
+
+/// Two purchases, valued, and what they cost.
+fn purchases(alloc: Global, valuation: Valuation) -> Result<Vec<u8>, Fail> {
+    let mut holdings = Holdings::new(alloc);
+    let mut written = Vec::new(alloc);
+    let older = lot_of(alloc, "10", "100", "2020-01-01", valuation)?;
+    let newer = lot_of(alloc, "10", "120", "2020-02-01", valuation)?;
+    holdings.row(&older, &mut written)?;
+    holdings.row(&newer, &mut written)?;
+    holdings.row(&plain(alloc, "Equity:Start", "-2200")?, &mut written)?;
+    holdings.end(&mut written)?;
+    Ok(written)
+}
+
+#[test]
+fn rows_stand_above_what_the_lots_cost(rt: HostRuntime) -> Result<(), Fail> {
+    let want = b"Assets:Broker 10 HOOL {100 USD, 2020-01-01}
+Assets:Broker 10 HOOL {120 USD, 2020-02-01}
+Equity:Start -2200.00 USD
+total cost 2200.00 USD
+";
+    let written = purchases(rt.alloc(), Valuation::Unasked)?;
+    assert_eq!(rt; written.as_slice(), want.as_slice());
+    Ok(())
+}
+
+#[test]
+fn a_lot_with_a_price_has_its_value(rt: HostRuntime) -> Result<(), Fail> {
+    let want = b"Assets:Broker 10 HOOL {100 USD, 2020-01-01} value 1260.00 USD
+Assets:Broker 10 HOOL {120 USD, 2020-02-01} value 1260.00 USD
+Equity:Start -2200.00 USD
+total cost 2200.00 USD
+total value 2520.00 USD
+";
+    let written = purchases(rt.alloc(), Valuation::At(Rate::parse("126")?))?;
+    assert_eq!(rt; written.as_slice(), want.as_slice());
+    Ok(())
+}
+
+#[test]
+fn without_a_price_there_is_no_value_and_no_total_of_values(rt: HostRuntime) -> Result<(), Fail> {
+    let want = b"Assets:Broker 10 HOOL {100 USD, 2020-01-01} value none
+Assets:Broker 10 HOOL {120 USD, 2020-02-01} value none
+Equity:Start -2200.00 USD
+total cost 2200.00 USD
+";
+    let written = purchases(rt.alloc(), Valuation::Missing)?;
+    assert_eq!(rt; written.as_slice(), want.as_slice());
+    Ok(())
+}
+
+#[test]
+fn of_no_row_it_is_said_that_nothing_is_held(rt: HostRuntime) -> Result<(), Fail> {
+    let mut written = Vec::new(rt.alloc());
+    Holdings::new(rt.alloc()).end(&mut written)?;
+    assert_eq!(rt; written.as_slice(), b"nothing held\n".as_slice());
+    Ok(())
+}
+
 /// A report that has taken the row so many times.
-fn report_of(alloc: Global, row: &Holding, count: usize) -> Result<Holdings, ReportFault> {
+fn report_of(alloc: Global, row: &ValuedHolding, count: usize) -> Result<Holdings, RowFault> {
     let mut holdings = Holdings::new(alloc);
     for _ in 0..count {
         holdings.row(row, &mut io::sink())?;
@@ -36,7 +118,13 @@ fn report_of(alloc: Global, row: &Holding, count: usize) -> Result<Holdings, Rep
 
 #[test]
 fn a_total_of_exactly_ten_to_the_thirty_eighth_is_good(rt: HostRuntime) -> Result<(), Fail> {
-    let row = lot_at(rt.alloc(), "8000000000", "50000000")?;
+    let row = lot_of(
+        rt.alloc(),
+        "8000000000",
+        "50000000",
+        "2020-01-02",
+        Valuation::Unasked,
+    )?;
     let holdings = report_of(rt.alloc(), &row, 25_000)?;
     let mut written = Vec::new(rt.alloc());
     holdings.end(&mut written)?;
@@ -47,15 +135,32 @@ fn a_total_of_exactly_ten_to_the_thirty_eighth_is_good(rt: HostRuntime) -> Resul
     Ok(())
 }
 
-#[test]
-fn nothing_of_a_row_past_the_largest_total_is_written(rt: HostRuntime) -> Result<(), Fail> {
-    let row = lot_at(rt.alloc(), "9999999999.99999999", "99999999.99999999")?;
-    let mut holdings = report_of(rt.alloc(), &row, 10_000)?;
+/// Asserts that a report takes the row so many times, and no more: after the next it is spent.
+fn assert_spent(rt: &(impl Abort + AllocGlobal), row: &ValuedHolding) -> Result<(), Fail> {
+    let mut holdings = report_of(rt.alloc(), row, 10_000)?;
     let mut written = Vec::new(rt.alloc());
-    let refused = holdings.row(&row, &mut written);
-    assert_eq!(rt; refused, Err(ReportFault::Range));
+    let range = Err(RowFault::Report(ReportFault::Range));
+    assert_eq!(rt; holdings.row(row, &mut written), range);
+    assert_eq!(rt; holdings.row(row, &mut written), Err(RowFault::Spent));
+    assert_eq!(rt; holdings.end(&mut written), Err(RowFault::Spent));
     assert_eq!(rt; written.len(), 0);
     Ok(())
+}
+
+#[test]
+fn past_the_largest_cost_nothing_is_written(rt: HostRuntime) -> Result<(), Fail> {
+    let most = "9999999999.99999999";
+    let number = "99999999.99999999";
+    let row = lot_of(rt.alloc(), most, number, "2020-01-02", Valuation::Unasked)?;
+    assert_spent(&rt, &row)
+}
+
+#[test]
+fn past_the_largest_value_nothing_is_written(rt: HostRuntime) -> Result<(), Fail> {
+    let most = "9999999999.99999999";
+    let price = Valuation::At(Rate::parse("99999999.99999999")?);
+    let row = lot_of(rt.alloc(), most, "0", "2020-01-02", price)?;
+    assert_spent(&rt, &row)
 }
 
 /// So many copies of a text behind another one.
@@ -80,22 +185,24 @@ fn longest_lot(rt: &(impl Abort + AllocGlobal)) -> LotKey {
 }
 
 /// The row that is the longest.
-fn longest_row(rt: &(impl Abort + AllocGlobal)) -> Holding {
+fn longest_row(rt: &(impl Abort + AllocGlobal)) -> ValuedHolding {
     let account = filled(rt, "Assets:", "A", 121);
     let commodity = filled(rt, "", "H", 24);
-    Holding {
-        account: Account::new(rt.alloc(), account.as_str()).expect(rt, "account"),
-        commodity: Commodity::new(rt.alloc(), commodity.as_str()).expect(rt, "commodity"),
-        lot: Some(longest_lot(rt)),
-        units: Units::parse("-9999999999.99999999").expect(rt, "units"),
+    ValuedHolding {
+        holding: Holding {
+            account: Account::new(rt.alloc(), account.as_str()).expect(rt, "account"),
+            commodity: Commodity::new(rt.alloc(), commodity.as_str()).expect(rt, "commodity"),
+            lot: Some(longest_lot(rt)),
+            units: Units::parse("-9999999999.99999999").expect(rt, "units"),
+        },
+        valuation: Valuation::At(Rate::parse("99999999.99999999").expect(rt, "price")),
     }
 }
 
 #[test]
-fn the_longest_row_has_300_bytes(rt: HostRuntime) {
-    let row = longest_row(&rt);
+fn the_longest_row_has_368_bytes(rt: HostRuntime) {
     let mut written = Vec::new(rt.alloc());
-    let done = print_row(rt.alloc(), &mut written, &row);
+    let done = Holdings::new(rt.alloc()).row(&longest_row(&rt), &mut written);
     assert_eq!(rt; done, Ok(()));
     let line = filled(&rt, "Assets:", "A", 121);
     let line = filled(&rt, line.as_str(), " -9999999999.99999999 ", 1);
@@ -104,9 +211,12 @@ fn the_longest_row_has_300_bytes(rt: HostRuntime) {
     let line = filled(&rt, line.as_str(), "U", 24);
     let line = filled(&rt, line.as_str(), ", 2020-01-02, \"", 1);
     let line = filled(&rt, line.as_str(), "l", 64);
-    let line = filled(&rt, line.as_str(), "\"}\n", 1);
+    let value = "\"} value -999999999999999899.0000000000000001 ";
+    let line = filled(&rt, line.as_str(), value, 1);
+    let line = filled(&rt, line.as_str(), "U", 24);
+    let line = filled(&rt, line.as_str(), "\n", 1);
     assert_eq!(rt; written.as_slice(), line.as_str().as_bytes());
-    assert_eq!(rt; written.len(), 300);
+    assert_eq!(rt; written.len(), 368);
 }
 
 /// Asserts the name and the text of a fault.
@@ -124,6 +234,16 @@ fn faults_say_what_they_are(rt: HostRuntime) {
         "Write: the output can't be written",
     );
     assert_told(&rt, &ReportFault::Memory, "Memory: out of memory");
+    assert_told(
+        &rt,
+        &RowFault::Report(ReportFault::Range),
+        "Report(Range): a total is too large",
+    );
+    assert_told(
+        &rt,
+        &RowFault::Spent,
+        "Spent: the report has ended with a fault",
+    );
     assert_told(
         &rt,
         &PrintFault::Write,

@@ -1,7 +1,5 @@
-use Rattle.std.proofs.Common.{inr, subst, sym}
+use Rattle.std.proofs.Common.{inr}
 use Rattle.std.proofs.lemmas.Result.{err_from_is_err_and}
-use Rattle.lot_book.specs.Holding.{ListsHoldings}
-use Rattle.lot_view.specs.View.{known}
 use Rattle.lot_cli.proofs.AnswerLemmas.{run_stopped, rows_stopped, report_stopped, reaches_the_end}
 use Rattle.lot_cli.proofs.batch.answer_text.Goals as goal
 
@@ -18,12 +16,12 @@ returns-in_err-rows-clause-way g c =
 pub returns-in_err-print_holdings-clause-way : goal.returns-in_err-print_holdings-clause-way
 returns-in_err-print_holdings-clause-way g c =
     report_stopped _ _ c.in_ok-view.view _ _ _ _ _ c.in_err-print_holdings.field-0.0 c.from_residual-in_err-print_holdings.result c.requires
-    c.in_ok-commands.ensures.commands c.in_ok-view.ensures (subst (ListsHoldings (known c.in_ok-view.view)) (sym c.deref.ensures.value) c.in_ok-rows.ensures) c.in_err-print_holdings.ensures
+    c.in_ok-commands.ensures.commands c.in_ok-view.ensures c.in_ok-rows.ensures c.in_err-print_holdings.ensures
     c.from_residual-in_err-print_holdings.ensures.1
 
 pub returns-clause-way : goal.returns-clause-way
 returns-clause-way g c =
-    reaches_the_end _ _ c.in_ok-view.view _ _ _ _ _ tt c.requires c.in_ok-commands.ensures.commands c.in_ok-view.ensures (subst (ListsHoldings (known c.in_ok-view.view)) (sym c.deref.ensures.value) c.in_ok-rows.ensures)
+    reaches_the_end _ _ c.in_ok-view.view _ _ _ _ _ tt c.requires c.in_ok-commands.ensures.commands c.in_ok-view.ensures c.in_ok-rows.ensures
     c.in_ok-print_holdings.ensures
 
 pub returns-in_err-view-clause-memory : goal.returns-in_err-view-clause-memory

@@ -1,18 +1,15 @@
--- One more total stands behind those so far, and is the first of those that were left.
-use Rattle.std.proofs.Common.{Err, subst, sym}
-use Rattle.std.proofs.lemmas.Result.{err_from_is_err_and}
-use Rattle.lot_report.specs.Report.{WritesTotals}
-use Rattle.lot_report.proofs.TotalLemmas.{total_written, total_stops}
+use Rattle.lot_report.specs.Holdings.{HasTaken, IsEnd, fits, row_lines}
+use Rattle.lot_report.proofs.FedLemmas.{fed_with, report_cut, report_ends}
+use Rattle.lot_report.proofs.HoldingLemmas.{end_is}
 use Rattle.lot_report.proofs.holdings.Holdings.end.Goals as goal
 
-pub loop-currency-preserved : goal.loop-currency-preserved
-loop-currency-preserved g c =
-    total_written _ _ _ _ _ _ _ _ c.loop-currency.invariant c.in-Some.ensures.steps c.in_ok-print_total.ensures
+pub returns-in-Ok-clause-text : goal.returns-in-Ok-clause-text
+returns-in-Ok-clause-text g c rows start fed before =
+    let taken = fed_with fits HasTaken rows c.args.self.progress c.in-Some.progress fed c.in-Some.is in
+    report_ends row_lines fits IsEnd rows _ start _ _ tt fed.0 (end_is rows c.in-Some.progress taken) before c.in-Ok.ensures
 
-pub returns-in_err-print_total : goal.returns-in_err-print_total
-returns-in_err-print_total g c =
-    let fault = err_from_is_err_and c.from_residual.result c.from_residual.ensures.1 in
-    rw (fault.1, fault.2)
-    (subst (λ empty. WritesTotals empty c.args.self.costs.entries (g.W.Write.contents c.args.writer.now) (g.W.Write.contents c.print_total.new.writer) (Err c.in_err-print_total.field-0.0))
-    (sym c.if-self.false)
-    (total_stops _ _ _ _ _ _ _ _ _ c.loop-currency.invariant c.in-Some.ensures.steps c.in_err-print_total.ensures))
+pub returns-clause-text : goal.returns-clause-text
+returns-clause-text g c rows start fed before =
+    let taken = fed_with fits HasTaken rows c.args.self.progress c.in-Some.progress fed c.in-Some.is in
+    rw (c.from.ensures)
+    (report_cut row_lines fits IsEnd rows _ start _ _ c.in-Err.fault (end_is rows c.in-Some.progress taken) before c.in-Err.ensures)

@@ -1,0 +1,9 @@
+use Rattle.std.proofs.Common.{drop}
+use Rattle.lot_report.specs.Gains.{leg_line}
+use Rattle.lot_report.proofs.EachLemmas.{EachSoFar}
+use Rattle.lot_report.proofs.gains.print_legs.Given as goal
+
+-- the legs so far are written
+abbrev pub invariant-loop-lot : goal.invariant-loop-lot
+invariant-loop-lot g l =
+    EachSoFar (leg_line l.commodity) l.legs (drop l.lot-index l.legs) (g.W.Write.contents l.initial.writer) (g.W.Write.contents l.writer)

@@ -1,5 +1,0 @@
-use Rattle.lot_report.proofs.TotalLemmas.{total_printed}
-use Rattle.lot_report.proofs.holdings.print_total.Goals as goal
-
-pub returns : goal.returns
-returns g c = total_printed _ _ _ _ _ _ c.in_ok-total.ensures c.print_line.ensures.bytes

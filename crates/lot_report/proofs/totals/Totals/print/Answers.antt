@@ -1,0 +1,18 @@
+use Rattle.std.proofs.Common.{ℕ, List}
+use Rattle.std.specs.Prelude.{ℤ}
+use Rattle.std.proofs.lemmas.Result.{err_from_is_err_and}
+use Rattle.lot_report.specs.Printed.{total_of}
+use Rattle.lot_report.proofs.EachLemmas.{each_written, each_stops}
+use Rattle.lot_report.proofs.totals.Totals.print.Goals as goal
+
+pub loop-currency-preserved : goal.loop-currency-preserved
+loop-currency-preserved g c =
+    each_written (λ (sum : List ℕ × ℤ). total_of c.args.what.now sum.0 sum.1) _ _ _ _ _ _ _
+    c.loop-currency.invariant c.in-Some.ensures.steps c.in_ok-print_total.ensures
+
+pub returns-in_err-print_total : goal.returns-in_err-print_total
+returns-in_err-print_total g c =
+    let fault = err_from_is_err_and c.from_residual.result c.from_residual.ensures.1 in
+    rw (fault.1, fault.2)
+    (each_stops (λ (sum : List ℕ × ℤ). total_of c.args.what.now sum.0 sum.1) _ _ _ _ _ _ _ _
+    c.loop-currency.invariant c.in-Some.ensures.steps c.in_err-print_total.ensures)

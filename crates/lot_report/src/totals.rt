@@ -1,0 +1,97 @@
+ghost use Rattle.std.specs.Prelude.{◌≡◌, ◌≢◌, List, [], ◌∷◌, ◌++◌, ℕ, ℤ, ◌+ℤ◌, SomeIff, OnOk, IfErr, IsErrOf};
+ghost use Rattle.lot_num.specs.Amount.{IsWide};
+ghost use Rattle.lot_book.specs.Currencies.{sum_in};
+ghost use Rattle.lot_report.specs.Printed.{total_of};
+ghost use Rattle.lot_report.specs.Report.{AreSums};
+ghost use Rattle.lot_report.specs.Written.{WritesEach, WritesLine};
+
+use crate::fault::ReportFault;
+use crate::line::{PrintFault, print_line};
+use lot_base::Commodity;
+use lot_num::Wide;
+use std::alloc::Global;
+use std::collections::BTreeMap;
+use std::io::Write;
+
+/// The sums of amounts in each of their currencies.
+#[derive(Drop)]
+pub(crate) struct Totals {
+    sums: BTreeMap<Commodity, Wide>,
+}
+
+impl Totals {
+    /// The sums of no amounts.
+    pub fn new(alloc: Global) -> Totals
+        ensures { AreSums [] result.sums.entries }
+    {
+        Totals {
+            sums: BTreeMap::new(alloc),
+        }
+    }
+
+    /// Adds an amount. Returns `Range` where it takes the sum in its currency out of the range of weights.
+    pub fn add(&mut self, currency: &Commodity, amount: Wide) -> Result<(), ReportFault>
+        ensures added { (amounts : List (List ℕ × ℤ)) → AreSums amounts self.old.sums.entries
+            → OnOk result (AreSums (amounts ++ (currency.now, amount) ∷ []) self.new.sums.entries) }
+        ensures fits { (amounts : List (List ℕ × ℤ)) → AreSums amounts self.old.sums.entries
+            → OnOk result (IsWide (sum_in amounts currency.now +ℤ amount)) }
+        ensures range { (amounts : List (List ℕ × ℤ)) → AreSums amounts self.old.sums.entries
+            → IsErrOf result ReportFault.Range → IsWide (sum_in amounts currency.now +ℤ amount) → ⊥ }
+        ensures memory { (amounts : List (List ℕ × ℤ)) → AreSums amounts self.old.sums.entries
+            → IsErrOf result ReportFault.Memory → IsWide (sum_in amounts currency.now +ℤ amount) }
+        ensures cause { IfErr result (λ fault. fault ≢ ReportFault.Write) }
+    {
+        match self.sum_with(currency, amount) {
+            Some(sum) => self.set(currency, sum),
+            None => Err(ReportFault::Range),
+        }
+    }
+
+    /// Returns the sum in a currency with one more amount, where it is in range.
+    pub fn sum_with(&self, currency: &Commodity, amount: Wide) -> Option<Wide>
+        ensures { (amounts : List (List ℕ × ℤ)) → AreSums amounts self.now.sums.entries
+            → SomeIff result (IsWide (sum_in amounts currency.now +ℤ amount)) (sum_in amounts currency.now +ℤ amount) }
+    {
+        let sum = self.sums.get(currency).copied().unwrap_or(Wide::ZERO);
+        sum.checked_add(amount)
+    }
+
+    /// Sets the sum in a currency. The only error is out of memory.
+    pub fn set(&mut self, currency: &Commodity, sum: Wide) -> Result<(), ReportFault>
+        ensures sums { (amounts : List (List ℕ × ℤ)) (amount : ℤ) → AreSums amounts self.old.sums.entries
+            → sum ≡ sum_in amounts currency.now +ℤ amount
+            → OnOk result (AreSums (amounts ++ (currency.now, amount) ∷ []) self.new.sums.entries) }
+        ensures cause { IfErr result (λ fault. fault ≡ ReportFault.Memory) }
+    {
+        self.sums.insert(currency.copy()?, sum)?;
+        Ok(())
+    }
+
+    /// Writes a line for each sum, by the bytes of the currencies, which says of what it is the total.
+    pub fn print<W: Write>(
+        &self,
+        alloc: Global,
+        writer: &mut W,
+        what: &str,
+    ) -> Result<(), PrintFault>
+        ensures { WritesEach (λ sum. total_of what.now sum.0 sum.1) self.now.sums.entries (W.contents writer.old) (W.contents writer.new) result }
+    {
+        for (currency, sum) in &self.sums {
+            print_total(alloc, writer, what, currency, *sum)?;
+        }
+        Ok(())
+    }
+}
+
+fn print_total<W: Write>(
+    alloc: Global,
+    writer: &mut W,
+    what: &str,
+    currency: &Commodity,
+    total: Wide,
+) -> Result<(), PrintFault>
+    ensures { WritesLine (W.contents writer.old) (W.contents writer.new) result (total_of what.now currency.now total) }
+{
+    let total = total.text_money(alloc)?;
+    print_line(writer, format_args!("total {what} {total} {currency}"))
+}
