@@ -1,0 +1,5 @@
+pub mod ReadLemmas
+pub mod LearnLemmas
+pub mod PutLemmas
+pub mod RowLemmas
+pub mod UnitLemmas

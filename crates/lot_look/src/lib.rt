@@ -1,0 +1,20 @@
+//! What a command looks at of a book in a file, as a view to judge it on.
+//!
+//! - `learn`: all that a command looks at.
+//! - `begin`: the number of entries, and the text under a key.
+//! - `account`: how accounts stand.
+//! - `commodity`: which commodities are declared.
+//! - `pair`: what there is of an account and a commodity.
+//! - `plain`: all plain units of an account.
+//! - `held`: rows of units.
+#![tactic(auto)]
+
+mod account;
+mod begin;
+mod commodity;
+mod held;
+mod learn;
+mod pair;
+mod plain;
+
+pub use learn::look;
