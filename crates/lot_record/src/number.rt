@@ -1,0 +1,26 @@
+ghost use Rattle.std.specs.Prelude.{◌≡◌, ◌<◌, ◌^◌, IfErr, IfOk, OnErr};
+ghost use Rattle.lot_table.specs.Cell.{IsOrdinal, IsPlace};
+ghost use Rattle.lot_table.specs.declared.fault.Fault.TheVariants.{Device};
+
+use lot_table::{Fault, Ordinal};
+
+/// Returns a number that counts from 1 as its column has it. The error is `Device`, exactly where it doesn't fit.
+pub fn ordinal(number: u64) -> Result<Ordinal, Fault>
+    ensures value { IfOk result (λ ordinal. ordinal ≡ number) }
+    ensures none { OnErr result (¬ IsOrdinal number) }
+    ensures fault { IfErr result (λ fault. fault ≡ Device) }
+{
+    let Ok(number) = u32::try_from(number) else {
+        return Err(Fault::Device);
+    };
+    Ordinal::new(number).ok_or(Fault::Device)
+}
+
+/// Returns a number that counts from 0 as its column has it. The error is `Device`, exactly where it doesn't fit.
+pub fn place(number: usize) -> Result<u32, Fault>
+    ensures value { IfOk result (λ place. place ≡ number) }
+    ensures none { OnErr result (¬ IsPlace number) }
+    ensures fault { IfErr result (λ fault. fault ≡ Device) }
+{
+    u32::try_from(number).map_err(|_| Fault::Device)
+}
