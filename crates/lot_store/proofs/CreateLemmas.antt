@@ -1,0 +1,88 @@
+-- The tables of a book without entries.
+use Rattle.std.proofs.Common.{◌≡◌, ◌∙◌, true, All, Err, IsTrue, List, [], ◌∷◌, Ok, OnOk, Result, arith, refl, subst, sym}
+use Rattle.sqlite.specs.Effect.{Database}
+use Rattle.sqlite.specs.Held.{Held, state}
+use Rattle.sqlite.specs.State.{IsLive, KeepsCommit, State}
+use Rattle.sqlite.specs.Store.{Ghosts}
+use Rattle.sqlite.specs.Tree.{Trees}
+use Rattle.sqlite.specs.declared.error.Error.{Error}
+use Rattle.sqlite_catalog.specs.Listing.{IsSound}
+use Rattle.lot_filed.specs.Rows.{this_edition}
+use Rattle.lot_filed.specs.StandFor.{Left, StandFor, Stands}
+use Rattle.lot_rows.specs.Tables.{Has, Tables, book_table, layout, no_rows_yet}
+use Rattle.lot_rows.specs.declared.book.BookRow.{BookRow}
+use Rattle.lot_table.specs.Book.{Holds, Turns, always}
+use Rattle.lot_table.specs.Rows.{put_in}
+use Rattle.lot_table.specs.Shape.{schema_of}
+use Rattle.lot_store.specs.Create.{StandsForNone, create_outcome, no_entries_yet}
+
+none : {X : Type 0} (P : X → Type 0) → All P []
+none P k d low = absurd (omega (arith, low))
+
+empty_stand : StandFor no_entries_yet []
+empty_stand = record {
+  good = record {
+    account = none _;
+    allowed = none _;
+    commodity = none _;
+    price = none _;
+    entry = none _;
+    leg = none _;
+    sale = none _;
+    lot = none _;
+    plain = none _;
+    head = none _;
+  };
+  ordered = record {
+    account = tt;
+    allowed = tt;
+    commodity = tt;
+    price = tt;
+    entry = tt;
+    leg = tt;
+    sale = tt;
+    lot = tt;
+    plain = tt;
+    head = tt;
+  };
+  said = none _;
+  book = refl;
+  account = λ name. refl;
+  allowed = λ account. refl;
+  commodity = λ name. refl;
+  price = λ base quote day. refl;
+  entry = refl;
+  leg = λ entry posting. refl;
+  sales = [];
+  sold = refl;
+  sale = refl;
+  lot = λ account commodity lot good. refl;
+  plain = λ account commodity. refl;
+  head = λ account commodity. refl;
+}
+
+pub none_stands : (s : State) → StandsForNone s → Stands s []
+none_stands s has = record { book = tt; tables = no_entries_yet; has = has; stand = empty_stand }
+
+pub none_left : (trees : Trees) → Holds layout trees no_entries_yet → Left trees []
+none_left trees holds = record { book = tt; tables = no_entries_yet; holds = holds; stand = empty_stand }
+
+-- the row of the edition is the one row
+pub marked : (a b : State) (row : BookRow) → row ≡ this_edition → Has a no_rows_yet
+    → Turns layout always (λ (tables : Tables). book_table.with_rows (put_in book_table.encode book_table.width row (book_table.rows tables)) tables) a b → StandsForNone b
+marked a b row is has turns =
+    let made : Has b (record no_rows_yet { book = row ∷ [] }) = (turns.book has.0, turns.lists has.0 no_rows_yet has.1 tt) in
+    subst (λ (r : BookRow). Has b (record no_rows_yet { book = r ∷ [] })) is made
+
+-- the tables are made in a database that was open and had none
+pub made_in : {S : Type 0} (g : Ghosts S) (old begun last : Held S) → begun ≡ record old { in_transaction = true } → IsLive (state g old) → KeepsCommit (state g begun) (state g last)
+    → ((state g begun).now.schema ≡ schema_of [] → IsSound (schema_of []) (state g begun).now.trees → StandsForNone (state g last))
+    → IsTrue (state g last).is_open → (state g old).now.schema ≡ schema_of [] → StandsForNone (state g last)
+made_in g old begun last is live kept made opened empty =
+    let was_open : IsTrue (state g old).is_open = subst (λ (h : Held _). IsTrue (state g h).is_open) is (kept.was_open opened) in
+    let sound : IsSound (schema_of []) (state g old).now.trees = subst (λ s. IsSound s (state g old).now.trees) empty (live was_open).0 in
+    subst (λ (h : Held _). (state g h).now.schema ≡ schema_of [] → IsSound (schema_of []) (state g h).now.trees → StandsForNone (state g last)) is made empty sound
+
+pub on_created : {A : Type 0} (r : Result A Error) (P : Type 0) → OnOk r P → OnOk (create_outcome r) P
+on_created (Ok done) P h = h
+on_created (Err error) P h = h

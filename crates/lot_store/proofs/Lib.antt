@@ -1,0 +1,5 @@
+pub mod AdoptLemmas
+pub mod ApplyLemmas
+pub mod CommitLemmas
+pub mod CreateLemmas
+pub mod RunLemmas

@@ -1,0 +1,363 @@
+-- A run of commands, one after another.
+use Rattle.std.proofs.Common.{◌≡◌, ◌≢◌, ◌∙◌, ◌⊎◌, inl, inr, ◌<◌, ◌≤◌, ◌+◌, ℕ, suc, IfSome, IsTrue, List, [], ◌∷◌, ◌++◌, Ok, Err, Option, Result, Some, length, take, drop, get_or, add-one, append_assoc, append-nil, length-append, take-append-drop, refl, sym, ap, subst, arith}
+use Rattle.std.proofs.KnownBytes.{Appends-nil, Appends-trans}
+use Rattle.std.proofs.Math.Seq.{take-suc}
+use Rattle.std.specs.Io.KnownBytes.{Appends}
+use Rattle.sqlite.proofs.StateLemmas.{survives_then}
+use Rattle.sqlite.specs.Effect.{Database}
+use Rattle.sqlite.specs.State.{HasCleanDisk, State, Survives}
+use Rattle.sqlite.specs.Tree.{Trees}
+use Rattle.lot_command.specs.declared.command.Command.{Command}
+use Rattle.lot_command.specs.declared.key.Key.{Key}
+use Rattle.lot_book.specs.Facts.{Entry}
+use Rattle.lot_book.specs.Judged.{Judges}
+use Rattle.lot_book.specs.declared.verdict.Verdict.{Verdict}
+use Rattle.lot_book.specs.declared.verdict.Verdict.TheVariants.{Accepted, Refused, Repeated}
+use Rattle.lot_filed.specs.StandFor.{Left, Stands}
+use Rattle.lot_report.specs.Printed.{replies, reply}
+use Rattle.lot_report.specs.Written.{IsPrefixOf, WritesLine}
+use Rattle.lot_report.specs.declared.line.PrintFault.{PrintFault}
+use Rattle.lot_report.specs.declared.line.PrintFault.TheVariants.{Write, Memory as Unwritten}
+use Rattle.lot_rows.specs.Tables.{layout}
+use Rattle.lot_table.specs.Book.{Holds}
+use Rattle.lot_store.specs.Apply.{Applies, MayAdd, ready_of, verdict_of}
+use Rattle.lot_store.specs.Run.{AppendsSome, FlushesLine, LeavesAfter, RepliesTo, Runs, StandsNext, StopsWith, WritesOut, answer_line, count_refused, fault_line, told}
+use Rattle.lot_store.specs.Session.{JudgesKeyed, LeavesEntry, LeavesFirst, LeavesJudged, LeavesNext, Session}
+use Rattle.lot_store.specs.declared.book.Ack.{Ack}
+use Rattle.lot_store.specs.declared.book.Ack.TheVariants as ack
+use Rattle.lot_store.specs.declared.book.Condition.{Condition}
+use Rattle.lot_store.specs.declared.book.Condition.TheVariants.{NeedsReopen as Spent, Ready}
+use Rattle.lot_store.specs.declared.fault.ApplyFault.{ApplyFault}
+use Rattle.lot_store.specs.declared.fault.ApplyFault.TheVariants as apply
+use Rattle.lot_store.specs.declared.fault.StoreFault.{StoreFault}
+use Rattle.lot_store.specs.declared.fault.StoreFault.TheVariants.{Damaged, Device, InDoubt, Memory, NeedsReopen}
+use Rattle.lot_store.specs.declared.run.Ending.{Ending}
+use Rattle.lot_store.specs.declared.run.Ending.TheVariants.{Complete, Output, Stopped}
+use Rattle.lot_store.specs.declared.run.RunEnd.{RunEnd}
+use Rattle.lot_store.proofs.ApplyLemmas.{stands_along}
+use Rattle.lot_store.proofs.CommitLemmas.{survives_same}
+
+-- ---- one line
+
+-- a line that isn't written out
+pub line_cut : (printed : Result (Unit {0}) PrintFault) (old mid new : Option (List ℕ)) (text : List ℕ) (ending : Ending) → WritesLine old mid printed text
+    → FlushesLine printed mid new (Err ending) → (ending ≡ Output) × AppendsSome old new text
+line_cut (Ok done) old mid new text ending written (is, flushed) =
+    (is, (text, ([], sym (append-nil text)), subst (Appends old new) (append-nil text) (Appends-trans old mid new text [] written flushed)))
+line_cut (Err Write) old mid new text ending (prefix, (byte, rest, whole), written) (is, flushed) =
+    (is, (prefix, (byte ∷ rest, whole), subst (Appends old new) (append-nil prefix) (Appends-trans old mid new prefix [] written flushed)))
+line_cut (Err Unwritten) old mid new text ending written (is, flushed) = (is, ([], (text, refl), Appends-trans old mid new [] [] written flushed))
+
+told_line : (number : ℕ) (answer : Result Ack ApplyFault) (verdict : Verdict) → told answer ≡ Ok verdict → answer_line number answer ≡ reply number verdict
+told_line number (Ok ack.Accepted) verdict is = let same : Accepted ≡ verdict = cc in ap (reply number) same
+told_line number (Ok ack.Repeat) verdict is = let same : Repeated ≡ verdict = cc in ap (reply number) same
+told_line number (Err (apply.Refused refusal)) verdict is = let same : Refused refusal ≡ verdict = cc in ap (reply number) same
+told_line number (Err (apply.Failed fault)) verdict is = absurd cc
+
+told_fault : (answer : Result Ack ApplyFault) (fault : StoreFault) → told answer ≡ Err fault → answer ≡ Err (apply.Failed fault)
+told_fault (Ok ack.Accepted) fault is = absurd cc
+told_fault (Ok ack.Repeat) fault is = absurd cc
+told_fault (Err (apply.Refused refusal)) fault is = absurd cc
+told_fault (Err (apply.Failed other)) fault is = let same : other ≡ fault = cc in ap (λ (f : StoreFault). Err (apply.Failed f)) same
+
+module _ (key : Key) (command : Command) (number : ℕ) (old new : State) (before written : Option (List ℕ)) (answer : Result Ack ApplyFault) (applies : Applies key command old new answer) (ending : Ending) where
+  -- the reply isn't written out
+  pub reply_cut : (verdict : Verdict) → told answer ≡ Ok verdict → WritesOut before written (reply number verdict) (Err ending) → RepliesTo key command number old new before written (Err ending)
+  reply_cut verdict is (cut, part) = (answer, applies, inl (cut, subst (AppendsSome before written) (sym (told_line number answer verdict is)) part))
+
+  -- it stops at a fault
+  pub reply_stops : (fault : StoreFault) → told answer ≡ Err fault → (answer ≢ Err (apply.Failed NeedsReopen)) → StopsWith number fault before written ending
+      → RepliesTo key command number old new before written (Err ending)
+  reply_stops fault is usable (inl (stopped, printed)) =
+      let same = told_fault answer fault is in (
+        answer,
+        applies,
+        inr (fault, same, λ spent. usable (same ∙ ap (λ (f : StoreFault). Err (apply.Failed f)) spent), stopped, printed),
+      )
+  reply_stops fault is usable (inr (cut, part)) =
+      (answer, applies, inl (cut, subst (λ (a : Result Ack ApplyFault). AppendsSome before written (answer_line number a)) (sym (told_fault answer fault is)) part))
+
+pub ready_fault : (condition : Condition) (fault : StoreFault) → ready_of condition ≡ Err fault → fault ≡ NeedsReopen
+ready_fault Ready fault is = absurd cc
+ready_fault Spent fault is = cc
+
+pub ready_ok : {x : Unit {0}} (condition : Condition) → ready_of condition ≡ Ok x → condition ≡ Ready
+ready_ok Ready is = refl
+ready_ok Spent is = absurd cc
+
+-- ---- one command more
+
+pub judges_more : (before : List Entry) (done : List (Key × Command)) (verdicts : List Verdict) (mid after : List Entry) (next : Key × Command) (verdict : Verdict)
+    → JudgesKeyed before done verdicts mid → Judges mid next.0 next.1 verdict after → JudgesKeyed before (done ++ next ∷ []) (verdicts ++ verdict ∷ []) after
+judges_more before [] [] mid after next verdict all one = (after, subst (λ (b : List Entry). Judges b next.0 next.1 verdict after) all one, refl)
+judges_more before [] (v ∷ verdicts) mid after next verdict all one = absurd all
+judges_more before (c ∷ done) [] mid after next verdict all one = absurd all
+judges_more before (c ∷ done) (v ∷ verdicts) mid after next verdict all one = (all.0, all.1, judges_more all.0 done verdicts mid after next verdict all.2 one)
+
+replies_more : (number : ℕ) (verdicts : List Verdict) (verdict : Verdict)
+    → replies number (verdicts ++ verdict ∷ []) ≡ replies number verdicts ++ reply (length verdicts + number) verdict
+replies_more number [] verdict = append-nil (reply number verdict) ∙ ap (λ n. reply n verdict) (counted_on number)
+  where
+    counted_on : (n : ℕ) → n ≡ 0 + n
+    counted_on n = omega arith
+replies_more number (v ∷ verdicts) verdict =
+    ap (λ text. reply number v ++ text) (replies_more (suc number) verdicts verdict)
+    ∙ sym (append_assoc (reply number v) (replies (suc number) verdicts) (reply (length verdicts + suc number) verdict))
+    ∙ ap (λ n. (reply number v ++ replies (suc number) verdicts) ++ reply n verdict) (omega arith)
+
+refused_more : (verdicts : List Verdict) (verdict : Verdict) → count_refused (verdicts ++ verdict ∷ []) ≡ count_refused verdicts + count_refused (verdict ∷ [])
+refused_more [] verdict = omega arith
+refused_more (Accepted ∷ verdicts) verdict = refused_more verdicts verdict
+refused_more (Repeated ∷ verdicts) verdict = refused_more verdicts verdict
+refused_more (Refused refusal ∷ verdicts) verdict = omega (arith, refused_more verdicts verdict)
+
+pub few_refused : (verdicts : List Verdict) → count_refused verdicts ≤ length verdicts
+few_refused [] = omega arith
+few_refused (Accepted ∷ verdicts) = omega (arith, few_refused verdicts)
+few_refused (Repeated ∷ verdicts) = omega (arith, few_refused verdicts)
+few_refused (Refused refusal ∷ verdicts) = omega (arith, few_refused verdicts)
+
+-- ---- a run so far
+
+-- the first commands, so many, were applied and replied to
+pub record SoFar (commands : List (Key × Command)) (from index refused : ℕ) (old now : State) (before written : Option (List ℕ)) : Type 0 where
+  pub verdicts : List Verdict
+  pub counted : index ≡ length verdicts
+  pub refusals : refused ≡ count_refused verdicts
+  pub lines : Appends before written (replies from verdicts)
+  pub judged : HasCleanDisk now → (entries : List Entry) → Stands old entries
+      → (book : List Entry) × JudgesKeyed entries (take index commands) verdicts book × Stands now book × ((trees : Trees) → now.may_leave trees → LeavesJudged old.may_leave verdicts book trees)
+  pub crash : Survives old now (λ trees. (entries : List Entry) → Stands old entries → LeavesFirst entries commands trees)
+
+pub so_far_none : (commands : List (Key × Command)) (from : ℕ) (old : State) (before : Option (List ℕ)) → SoFar commands from 0 0 old old before before
+so_far_none commands from old before = record {
+  verdicts = [];
+  counted = refl;
+  refusals = refl;
+  lines = Appends-nil _;
+  judged = λ clean entries stands. (entries, refl, stands, λ trees may. inr (tt, may));
+  crash = survives_same old _;
+}
+
+-- the next command is told with a verdict
+verdict_told : (answer : Result Ack ApplyFault) (verdict : Verdict) → told answer ≡ Ok verdict → verdict_of answer ≡ Some verdict
+verdict_told (Ok ack.Accepted) verdict is = let same : Accepted ≡ verdict = cc in ap Some same
+verdict_told (Ok ack.Repeat) verdict is = let same : Repeated ≡ verdict = cc in ap Some same
+verdict_told (Err (apply.Refused refusal)) verdict is = let same : Refused refusal ≡ verdict = cc in ap Some same
+verdict_told (Err (apply.Failed fault)) verdict is = absurd cc
+
+-- what is committed is left
+left_of : (s : State) (book : List Entry) (trees : Trees) → Stands s book → s.committed ≡ s.now → trees ≡ s.committed.trees → Left trees book
+left_of s book trees stands settled is = record {
+  book = stands.book;
+  tables = stands.tables;
+  holds = subst (λ t. Holds layout t stands.tables) (sym (is ∙ ap (λ (db : Database). db.trees) settled)) stands.has.1;
+  stand = stands.stand;
+}
+
+-- what a command may add is the book with its entry
+adds : (key : Key) (command : Command) (now : State) (answer : Result Ack ApplyFault) (trees : Trees) (book : List Entry) → Stands now book → MayAdd key command now answer trees
+    → LeavesEntry book key command trees
+adds key command now (Ok ack.Accepted) trees book stands add = add book stands
+adds key command now (Ok ack.Repeat) trees book stands none = absurd none
+adds key command now (Err (apply.Refused refusal)) trees book stands none = absurd none
+adds key command now (Err (apply.Failed InDoubt)) trees book stands add = add book stands
+adds key command now (Err (apply.Failed Memory)) trees book stands add = add book stands
+adds key command now (Err (apply.Failed Device)) trees book stands none = absurd none
+adds key command now (Err (apply.Failed NeedsReopen)) trees book stands none = absurd none
+adds key command now (Err (apply.Failed Damaged)) trees book stands none = absurd none
+
+module _ (commands : List (Key × Command)) (from index refused number : ℕ) (old now new : State) (before mid written : Option (List ℕ)) (so : SoFar commands from index refused old now before mid)
+    (next other : Key × Command) (is_next : next ≡ get_or commands index other) (within : index < length commands) (numbered : number ≡ from + index) where
+  taken : take (index + 1) commands ≡ take index commands ++ next ∷ []
+  taken = rw add-one (take-suc commands index other within) ∙ ap (λ (k : Key × Command). take index commands ++ k ∷ []) (sym is_next)
+
+  split : commands ≡ take index commands ++ next ∷ drop (index + 1) commands
+  split =
+      sym (take-append-drop (index + 1) commands) ∙ ap (λ (cs : List (Key × Command)). cs ++ drop (index + 1) commands) taken
+      ∙ append_assoc (take index commands) (next ∷ []) (drop (index + 1) commands)
+
+  count : number ≡ length so.verdicts + from
+  count = omega (arith, numbered, so.counted)
+
+  -- a crash may leave the first commands, with the next one too
+  first : (answer : Result Ack ApplyFault) → Applies next.0 next.1 now new answer → Survives old new (λ trees. (entries : List Entry) → Stands old entries → LeavesFirst entries commands trees)
+  first answer applies =
+      survives_then old now new (λ trees. (entries : List Entry) → Stands old entries → LeavesFirst entries commands trees) (MayAdd next.0 next.1 now answer)
+      (λ trees. (entries : List Entry) → Stands old entries → LeavesFirst entries commands trees) (λ clean db leaves. leaves)
+      (λ clean db add entries stands.
+      let was = so.judged (omega (arith, clean, applies.crash.clean)) entries stands in
+      let more = adds next.0 next.1 now answer db was.0 was.2 add in (
+        so.verdicts ++ Accepted ∷ [],
+        more.0,
+        drop (index + 1) commands,
+        record {
+          done = take index commands ++ next ∷ [];
+          split = split ∙ sym (append_assoc (take index commands) (next ∷ []) (drop (index + 1) commands));
+          judged = judges_more entries (take index commands) so.verdicts was.0 more.0 next Accepted was.1 more.1;
+        },
+        more.2,
+      )) so.crash applies.crash
+
+  pub so_far_next : (verdict : Verdict) → RepliesTo next.0 next.1 number now new mid written (Ok verdict)
+      → (IsTrue new.is_open → (trees : Trees) → new.may_leave trees → trees ≡ new.committed.trees)
+      → SoFar commands from (index + 1) (refused + count_refused (verdict ∷ [])) old new before written
+  so_far_next verdict (answer, applies, is, printed) safe = record {
+    verdicts = so.verdicts ++ verdict ∷ [];
+    counted = ap (λ n. n + 1) so.counted ∙ sym (length-append so.verdicts (verdict ∷ []));
+    refusals = ap (λ n. n + count_refused (verdict ∷ [])) so.refusals ∙ sym (refused_more so.verdicts verdict);
+    lines = subst (Appends before written) (sym (replies_more from so.verdicts verdict ∙ ap (λ n. replies from so.verdicts ++ reply n verdict) (sym count)))
+        (Appends-trans before mid written _ _ so.lines printed);
+    judged = λ clean entries stands.
+        let was = so.judged (omega (arith, clean, applies.crash.clean)) entries stands in
+        let told_so = verdict_told answer verdict is in
+        let one = subst (λ o. IfSome o (λ v. (after : List Entry) × Judges was.0 next.0 next.1 v after × Stands new after)) told_so (applies.judged clean was.0 was.2) in
+        let set = subst (λ o. IfSome o (λ v. IsTrue new.is_open × (new.committed ≡ new.now))) told_so (applies.settled clean) in (
+          one.0,
+          subst (λ done. JudgesKeyed entries done (so.verdicts ++ verdict ∷ []) one.0) (sym taken) (judges_more entries (take index commands) so.verdicts was.0 one.0 next verdict was.1 one.1),
+          one.2,
+          λ trees may. inl (left_of new one.0 trees one.2 set.1 (safe set.0 trees may)),
+        );
+    crash = first answer applies;
+  }
+
+  -- ---- the run ends at the command
+
+  -- the session that has judged the commands before it
+  session : (entries : List Entry) (book : List Entry) → JudgesKeyed entries (take index commands) so.verdicts book → Session entries commands so.verdicts book (next ∷ drop (index + 1) commands)
+  session entries book keyed = record { done = take index commands; split = split; judged = keyed }
+
+  -- where nothing is added
+  kept_only : (answer : Result Ack ApplyFault) (applies : Applies next.0 next.1 now new answer) → ((trees : Trees) → ¬ MayAdd next.0 next.1 now answer trees) → HasCleanDisk new
+      → (could : Trees → Type 0) (book : List Entry) → ((trees : Trees) → now.may_leave trees → LeavesJudged could so.verdicts book trees)
+      → (trees : Trees) → new.may_leave trees → LeavesJudged could so.verdicts book trees
+  kept_only answer applies none clean could book was trees may = elim (applies.crash.crash clean trees may) [ inl earlier ↦ was trees earlier | inr add ↦ absurd (none trees add) ]
+
+  leaves_next : (answer : Result Ack ApplyFault) (applies : Applies next.0 next.1 now new answer) → HasCleanDisk new → (could : Trees → Type 0) (book : List Entry) → Stands now book
+      → ((trees : Trees) → now.may_leave trees → LeavesJudged could so.verdicts book trees)
+      → (trees : Trees) → new.may_leave trees → LeavesNext could so.verdicts book (next ∷ drop (index + 1) commands) trees
+  leaves_next answer applies clean could book stands was trees may = elim (applies.crash.crash clean trees may) [
+    | inl earlier ↦ inl (was trees earlier)
+    | inr add ↦ inr (adds next.0 next.1 now answer trees book stands add)
+  ]
+
+  -- the tables after an answer
+  stands_after : (answer : Result Ack ApplyFault) → Applies next.0 next.1 now new answer → HasCleanDisk new → (book : List Entry) → Stands now book
+      → IsTrue new.is_open → Stands new book ⊎ StandsNext book (next ∷ drop (index + 1) commands) new
+  stands_after (Ok ack.Accepted) applies clean book stands opened = let it = applies.judged clean book stands in inr (Accepted, it.0, it.1, it.2)
+  stands_after (Ok ack.Repeat) applies clean book stands opened = let it = applies.judged clean book stands in inr (Repeated, it.0, it.1, it.2)
+  stands_after (Err (apply.Refused refusal)) applies clean book stands opened = let it = applies.judged clean book stands in inr (Refused refusal, it.0, it.1, it.2)
+  stands_after (Err (apply.Failed fault)) applies clean book stands opened = inl (stands_along now new book ((applies.rest clean).1 opened) stands)
+
+  after_fault : (fault : StoreFault) → fault ≢ NeedsReopen → Applies next.0 next.1 now new (Err (apply.Failed fault)) → HasCleanDisk new → (book : List Entry) → Stands now book
+      → ((trees : Trees) → now.may_leave trees → LeavesJudged old.may_leave so.verdicts book trees)
+      → LeavesAfter so.verdicts book (next ∷ drop (index + 1) commands) old new (Stopped fault)
+  after_fault Device usable applies clean book stands was = (
+    λ opened. stands_along now new book ((applies.rest clean).1 opened) stands,
+    kept_only (Err (apply.Failed Device)) applies (λ trees none. none) clean old.may_leave book was,
+  )
+  after_fault InDoubt usable applies clean book stands was = (
+    λ opened. stands_along now new book ((applies.rest clean).1 opened) stands,
+    leaves_next (Err (apply.Failed InDoubt)) applies clean old.may_leave book stands was,
+  )
+  after_fault Memory usable applies clean book stands was = (
+    λ opened. stands_along now new book ((applies.rest clean).1 opened) stands,
+    leaves_next (Err (apply.Failed Memory)) applies clean old.may_leave book stands was,
+  )
+  after_fault NeedsReopen usable applies clean book stands was = absurd (usable refl)
+  after_fault Damaged usable applies clean book stands was = applies.damaged clean refl book stands
+
+  pub run_ends : (ending : Ending) → RepliesTo next.0 next.1 number now new mid written (Err ending)
+      → Runs commands from old new before written (record { replied = index; refused = refused; ending = ending })
+  run_ends ending (answer, applies, inl (cut, part)) = record {
+    verdicts = so.verdicts;
+    writes = record {
+      replied = so.counted;
+      refused = so.refusals;
+      lines = rw cut (
+        answer,
+        part.0,
+        subst (λ n. IsPrefixOf part.0 (answer_line n answer)) count part.1,
+        Appends-trans before mid written _ _ so.lines part.2,
+      );
+    };
+    session = λ clean entries stands.
+        let was = so.judged (omega (arith, clean, applies.crash.clean)) entries stands in (
+          was.0,
+          next ∷ drop (index + 1) commands,
+          session entries was.0 was.1,
+          rw cut (stands_after answer applies clean was.0 was.2, leaves_next answer applies clean old.may_leave was.0 was.2 was.3),
+        );
+    crash = first answer applies;
+  }
+  run_ends ending (answer, applies, inr (fault, is, usable, stopped, printed)) = record {
+    verdicts = so.verdicts;
+    writes = record {
+      replied = so.counted;
+      refused = so.refusals;
+      lines = rw stopped (subst (λ n. Appends before written (replies from so.verdicts ++ fault_line n fault)) count (Appends-trans before mid written _ _ so.lines printed));
+    };
+    session = λ clean entries stands.
+        let was = so.judged (omega (arith, clean, applies.crash.clean)) entries stands in (
+          was.0,
+          next ∷ drop (index + 1) commands,
+          session entries was.0 was.1,
+          rw stopped (after_fault fault usable (subst (Applies next.0 next.1 now new) is applies) clean was.0 was.2 was.3),
+        );
+    crash = first answer applies;
+  }
+
+-- ---- the run ends behind all commands, or before any
+
+take_all : {X : Type 0} (xs : List X) → take (length xs) xs ≡ xs
+take_all [] = refl
+take_all (x ∷ xs) = ap (λ ys. x ∷ ys) (take_all xs)
+
+pub run_completes : (commands : List (Key × Command)) (from refused : ℕ) (old new : State) (before written : Option (List ℕ)) → SoFar commands from (length commands) refused old new before written
+    → Runs commands from old new before written (record { replied = length commands; refused = refused; ending = Complete })
+run_completes commands from refused old new before written so = record {
+  verdicts = so.verdicts;
+  writes = record { replied = so.counted; refused = so.refusals; lines = so.lines };
+  session = λ clean entries stands.
+      let was = so.judged clean entries stands in (
+        was.0,
+        [],
+        record { done = commands; split = sym (append-nil commands); judged = subst (λ cs. JudgesKeyed entries cs so.verdicts was.0) (take_all commands) was.1 },
+        (refl, was.2, was.3),
+      );
+  crash = so.crash;
+}
+
+unjudged : (could : Trees → Type 0) (book : List Entry) (left : List (Key × Command)) (trees : Trees) → could trees → LeavesNext could [] book left trees
+unjudged could book [] trees may = inr (tt, may)
+unjudged could book (next ∷ left) trees may = inl (inr (tt, may))
+
+pub run_needs_reopening : (commands : List (Key × Command)) (from : ℕ) (old : State) (before written : Option (List ℕ)) (ending : Ending) → StopsWith from NeedsReopen before written ending
+    → Runs commands from old old before written (record { replied = 0; refused = 0; ending = ending })
+run_needs_reopening commands from old before written ending (inl (is, printed)) = record {
+  verdicts = [];
+  writes = record { replied = refl; refused = refl; lines = rw is (subst (λ n. Appends before written ([] ++ fault_line n NeedsReopen)) (zero-on from) printed) };
+  session = λ clean entries stands. (entries, commands, record { done = []; split = refl; judged = refl }, rw is (refl, stands, λ trees may. inr (tt, may)));
+  crash = survives_same old _;
+}
+  where
+    zero-on : (n : ℕ) → n ≡ length {A = Verdict} [] + n
+    zero-on n = omega arith
+run_needs_reopening commands from old before written ending (inr (is, part)) = record {
+  verdicts = [];
+  writes = record {
+    replied = refl;
+    refused = refl;
+    lines = rw is (Err (apply.Failed NeedsReopen), part.0, subst (λ n. IsPrefixOf part.0 (fault_line n NeedsReopen)) (zero-on from) part.1, part.2);
+  };
+  session = λ clean entries stands. (
+    entries,
+    commands,
+    record { done = []; split = refl; judged = refl },
+    rw is (λ opened. inl stands, unjudged old.may_leave entries commands),
+  );
+  crash = survives_same old _;
+}
+  where
+    zero-on : (n : ℕ) → n ≡ length {A = Verdict} [] + n
+    zero-on n = omega arith

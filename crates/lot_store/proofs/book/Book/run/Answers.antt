@@ -1,0 +1,46 @@
+use Rattle.std.proofs.Common.{◌≡◌, ◌∙◌, ◌+◌, ◌∷◌, [], arith, length, refl, subst, sym}
+use Rattle.sqlite.specs.Held.{state}
+use Rattle.lot_store.specs.Run.{StopsWith}
+use Rattle.lot_store.proofs.RunLemmas.{SoFar, few_refused, ready_fault, ready_ok, run_completes, run_ends, run_needs_reopening, so_far_next, so_far_none}
+use Rattle.lot_store.proofs.book.Book.run.Goals as goal
+
+pub commands-init : goal.commands-init
+commands-init g c =
+    (so_far_none c.args.commands.now c.args.from (state g.S.Store c.args.self.now.conn) _, ready_ok c.args.self.now.condition (sym c.ready.ensures ∙ c.in_default.is))
+
+pub overflow_add-refused : goal.overflow_add-refused
+overflow_add-refused g c =
+    let so = c.commands.invariant.0 in
+    omega (arith, few_refused so.verdicts, so.refusals, so.counted, c.commands-test.true, c.requires, c.refusals-refused.ensures, few_refused (c.in-Ok.verdict ∷ []))
+
+pub returns-in-Err : goal.returns-in-Err
+returns-in-Err g c =
+    let spent = ready_fault c.args.self.now.condition c.in-Err.fault (sym c.ready.ensures ∙ c.in-Err.is) in
+    record {
+      runs = run_needs_reopening c.args.commands.now c.args.from (state g.S.Store c.args.self.now.conn) _ _ c.stop.result
+          (subst (λ f. StopsWith c.args.from f (g.W.Write.contents c.args.writer.now) (g.W.Write.contents c.stop.new.writer) c.stop.result) spent c.stop.ensures);
+    }
+
+pub returns-in-Err-reply : goal.returns-in-Err-reply
+returns-in-Err-reply g c = record {
+  runs = run_ends c.args.commands.now c.args.from c.commands.index c.commands.refused (c.args.from + c.commands.index) (state g.S.Store c.args.self.now.conn) (state g.S.Store c.commands.self.conn)
+      (state g.S.Store c.reply.new.self.conn) _ _ _ c.commands.invariant.0 c.index-commands-index.result _ c.index-commands-index.is c.commands-test.true refl c.in-Err-reply.ending
+      c.in-Err-reply.ensures.replies;
+}
+
+pub commands-preserved : goal.commands-preserved
+commands-preserved g c = (
+  rw c.refusals-refused.ensures
+      (so_far_next c.args.commands.now c.args.from c.commands.index c.commands.refused (c.args.from + c.commands.index) (state g.S.Store c.args.self.now.conn) (state g.S.Store c.commands.self.conn)
+      (state g.S.Store c.reply.new.self.conn) _ _ _ c.commands.invariant.0 c.index-commands-index.result _ c.index-commands-index.is c.commands-test.true refl c.in-Ok.verdict
+      c.in-Ok.ensures.replies c.reply.ensures.safe),
+  c.in-Ok.ensures.ready refl,
+)
+
+pub returns : goal.returns
+returns g c =
+    let all : c.commands.index ≡ length c.args.commands.now = omega (arith, c.commands-test.false, c.commands.auto.index-end) in
+    record {
+      runs = run_completes c.args.commands.now c.args.from c.commands.refused (state g.S.Store c.args.self.now.conn) (state g.S.Store c.commands.self.conn) _ _
+          (subst (λ n. SoFar c.args.commands.now c.args.from n c.commands.refused (state g.S.Store c.args.self.now.conn) (state g.S.Store c.commands.self.conn) (g.W.Write.contents c.args.writer.now) (g.W.Write.contents c.commands.writer)) all c.commands.invariant.0);
+    }

@@ -1,0 +1,11 @@
+use Rattle.std.proofs.Common.{◌≡◌}
+use Rattle.sqlite.specs.Held.{state}
+use Rattle.lot_store.specs.declared.book.Condition.TheVariants.{Ready}
+use Rattle.lot_store.proofs.RunLemmas.{SoFar}
+use Rattle.lot_store.proofs.book.Book.run.Given as goal
+
+-- the commands so far were applied and replied to
+abbrev pub invariant-commands : goal.invariant-commands
+invariant-commands g l =
+    SoFar l.commands l.fn.from l.index l.refused (state g.S.Store l.fn.self.conn) (state g.S.Store l.self.conn) (g.W.Write.contents l.initial.writer) (g.W.Write.contents l.writer)
+    × (l.self.condition ≡ Ready)

@@ -1,0 +1,127 @@
+-- What applying one command says of a book in a file.
+use Rattle.std.specs.Prelude.{◌≡◌, ◌⊎◌, IfSome, IsSome, IsTrue, List, None, Ok, Err, OnOk, OnErr, Option, Result, Some}
+use Rattle.sqlite.specs.State.{HasCleanDisk, IsUnchanged, KeepsCommit, State, Survives}
+use Rattle.sqlite.specs.Tree.{Trees}
+use Rattle.lot_command.specs.declared.command.Command.{Command}
+use Rattle.lot_command.specs.declared.key.Key.{Key}
+use Rattle.lot_book.specs.Facts.{Entry}
+use Rattle.lot_book.specs.Judged.{Judges}
+use Rattle.lot_book.specs.declared.verdict.Verdict.{Verdict}
+use Rattle.lot_book.specs.declared.verdict.Verdict.TheVariants as verdict
+use Rattle.lot_filed.specs.StandFor.{Stands}
+use Rattle.lot_record.specs.Write.{AreFit, written_all}
+use Rattle.lot_record.specs.declared.write.Write.{Write}
+use Rattle.lot_rows.specs.Tables.{Has, Tables, layout}
+use Rattle.lot_table.specs.Book.{Holds}
+use Rattle.lot_table.specs.declared.fault.Fault as table
+use Rattle.lot_book.specs.declared.refusal.Stop.{Stop}
+use Rattle.lot_book.specs.declared.refusal.Stop.TheVariants as stop
+use Rattle.sqlite.specs.declared.error.Error.{Error}
+use Rattle.sqlite.specs.declared.error.Error.TheVariants.{SqliteFailure}
+use Rattle.sqlite.specs.declared.error.ErrorCode.TheVariants as code
+use Rattle.lot_store.specs.declared.book.Ack.{Ack}
+use Rattle.lot_store.specs.declared.book.Ack.TheVariants as ack
+use Rattle.lot_store.specs.declared.book.Condition.{Condition}
+use Rattle.lot_store.specs.declared.book.Condition.TheVariants.{Ready, NeedsReopen as Spent}
+use Rattle.lot_store.specs.declared.fault.ApplyFault.{ApplyFault}
+use Rattle.lot_store.specs.declared.fault.ApplyFault.TheVariants.{Refused, Failed}
+use Rattle.lot_store.specs.declared.fault.StoreFault.{StoreFault}
+use Rattle.lot_store.specs.declared.fault.StoreFault.TheVariants.{Device, InDoubt, NeedsReopen, Damaged, Memory}
+use Rattle.lot_store.specs.Session.{LeavesEntry}
+
+-- ---- faults
+
+-- of the tables
+abbrev pub store_fault_of : table.Fault → StoreFault
+store_fault_of table.TheVariants.Device = Device
+store_fault_of table.TheVariants.Damaged = Damaged
+store_fault_of table.TheVariants.Memory = Memory
+
+-- of a decision
+abbrev pub apply_fault_of : Stop → ApplyFault
+apply_fault_of (stop.Refused refusal) = Refused refusal
+apply_fault_of stop.Memory = Failed Memory
+
+-- of a commit: but for memory nobody knows whether it was made
+abbrev pub commit_fault_of : Error → StoreFault
+commit_fault_of (SqliteFailure code.OutOfMemory) = Memory
+commit_fault_of _ = InDoubt
+
+abbrev pub commit_outcome : {A : Type 0} → Result A Error → Result A StoreFault
+commit_outcome (Ok done) = Ok done
+commit_outcome (Err error) = Err (commit_fault_of error)
+
+-- ---- the condition of a book
+
+abbrev pub ready_of : Condition → Result (Unit {0}) StoreFault
+ready_of Ready = Ok tt
+ready_of Spent = Err NeedsReopen
+
+-- after a failure of the device, and after one in doubt, a book needs reopening
+abbrev pub condition_after : Result Ack ApplyFault → Condition
+condition_after (Ok ack) = Ready
+condition_after (Err (Refused refusal)) = Ready
+condition_after (Err (Failed Device)) = Spent
+condition_after (Err (Failed InDoubt)) = Spent
+condition_after (Err (Failed NeedsReopen)) = Spent
+condition_after (Err (Failed Damaged)) = Ready
+condition_after (Err (Failed Memory)) = Ready
+
+-- ---- writing in one commit
+
+-- the tables become what the writes make of them, and so does the last commit
+pub record WritesDown (writes : List Write) (old new : State) : Type 0 where
+  pub tables : (tables : Tables) → Has old tables → AreFit writes tables → Has new (written_all writes tables)
+  pub is_open : IsTrue new.is_open
+  pub committed : new.committed ≡ new.now
+
+-- a crash may leave what the writes make of the tables: where they are committed, and where nobody knows or memory refused
+-- the commit
+abbrev pub MayWrite : {A : Type 0} → List Write → State → Result A StoreFault → Trees → Type 0
+MayWrite writes old (Ok done) trees = (tables : Tables) → Has old tables → AreFit writes tables → Holds layout trees (written_all writes tables)
+MayWrite writes old (Err InDoubt) trees = (tables : Tables) → Has old tables → AreFit writes tables → Holds layout trees (written_all writes tables)
+MayWrite writes old (Err Memory) trees = (tables : Tables) → Has old tables → AreFit writes tables → Holds layout trees (written_all writes tables)
+MayWrite writes old (Err Device) trees = ⊥
+MayWrite writes old (Err NeedsReopen) trees = ⊥
+MayWrite writes old (Err Damaged) trees = ⊥
+
+-- ---- applying a command
+
+-- the verdict that an answer tells, if it tells one
+abbrev pub verdict_of : Result Ack ApplyFault → Option Verdict
+verdict_of (Ok ack.Accepted) = Some verdict.Accepted
+verdict_of (Ok ack.Repeat) = Some verdict.Repeated
+verdict_of (Err (Refused refusal)) = Some (verdict.Refused refusal)
+verdict_of (Err (Failed fault)) = None
+
+-- what a crash may leave anew, by the answer: the book with the entry of the command, where it is committed, and where
+-- nobody knows or memory refused the commit
+abbrev pub MayAdd : Key → Command → State → Result Ack ApplyFault → Trees → Type 0
+MayAdd key command old (Ok ack.Accepted) trees = (entries : List Entry) → Stands old entries → LeavesEntry entries key command trees
+MayAdd key command old (Err (Failed InDoubt)) trees = (entries : List Entry) → Stands old entries → LeavesEntry entries key command trees
+MayAdd key command old (Err (Failed Memory)) trees = (entries : List Entry) → Stands old entries → LeavesEntry entries key command trees
+MayAdd key command old (Ok ack.Repeat) trees = ⊥
+MayAdd key command old (Err (Refused refusal)) trees = ⊥
+MayAdd key command old (Err (Failed Device)) trees = ⊥
+MayAdd key command old (Err (Failed NeedsReopen)) trees = ⊥
+MayAdd key command old (Err (Failed Damaged)) trees = ⊥
+
+-- a repeated command and a refused one change nothing
+abbrev pub LeavesAlone : Option Verdict → State → State → Type 0
+LeavesAlone (Some verdict.Accepted) old new = Unit {0}
+LeavesAlone (Some verdict.Repeated) old new = IsUnchanged old new
+LeavesAlone (Some (verdict.Refused refusal)) old new = IsUnchanged old new
+LeavesAlone None old new = KeepsCommit old new × (IsTrue new.is_open → new.now ≡ old.now)
+
+-- what applying a command comes to
+pub record Applies (key : Key) (command : Command) (old new : State) (result : Result Ack ApplyFault) : Type 0 where
+  -- where the tables stand for a book, the verdict is that of a step on it, and they stand for the book after it
+  pub judged : HasCleanDisk new → (entries : List Entry) → Stands old entries
+      → IfSome (verdict_of result) (λ verdict. (after : List Entry) × Judges entries key command verdict after × Stands new after)
+  -- with the verdict all is committed
+  pub settled : HasCleanDisk new → IfSome (verdict_of result) (λ verdict. IsTrue new.is_open × (new.committed ≡ new.now))
+  -- without one the last commit stands, and while the connection is open its tables are as they were
+  pub rest : HasCleanDisk new → LeavesAlone (verdict_of result) old new
+  -- damage is found only in tables that stand for no book
+  pub damaged : HasCleanDisk new → result ≡ Err (Failed Damaged) → (entries : List Entry) → ¬ Stands old entries
+  pub crash : Survives old new (MayAdd key command old result)

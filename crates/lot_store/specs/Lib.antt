@@ -1,0 +1,4 @@
+pub mod Session
+pub mod Apply
+pub mod Create
+pub mod Run

@@ -1,0 +1,81 @@
+ghost use Rattle.std.specs.Prelude.{◌≡◌, ◌≢◌, [], ◌∷◌, false, Err, IfErr, IfOk, List, None, Ok, OnErr, OnOk, map};
+ghost use Rattle.lot_rows.specs.Book.{book_cells};
+ghost use Rattle.lot_rows.specs.Tables.{Has, Tables};
+ghost use Rattle.lot_rows.specs.declared.book.BookRow.{BookRow as BookRowOf};
+ghost use Rattle.lot_store.specs.Create.{Tells};
+ghost use Rattle.lot_table.specs.Book.{IsUndone};
+ghost use Rattle.sqlite.specs.Held.{state};
+ghost use Rattle.sqlite.specs.State.{HasCleanDisk, IsUnchanged, Survives};
+
+use crate::book::{Book, Condition};
+use crate::fault::{AdoptFault, HandedBack};
+use lot_rows::book::{self, BookRow};
+use lot_table::TableRow;
+use sqlite::{Alter, Connection, Row};
+use std::alloc::Global;
+
+/// Takes up the book that is in a file. It changes nothing.
+///
+/// The error is `NotABook` where the table `book` isn't one row with the mark of a book and, as edition, a whole number of at
+/// least 1, and `NewerEdition` where the edition is newer than this program. No other table is looked at.
+pub fn adopt<S: Alter>(
+    alloc: Global,
+    conn: Connection<S>,
+) -> Result<Book<S>, HandedBack<S, AdoptFault>>
+    requires outside { conn.in_transaction ≡ false }
+    requires unlimited { conn.step_limit ≡ None }
+    ensures found { IfOk result (λ book. HasCleanDisk (state S.Store book.conn) → (tables : Tables) → Has (state S.Store conn) tables → Tells tables.book (Ok tt)) }
+    ensures refused { IfErr result (λ left. HasCleanDisk (state S.Store left.conn) → left.fault ≢ AdoptFault.Device
+        → (tables : Tables) → Has (state S.Store conn) tables → Tells tables.book (Err left.fault)) }
+    ensures same { IfOk result (λ book. HasCleanDisk (state S.Store book.conn) → IsUnchanged (state S.Store conn) (state S.Store book.conn)) }
+    ensures undone { IfErr result (λ left. HasCleanDisk (state S.Store left.conn) → IsUndone (state S.Store conn) (state S.Store left.conn)) }
+    ensures ready { IfOk result (λ book. book.condition ≡ Condition.Ready) }
+    ensures crash_ok { IfOk result (λ book. Survives (state S.Store conn) (state S.Store book.conn) (λ _. ⊥)) }
+    ensures crash_err { IfErr result (λ left. Survives (state S.Store conn) (state S.Store left.conn) (λ _. ⊥)) }
+{
+    let mut conn = conn;
+    match tell(alloc, &mut conn) {
+        Ok(()) => Ok(Book::ready_over(alloc, conn)),
+        Err(fault) => Err(HandedBack { fault, conn }),
+    }
+}
+
+/// Tells from the table `book` whether the database is a book of this edition.
+fn tell<S: Alter>(alloc: Global, conn: &mut Connection<S>) -> Result<(), AdoptFault>
+    requires { conn.old.step_limit ≡ None }
+    ensures tells { HasCleanDisk (state S.Store conn.new) → result ≢ Err AdoptFault.Device
+        → (tables : Tables) → Has (state S.Store conn.old) tables → Tells tables.book result }
+    ensures same { HasCleanDisk (state S.Store conn.new) → OnOk result (IsUnchanged (state S.Store conn.old) (state S.Store conn.new)) }
+    ensures undone { HasCleanDisk (state S.Store conn.new) → OnErr result (IsUndone (state S.Store conn.old) (state S.Store conn.new)) }
+    ensures crash { Survives (state S.Store conn.old) (state S.Store conn.new) (λ _. ⊥) }
+{
+    let rows = book::list(conn)?;
+    tell_rows(alloc, &rows)
+}
+
+/// Tells the same from the columns of all rows of the table.
+fn tell_rows(alloc: Global, rows: &[Row]) -> Result<(), AdoptFault>
+    ensures tells { (books : List BookRowOf) → rows.now ≡ map book_cells books → Tells books result }
+    ensures no_device { result ≢ Err AdoptFault.Device }
+{
+    let [row] = rows else {
+        return Err(AdoptFault::NotABook);
+    };
+    let book = BookRow::read(alloc, row)?;
+    tell_row(&book)
+}
+
+/// Tells the same from the one row.
+fn tell_row(book: &BookRow) -> Result<(), AdoptFault>
+    ensures tells { Tells (book.now ∷ []) result }
+    ensures no_device { result ≢ Err AdoptFault.Device }
+    ensures no_memory { result ≢ Err AdoptFault.Memory }
+{
+    if book.mark.as_str() != "lot-book" || book.edition < 1 {
+        return Err(AdoptFault::NotABook);
+    }
+    if book.edition > 1 {
+        return Err(AdoptFault::NewerEdition);
+    }
+    Ok(())
+}

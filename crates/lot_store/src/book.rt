@@ -1,0 +1,139 @@
+ghost use Rattle.std.specs.Prelude.{◌≡◌, ◌≢◌, ◌↔◌, false, Err, IsTrue, None};
+ghost use Rattle.lot_store.specs.Apply.{Applies, condition_after, ready_of};
+ghost use Rattle.lot_store.specs.declared.fault.ApplyFault.TheVariants.{Failed};
+ghost use Rattle.sqlite.specs.Held.{state};
+ghost use Rattle.sqlite.specs.State.{HasCleanDisk};
+ghost use Rattle.sqlite.specs.Tree.{Trees};
+
+use crate::commit::commit;
+use crate::fault::{ApplyFault, StoreFault};
+use lot_command::{Command, Key};
+use lot_ledger::{Outcome, decide};
+use lot_look::look;
+use lot_print::is_sayable;
+use lot_record::laws::what_is_written_stands_for_the_book;
+use lot_record::writes;
+use sqlite::{Alter, Connection};
+use std::alloc::Global;
+
+/// That a command stands in the book, on disk.
+#[derive(Clone, Copy, Debug, PartialEq, Eq)]
+pub enum Ack {
+    /// It is an entry now.
+    Accepted,
+    /// It was an entry before, under its key.
+    Repeat,
+}
+
+/// Whether a book can be used.
+#[derive(Clone, Copy, Debug, PartialEq, Eq)]
+pub(crate) enum Condition {
+    Ready,
+    /// The device failed, or a commit is in doubt.
+    NeedsReopen,
+}
+
+/// A book in a file, over a connection of its own.
+pub struct Book<S: Alter> {
+    conn: Connection<S>,
+    condition: Condition,
+    alloc: Global,
+    ghost outside: { HasCleanDisk (state S.Store conn) → conn.in_transaction ≡ false },
+    ghost unlimited: { conn.step_limit ≡ None },
+}
+
+impl<S: Alter> Book<S> {
+    /// Applies a command under a key: judges it on the book, and makes it an entry in one commit where it is accepted.
+    ///
+    /// It reads and writes only the rows that the command touches. After `Device` and `InDoubt`, and only then, the book
+    /// needs reopening, and each further call returns `NeedsReopen`.
+    pub fn apply(&mut self, key: &Key, command: &Command) -> Result<Ack, ApplyFault>
+        ensures applies { Applies key.now command.now (state S.Store self.old.conn) (state S.Store self.new.conn) result }
+        // With the connection open a crash leaves the last commit, and nothing else.
+        ensures safe { IsTrue (state S.Store self.new.conn).is_open → (trees : Trees) → (state S.Store self.new.conn).may_leave trees
+            → trees ≡ (state S.Store self.new.conn).committed.trees }
+        ensures reopen { (result ≡ Err (Failed StoreFault.NeedsReopen)) ↔ (self.old.condition ≡ Condition.NeedsReopen) }
+        ensures condition { self.new.condition ≡ condition_after result }
+    {
+        self.ready()?;
+        let applied = apply_to(self.alloc, &mut self.conn, key, command);
+        self.condition = condition_after(&applied);
+        applied
+    }
+
+    /// Returns the connection, every row as it was.
+    pub fn into_connection(self) -> Connection<S>
+        ensures same { result ≡ self.conn }
+        ensures outside { HasCleanDisk (state S.Store result) → result.in_transaction ≡ false }
+    {
+        let Book {
+            conn,
+            condition: _,
+            alloc: _,
+        } = self;
+        conn
+    }
+
+    /// Returns the book over a connection, ready for use.
+    pub(crate) fn ready_over(alloc: Global, conn: Connection<S>) -> Book<S>
+        requires outside { HasCleanDisk (state S.Store conn) → conn.in_transaction ≡ false }
+        requires unlimited { conn.step_limit ≡ None }
+        ensures { (result.conn ≡ conn) × (result.condition ≡ Condition.Ready) }
+    {
+        Book {
+            conn,
+            condition: Condition::Ready,
+            alloc,
+        }
+    }
+
+    /// Returns an error where the book needs reopening.
+    pub(crate) fn ready(&self) -> Result<(), StoreFault>
+        ensures { result ≡ ready_of self.now.condition }
+    {
+        match self.condition {
+            Condition::Ready => Ok(()),
+            Condition::NeedsReopen => Err(StoreFault::NeedsReopen),
+        }
+    }
+}
+
+/// Applies a command to a book that doesn't need reopening.
+fn apply_to<S: Alter>(
+    alloc: Global,
+    conn: &mut Connection<S>,
+    key: &Key,
+    command: &Command,
+) -> Result<Ack, ApplyFault>
+    requires outside { HasCleanDisk (state S.Store conn.old) → conn.old.in_transaction ≡ false }
+    requires unlimited { conn.old.step_limit ≡ None }
+    ensures outside { HasCleanDisk (state S.Store conn.new) → conn.new.in_transaction ≡ false }
+    ensures applies { Applies key.now command.now (state S.Store conn.old) (state S.Store conn.new) result }
+    ensures usable { result ≢ Err (Failed StoreFault.NeedsReopen) }
+{
+    is_sayable(command);
+    what_is_written_stands_for_the_book();
+    // Outside a transaction the tables are those of the last commit.
+    let _settled = conn.is_autocommit();
+    let view = look(alloc, conn, key, command)?;
+    match decide(alloc, &view, command)? {
+        Outcome::Repeat => Ok(Ack::Repeat),
+        Outcome::Accept(change) => {
+            let writes = writes(alloc, &view, key, command, &change)?;
+            commit(conn, &writes)?;
+            Ok(Ack::Accepted)
+        }
+    }
+}
+
+/// Returns the condition of a book that could be used, after applying a command.
+fn condition_after(applied: &Result<Ack, ApplyFault>) -> Condition
+    ensures { result ≡ condition_after applied.now }
+{
+    match applied {
+        Err(
+            ApplyFault::Failed(StoreFault::Device | StoreFault::InDoubt | StoreFault::NeedsReopen),
+        ) => Condition::NeedsReopen,
+        _ => Condition::Ready,
+    }
+}

@@ -1,0 +1,102 @@
+ghost use Rattle.std.specs.Prelude.{◌≡◌, [], false, Err, IfErr, IfOk, IsTrue, None, OnErr, OnOk};
+ghost use Rattle.lot_filed.specs.Rows.{this_edition};
+ghost use Rattle.lot_filed.specs.StandFor.{Left, Stands};
+ghost use Rattle.lot_store.specs.Create.{create_outcome, StandsForNone};
+ghost use Rattle.lot_table.specs.Shape.{schema_of};
+ghost use Rattle.sqlite.specs.Held.{state};
+ghost use Rattle.sqlite.specs.State.{HasCleanDisk, KeepsCommit, Survives};
+ghost use Rattle.sqlite_catalog.specs.Listing.{IsSound};
+
+use crate::book::{Book, Condition};
+use crate::fault::{CreateFault, HandedBack};
+use lot_rows::book::{self, BookRow};
+use lot_rows::tables;
+use lot_table::AnyText;
+use sqlite::{Alter, Connection, Error, ErrorCode, Transaction};
+use std::alloc::{AllocError, Global};
+
+/// Makes the tables of a book, which is empty, in one commit.
+///
+/// The error is `NotABook` where the name of a table is taken; nothing changed then. After `InDoubt` the tables were made or
+/// not. A crash during the call leaves what it could leave before, or the tables of the empty book.
+///
+/// What is said of the tables holds in a database that had none. In one with others the book's are made beside them.
+pub fn create<S: Alter>(
+    alloc: Global,
+    conn: Connection<S>,
+) -> Result<Book<S>, HandedBack<S, CreateFault>>
+    requires outside { conn.in_transaction ≡ false }
+    requires unlimited { conn.step_limit ≡ None }
+    ensures made { IfOk result (λ book. HasCleanDisk (state S.Store book.conn) → (state S.Store conn).now.schema ≡ schema_of []
+        → Stands (state S.Store book.conn) []) }
+    ensures committed { IfOk result (λ book. HasCleanDisk (state S.Store book.conn)
+        → IsTrue (state S.Store book.conn).is_open × ((state S.Store book.conn).committed ≡ (state S.Store book.conn).now)) }
+    ensures ready { IfOk result (λ book. book.condition ≡ Condition.Ready) }
+    ensures kept { IfErr result (λ left. HasCleanDisk (state S.Store left.conn) → KeepsCommit (state S.Store conn) (state S.Store left.conn)) }
+    ensures crash_ok { IfOk result (λ book. Survives (state S.Store conn) (state S.Store book.conn)
+        (λ trees. (state S.Store conn).now.schema ≡ schema_of [] → Left trees [])) }
+    ensures crash_err { IfErr result (λ left. Survives (state S.Store conn) (state S.Store left.conn)
+        (λ trees. (state S.Store conn).now.schema ≡ schema_of [] → Left trees [])) }
+{
+    let mut conn = conn;
+    match make(alloc, &mut conn) {
+        Ok(()) => Ok(Book::ready_over(alloc, conn)),
+        Err(fault) => Err(HandedBack { fault, conn }),
+    }
+}
+
+/// The same on a connection that is lent.
+fn make<S: Alter>(alloc: Global, conn: &mut Connection<S>) -> Result<(), CreateFault>
+    requires { conn.old.in_transaction ≡ false }
+    ensures outside { conn.new.in_transaction ≡ false }
+    ensures made { HasCleanDisk (state S.Store conn.new) → OnOk result ((state S.Store conn.old).now.schema ≡ schema_of [] → Stands (state S.Store conn.new) []) }
+    ensures committed { HasCleanDisk (state S.Store conn.new) → OnOk result (IsTrue (state S.Store conn.new).is_open × ((state S.Store conn.new).committed ≡ (state S.Store conn.new).now)) }
+    ensures kept { HasCleanDisk (state S.Store conn.new) → OnErr result (KeepsCommit (state S.Store conn.old) (state S.Store conn.new)) }
+    ensures crash { Survives (state S.Store conn.old) (state S.Store conn.new)
+        (λ trees. (state S.Store conn.old).now.schema ≡ schema_of [] → Left trees []) }
+{
+    let row = edition_row(alloc)?;
+    // While the connection is open, its database is sound.
+    let _sound = conn.schema();
+    let mut tx = conn.transaction();
+    make_tables(&mut tx, &row)?;
+    after_commit(tx.commit())
+}
+
+/// Returns the row by which a database is told to be a book of this edition.
+fn edition_row(alloc: Global) -> Result<BookRow, AllocError>
+    ensures { IfOk result (λ row. row ≡ this_edition) }
+{
+    Ok(BookRow {
+        mark: AnyText::new(String::from_str(alloc, "lot-book")?),
+        edition: 1,
+    })
+}
+
+/// Makes the tables in the open transaction, with the one row of a book that is empty.
+fn make_tables<S: Alter>(tx: &mut Transaction<'_, S>, row: &BookRow) -> Result<(), CreateFault>
+    requires inside { HasCleanDisk (state S.Store tx.old.conn.now) → IsTrue (state S.Store tx.old.conn.now).in_transaction }
+    requires row { row.now ≡ this_edition }
+    ensures same_reference { tx.new.conn.ghost_name ≡ tx.old.conn.ghost_name }
+    ensures inside { HasCleanDisk (state S.Store tx.new.conn.now) → OnOk result (IsTrue (state S.Store tx.new.conn.now).in_transaction) }
+    ensures opened { HasCleanDisk (state S.Store tx.new.conn.now) → OnOk result (IsTrue (state S.Store tx.new.conn.now).is_open) }
+    ensures made { HasCleanDisk (state S.Store tx.new.conn.now) → OnOk result ((state S.Store tx.old.conn.now).now.schema ≡ schema_of []
+        → IsSound (schema_of []) (state S.Store tx.old.conn.now).now.trees → StandsForNone (state S.Store tx.new.conn.now)) }
+    ensures kept { HasCleanDisk (state S.Store tx.new.conn.now) → KeepsCommit (state S.Store tx.old.conn.now) (state S.Store tx.new.conn.now) }
+    ensures crash { Survives (state S.Store tx.old.conn.now) (state S.Store tx.new.conn.now) (λ _. ⊥) }
+{
+    tables::make(tx)?;
+    book::put(tx, row)?;
+    Ok(())
+}
+
+/// Returns what the outcome of the commit is to a caller.
+fn after_commit(outcome: Result<(), Error>) -> Result<(), CreateFault>
+    ensures { result ≡ create_outcome outcome }
+{
+    match outcome {
+        Ok(()) => Ok(()),
+        Err(Error::SqliteFailure(ErrorCode::OutOfMemory)) => Err(CreateFault::Memory),
+        Err(_) => Err(CreateFault::InDoubt),
+    }
+}

@@ -1,0 +1,21 @@
+//! The book in a file: each command is judged on what the file holds, and one commit makes it an entry.
+//!
+//! - `book`: `Book`, a book in a file, and applying a command to it.
+//! - `creation`: making a book; `adoption`: taking up the one that is there.
+//! - `commit`: rows written in one commit.
+//! - `run`: commands applied one after another, with a reply to each.
+//! - `fault`: why a call fails.
+#![tactic(auto)]
+
+mod adoption;
+mod book;
+mod commit;
+mod creation;
+mod fault;
+mod run;
+
+pub use adoption::adopt;
+pub use book::{Ack, Book};
+pub use creation::create;
+pub use fault::{AdoptFault, ApplyFault, CreateFault, HandedBack, StoreFault};
+pub use run::{Ending, RunEnd};

@@ -1,0 +1,177 @@
+ghost use Rattle.std.specs.Prelude.{◌≡◌, ◌+◌, ◌<◌, ◌^◌, [], ◌∷◌, length, IsOk, IsTrue};
+ghost use Rattle.lot_report.specs.Printed.{reply};
+ghost use Rattle.lot_store.specs.Run.{FlushesLine, RepliesTo, Runs, StopsWith, WritesOut, count_refused, fault_name, flush_outcome, told};
+ghost use Rattle.sqlite.specs.Held.{state};
+ghost use Rattle.sqlite.specs.Tree.{Trees};
+
+use crate::book::{Ack, Book, Condition};
+use crate::fault::{ApplyFault, StoreFault};
+use lot_command::{Command, Key};
+use lot_ledger::Verdict;
+use lot_report::{PrintFault, print_line, print_reply};
+use sqlite::Alter;
+use std::io::{self, Write};
+
+/// How a run ended.
+#[derive(Clone, Copy, Debug, PartialEq, Eq)]
+pub enum Ending {
+    /// All commands were applied and replied to.
+    Complete,
+    /// It stopped at a fault, whose line is written.
+    Stopped(StoreFault),
+    /// The writer failed.
+    Output,
+}
+
+/// How far a run came, and how it ended.
+#[derive(Clone, Copy, Debug, PartialEq, Eq)]
+pub struct RunEnd {
+    /// How many replies were written.
+    pub replied: usize,
+    /// How many of these say that the command was refused.
+    pub refused: usize,
+    pub ending: Ending,
+}
+
+impl<S: Alter> Book<S> {
+    /// Applies commands in their order, each in one commit, and writes a reply to each before it begins the next one. The
+    /// first has the number `from`.
+    ///
+    /// It stops at the first fault, whose line it writes with the number of the command, or where the writer fails. A book
+    /// that needs reopening is such a fault at the number `from`, where there are no commands too.
+    pub fn run<W: Write>(
+        &mut self,
+        commands: &[(Key, Command)],
+        from: usize,
+        writer: &mut W,
+    ) -> RunEnd
+        requires { length commands.now + from < 2 ^ 64 }
+        ensures runs { Runs commands.now from (state S.Store self.old.conn) (state S.Store self.new.conn)
+            (W.contents writer.old) (W.contents writer.new) result }
+    {
+        if let Err(fault) = self.ready() {
+            return RunEnd {
+                replied: 0,
+                refused: 0,
+                ending: stop(writer, from, fault),
+            };
+        }
+        let mut refused = 0;
+        'commands: for (index, (key, command)) in commands.iter().enumerate() {
+            match self.reply(from + index, key, command, writer) {
+                Ok(verdict) => refused += refusals(&verdict),
+                Err(ending) => {
+                    return RunEnd {
+                        replied: index,
+                        refused,
+                        ending,
+                    };
+                }
+            }
+        }
+        RunEnd {
+            replied: commands.len(),
+            refused,
+            ending: Ending::Complete,
+        }
+    }
+
+    /// Applies the command of that number, and writes the reply, or the line of the fault.
+    fn reply<W: Write>(
+        &mut self,
+        number: usize,
+        key: &Key,
+        command: &Command,
+        writer: &mut W,
+    ) -> Result<Verdict, Ending>
+        requires { self.old.condition ≡ Condition.Ready }
+        ensures replies { RepliesTo key.now command.now number (state S.Store self.old.conn) (state S.Store self.new.conn)
+            (W.contents writer.old) (W.contents writer.new) result }
+        ensures safe { IsTrue (state S.Store self.new.conn).is_open → (trees : Trees) → (state S.Store self.new.conn).may_leave trees
+            → trees ≡ (state S.Store self.new.conn).committed.trees }
+        ensures ready { IsOk result → self.new.condition ≡ Condition.Ready }
+    {
+        match told(self.apply(key, command)) {
+            Ok(verdict) => {
+                write_reply(writer, number, &verdict)?;
+                Ok(verdict)
+            }
+            Err(fault) => Err(stop(writer, number, fault)),
+        }
+    }
+}
+
+/// Returns the verdict that an answer tells, or the fault at which a run stops.
+fn told(answer: Result<Ack, ApplyFault>) -> Result<Verdict, StoreFault>
+    ensures { result ≡ told answer }
+{
+    match answer {
+        Ok(Ack::Accepted) => Ok(Verdict::Accepted),
+        Ok(Ack::Repeat) => Ok(Verdict::Repeated),
+        Err(ApplyFault::Refused(refusal)) => Ok(Verdict::Refused(refusal)),
+        Err(ApplyFault::Failed(fault)) => Err(fault),
+    }
+}
+
+/// Returns 1 for a refusal, and 0 for any other verdict.
+fn refusals(verdict: &Verdict) -> usize
+    ensures { result ≡ count_refused (verdict.now ∷ []) }
+{
+    match verdict {
+        Verdict::Refused(_) => 1,
+        Verdict::Accepted | Verdict::Repeated => 0,
+    }
+}
+
+/// Writes a reply out. The error is that the writer failed.
+fn write_reply<W: Write>(writer: &mut W, number: usize, verdict: &Verdict) -> Result<(), Ending>
+    ensures { WritesOut (W.contents writer.old) (W.contents writer.new) (reply number verdict.now) result }
+{
+    let printed = print_reply(writer, number, verdict);
+    flush_line(writer, printed)
+}
+
+/// Writes the line of the fault at which a run stops out, and returns how it ended.
+fn stop<W: Write>(writer: &mut W, number: usize, fault: StoreFault) -> Ending
+    ensures { StopsWith number fault (W.contents writer.old) (W.contents writer.new) result }
+{
+    let name = name(fault);
+    let printed = print_line(writer, format_args!("{number} fault {name}"));
+    match flush_line(writer, printed) {
+        Ok(()) => Ending::Stopped(fault),
+        Err(ending) => ending,
+    }
+}
+
+/// Flushes a line that was printed.
+fn flush_line<W: Write>(writer: &mut W, printed: Result<(), PrintFault>) -> Result<(), Ending>
+    ensures { FlushesLine printed (W.contents writer.old) (W.contents writer.new) result }
+{
+    match printed {
+        Ok(()) => flushed(writer.flush()),
+        Err(_) => Err(Ending::Output),
+    }
+}
+
+/// Returns what the outcome of a flush is to a run.
+fn flushed(outcome: io::Result<()>) -> Result<(), Ending>
+    ensures { result ≡ flush_outcome outcome }
+{
+    match outcome {
+        Ok(()) => Ok(()),
+        Err(_) => Err(Ending::Output),
+    }
+}
+
+/// Returns the code and the name of a fault.
+fn name(fault: StoreFault) -> &'static str
+    ensures { result.now ≡ fault_name fault }
+{
+    match fault {
+        StoreFault::Device => "S4 Device",
+        StoreFault::InDoubt => "S5 InDoubt",
+        StoreFault::NeedsReopen => "S6 NeedsReopen",
+        StoreFault::Damaged => "S7 Damaged",
+        StoreFault::Memory => "Memory",
+    }
+}
