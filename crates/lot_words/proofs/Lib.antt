@@ -1,0 +1,2 @@
+mod ProgramLemmas
+mod WordsLemmas

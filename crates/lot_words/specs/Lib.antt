@@ -1,0 +1,4 @@
+pub mod Batch
+pub mod Program
+pub mod Words
+pub mod Example
