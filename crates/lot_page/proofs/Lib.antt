@@ -1,0 +1,9 @@
+pub mod BehindLemmas
+pub mod EntryLemmas
+pub mod FirstLemmas
+pub mod LotLemmas
+pub mod PageLemmas
+pub mod PlaceLemmas
+pub mod PriceLemmas
+pub mod SaleLemmas
+pub mod StepLemmas

@@ -1,0 +1,20 @@
+//! Cursors over tables of a book: the rows of one table, one after another in the order of their key, read a page at a time.
+//!
+//! - `paged`: `PagedRow`, a row of a table that is read so, and the numbers of rows of a page.
+//! - `cursor`: `Cursor`, a place in the table, which borrows nothing: the connection is passed beside it.
+//! - `entry`, `sale`, `lot`, `price`: one table each, with its cursor.
+#![tactic(auto)]
+
+mod cursor;
+mod entry;
+mod lot;
+mod paged;
+mod price;
+mod sale;
+
+pub use cursor::Cursor;
+pub use entry::EntryCursor;
+pub use lot::LotCursor;
+pub use paged::PagedRow;
+pub use price::PriceCursor;
+pub use sale::SaleCursor;
