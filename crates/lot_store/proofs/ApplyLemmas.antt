@@ -1,5 +1,5 @@
 -- Applying a command: what is judged on a view, and what its writes come to.
-use Rattle.std.proofs.Common.{◌≡◌, ◌∙◌, None, Ok, Err, Result, IsTrue, List, [], ◌∷◌, ◌++◌, All, refl, sym, subst, arith}
+use Rattle.std.proofs.Common.{◌≡◌, ◌∙◌, None, Ok, Err, IsTrue, List, [], ◌∷◌, ◌++◌, All, refl, sym, subst, arith}
 use Rattle.sqlite.specs.Effect.{Database}
 use Rattle.sqlite.specs.State.{HasCleanDisk, IsUnchanged, KeepsCommit, State, Survives}
 use Rattle.sqlite.proofs.StateLemmas.{survives_then}
@@ -16,7 +16,7 @@ use Rattle.lot_book.specs.declared.refusal.Stop.{Stop}
 use Rattle.lot_book.specs.declared.refusal.Stop.TheVariants as stop
 use Rattle.lot_book.specs.declared.change.Change.{Change}
 use Rattle.lot_book.specs.declared.verdict.Verdict.TheVariants.{Accepted}
-use Rattle.lot_filed.specs.StandFor.{AreOfBook, Left, StandFor, Stands}
+use Rattle.lot_filed.specs.StandFor.{AreOfBook, StandFor, Stands}
 use Rattle.lot_laws.proofs.RecordedBook.{book-grows, key_was_new}
 use Rattle.lot_laws.proofs.StepLooks.{same_decision}
 use Rattle.lot_print.specs.Sayable.{IsSayable}

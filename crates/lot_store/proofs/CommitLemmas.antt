@@ -1,16 +1,12 @@
 -- A commit over what a transaction wrote, whatever that is.
-use Rattle.std.proofs.Common.{◌≡◌, ◌∙◌, ◌⊎◌, inl, inr, true, false, Bool, Err, Ok, Result, IsTrue, List, refl, sym, ap, subst, arith}
-use Rattle.sqlite.specs.Effect.{Database}
+use Rattle.std.proofs.Common.{◌≡◌, ◌∙◌, inl, inr, true, refl, sym, subst, arith}
 use Rattle.sqlite.specs.Held.{Held, state}
-use Rattle.sqlite.specs.State.{HasCleanDisk, IsRolledBack, IsUnchanged, KeepsCommit, Shows, State, Survives}
+use Rattle.sqlite.specs.State.{HasCleanDisk, KeepsCommit, State, Survives}
 use Rattle.sqlite.specs.Store.{Ghosts}
 use Rattle.sqlite.specs.Tree.{Trees}
 use Rattle.sqlite.proofs.Callers.{survives_begin}
 use Rattle.sqlite.proofs.StateLemmas.{survives_then, survives_weaker}
-use Rattle.lot_record.specs.Write.{AreFit, written_all}
-use Rattle.lot_record.specs.declared.write.Write.{Write}
-use Rattle.lot_rows.specs.Tables.{Has, Tables, layout}
-use Rattle.lot_table.specs.Book.{Holds, IsUndone, Turns}
+use Rattle.lot_table.specs.Book.{IsUndone}
 
 -- a call that does nothing leaves what could be left
 pub survives_same : (s : State) (P : Trees → Type 0) → Survives s s P

@@ -1,6 +1,5 @@
 -- The tables of a book without entries.
-use Rattle.std.proofs.Common.{◌≡◌, ◌∙◌, true, All, Err, IsTrue, List, [], ◌∷◌, Ok, OnOk, Result, arith, refl, subst, sym}
-use Rattle.sqlite.specs.Effect.{Database}
+use Rattle.std.proofs.Common.{◌≡◌, true, All, Err, IsTrue, [], ◌∷◌, Ok, OnOk, Result, arith, refl, subst}
 use Rattle.sqlite.specs.Held.{Held, state}
 use Rattle.sqlite.specs.State.{IsLive, KeepsCommit, State}
 use Rattle.sqlite.specs.Store.{Ghosts}

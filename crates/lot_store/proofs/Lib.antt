@@ -2,4 +2,9 @@ pub mod AdoptLemmas
 pub mod ApplyLemmas
 pub mod CommitLemmas
 pub mod CreateLemmas
+pub mod HandedLemmas
+pub mod JournalLemmas
+pub mod RefusalLemmas
 pub mod RunLemmas
+pub mod StepLemmas
+pub mod WalkLemmas

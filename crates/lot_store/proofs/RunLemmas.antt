@@ -20,8 +20,8 @@ use Rattle.lot_report.specs.declared.line.PrintFault.{PrintFault}
 use Rattle.lot_report.specs.declared.line.PrintFault.TheVariants.{Write, Memory as Unwritten}
 use Rattle.lot_rows.specs.Tables.{layout}
 use Rattle.lot_table.specs.Book.{Holds}
-use Rattle.lot_store.specs.Apply.{Applies, MayAdd, ready_of, verdict_of}
-use Rattle.lot_store.specs.Run.{AppendsSome, FlushesLine, LeavesAfter, RepliesTo, Runs, StandsNext, StopsWith, WritesOut, answer_line, count_refused, fault_line, told}
+use Rattle.lot_store.specs.Apply.{Applies, MayAdd, condition_after, ready_of, verdict_of}
+use Rattle.lot_store.specs.Run.{AppendsSome, FlushesLine, IsConditionAfter, LeavesAfter, RepliesTo, Runs, StandsNext, StopsWith, WritesOut, answer_line, count_refused, fault_line, told}
 use Rattle.lot_store.specs.Session.{JudgesKeyed, LeavesEntry, LeavesFirst, LeavesJudged, LeavesNext, Session}
 use Rattle.lot_store.specs.declared.book.Ack.{Ack}
 use Rattle.lot_store.specs.declared.book.Ack.TheVariants as ack
@@ -33,7 +33,6 @@ use Rattle.lot_store.specs.declared.fault.StoreFault.{StoreFault}
 use Rattle.lot_store.specs.declared.fault.StoreFault.TheVariants.{Damaged, Device, InDoubt, Memory, NeedsReopen}
 use Rattle.lot_store.specs.declared.run.Ending.{Ending}
 use Rattle.lot_store.specs.declared.run.Ending.TheVariants.{Complete, Output, Stopped}
-use Rattle.lot_store.specs.declared.run.RunEnd.{RunEnd}
 use Rattle.lot_store.proofs.ApplyLemmas.{stands_along}
 use Rattle.lot_store.proofs.CommitLemmas.{survives_same}
 
@@ -81,9 +80,42 @@ pub ready_fault : (condition : Condition) (fault : StoreFault) → ready_of cond
 ready_fault Ready fault is = absurd cc
 ready_fault Spent fault is = cc
 
+pub spent_if : (condition : Condition) (fault : StoreFault) → ready_of condition ≡ Err fault → condition ≡ Spent
+spent_if Ready fault is = absurd cc
+spent_if Spent fault is = refl
+
 pub ready_ok : {x : Unit {0}} (condition : Condition) → ready_of condition ≡ Ok x → condition ≡ Ready
 ready_ok Ready is = refl
 ready_ok Spent is = absurd cc
+
+-- ---- the condition of the book
+
+pub condition_cut : (ending : Ending) (condition : Condition) → ending ≡ Output → IsConditionAfter ending condition
+condition_cut ending condition is = subst (λ (e : Ending). IsConditionAfter e condition) (sym is) tt
+
+-- a run stops at a fault after which that is the condition
+condition_stopped : (number : ℕ) (fault : StoreFault) (before written : Option (List ℕ)) (ending : Ending) (condition : Condition) → condition ≡ condition_after (Err (apply.Failed fault))
+    → StopsWith number fault before written ending → IsConditionAfter ending condition
+condition_stopped number fault before written ending condition is (inl (stopped, printed)) = subst (λ (e : Ending). IsConditionAfter e condition) (sym stopped) is
+condition_stopped number fault before written ending condition is (inr (cut, part)) = condition_cut ending condition cut
+
+pub condition_stops : (answer : Result Ack ApplyFault) (fault : StoreFault) (number : ℕ) (before written : Option (List ℕ)) (ending : Ending) (condition : Condition) → told answer ≡ Err fault
+    → condition ≡ condition_after answer → StopsWith number fault before written ending → IsConditionAfter ending condition
+condition_stops answer fault number before written ending condition is after =
+    condition_stopped number fault before written ending condition (after ∙ ap condition_after (told_fault answer fault is))
+
+pub condition_spent : (number : ℕ) (before written : Option (List ℕ)) (ending : Ending) (condition : Condition) → condition ≡ Spent → StopsWith number NeedsReopen before written ending
+    → IsConditionAfter ending condition
+condition_spent number before written ending condition = condition_stopped number NeedsReopen before written ending condition
+
+-- a book that could be used doesn't stop for want of reopening
+pub reply_usable : (key : Key) (command : Command) (number : ℕ) (old new : State) (before written : Option (List ℕ)) (ending : Ending)
+    → RepliesTo key command number old new before written (Err ending) → ending ≢ Stopped NeedsReopen
+reply_usable key command number old new before written ending (answer, applies, inl (cut, part)) is = let both : Output ≡ Stopped NeedsReopen = sym cut ∙ is in absurd cc
+reply_usable key command number old new before written ending (answer, applies, inr (fault, same, usable, stopped, printed)) is =
+    let both : Stopped fault ≡ Stopped NeedsReopen = sym stopped ∙ is in
+    let equal : fault ≡ NeedsReopen = cc in
+    usable equal
 
 -- ---- one command more
 

@@ -1,5 +1,5 @@
 -- What applying one command says of a book in a file.
-use Rattle.std.specs.Prelude.{◌≡◌, ◌⊎◌, IfSome, IsSome, IsTrue, List, None, Ok, Err, OnOk, OnErr, Option, Result, Some}
+use Rattle.std.specs.Prelude.{◌≡◌, IfSome, IsTrue, List, None, Ok, Err, Option, Result, Some}
 use Rattle.sqlite.specs.State.{HasCleanDisk, IsUnchanged, KeepsCommit, State, Survives}
 use Rattle.sqlite.specs.Tree.{Trees}
 use Rattle.lot_command.specs.declared.command.Command.{Command}

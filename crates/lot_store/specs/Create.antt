@@ -1,18 +1,31 @@
 -- Making the tables of a book, and taking up a book.
-use Rattle.std.specs.Prelude.{◌≡◌, ◌<ℤ◌, ◌≤ℤ◌, ℤ, List, [], ◌∷◌, codes, pos, Err, Ok, Result}
-use Rattle.sqlite.specs.State.{State}
+use Rattle.std.specs.Prelude.{◌≡◌, ◌≢◌, ◌⊎◌, ◌<ℤ◌, ◌≤ℤ◌, ℕ, ℤ, false, IsTrue, List, [], ◌∷◌, codes, map, pos, Err, Ok, Result}
+use Rattle.sqlite.specs.Order.{Row}
+use Rattle.sqlite.specs.State.{Shown, State}
 use Rattle.sqlite.specs.declared.error.Error.{Error}
 use Rattle.sqlite.specs.declared.error.Error.TheVariants.{SqliteFailure}
 use Rattle.sqlite.specs.declared.error.ErrorCode.TheVariants as code
+use Rattle.sqlite_disk.specs.Disk.{MoreFaults}
 use Rattle.lot_filed.specs.Rows.{this_edition}
+use Rattle.lot_rows.specs.Book.{book_cells}
 use Rattle.lot_rows.specs.Tables.{Has, Tables, no_rows_yet}
 use Rattle.lot_rows.specs.declared.book.BookRow.{BookRow}
+use Rattle.lot_table.specs.Shape.{schema_of}
+use Rattle.lot_table.specs.Statement.{DiskFailed, Refused}
 use Rattle.lot_table.specs.declared.fault.Fault as table
 use Rattle.lot_table.specs.declared.make.MakeFault as make
 use Rattle.lot_store.specs.declared.fault.AdoptFault.{AdoptFault}
 use Rattle.lot_store.specs.declared.fault.AdoptFault.TheVariants as adopt
 use Rattle.lot_store.specs.declared.fault.CreateFault.{CreateFault}
 use Rattle.lot_store.specs.declared.fault.CreateFault.TheVariants as create
+
+-- ---- a connection that is handed back
+
+-- it is outside a transaction, and while it is open every row is as it was
+pub record IsHandedBack (old new : State) : Type 0 where
+  pub outside : new.in_transaction ≡ false
+  pub was_open : IsTrue new.is_open → IsTrue old.is_open
+  pub rows : IsTrue new.is_open → (new.now ≡ old.now) × (new.committed ≡ old.committed)
 
 -- ---- making
 
@@ -35,6 +48,14 @@ abbrev pub create_outcome : {A : Type 0} → Result A Error → Result A CreateF
 create_outcome (Ok done) = Ok done
 create_outcome (Err error) = Err (create_commit_fault error)
 
+-- What a fault says of the database in which no book is made. An open one without tables is never no book, and in it the
+-- device refuses only where the disk failed. A commit is in doubt only where the disk failed during the call.
+abbrev pub RefusedFor : State → State → CreateFault → Type 0
+RefusedFor old new create.NotABook = IsTrue old.is_open → old.now.schema ≢ schema_of []
+RefusedFor old new create.Device = old.now.schema ≡ schema_of [] → DiskFailed old new
+RefusedFor old new create.InDoubt = MoreFaults old.faults new.faults
+RefusedFor old new create.Memory = Unit {0}
+
 -- the tables of a book without entries
 abbrev pub no_entries_yet : Tables
 no_entries_yet = record no_rows_yet { book = this_edition ∷ [] }
@@ -44,19 +65,39 @@ StandsForNone s = Has s no_entries_yet
 
 -- ---- taking up
 
--- the table `book` is one row with our mark and this edition
-abbrev pub IsMarked : ℤ → List BookRow → Type 0
-IsMarked edition rows = rows ≡ record { mark = codes "lot-book"; edition = edition } ∷ []
+-- the columns of all rows of the table `book`: the one row with our mark and this edition
+abbrev pub AreMarked : ℤ → List Row → Type 0
+AreMarked edition rows = rows ≡ book_cells (record { mark = codes "lot-book"; edition = edition }) ∷ []
 
 abbrev pub adopt_fault_of : table.Fault → AdoptFault
 adopt_fault_of table.TheVariants.Device = adopt.Device
 adopt_fault_of table.TheVariants.Damaged = adopt.NotABook
 adopt_fault_of table.TheVariants.Memory = adopt.Memory
 
--- what is told of the rows of the table: this program's edition, a newer one, or that they are no book's
+-- what is told of these columns: this program's edition, a newer one, or that they are no book's
+abbrev pub TellsColumns : List Row → Result (Unit {0}) AdoptFault → Type 0
+TellsColumns rows (Ok done) = AreMarked (pos 1) rows
+TellsColumns rows (Err adopt.NewerEdition) = (edition : ℤ) × (pos 1 <ℤ edition) × AreMarked edition rows
+TellsColumns rows (Err adopt.NotABook) = (edition : ℤ) → pos 1 ≤ℤ edition → ¬ AreMarked edition rows
+TellsColumns rows (Err adopt.Device) = ⊥
+TellsColumns rows (Err adopt.Memory) = Unit {0}
+
+-- the same of the rows of the table
 abbrev pub Tells : List BookRow → Result (Unit {0}) AdoptFault → Type 0
-Tells rows (Ok done) = IsMarked (pos 1) rows
-Tells rows (Err adopt.NewerEdition) = (edition : ℤ) × (pos 1 <ℤ edition) × IsMarked edition rows
-Tells rows (Err adopt.NotABook) = (edition : ℤ) → pos 1 ≤ℤ edition → ¬ IsMarked edition rows
-Tells rows (Err adopt.Device) = ⊥
-Tells rows (Err adopt.Memory) = Unit {0}
+Tells rows = TellsColumns (map book_cells rows)
+
+-- the question for these columns
+abbrev pub marks_text : List ℕ
+marks_text = codes "SELECT mark, edition FROM book ORDER BY mark"
+
+-- why the question isn't answered: the database refuses it, as one without such a table does, or the disk failed
+abbrev pub IsUnanswered : State → State → Result (Unit {0}) AdoptFault → Type 0
+IsUnanswered old new (Ok done) = ⊥
+IsUnanswered old new (Err adopt.NewerEdition) = ⊥
+IsUnanswered old new (Err adopt.NotABook) = Refused marks_text [] old new table.TheVariants.Damaged
+IsUnanswered old new (Err adopt.Device) = DiskFailed old new
+IsUnanswered old new (Err adopt.Memory) = Unit {0}
+
+-- what is told of any database, whatever its tables are
+abbrev pub TellsOf : State → State → Result (Unit {0}) AdoptFault → Type 0
+TellsOf old new result = ((rows : List Row) × Shown marks_text [] old new rows × TellsColumns rows result) ⊎ IsUnanswered old new result

@@ -1,4 +1,7 @@
-pub mod Session
 pub mod Apply
 pub mod Create
+pub mod Journal
 pub mod Run
+pub mod Session
+pub mod Step
+pub mod Walk

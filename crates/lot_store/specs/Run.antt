@@ -1,6 +1,6 @@
 -- What a run of commands on a book writes, and what it leaves.
 use Rattle.std.specs.Io.KnownBytes.{Appends}
-use Rattle.std.specs.Prelude.{◌≡◌, ◌≢◌, ◌⊎◌, ℕ, ◌+◌, suc, IsTrue, List, [], ◌∷◌, ◌++◌, length, codes, decimal, Option, Result, Ok, Err}
+use Rattle.std.specs.Prelude.{◌≡◌, ◌≢◌, ◌⊎◌, ℕ, ◌+◌, suc, IsTrue, List, [], ◌∷◌, ◌++◌, length, codes, decimal, Option, Result, Ok, Err, ⊤}
 use Rattle.sqlite.specs.State.{HasCleanDisk, State, Survives}
 use Rattle.sqlite.specs.Tree.{Trees}
 use Rattle.lot_command.specs.declared.command.Command.{Command}
@@ -14,10 +14,12 @@ use Rattle.std.specs.declared.io.Error.{Error}
 use Rattle.lot_report.specs.declared.line.PrintFault.{PrintFault}
 use Rattle.lot_report.specs.Printed.{line, replies, reply}
 use Rattle.lot_report.specs.Written.{IsPrefixOf}
-use Rattle.lot_store.specs.Apply.{Applies}
+use Rattle.lot_store.specs.Apply.{Applies, condition_after}
 use Rattle.lot_store.specs.Session.{LeavesFirst, LeavesJudged, LeavesNext, Session}
 use Rattle.lot_store.specs.declared.book.Ack.{Ack}
 use Rattle.lot_store.specs.declared.book.Ack.TheVariants as ack
+use Rattle.lot_store.specs.declared.book.Condition.{Condition}
+use Rattle.lot_store.specs.declared.book.Condition.TheVariants.{Ready}
 use Rattle.lot_store.specs.declared.fault.ApplyFault.{ApplyFault}
 use Rattle.lot_store.specs.declared.fault.ApplyFault.TheVariants as apply
 use Rattle.lot_store.specs.declared.fault.StoreFault.{StoreFault}
@@ -144,3 +146,17 @@ pub record Runs (commands : List (Key × Command)) (from : ℕ) (old new : State
   pub session : HasCleanDisk new → (entries : List Entry) → Stands old entries
       → (book : List Entry) × (left : List (Key × Command)) × Session entries commands verdicts book left × LeavesAfter verdicts book left old new end.ending
   pub crash : Survives old new (λ trees. (entries : List Entry) → Stands old entries → LeavesFirst entries commands trees)
+
+-- ---- the condition of the book
+
+-- a run of a book that needs reopening stops under the number of its first command, whatever the commands are
+pub record StopsAtOnce (from : ℕ) (end : RunEnd) (old new : Option (List ℕ)) : Type 0 where
+  pub replied : end.replied ≡ 0
+  pub refused : end.refused ≡ 0
+  pub line : StopsWith from NeedsReopen old new end.ending
+
+-- the condition of a book after a run that ended so; after a failure of the writer it is that after the last command
+abbrev pub IsConditionAfter : Ending → Condition → Type 0
+IsConditionAfter Complete condition = condition ≡ Ready
+IsConditionAfter (Stopped fault) condition = condition ≡ condition_after (Err (apply.Failed fault))
+IsConditionAfter Output condition = ⊤

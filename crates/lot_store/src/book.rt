@@ -1,18 +1,22 @@
-ghost use Rattle.std.specs.Prelude.{◌≡◌, ◌≢◌, ◌↔◌, false, Err, IsTrue, None};
+ghost use Rattle.std.specs.Prelude.{◌≡◌, ◌≢◌, ◌↔◌, false, Err, IsTrue, None, OnErr};
 ghost use Rattle.lot_store.specs.Apply.{Applies, condition_after, ready_of};
+ghost use Rattle.lot_store.specs.Step.{LeavesTables, Steps, condition_from};
 ghost use Rattle.lot_store.specs.declared.fault.ApplyFault.TheVariants.{Failed};
+ghost use Rattle.lot_table.specs.Statement.{DiskFailed};
 ghost use Rattle.sqlite.specs.Held.{state};
 ghost use Rattle.sqlite.specs.State.{HasCleanDisk};
 ghost use Rattle.sqlite.specs.Tree.{Trees};
 
 use crate::commit::commit;
 use crate::fault::{ApplyFault, StoreFault};
+use crate::walk::Place;
 use lot_command::{Command, Key};
 use lot_ledger::{Outcome, decide};
 use lot_look::look;
 use lot_print::is_sayable;
 use lot_record::laws::what_is_written_stands_for_the_book;
 use lot_record::writes;
+use lot_table::Fault;
 use sqlite::{Alter, Connection};
 use std::alloc::Global;
 
@@ -52,6 +56,8 @@ impl<S: Alter> Book<S> {
         // With the connection open a crash leaves the last commit, and nothing else.
         ensures safe { IsTrue (state S.Store self.new.conn).is_open → (trees : Trees) → (state S.Store self.new.conn).may_leave trees
             → trees ≡ (state S.Store self.new.conn).committed.trees }
+        ensures in_doubt { HasCleanDisk (state S.Store self.new.conn) → result ≡ Err (Failed StoreFault.InDoubt)
+            → DiskFailed (state S.Store self.old.conn) (state S.Store self.new.conn) }
         ensures reopen { (result ≡ Err (Failed StoreFault.NeedsReopen)) ↔ (self.old.condition ≡ Condition.NeedsReopen) }
         ensures condition { self.new.condition ≡ condition_after result }
     {
@@ -87,6 +93,37 @@ impl<S: Alter> Book<S> {
         }
     }
 
+    /// Returns the row that comes next at a place, or `None` past the last. It changes nothing.
+    ///
+    /// After `Device`, and only then, the book needs reopening.
+    pub(crate) fn read_next<P: Place>(
+        &mut self,
+        place: &mut P,
+    ) -> Result<Option<P::Row>, StoreFault>
+        ensures steps { Steps P.Place.shown P.Place.IsGood P.Place.AreAll P.Place.IsBehind StoreFault.Damaged StoreFault.Device
+            place.old place.new (state S.Store self.old.conn) (state S.Store self.new.conn) result }
+        ensures reopen { (result ≡ Err StoreFault.NeedsReopen) ↔ (self.old.condition ≡ Condition.NeedsReopen) }
+        ensures condition { self.new.condition ≡ condition_from self.old.condition result }
+        ensures sure { result ≢ Err StoreFault.InDoubt }
+        ensures left { HasCleanDisk (state S.Store self.new.conn) → OnErr result (LeavesTables (state S.Store self.old.conn) (state S.Store self.new.conn)) }
+    {
+        self.ready()?;
+        // Outside a transaction the tables are those of the last commit.
+        let _settled = self.conn.is_autocommit();
+        let found = place.next(self.alloc, &mut self.conn);
+        if let Err(Fault::Device) = found {
+            self.condition = Condition::NeedsReopen;
+        }
+        Ok(found?)
+    }
+
+    /// Returns the allocator that the book was made with.
+    pub(crate) fn allocator(&self) -> Global
+        ensures { result ≡ self.now.alloc }
+    {
+        self.alloc
+    }
+
     /// Returns an error where the book needs reopening.
     pub(crate) fn ready(&self) -> Result<(), StoreFault>
         ensures { result ≡ ready_of self.now.condition }
@@ -109,6 +146,7 @@ fn apply_to<S: Alter>(
     requires unlimited { conn.old.step_limit ≡ None }
     ensures outside { HasCleanDisk (state S.Store conn.new) → conn.new.in_transaction ≡ false }
     ensures applies { Applies key.now command.now (state S.Store conn.old) (state S.Store conn.new) result }
+    ensures in_doubt { HasCleanDisk (state S.Store conn.new) → result ≡ Err (Failed StoreFault.InDoubt) → DiskFailed (state S.Store conn.old) (state S.Store conn.new) }
     ensures usable { result ≢ Err (Failed StoreFault.NeedsReopen) }
 {
     is_sayable(command);

@@ -2,7 +2,8 @@ ghost use Rattle.std.specs.Prelude.{◌≡◌, ◌≢◌, false, Err, IsTrue, No
 ghost use Rattle.lot_record.specs.Write.{AreFit};
 ghost use Rattle.lot_rows.specs.Tables.{Has, Tables};
 ghost use Rattle.lot_store.specs.Apply.{MayWrite, WritesDown, commit_outcome};
-ghost use Rattle.lot_store.specs.declared.fault.StoreFault.TheVariants.{Damaged, NeedsReopen};
+ghost use Rattle.lot_store.specs.declared.fault.StoreFault.TheVariants.{Damaged, InDoubt, NeedsReopen};
+ghost use Rattle.lot_table.specs.Statement.{DiskFailed};
 ghost use Rattle.sqlite.specs.Held.{state};
 ghost use Rattle.sqlite.specs.State.{HasCleanDisk, KeepsCommit, Survives};
 
@@ -22,6 +23,7 @@ pub(crate) fn commit<S: Alter>(conn: &mut Connection<S>, writes: &[Write]) -> Re
     ensures settled { HasCleanDisk (state S.Store conn.new) → IsTrue (state S.Store conn.new).is_open → (state S.Store conn.new).now ≡ (state S.Store conn.new).committed }
     ensures damaged { HasCleanDisk (state S.Store conn.new) → result ≡ Err Damaged → (state S.Store conn.old).step_limit ≡ None
         → (tables : Tables) → AreFit writes.now tables → ¬ Has (state S.Store conn.old) tables }
+    ensures in_doubt { HasCleanDisk (state S.Store conn.new) → result ≡ Err InDoubt → DiskFailed (state S.Store conn.old) (state S.Store conn.new) }
     ensures usable { result ≢ Err NeedsReopen }
     ensures crash { Survives (state S.Store conn.old) (state S.Store conn.new) (MayWrite writes.now (state S.Store conn.old) result) }
 {

@@ -1,10 +1,12 @@
 ghost use Rattle.std.specs.Prelude.{◌≡◌, [], false, Err, IfErr, IfOk, IsTrue, None, OnErr, OnOk};
 ghost use Rattle.lot_filed.specs.Rows.{this_edition};
 ghost use Rattle.lot_filed.specs.StandFor.{Left, Stands};
-ghost use Rattle.lot_store.specs.Create.{create_outcome, StandsForNone};
+ghost use Rattle.lot_rows.specs.Tables.{table_names};
+ghost use Rattle.lot_store.specs.Create.{IsHandedBack, RefusedFor, StandsForNone, create_outcome};
+ghost use Rattle.lot_table.specs.Make.{is_taken};
 ghost use Rattle.lot_table.specs.Shape.{schema_of};
 ghost use Rattle.sqlite.specs.Held.{state};
-ghost use Rattle.sqlite.specs.State.{HasCleanDisk, KeepsCommit, Survives};
+ghost use Rattle.sqlite.specs.State.{HasCleanDisk, IsLive, KeepsCommit, Survives};
 ghost use Rattle.sqlite_catalog.specs.Listing.{IsSound};
 
 use crate::book::{Book, Condition};
@@ -17,8 +19,10 @@ use std::alloc::{AllocError, Global};
 
 /// Makes the tables of a book, which is empty, in one commit.
 ///
-/// The error is `NotABook` where the name of a table is taken; nothing changed then. After `InDoubt` the tables were made or
-/// not. A crash during the call leaves what it could leave before, or the tables of the empty book.
+/// The error is `NotABook` where the name of a table is taken, without regard to the case of ASCII letters, or the database
+/// takes no tables of a book for another cause; never where it has no tables. After `InDoubt` the tables were made or not.
+/// After any error the connection is outside a transaction, and every row is as it was. A crash during the call leaves what it
+/// could leave before, or the tables of the empty book.
 ///
 /// What is said of the tables holds in a database that had none. In one with others the book's are made beside them.
 pub fn create<S: Alter>(
@@ -31,7 +35,10 @@ pub fn create<S: Alter>(
         → Stands (state S.Store book.conn) []) }
     ensures committed { IfOk result (λ book. HasCleanDisk (state S.Store book.conn)
         → IsTrue (state S.Store book.conn).is_open × ((state S.Store book.conn).committed ≡ (state S.Store book.conn).now)) }
+    ensures free { IfOk result (λ book. HasCleanDisk (state S.Store book.conn) → is_taken table_names (state S.Store conn).now.schema ≡ false) }
     ensures ready { IfOk result (λ book. book.condition ≡ Condition.Ready) }
+    ensures refused { IfErr result (λ left. HasCleanDisk (state S.Store left.conn) → RefusedFor (state S.Store conn) (state S.Store left.conn) left.fault) }
+    ensures handed_back { IfErr result (λ left. HasCleanDisk (state S.Store left.conn) → IsHandedBack (state S.Store conn) (state S.Store left.conn)) }
     ensures kept { IfErr result (λ left. HasCleanDisk (state S.Store left.conn) → KeepsCommit (state S.Store conn) (state S.Store left.conn)) }
     ensures crash_ok { IfOk result (λ book. Survives (state S.Store conn) (state S.Store book.conn)
         (λ trees. (state S.Store conn).now.schema ≡ schema_of [] → Left trees [])) }
@@ -39,18 +46,26 @@ pub fn create<S: Alter>(
         (λ trees. (state S.Store conn).now.schema ≡ schema_of [] → Left trees [])) }
 {
     let mut conn = conn;
+    // Outside a transaction the tables are those of the last commit, before the call and after it.
+    let _settled = conn.is_autocommit();
     match make(alloc, &mut conn) {
         Ok(()) => Ok(Book::ready_over(alloc, conn)),
-        Err(fault) => Err(HandedBack { fault, conn }),
+        Err(fault) => {
+            let _settled = conn.is_autocommit();
+            Err(HandedBack { fault, conn })
+        }
     }
 }
 
 /// The same on a connection that is lent.
 fn make<S: Alter>(alloc: Global, conn: &mut Connection<S>) -> Result<(), CreateFault>
-    requires { conn.old.in_transaction ≡ false }
+    requires outside { conn.old.in_transaction ≡ false }
+    requires unlimited { conn.old.step_limit ≡ None }
     ensures outside { conn.new.in_transaction ≡ false }
     ensures made { HasCleanDisk (state S.Store conn.new) → OnOk result ((state S.Store conn.old).now.schema ≡ schema_of [] → Stands (state S.Store conn.new) []) }
     ensures committed { HasCleanDisk (state S.Store conn.new) → OnOk result (IsTrue (state S.Store conn.new).is_open × ((state S.Store conn.new).committed ≡ (state S.Store conn.new).now)) }
+    ensures free { HasCleanDisk (state S.Store conn.new) → OnOk result (is_taken table_names (state S.Store conn.old).now.schema ≡ false) }
+    ensures refused { HasCleanDisk (state S.Store conn.new) → IfErr result (RefusedFor (state S.Store conn.old) (state S.Store conn.new)) }
     ensures kept { HasCleanDisk (state S.Store conn.new) → OnErr result (KeepsCommit (state S.Store conn.old) (state S.Store conn.new)) }
     ensures crash { Survives (state S.Store conn.old) (state S.Store conn.new)
         (λ trees. (state S.Store conn.old).now.schema ≡ schema_of [] → Left trees []) }
@@ -76,12 +91,16 @@ fn edition_row(alloc: Global) -> Result<BookRow, AllocError>
 /// Makes the tables in the open transaction, with the one row of a book that is empty.
 fn make_tables<S: Alter>(tx: &mut Transaction<'_, S>, row: &BookRow) -> Result<(), CreateFault>
     requires inside { HasCleanDisk (state S.Store tx.old.conn.now) → IsTrue (state S.Store tx.old.conn.now).in_transaction }
+    requires unlimited { tx.old.conn.now.step_limit ≡ None }
     requires row { row.now ≡ this_edition }
     ensures same_reference { tx.new.conn.ghost_name ≡ tx.old.conn.ghost_name }
     ensures inside { HasCleanDisk (state S.Store tx.new.conn.now) → OnOk result (IsTrue (state S.Store tx.new.conn.now).in_transaction) }
     ensures opened { HasCleanDisk (state S.Store tx.new.conn.now) → OnOk result (IsTrue (state S.Store tx.new.conn.now).is_open) }
     ensures made { HasCleanDisk (state S.Store tx.new.conn.now) → OnOk result ((state S.Store tx.old.conn.now).now.schema ≡ schema_of []
         → IsSound (schema_of []) (state S.Store tx.old.conn.now).now.trees → StandsForNone (state S.Store tx.new.conn.now)) }
+    ensures free { HasCleanDisk (state S.Store tx.new.conn.now) → OnOk result (is_taken table_names (state S.Store tx.old.conn.now).now.schema ≡ false) }
+    ensures refused { HasCleanDisk (state S.Store tx.new.conn.now) → IsLive (state S.Store tx.old.conn.now)
+        → IfErr result (RefusedFor (state S.Store tx.old.conn.now) (state S.Store tx.new.conn.now)) }
     ensures kept { HasCleanDisk (state S.Store tx.new.conn.now) → KeepsCommit (state S.Store tx.old.conn.now) (state S.Store tx.new.conn.now) }
     ensures crash { Survives (state S.Store tx.old.conn.now) (state S.Store tx.new.conn.now) (λ _. ⊥) }
 {

@@ -4,6 +4,7 @@
 //! - `creation`: making a book; `adoption`: taking up the one that is there.
 //! - `commit`: rows written in one commit.
 //! - `run`: commands applied one after another, with a reply to each.
+//! - `walk`: walks over the rows of a book, and why one gives none.
 //! - `fault`: why a call fails.
 #![tactic(auto)]
 
@@ -13,9 +14,11 @@ mod commit;
 mod creation;
 mod fault;
 mod run;
+mod walk;
 
 pub use adoption::adopt;
 pub use book::{Ack, Book};
 pub use creation::create;
 pub use fault::{AdoptFault, ApplyFault, CreateFault, HandedBack, StoreFault};
 pub use run::{Ending, RunEnd};
+pub use walk::{Journal, Walk, WalkFault};

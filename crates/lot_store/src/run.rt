@@ -1,6 +1,7 @@
-ghost use Rattle.std.specs.Prelude.{◌≡◌, ◌+◌, ◌<◌, ◌^◌, [], ◌∷◌, length, IsOk, IsTrue};
+ghost use Rattle.std.specs.Prelude.{◌≡◌, ◌≢◌, ◌+◌, ◌<◌, ◌^◌, [], ◌∷◌, length, IfErr, IsOk, IsTrue};
 ghost use Rattle.lot_report.specs.Printed.{reply};
-ghost use Rattle.lot_store.specs.Run.{FlushesLine, RepliesTo, Runs, StopsWith, WritesOut, count_refused, fault_name, flush_outcome, told};
+ghost use Rattle.lot_store.specs.Run.{FlushesLine, IsConditionAfter, RepliesTo, Runs, StopsAtOnce, StopsWith, WritesOut, count_refused, fault_name, flush_outcome, told};
+ghost use Rattle.lot_store.specs.declared.run.Ending.TheVariants.{Stopped};
 ghost use Rattle.sqlite.specs.Held.{state};
 ghost use Rattle.sqlite.specs.Tree.{Trees};
 
@@ -48,6 +49,10 @@ impl<S: Alter> Book<S> {
         requires { length commands.now + from < 2 ^ 64 }
         ensures runs { Runs commands.now from (state S.Store self.old.conn) (state S.Store self.new.conn)
             (W.contents writer.old) (W.contents writer.new) result }
+        ensures spent { self.old.condition ≡ Condition.NeedsReopen
+            → StopsAtOnce from result (W.contents writer.old) (W.contents writer.new) × (self.new ≡ self.old) }
+        ensures usable { self.old.condition ≡ Condition.Ready → result.ending ≢ Stopped StoreFault.NeedsReopen }
+        ensures condition { IsConditionAfter result.ending self.new.condition }
     {
         if let Err(fault) = self.ready() {
             return RunEnd {
@@ -90,6 +95,7 @@ impl<S: Alter> Book<S> {
         ensures safe { IsTrue (state S.Store self.new.conn).is_open → (trees : Trees) → (state S.Store self.new.conn).may_leave trees
             → trees ≡ (state S.Store self.new.conn).committed.trees }
         ensures ready { IsOk result → self.new.condition ≡ Condition.Ready }
+        ensures condition { IfErr result (λ ending. IsConditionAfter ending self.new.condition) }
     {
         match told(self.apply(key, command)) {
             Ok(verdict) => {

@@ -1,7 +1,7 @@
 use Rattle.std.proofs.Common.{◌≡◌, ◌∙◌, ◌+◌, ◌∷◌, [], arith, length, refl, subst, sym}
 use Rattle.sqlite.specs.Held.{state}
 use Rattle.lot_store.specs.Run.{StopsWith}
-use Rattle.lot_store.proofs.RunLemmas.{SoFar, few_refused, ready_fault, ready_ok, run_completes, run_ends, run_needs_reopening, so_far_next, so_far_none}
+use Rattle.lot_store.proofs.RunLemmas.{SoFar, condition_spent, few_refused, ready_fault, ready_ok, reply_usable, run_completes, run_ends, run_needs_reopening, so_far_next, so_far_none, spent_if}
 use Rattle.lot_store.proofs.book.Book.run.Goals as goal
 
 pub commands-init : goal.commands-init
@@ -16,13 +16,20 @@ overflow_add-refused g c =
 pub returns-in-Err : goal.returns-in-Err
 returns-in-Err g c =
     let spent = ready_fault c.args.self.now.condition c.in-Err.fault (sym c.ready.ensures ∙ c.in-Err.is) in
+    let line = subst (λ f. StopsWith c.args.from f (g.W.Write.contents c.args.writer.now) (g.W.Write.contents c.stop.new.writer) c.stop.result) spent c.stop.ensures in
+    let needs = spent_if c.args.self.now.condition c.in-Err.fault (sym c.ready.ensures ∙ c.in-Err.is) in
     record {
-      runs = run_needs_reopening c.args.commands.now c.args.from (state g.S.Store c.args.self.now.conn) _ _ c.stop.result
-          (subst (λ f. StopsWith c.args.from f (g.W.Write.contents c.args.writer.now) (g.W.Write.contents c.stop.new.writer) c.stop.result) spent c.stop.ensures);
+      runs = run_needs_reopening c.args.commands.now c.args.from (state g.S.Store c.args.self.now.conn) _ _ c.stop.result line;
+      spent = λ is. (record { replied = refl; refused = refl; line = line }, refl);
+      usable = λ ready. let both = sym ready ∙ needs in absurd cc;
+      condition = condition_spent c.args.from _ _ c.stop.result c.args.self.now.condition needs line;
     }
 
 pub returns-in-Err-reply : goal.returns-in-Err-reply
 returns-in-Err-reply g c = record {
+  spent = λ is. let both = sym is ∙ ready_ok c.args.self.now.condition (sym c.ready.ensures ∙ c.in_default.is) in absurd cc;
+  usable = λ ready. reply_usable _ _ (c.args.from + c.commands.index) (state g.S.Store c.commands.self.conn) (state g.S.Store c.reply.new.self.conn) _ _ c.in-Err-reply.ending c.in-Err-reply.ensures.replies;
+  condition = c.in-Err-reply.ensures.condition;
   runs = run_ends c.args.commands.now c.args.from c.commands.index c.commands.refused (c.args.from + c.commands.index) (state g.S.Store c.args.self.now.conn) (state g.S.Store c.commands.self.conn)
       (state g.S.Store c.reply.new.self.conn) _ _ _ c.commands.invariant.0 c.index-commands-index.result _ c.index-commands-index.is c.commands-test.true refl c.in-Err-reply.ending
       c.in-Err-reply.ensures.replies;
@@ -41,6 +48,9 @@ pub returns : goal.returns
 returns g c =
     let all : c.commands.index ≡ length c.args.commands.now = omega (arith, c.commands-test.false, c.commands.auto.index-end) in
     record {
+      spent = λ is. let both = sym is ∙ ready_ok c.args.self.now.condition (sym c.ready.ensures ∙ c.in_default.is) in absurd cc;
+      usable = λ ready complete. absurd cc;
+      condition = c.commands.invariant.1;
       runs = run_completes c.args.commands.now c.args.from c.commands.refused (state g.S.Store c.args.self.now.conn) (state g.S.Store c.commands.self.conn) _ _
           (subst (λ n. SoFar c.args.commands.now c.args.from n c.commands.refused (state g.S.Store c.args.self.now.conn) (state g.S.Store c.commands.self.conn) (g.W.Write.contents c.args.writer.now) (g.W.Write.contents c.commands.writer)) all c.commands.invariant.0);
     }

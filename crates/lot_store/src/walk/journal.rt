@@ -1,0 +1,126 @@
+ghost use Rattle.std.specs.Prelude.{◌≡◌, ◌≢◌, [], ◌∷◌, IfErr, IfOk, IsTrue, List};
+ghost use Rattle.lot_book.specs.Facts.{Entry as EntryOf};
+ghost use Rattle.lot_command.specs.Canonical.{canonical};
+ghost use Rattle.lot_command.specs.declared.command.Command.{Command as CommandOf};
+ghost use Rattle.lot_filed.specs.StandFor.{Stands};
+ghost use Rattle.lot_print.specs.Sayable.{IsSayable};
+ghost use Rattle.lot_rows.specs.declared.entry.EntryRow.{EntryRow as EntryRowOf};
+ghost use Rattle.lot_store.specs.Journal.{AreEntries, HasCanonicalText, IsBehindEntries, IsCanonical, said};
+ghost use Rattle.lot_store.specs.Walk.{HasGiven};
+ghost use Rattle.sqlite.specs.Held.{state};
+
+use super::{Place, Stage, Walk};
+use crate::book::Book;
+use lot_command::{Command, Key};
+use lot_page::EntryCursor;
+use lot_print::laws::canonical_text_reads_as_its_command;
+use lot_print::print;
+use lot_report::Entry;
+use lot_rows::entry::EntryRow;
+use lot_table::Fault;
+use lot_text::laws::a_text_says_one_thing;
+use lot_text::{TextFault, read};
+use sqlite::{Alter, Connection};
+use std::alloc::Global;
+
+/// A walk over the entries of a book, in their order. Each has the canonical text of its command.
+pub type Journal<'a, S> = Walk<'a, S, JournalPlace>;
+
+/// The place of a journal among the entries.
+#[derive(Drop)]
+pub struct JournalPlace {
+    cursor: EntryCursor,
+}
+
+impl<S: Alter> Book<S> {
+    /// Begins a walk over all entries, before the first. It reads nothing yet.
+    pub fn journal(&mut self) -> Journal<'_, S>
+        ensures same_reference { result.book.ghost_name ≡ self.entry.ghost_name }
+        ensures same { result.book.now ≡ self.old }
+        ensures begun { (entries : List EntryOf) → Stands (state S.Store self.old.conn) entries
+            → HasGiven S.Store AreEntries IsBehindEntries result tt entries [] }
+    {
+        let place = JournalPlace {
+            cursor: EntryCursor::new(self.allocator()),
+        };
+        Walk {
+            book: self,
+            place,
+            stage: Stage::Going,
+        }
+    }
+}
+
+impl Place for JournalPlace {
+    type Row = Entry;
+
+    ghost Asked = { Unit {0} };
+
+    ghost Shown = { EntryRowOf };
+
+    ghost shown = { said };
+
+    ghost IsGood = { HasCanonicalText };
+
+    ghost AreAll = { AreEntries };
+
+    ghost IsBehind = { IsBehindEntries };
+
+    fn next<S: Alter>(
+        &mut self,
+        alloc: Global,
+        conn: &mut Connection<S>,
+    ) -> Result<Option<Entry>, Fault> {
+        let Some(row) = self.cursor.next(conn)? else {
+            return Ok(None);
+        };
+        Ok(Some(entry_of(alloc, row)?))
+    }
+}
+
+/// Returns the entry that a row says.
+///
+/// The error is `Damaged` where the text isn't the canonical text of one command, or `Memory`.
+fn entry_of(alloc: Global, row: EntryRow) -> Result<Entry, Fault>
+    ensures ok { IfOk result (λ entry. said entry ≡ row) }
+    ensures good { IfOk result HasCanonicalText }
+    ensures damaged { result ≡ Err Fault.Damaged → (command : CommandOf) → IsSayable command → row.body ≢ canonical command }
+    ensures no_device { result ≢ Err Fault.Device }
+{
+    let body = String::from_str(alloc, row.body.as_str())?;
+    check_canonical(alloc, &body)?;
+    Ok(Entry {
+        number: row.number.number(),
+        key: Key {
+            source: row.source,
+            name: row.name,
+        },
+        body,
+    })
+}
+
+/// Checks that a text is the canonical text of one command.
+///
+/// The error is `Damaged` where it isn't, or `Memory`.
+fn check_canonical(alloc: Global, text: &str) -> Result<(), Fault>
+    ensures ok { IfOk result (λ _. IsCanonical text.now) }
+    ensures damaged { result ≡ Err Fault.Damaged → (command : CommandOf) → IsSayable command → text.now ≢ canonical command }
+    ensures no_device { result ≢ Err Fault.Device }
+{
+    canonical_text_reads_as_its_command();
+    a_text_says_one_thing();
+    let commands = match read(alloc, text.as_bytes()) {
+        Ok(commands) => commands,
+        Err(TextFault::Line { .. }) => return Err(Fault::Damaged),
+        Err(TextFault::Memory { .. }) => return Err(Fault::Memory),
+    };
+    let Some(command) = commands.first() else {
+        return Err(Fault::Damaged);
+    };
+    let canonical = print(alloc, command)?;
+    if canonical.as_str() == text {
+        Ok(())
+    } else {
+        Err(Fault::Damaged)
+    }
+}
