@@ -20,13 +20,13 @@ mod status;
 mod tests;
 
 use crate::input::slurp;
-use fault::{Fault, print_fault};
+pub use fault::{Fault, print_fault};
 use lot_command::Command;
 use lot_ledger::{Outcome, Stop, Verdict, View, decide};
 use lot_report::{PrintFault, print_reply};
 use lot_text::read;
 use report::print_holdings;
-use status::Status;
+pub use status::Status;
 use std::alloc::{AllocError, Global};
 use std::io::{self, Read, Write};
 
@@ -140,8 +140,8 @@ fn conclude<W: Write>(writer: &mut W, outcome: Result<Status, Fault>) -> Result<
     }
 }
 
-/// Flushes what was written, where that is all.
-fn finish<W: Write>(writer: &mut W, concluded: Result<Status, PrintFault>) -> Status
+/// Flushes what was written, where that is all, and returns the status then.
+pub fn finish<W: Write>(writer: &mut W, concluded: Result<Status, PrintFault>) -> Status
     ensures kept { Keeps (W.contents writer.old) (W.contents writer.new) }
     ensures end { Ends concluded result }
 {

@@ -12,5 +12,5 @@ mod fakes;
 mod input;
 pub mod laws;
 
-pub use batch::check;
+pub use batch::{Fault, Status, check, finish, print_fault};
 pub use input::{SlurpFault, slurp};

@@ -13,7 +13,7 @@ use thiserror::Error;
 
 /// Why a run ended before its end.
 #[derive(Clone, Copy, Debug, PartialEq, Eq, Error)]
-pub(super) enum Fault {
+pub enum Fault {
     /// The reader failed.
     #[error("the input can't be read")]
     Read,
@@ -115,7 +115,7 @@ impl Fault {
 }
 
 /// Writes the line that reports a fault. It takes no memory, which may have ended. A fault of the writer has no line.
-pub(super) fn print_fault<W: Write>(writer: &mut W, fault: Fault) -> Result<(), PrintFault>
+pub fn print_fault<W: Write>(writer: &mut W, fault: Fault) -> Result<(), PrintFault>
     ensures { WritesLine (W.contents writer.old) (W.contents writer.new) result (fault_line fault) }
 {
     match fault {

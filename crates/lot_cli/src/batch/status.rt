@@ -5,7 +5,7 @@ use lot_ledger::Verdict;
 
 /// How a run ended.
 #[derive(Clone, Copy, Debug, PartialEq, Eq)]
-pub(super) enum Status {
+pub enum Status {
     /// Every command was accepted or repeated.
     Accepted,
     /// Some command was refused.

@@ -1,0 +1,4 @@
+pub mod HaltLemmas
+pub mod KeyedLemmas
+pub mod PostLemmas
+pub mod RunLemmas

@@ -1,0 +1,7 @@
+use Rattle.lot_serve.proofs.KeyedLemmas.{TakenIn}
+use Rattle.lot_serve.proofs.keyed.keyed.Given as goal
+
+-- the commands so far were taken in, or skipped
+abbrev pub invariant-loop-index : goal.invariant-loop-index
+invariant-loop-index l =
+    TakenIn l.fn.batch l.fn.from l.fn.commands.items l.index-iterator.iter.rest.items l.index-iterator.count l.keyed.items

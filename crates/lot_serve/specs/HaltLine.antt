@@ -1,0 +1,38 @@
+-- The line that reports why an action ended before its first command, and the status (docs/FORMATS.md, Faults;
+-- docs/RULES.md, The program).
+use Rattle.std.specs.Prelude.{List, ℕ, ◌++◌, codes}
+use Rattle.lot_cli.specs.FaultLine.{fault_line}
+use Rattle.lot_cli.specs.Status.{status_of}
+use Rattle.lot_cli.specs.declared.batch.status.Status.{Status}
+use Rattle.lot_report.specs.Printed.{line}
+use Rattle.lot_serve.specs.declared.halt.Halt.{Halt}
+use Rattle.lot_serve.specs.declared.halt.Halt.TheVariants.{Adopt, Create, Input}
+use Rattle.lot_store.specs.declared.fault.AdoptFault.{AdoptFault}
+use Rattle.lot_store.specs.declared.fault.AdoptFault.TheVariants as adopt
+use Rattle.lot_store.specs.declared.fault.CreateFault.{CreateFault}
+use Rattle.lot_store.specs.declared.fault.CreateFault.TheVariants as create
+
+-- the code and the name of a fault of making a book
+abbrev pub create_name : CreateFault → List ℕ
+create_name create.NotABook = codes "S1 NotABook"
+create_name create.Device = codes "S4 Device"
+create_name create.InDoubt = codes "S5 InDoubt"
+create_name create.Memory = codes "Memory"
+
+-- the code and the name of a fault of taking up a book
+abbrev pub adopt_name : AdoptFault → List ℕ
+adopt_name adopt.NotABook = codes "S1 NotABook"
+adopt_name adopt.NewerEdition = codes "S2 NewerEdition"
+adopt_name adopt.Device = codes "S4 Device"
+adopt_name adopt.Memory = codes "Memory"
+
+abbrev pub halt_line : Halt → List ℕ
+halt_line (Input fault) = fault_line fault
+halt_line (Create fault) = line (codes "fault " ++ create_name fault)
+halt_line (Adopt fault) = line (codes "fault " ++ adopt_name fault)
+
+-- a fault of the input is the input's; one of the store stops the action
+abbrev pub status_of_halt : Halt → Status
+status_of_halt (Input fault) = status_of fault
+status_of_halt (Create fault) = Status.Stopped
+status_of_halt (Adopt fault) = Status.Stopped

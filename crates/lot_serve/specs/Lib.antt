@@ -1,0 +1,4 @@
+pub mod Keyed
+pub mod HaltLine
+pub mod Posts
+pub mod Serve
