@@ -80,15 +80,44 @@ mkfifo "$scratch/pipe"
 wait
 stops "a pipe that is closed before the first line"
 
-# Words aren't built yet: status 2, a message, nothing on standard output, and the input isn't waited for.
-for words in "post" "--help" "init --book f" "''"; do
-    eval "run $words" <"$examples/first-purchase.ledger"
-    if ((status == 2)) && [[ -s $scratch/err && ! -s $scratch/out ]]; then
-        pass "words: $words"
+# Words that can't be used: status 2, a message, nothing on standard output, and the input isn't waited for.
+unusable() {
+    run "${@:2}" <"$examples/first-purchase.ledger"
+    if ((status == 2)) && [[ ! -s $scratch/out ]] && grep -qF -- "$1" "$scratch/err"; then
+        pass "words: ${*:2}"
     else
-        fail "words: $words" "status $status, output '$(head -c 60 "$scratch/out")', message '$(head -c 60 "$scratch/err")'"
+        fail "words: ${*:2}" "status $status, output '$(head -c 60 "$scratch/out")', message '$(head -c 120 "$scratch/err")'"
     fi
-done
+}
+unusable "sell" sell
+unusable "holdings" holdings --book f
+unusable "--batch" post --book f
+unusable "--book" post --batch a
+unusable "--book" init
+unusable "''" ''
+for value in 0 10000001 -1 x ''; do unusable "--from" post --book f --batch a "--from=$value"; done
+unusable "fault U2 BadValue --batch" post --book f --batch a/b
+unusable "fault U2 BadValue --batch" post --book f --batch ''
+unusable "fault U2 BadValue --batch" post --book f --batch 123456789012345678901234567890123
+unusable "--from" post --book f --batch a/b --from 0
+unusable "UTF-8" post --book f --batch $'\xff'
+
+# Help that is asked for: status 0, on standard output, with an example of each word.
+helps() {
+    run "${@:2}" </dev/null
+    if ((status == 0)) && [[ ! -s $scratch/err ]] && grep -qF -- "$1" "$scratch/out"; then
+        pass "help: ${*:2}"
+    else
+        fail "help: ${*:2}" "status $status, output '$(head -c 120 "$scratch/out")', message '$(head -c 60 "$scratch/err")'"
+    fi
+}
+helps "lotbook < " --help
+helps "lotbook < " -h
+helps "lotbook init --book" init --help
+helps "lotbook post --book" post --help
+helps "--from 120" post -h
+"$program" --help </dev/null 2>"$scratch/err" >/dev/full && status=0 || status=$?
+stops "help on a full disk"
 
 # The script `lotbook`, from elsewhere and by links; it hands on words, streams and status.
 program=$root/lotbook

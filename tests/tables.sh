@@ -2,18 +2,7 @@
 # Statements on the tables of a book, as the program `lot_rows_run` answers them. Each file of tests/tables/ has statements, each
 # behind `> `, and below each what it answers. The program prints just this of the statements alone.
 source "$(dirname "$(readlink -f "${BASH_SOURCE[0]}")")/lib/cases.sh"
-home=$root/crates/lot_rows_run
-program=$home/out/lot_rows_run
-
-# Proves and builds the program where the gate hasn't, or where what it runs is newer.
-sources=("$root"/crates/lot_{num,base,inv,booking,command,table,rows,rows_run}/src)
-if [[ ! -x $program || -n $(find "${sources[@]}" -newer "$program" -print -quit) ]]; then
-    if ! (cd "$home" && rt run </dev/null >"$scratch/log" 2>&1) || [[ ! -x $program ]]; then
-        fail "the program" "it can't be built: $(tail -n 3 "$scratch/log" | tr '\n' '|')"
-        finish
-    fi
-    touch "$program"
-fi
+need_crate lot_rows_run
 
 # answers NAME FILE: the program answers the statements of FILE as FILE says.
 answers() {

@@ -30,6 +30,19 @@ need_program() {
     fi
 }
 
+# need_crate NAME: has the program of another crate run from here on. Proves and builds it where the gate hasn't, or where a
+# source is newer.
+need_crate() {
+    local home=$root/crates/$1
+    program=$home/out/$1
+    if [[ -x $program && -z $(find "$root"/crates/*/src -newer "$program" -print -quit) ]]; then return; fi
+    if ! (cd "$home" && rt run </dev/null >"$scratch/log" 2>&1) || [[ ! -x $program ]]; then
+        fail "the program $1" "it can't be built: $(tail -n 3 "$scratch/log" | tr '\n' '|')"
+        finish
+    fi
+    touch "$program"
+}
+
 # run WORDS..: runs the program on this call's standard input. Keeps its output, its messages and its status.
 run() {
     timeout 120 "$program" "$@" >"$scratch/out" 2>"$scratch/err"
@@ -49,9 +62,9 @@ expect() {
     fi
 }
 
-# prints NAME STATUS TEXT: the program, on this call's standard input, ends with STATUS and writes the lines of TEXT.
+# prints NAME STATUS TEXT WORDS..: the program, on this call's standard input, ends with STATUS and writes the lines of TEXT.
 prints() {
-    run
+    run "${@:4}"
     printf '%s\n' "$3" >"$scratch/expected"
     expect "$1" "$2" "$scratch/expected"
 }

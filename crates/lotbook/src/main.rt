@@ -1,21 +1,38 @@
-//! The program `lotbook`: ledger text in, replies and holdings out.
+//! The program `lotbook`: it does what its words ask for.
+//!
+//! - `words`: what they ask for.
+//! - `book`: the book in the file that they name.
+//! - `progress`: how far a run is.
 #![tactic(auto)]
 
-use std::env;
+mod book;
+mod progress;
+mod words;
+
+use crate::words::{Asked, understand};
+use lot_words::Action;
 use std::io::{self, BufWriter};
 use std::process::ExitCode;
 
 fn main(rt: HostRuntime) -> ExitCode {
-    if env::args(&rt).is_ok_and(|words| words.count() > 1) {
-        let _ = eprintln!(rt;
-            "lotbook: the commands init, post, import, holdings, gains and journal are not built yet."
-        );
-        let _ = eprintln!(rt;
-            "Call it without arguments, with ledger text on standard input: lotbook < FILE"
-        );
-        return ExitCode::from(2);
+    ExitCode::from(match understand(&rt) {
+        Asked::Action(action) => act(&rt, &action),
+        Asked::Answered(status) => status,
+    })
+}
+
+/// Does what an action asks for, and returns the status of the program.
+fn act(rt: &HostRuntime, action: &Action) -> u8 {
+    match action {
+        Action::Check => check(rt),
+        Action::Init { book } => book::serve_file(rt, action, book.as_str()),
+        Action::Post { book, .. } => book::serve_existing(rt, action, book.as_str()),
     }
-    let status = match BufWriter::new(rt.alloc(), io::writer(&rt)) {
+}
+
+/// Judges standard input on a fresh book.
+fn check(rt: &HostRuntime) -> u8 {
+    match BufWriter::new(rt.alloc(), io::writer(rt)) {
         Ok(mut output) => {
             let status = lot_cli::check(rt.alloc(), &mut rt.reader(), &mut output);
             // What could not be written is discarded; dropping the buffer would try once more.
@@ -23,7 +40,6 @@ fn main(rt: HostRuntime) -> ExitCode {
             status
         }
         // Without memory for a buffer each line is written at once.
-        Err(_) => lot_cli::check(rt.alloc(), &mut rt.reader(), &mut io::writer(&rt)),
-    };
-    ExitCode::from(status)
+        Err(_) => lot_cli::check(rt.alloc(), &mut rt.reader(), &mut io::writer(rt)),
+    }
 }

@@ -1,0 +1,97 @@
+"""Writes the rows of a book to another file with no rule, a commit for each entry, and prints the milliseconds that one takes.
+
+    plain.py BOOK FILE RUNS
+
+The statements are those of the program; what each entry writes is worked out before the clock begins. The least of some runs
+counts.
+"""
+
+import os
+import sqlite3
+import sys
+import time
+
+PUT = {
+    "account": "INSERT OR REPLACE INTO account (name, opened, closed, method) VALUES (?1, ?2, ?3, ?4)",
+    "entry": "INSERT OR REPLACE INTO entry (number, source, name, body) VALUES (?1, ?2, ?3, ?4)",
+    "leg": "INSERT OR REPLACE INTO leg (entry, posting, place, account, commodity, units, cost_number, cost_currency, cost_day, cost_label) "
+    "VALUES (?1, ?2, ?3, ?4, ?5, ?6, ?7, ?8, ?9, ?10)",
+    "sale": "INSERT OR REPLACE INTO sale (entry, posting, day, account, commodity, units, kind, amount, currency) VALUES (?1, ?2, ?3, ?4, ?5, ?6, ?7, ?8, ?9)",
+    "lot": "INSERT OR REPLACE INTO lot (account, commodity, cost_day, cost_currency, cost_number, cost_label, units) VALUES (?1, ?2, ?3, ?4, ?5, ?6, ?7)",
+    "plain": "INSERT OR REPLACE INTO plain (account, commodity, units) VALUES (?1, ?2, ?3)",
+    "head": "INSERT OR REPLACE INTO head (account, commodity, day) VALUES (?1, ?2, ?3)",
+}
+DROP = {
+    "lot": "DELETE FROM lot WHERE account = ?1 AND commodity = ?2 AND cost_day = ?3 AND cost_currency = ?4 AND cost_number = ?5 AND cost_label = ?6",
+    "plain": "DELETE FROM plain WHERE account = ?1 AND commodity = ?2",
+}
+
+
+def by_entry(db, table):
+    rows = {}
+    for row in db.execute(f"SELECT * FROM {table} ORDER BY entry, posting"):
+        rows.setdefault(row[0], []).append(row)
+    return rows
+
+
+def writes(db):
+    """For each entry the statements that write its rows, in the order in which the program writes them."""
+    legs, sales = by_entry(db, "leg"), by_entry(db, "sale")
+    accounts = iter(db.execute("SELECT name, opened, closed, method FROM account ORDER BY rowid").fetchall())
+    heads = {(account, commodity): day for account, commodity, day in db.execute("SELECT account, commodity, day FROM head")}
+    sums = {}
+    for number, source, name, body in db.execute("SELECT number, source, name, body FROM entry ORDER BY number"):
+        list_ = [(PUT["entry"], (number, source, name, body))]
+        if " open " in body:
+            list_.append((PUT["account"], next(accounts)))
+        changed = {}
+        for leg in legs.get(number, []):
+            list_.append((PUT["leg"], leg))
+            account, commodity, units, rate, currency, day, label = leg[3:]
+            key = (account, commodity) if rate is None else (account, commodity, day, currency, rate, label)
+            sums[key] = sums.get(key, 0) + units
+            changed[key] = sums[key]
+            if rate is not None:
+                changed[account, commodity, "head"] = heads[account, commodity]
+        list_ += [(PUT["sale"], sale) for sale in sales.get(number, [])]
+        for key, value in changed.items():
+            table = {2: "plain", 3: "head"}.get(len(key), "lot")
+            if table == "head":
+                list_.append((PUT["head"], (*key[:2], value)))
+            else:
+                list_.append((PUT[table], (*key, value)) if value else (DROP[table], key))
+        yield list_
+
+
+def run(schema, entries, path):
+    for end in ("", "-wal", "-shm"):
+        if os.path.exists(path + end):
+            os.remove(path + end)
+    db = sqlite3.connect(path, isolation_level=None)
+    db.execute("PRAGMA journal_mode = WAL")
+    db.execute("PRAGMA synchronous = FULL")
+    for statement in schema:
+        db.execute(statement)
+    begun = time.monotonic()
+    for statements in entries:
+        db.execute("BEGIN")
+        for statement, values in statements:
+            db.execute(statement, values)
+        db.execute("COMMIT")
+    taken = time.monotonic() - begun
+    db.close()
+    return taken
+
+
+def main():
+    book, path, runs = sys.argv[1:]
+    db = sqlite3.connect(book)
+    schema = [text for (text,) in db.execute("SELECT sql FROM sqlite_schema WHERE type = 'table'")]
+    entries = list(writes(db))
+    db.close()
+    least = min(run(schema, entries, path) for _ in range(int(runs)))
+    print(f"{1000 * least / len(entries):.4f}")
+
+
+if __name__ == "__main__":
+    main()

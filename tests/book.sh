@@ -1,0 +1,257 @@
+#!/usr/bin/env bash
+# Books in files: they are made and posted to, sent again, stopped at any moment, and looked into by SQLite's own library.
+source "$(dirname "$(readlink -f "${BASH_SOURCE[0]}")")/lib/cases.sh"
+need_program
+
+first=$examples/first-purchase.ledger
+printf '2020-01-01 open Assets:Other\n' >"$scratch/good"
+printf '2020-13-01 open Assets:Other\n' >"$scratch/faulty"
+accepted=$'1 accepted\n2 accepted\n3 accepted'
+
+tables() { python3 -B "$root/tests/book/tables.py" "$@"; }
+
+# makes FILE: a book is made there, as a step of a case.
+makes() { "$program" init --book "$1" </dev/null >/dev/null 2>&1 || fail "a book for a case" "$1"; }
+
+# shows NAME TEXT WORDS..: tables.py prints the lines of TEXT.
+shows() {
+    local found
+    found=$(tables "${@:3}" 2>&1)
+    if [[ $found == "$2" ]]; then pass "$1"; else fail "$1" "$(head -c 200 <<<"$found" | tr '\n' '|')"; fi
+}
+
+# ---- a book, and the same text again
+
+book=$scratch/family.book
+prints "a book is made" 0 "book ready" init --book "$book" </dev/null
+prints "it isn't made again" 4 "fault S1 NotABook" init --book "$book" </dev/null
+prints "a first batch" 0 "$accepted" post --book "$book" --batch a <"$first"
+prints "the same batch again" 0 $'1 repeat\n2 repeat\n3 repeat' post --book "$book" --batch a <"$first"
+prints "its last command again" 0 "3 repeat" post --book "$book" --batch a --from 3 <"$first"
+run post --book "$book" --batch a --from 4 <"$first"
+expect "from behind its end" 0 /dev/null
+run post --book "$book" --batch a </dev/null
+expect "no commands" 0 /dev/null
+prints "the same text as another batch" 1 $'1 refused L2 AlreadyOpen\n2 refused L2 AlreadyOpen\n3 accepted' \
+    post --book "$book" --batch b <"$first"
+prints "another text under a key" 1 "1 refused L1 KeyReused" post --book "$book" --batch a <"$scratch/good"
+prints "a faulty row before the first that is run" 3 "fault line 1 X6 BadDay" post --book "$book" --batch c --from 2 <"$scratch/faulty"
+head -c 16777217 /dev/zero | prints "an input that is too long" 3 "fault K2 TooLong" post --book "$book" --batch c
+prints "an input that can't be read" 3 "fault K1 Read" post --book "$book" --batch c <"$root"
+shows "one lot of 20" "Assets:Broker|HOOL|2000000000" rows "$book" "SELECT account, commodity, units FROM lot"
+shows "four entries" "1|post:a|1
+2|post:a|2
+3|post:a|3
+4|post:b|3" rows "$book" "SELECT number, source, name FROM entry ORDER BY number"
+shows "what is held" $'Assets:Broker 20 HOOL {502.12 USD, 2020-01-02}\nAssets:Cash -10042.40 USD\ntotal cost 10042.40 USD' holdings "$book"
+shows "integrity" ok sound "$book"
+
+# ---- the stored cases, on a file
+
+run_python tests/book/batches.py "$program" "$root/tests/cases" "$scratch"
+
+# ---- files of every kind
+
+# kept FILE: the bytes of a file and of the log beside it, or that they aren't there. A log shorter than a page holds no commit.
+kept() {
+    if [[ -f $1 ]]; then sha256sum <"$1"; else echo none; fi
+    if [[ -f $1-wal ]] && (($(stat -c %s "$1-wal") >= 4096)); then sha256sum <"$1-wal"; else echo none; fi
+}
+
+# on NAME FILE STATUS LINE WORDS..: the program writes the line, and the file is afterwards what it was.
+on() {
+    local before
+    before=$(kept "$2")
+    prints "$1" "$3" "$4" "${@:5}"
+    if [[ $(kept "$2") == "$before" ]]; then pass "$1: the file is as it was"; else fail "$1" "the file changed"; fi
+}
+
+# refused KIND FILE INIT POST: `init`, and `post` with a good and with a faulty text, on a file that is no book.
+refused() {
+    on "init on $1" "$2" 4 "$3" init --book "$2" </dev/null
+    on "post on $1" "$2" 4 "$4" post --book "$2" --batch a <"$scratch/good"
+    on "a faulty text on $1" "$2" 3 "fault line 1 X6 BadDay" post --book "$2" --batch a <"$scratch/faulty"
+}
+
+# closed KIND FILE: nothing is read where the file can't be opened, standard error says why, and the file is as it was.
+closed() {
+    local before
+    before=$(kept "$2")
+    unopened "init on $1" init --book "$2"
+    unopened "post on $1" post --book "$2" --batch a
+    if [[ $(kept "$2") == "$before" ]]; then pass "$1 is as it was"; else fail "$1 is as it was" "it changed"; fi
+}
+mkfifo "$scratch/nothing" && exec 7<>"$scratch/nothing" # an input of which no byte ever comes
+unopened() {
+    timeout 20 "$program" "${@:2}" <&7 >"$scratch/out" 2>"$scratch/err" && status=0 || status=$?
+    if ((status == 4)) && [[ $(<"$scratch/out") == "fault open" && -s $scratch/err ]]; then
+        pass "$1"
+    else
+        fail "$1" "status $status, $(head -n 1 "$scratch/out"), $(head -n 1 "$scratch/err")"
+    fi
+}
+
+missing=$scratch/missing.book
+on "post on a missing file" "$missing" 4 "fault S1 NotABook" post --book "$missing" --batch a <"$scratch/good"
+on "a faulty text on a missing file" "$missing" 3 "fault line 1 X6 BadDay" post --book "$missing" --batch a <"$scratch/faulty"
+if compgen -G "$missing*" >/dev/null; then fail "no file is left" "$(ls "$missing"*)"; else pass "no file is left"; fi
+
+: >"$scratch/empty.book" # opening it makes an empty database of it
+prints "post on an empty file" 4 "fault S1 NotABook" post --book "$scratch/empty.book" --batch a <"$scratch/good"
+on "post on an empty database" "$scratch/empty.book" 4 "fault S1 NotABook" post --book "$scratch/empty.book" --batch a <"$scratch/good"
+on "a faulty text on an empty database" "$scratch/empty.book" 3 "fault line 1 X6 BadDay" \
+    post --book "$scratch/empty.book" --batch a <"$scratch/faulty"
+prints "init on an empty database" 0 "book ready" init --book "$scratch/empty.book" </dev/null
+
+tables foreign "$scratch/taken.db" account
+refused "a database with a table of that name" "$scratch/taken.db" "fault S1 NotABook" "fault S1 NotABook"
+tables foreign "$scratch/other.db" notes
+on "post on a database of another program" "$scratch/other.db" 4 "fault S1 NotABook" \
+    post --book "$scratch/other.db" --batch a <"$scratch/good"
+prints "a book beside other tables" 0 "book ready" init --book "$scratch/other.db" </dev/null
+prints "a batch beside other tables" 0 "1 accepted" post --book "$scratch/other.db" --batch a <"$scratch/good"
+shows "the other table" kept rows "$scratch/other.db" "SELECT content FROM notes"
+
+makes "$scratch/newer.book"
+tables edition "$scratch/newer.book" 9
+refused "a book of edition 9" "$scratch/newer.book" "fault S1 NotABook" "fault S2 NewerEdition"
+makes "$scratch/none.book"
+tables edition "$scratch/none.book" 0
+refused "a book of edition 0" "$scratch/none.book" "fault S1 NotABook" "fault S1 NotABook"
+
+mkdir "$scratch/folder"
+closed "a folder" "$scratch/folder"
+closed "a folder that isn't there" "$scratch/nowhere/family.book"
+unopened "init in a folder that takes no files" init --book /proc/self/family.book
+closed "no path" ""
+head -c 3000 /dev/urandom | base64 >"$scratch/text.book"
+closed "a text file" "$scratch/text.book"
+head -c 5000 "$book" >"$scratch/half.book"
+closed "half a database" "$scratch/half.book"
+
+# Root may do all, so root runs the program as nobody.
+chmod 755 "$scratch" && cp "$program" "$scratch/lotbook"
+cat >"$scratch/unprivileged" <<'END'
+#!/usr/bin/env python3
+import os, sys
+if os.getuid() == 0:
+    os.setgroups([])
+    os.setgid(65534)
+    os.setuid(65534)
+os.execv(os.path.join(os.path.dirname(sys.argv[0]), "lotbook"), ["lotbook", *sys.argv[1:]])
+END
+chmod +x "$scratch/unprivileged"
+cp "$book" "$scratch/locked.book" && chmod 000 "$scratch/locked.book"
+mkdir -m 555 "$scratch/fixed"
+program=$scratch/unprivileged closed "a file without permission" "$scratch/locked.book"
+program=$scratch/unprivileged unopened "init in a folder without permission" init --book "$scratch/fixed/family.book"
+program=$scratch/unprivileged on "post on a missing file in a folder without permission" "$scratch/fixed/family.book" 4 "fault S1 NotABook" \
+    post --book "$scratch/fixed/family.book" --batch a <"$scratch/good"
+
+# ---- two at once
+
+makes "$scratch/shared.book"
+mkfifo "$scratch/slow"
+"$program" post --book "$scratch/shared.book" --batch a <"$scratch/slow" >"$scratch/first" 2>&1 &
+exec 8>"$scratch/slow"
+for _ in {1..200}; do # the other one has opened the file once it is locked
+    timeout 20 "$program" post --book "$scratch/shared.book" --batch b </dev/null >"$scratch/out" 2>"$scratch/err" && status=0 || status=$?
+    if ((status == 4)); then break; fi
+    sleep 0.05
+done
+if ((status == 4)) && [[ $(<"$scratch/out") == "fault open" ]]; then
+    pass "a second post"
+else
+    fail "a second post" "status $status, $(head -n 1 "$scratch/out")"
+fi
+cat "$first" >&8 && exec 8>&-
+wait && [[ $(<"$scratch/first") == "$accepted" ]] && pass "the first post goes on" || fail "the first post goes on" "$(<"$scratch/first")"
+
+# ---- damage
+
+makes "$scratch/damaged.book"
+"$program" post --book "$scratch/damaged.book" --batch a <"$first" >"$scratch/out"
+tables damage "$scratch/damaged.book"
+prints "an opening elsewhere" 0 "1 accepted" post --book "$scratch/damaged.book" --batch b <"$scratch/good"
+printf '2020-02-01 *\n  Assets:Cash 5 USD\n  Assets:Cash\n2020-02-01 open Assets:Third\n' >"$scratch/touching"
+prints "a command that touches the damage" 4 "1 fault S7 Damaged" post --book "$scratch/damaged.book" --batch c <"$scratch/touching"
+shows "nothing of it stands" 4 rows "$scratch/damaged.book" "SELECT count(*) FROM entry"
+
+# ---- a disk without room
+
+# Each command is a commit of some pages, so a limit on the size of files stops a run between two of them.
+awk 'BEGIN { for (n = 0; n < 2000; n++) printf "2020-01-01 open Assets:A%d\n", n }' >"$scratch/many"
+makes "$scratch/full.book"
+(trap '' XFSZ && ulimit -f 600 && exec "$program" post --book "$scratch/full.book" --batch a <"$scratch/many") >"$scratch/out" 2>"$scratch/err"
+status=$?
+last=$(tail -n 1 "$scratch/out") at=$(wc -l <"$scratch/out")
+if ((status == 4)) && [[ $last == "$at fault S4 Device" || $last == "$at fault S5 InDoubt" ]] && ! grep -qv ' accepted$' <(head -n -1 "$scratch/out"); then
+    pass "a disk without room: $last"
+else
+    fail "a disk without room" "status $status, last line '$last'"
+fi
+run post --book "$scratch/full.book" --batch a --from "$at" <"$scratch/many"
+if ((status == 0)) && [[ $(wc -l <"$scratch/out") == $((2001 - at)) ]] && grep -qx "$at accepted\|$at repeat" "$scratch/out"; then
+    pass "sent on with room"
+else
+    fail "sent on with room" "status $status, $(head -n 1 "$scratch/out")"
+fi
+shows "all entries stand" 2000 rows "$scratch/full.book" "SELECT count(*) FROM entry"
+
+# ---- output that can't be written
+
+makes "$scratch/unheard.book"
+"$program" post --book "$scratch/unheard.book" --batch a <"$first" >/dev/full 2>"$scratch/err" && status=0 || status=$?
+if ((status == 4)) && [[ ! -s $scratch/err ]]; then pass "output to a full disk"; else fail "output to a full disk" "status $status"; fi
+prints "the command whose reply couldn't be written stands, and no other" 0 $'1 repeat\n2 accepted\n3 accepted' \
+    post --book "$scratch/unheard.book" --batch a <"$first"
+"$program" init --book "$scratch/unsaid.book" </dev/null >/dev/full 2>"$scratch/err" && status=0 || status=$?
+if ((status == 4)); then pass "making a book with output to a full disk"; else fail "making a book with output to a full disk" "status $status"; fi
+prints "it was made" 4 "fault S1 NotABook" init --book "$scratch/unsaid.book" </dev/null
+
+makes "$scratch/cut.book"
+{ "$program" post --book "$scratch/cut.book" --batch a <"$scratch/many" 2>"$scratch/err" && echo 0 >"$scratch/status" || echo $? >"$scratch/status"; } |
+    head -n 20 >"$scratch/taken"
+seq -f '%g accepted' 20 >"$scratch/expected"
+if [[ $(<"$scratch/status") == 4 && ! -s $scratch/err ]] && cmp -s "$scratch/taken" "$scratch/expected"; then
+    pass "a pipe that is closed in the middle"
+else
+    fail "a pipe that is closed in the middle" "status $(<"$scratch/status"), $(tail -n 1 "$scratch/taken")"
+fi
+run post --book "$scratch/cut.book" --batch a <"$scratch/many"
+if ((status == 0)) && [[ $(head -n 20 "$scratch/out" | grep -c ' repeat$') == 20 && $(wc -l <"$scratch/out") == 2000 ]]; then
+    pass "sent again after it"
+else
+    fail "sent again after it" "status $status, $(wc -l <"$scratch/out") lines"
+fi
+
+# ---- progress
+
+# watched NAME INPUT WANTED WORDS..: standard error is a terminal and the output isn't; what is shown there matches WANTED.
+watched() {
+    local shown
+    shown=$(python3 -c 'import os, pty, sys
+out = os.open(sys.argv[1], os.O_WRONLY | os.O_CREAT | os.O_TRUNC)
+pid, terminal = pty.fork()
+if pid == 0:
+    os.dup2(out, 1)
+    os.dup2(os.open(sys.argv[2], os.O_RDONLY), 0)
+    os.execv(sys.argv[3], sys.argv[3:])
+shown = b""
+try:
+    while part := os.read(terminal, 4096):
+        shown += part
+except OSError:
+    pass
+os.waitpid(pid, 0)
+sys.stdout.write(shown.decode())' "$scratch/out" "$2" "$program" "${@:4}")
+    if [[ $shown =~ $3 ]]; then pass "$1"; else fail "$1" "$(head -c 100 <<<"$shown")"; fi
+}
+makes "$scratch/watched.book"
+watched "progress on a terminal" "$scratch/many" $'^\r[0-9]+ commands, [0-9]+ a second' post --book "$scratch/watched.book" --batch a
+watched "no progress of a short run" "$scratch/good" '^$' post --book "$scratch/watched.book" --batch b
+
+# ---- stops
+
+run_python tests/book/stops.py "$program" "$scratch"
+finish

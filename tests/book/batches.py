@@ -1,0 +1,111 @@
+"""Posts the stored cases to books in files, each in one batch and each command in a batch of its own.
+
+    batches.py PROGRAM FOLDER SCRATCH
+
+The replies are those of the stored answer, with the number 1 where a command is alone, and the tables hold what the stored
+answer prints. A faulty text has its fault, and changes nothing. It prints a line `ok NAME` or `FAILED NAME: ..` for each case.
+"""
+
+import concurrent.futures
+import os
+import subprocess
+import sys
+
+import tables
+
+WAYS = {"in one batch": lambda text: [text], "a batch for each command": lambda text: commands_of(text)}
+
+
+def commands_of(text):
+    """The commands of a ledger text: each begins at a line that isn't indented, and goes on with the indented ones."""
+    parts = []
+    for line in text.removeprefix("\ufeff").split("\n"):
+        if line[:1].isdigit():
+            parts.append(line + "\n")
+        elif line[:1] in (" ", "\t") and parts:
+            parts[-1] += line + "\n"
+    return parts
+
+
+def call(program, words, text=b""):
+    done = subprocess.run([program, *words], input=text, capture_output=True, timeout=120)
+    return done.stdout.decode(), done.stderr.decode(), done.returncode
+
+
+def post(program, book, batch, text):
+    return call(program, ["post", "--book", book, "--batch", batch], text)
+
+
+def make(program, book):
+    """What is wrong with making a book, or nothing."""
+    made = call(program, ["init", "--book", book])
+    return "" if made == ("book ready\n", "", 0) else f"init: {made}"
+
+
+def fault_of(program, book, text, answer, batches):
+    """What is wrong with a case, or nothing."""
+    replies = [line for line in answer if line[:1].isdigit()]
+    if fault := make(program, book):
+        return fault
+    told = []
+    for number, batch in enumerate(batches(text), 1):
+        output, errors, status = post(program, book, f"b{number}", batch.encode())
+        lines = output.splitlines()
+        wanted = int(any(" refused " in line for line in lines))
+        if errors or status != wanted:
+            return f"batch {number}: status {status}, messages '{errors[:60]}'"
+        told += lines
+    if len(told) != len(replies):
+        return f"{len(told)} replies instead of {len(replies)}"
+    for reply, wanted in zip(told, replies):
+        if reply.split(" ", 1)[1] != wanted.split(" ", 1)[1]:
+            return f"'{reply}' instead of '{wanted}'"
+    held = tables.holdings(book)
+    if held != answer[len(replies):]:
+        return f"the tables hold {held[:3]}"
+    return ""
+
+
+def cases(folder):
+    """The path, the text and the stored answer of each case."""
+    for root, _, names in sorted(os.walk(folder)):
+        for name in sorted(name for name in names if name.endswith(".ledger")):
+            path = os.path.join(root, name)
+            with open(path, "rb") as ledger:
+                text = ledger.read()
+            with open(path[: -len("ledger")] + "expected", encoding="utf-8") as expected:
+                yield path, text, expected.read().splitlines()
+
+
+def faulty(program, book, texts):
+    """What is wrong with faulty texts that are posted to a book without entries, or nothing."""
+    if fault := make(program, book):
+        return fault
+    before = tables.contents(book)
+    for path, text, answer in texts:
+        told = post(program, book, "a", text)
+        if told != ("".join(line + "\n" for line in answer), "", 3):
+            return f"{path}: {told}"
+    return "" if tables.contents(book) == before else "the book isn't as it was"
+
+
+def main():
+    program, folder, scratch = sys.argv[1:]
+    stored = list(cases(folder))
+    texts = [case for case in stored if case[2][:1] and case[2][0].startswith("fault ")]
+    judged = [case for case in stored if case not in texts]
+    with concurrent.futures.ThreadPoolExecutor(os.cpu_count()) as pool:
+        jobs = []
+        for path, text, answer in judged:
+            for way, batches in WAYS.items():
+                case = f"{os.path.relpath(path, folder)[: -len('.ledger')]}, {way}"
+                book = os.path.join(scratch, f"case-{case.replace('/', '-').replace(' ', '-')}.book")
+                jobs.append((case, pool.submit(fault_of, program, book, text.decode(), answer, batches)))
+        jobs.append((f"{len(texts)} faulty texts", pool.submit(faulty, program, os.path.join(scratch, "faulty.book"), texts)))
+        for case, job in jobs:
+            fault = job.result()
+            print(f"FAILED {case}: {fault}" if fault else f"ok {case}")
+
+
+if __name__ == "__main__":
+    main()

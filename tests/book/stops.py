@@ -1,0 +1,149 @@
+"""Kills the program at random moments, and sends what it had not replied to again.
+
+    stops.py PROGRAM SCRATCH [--commands N] [--kills N] [--seed N]
+
+The book that is left in the end has the rows of one that was posted to without a stop, and after each stop it has every
+command that was acknowledged. A line `ok NAME` or `FAILED NAME: ..` for each case.
+"""
+
+import argparse
+import os
+import random
+import shutil
+import subprocess
+import time
+
+import tables
+
+CASES = (
+    "2020-01-01 open Assets:Broker \"FIFO\"\n",
+    "2020-01-01 open Assets:Cash\n",
+    "2020-01-01 open Income:Gains\n",
+)
+
+
+def ledger(count):
+    """Purchases, and sales of the oldest lots."""
+    text = list(CASES)
+    for number in range(count - len(CASES)):
+        day = f"2020-{1 + number // 28 % 12:02}-{1 + number % 28:02}"
+        if number % 3 == 2:
+            text.append(f"{day} *\n  Assets:Broker -3 HOOL {{}} @ 130 USD\n  Assets:Cash 390 USD\n  Income:Gains\n")
+        else:
+            text.append(f"{day} *\n  Assets:Broker 2 HOOL {{{100 + number % 7} USD}}\n  Assets:Cash\n")
+    return "".join(text)
+
+
+def post(program, book, path, first):
+    with open(path, "rb") as text:
+        return subprocess.Popen(
+            [program, "post", "--book", book, "--batch", "a", "--from", str(first)],
+            stdin=text, stdout=subprocess.PIPE, stderr=subprocess.PIPE,
+        )
+
+
+def answered(output):
+    """The whole lines of an output, and how many of them say that a command stands in the book."""
+    lines = output.decode().split("\n")[:-1]
+    return lines, sum(line.endswith((" accepted", " repeat")) for line in lines)
+
+
+def entries(book):
+    """How many entries a book has, by a copy of its files: SQLite would mend the files that it looks into."""
+    copy = book + ".copy"
+    for end in ("", "-wal"):
+        if os.path.exists(book + end):
+            shutil.copyfile(book + end, copy + end)
+    with tables.connect(copy) as db:
+        count = db.execute("SELECT count(*) FROM entry").fetchone()[0]
+    for end in ("", "-wal", "-shm"):
+        if os.path.exists(copy + end):
+            os.remove(copy + end)
+    return count
+
+
+def uninterrupted(program, scratch, path):
+    book = os.path.join(scratch, "whole.book")
+    subprocess.run([program, "init", "--book", book], check=True, stdout=subprocess.DEVNULL)
+    begun = time.monotonic()
+    run = post(program, book, path, 1)
+    output, _ = run.communicate(timeout=600)
+    return book, answered(output), time.monotonic() - begun
+
+
+def kill_at(rng, run, most):
+    """Kills a run at a random moment, and returns what it had written by then."""
+    time.sleep(rng.uniform(0, most))
+    run.kill()
+    return run.communicate(timeout=60)[0]
+
+
+def stopped_posts(program, scratch, path, rng, kills, count, took):
+    """One book after another is posted to, killed and sent on, until there were so many stops."""
+    stops = books = 0
+    while stops < kills:
+        books += 1
+        book = os.path.join(scratch, f"stopped-{books}.book")
+        subprocess.run([program, "init", "--book", book], check=True, stdout=subprocess.DEVNULL)
+        first, standing = 1, 0
+        while first <= count:
+            run = post(program, book, path, first)
+            is_last = stops >= kills
+            output = run.communicate(timeout=600)[0] if is_last else kill_at(rng, run, took / 4)
+            stops += run.returncode < 0
+            lines, stood = answered(output)
+            if [line.split(" ")[0] for line in lines] != [str(first + at) for at in range(len(lines))]:
+                return f"replies from {first} on: {lines[:3]}"
+            if any(line.split(" ")[1] not in ("accepted", "repeat", "refused") for line in lines):
+                return f"a line that is no reply: {[line for line in lines if ' fault ' in line][:1]}"
+            first, standing = first + len(lines), standing + stood
+            # One command more than those acknowledged may stand: the one whose reply was cut off.
+            kept = entries(book)
+            if not standing <= kept <= standing + 1:
+                return f"{kept} entries where {standing} were acknowledged"
+        if tables.contents(book) != tables.contents(os.path.join(scratch, "whole.book")):
+            return f"book {books}: other rows than without a stop"
+    return ""
+
+
+def stopped_inits(program, scratch, rng, kills):
+    """A stop while a book is made leaves a file that can be made into a book, or one that is a book."""
+    for number in range(kills):
+        book = os.path.join(scratch, f"init-{number}.book")
+        run = subprocess.Popen([program, "init", "--book", book], stdout=subprocess.PIPE)
+        kill_at(rng, run, 0.03)
+        again = subprocess.run([program, "init", "--book", book], capture_output=True, timeout=60)
+        used = subprocess.run(
+            [program, "post", "--book", book, "--batch", "a"], input=CASES[1].encode(), capture_output=True, timeout=60
+        )
+        if again.stdout not in (b"book ready\n", b"fault S1 NotABook\n") and not again.stderr:
+            return f"init again: {again.stdout}, and no message"
+        if not again.stderr and used.stdout != b"1 accepted\n":
+            return f"post after it: {used.stdout}"
+    return ""
+
+
+def main():
+    parser = argparse.ArgumentParser()
+    parser.add_argument("program")
+    parser.add_argument("scratch")
+    parser.add_argument("--commands", type=int, default=300)
+    parser.add_argument("--kills", type=int, default=100)
+    parser.add_argument("--seed", type=int, default=1)
+    words = parser.parse_args()
+    rng = random.Random(words.seed)
+    path = os.path.join(words.scratch, "stops.ledger")
+    with open(path, "w", encoding="ascii") as text:
+        text.write(ledger(words.commands))
+    book, (lines, stood), took = uninterrupted(words.program, words.scratch, path)
+    fault = "" if len(lines) == words.commands and entries(book) == stood else f"{len(lines)} replies, {entries(book)} entries"
+    print(f"FAILED a run without a stop: {fault}" if fault else "ok a run without a stop")
+    fault = stopped_posts(words.program, words.scratch, path, rng, words.kills, words.commands, took)
+    name = f"killed {words.kills} times, no acknowledged command is lost, and the rows are those of one run"
+    print(f"FAILED {name}: {fault}" if fault else f"ok {name}")
+    fault = stopped_inits(words.program, words.scratch, rng, words.kills)
+    print(f"FAILED killed while a book is made: {fault}" if fault else "ok killed while a book is made")
+
+
+if __name__ == "__main__":
+    main()
