@@ -4,8 +4,8 @@
 set -u -o pipefail
 
 cd "$(dirname "$(readlink -f "${BASH_SOURCE[0]}")")" || exit 1
-. lib/runs.sh
 . lib/books.sh
+. lib/runs.sh
 
 # purchases FIRST COUNT: so many purchases, one lot each.
 purchases() {

@@ -5,8 +5,8 @@
 set -u -o pipefail
 
 cd "$(dirname "$(readlink -f "${BASH_SOURCE[0]}")")" || exit 1
-. lib/runs.sh
 . lib/books.sh
+. lib/runs.sh
 
 # ledger PAIRS COMMANDS DAY: the accounts where DAY is 1; then purchases of so many commodities in turn, from that day on.
 ledger() {
@@ -46,7 +46,7 @@ echo "10,000 commands, beside a program that writes the same rows with Python's 
 "$program" init --book "$scratch/none.book" >/dev/null
 { ledger 1000 3 1 | head -n 3 && ledger 500 5000 2 && trades 500 5000; } >"$scratch/text"
 one=$(each "$scratch/none.book" "$scratch/text" 10003)
-plain=$(python3 -B book/plain.py "$scratch/copy.book" "$scratch/plain.book" 3)
+plain=$(python3 -B bench/book/plain.py "$scratch/copy.book" "$scratch/plain.book" 3)
 printf '%-12s %12s %9s\n' "" milliseconds ratio
 printf '%-12s %12s %9s\n' "rows alone" "$plain" 1.00
 printf '%-12s %12s %9s\n' post "$one" "$(ratio "$one" "$plain")"

@@ -1,4 +1,4 @@
-# What the scripts here share that post to books in files. It is sourced by them, in their own folder, after `runs.sh`.
+# What the scripts here share that post to books in files. It is sourced by them, in their own folder, before `runs.sh`.
 
 # millis WORDS..: the milliseconds of a call of the program on this call's standard input, by the clock.
 millis() {
