@@ -1,5 +1,5 @@
 -- In an account whose method isn't NONE the lots of a commodity have one sign.
-use Rattle.std.specs.Prelude.{◌≡◌, ◌≢◌, ℕ, suc, ◌&&◌, Bool, true, false, cond, List, [], ◌∷◌, ◌++◌, Option, None, Some, ℤ, pos}
+use Rattle.std.specs.Prelude.{◌≡◌, ◌≢◌, ℕ, suc, ◌&&◌, Bool, true, false, cond, is_none, List, [], ◌∷◌, ◌++◌, Option, None, Some, ℤ, pos}
 use Rattle.std.specs.FinMap.{empty, get-empty}
 use Rattle.std.specs.List.{All as AllOf, Contains}
 use Rattle.std.specs.Option.{option_map, option_or, unwrap_or}
@@ -145,11 +145,11 @@ filled_signed account held entry (first ∷ more) rs signed = fill_signed accoun
 
 -- ---- The method of an account doesn't change.
 
-method_by : Option OpeningOf → Method
+pub method_by : Option OpeningOf → Method
 method_by None = Strict
 method_by (Some o) = o.method
 
-method_is : (closed : Option ℤ) (opening : Option OpeningOf) → method_of (option_map (standing_by closed) opening) ≡ method_by opening
+pub method_is : (closed : Option ℤ) (opening : Option OpeningOf) → method_of (option_map (standing_by closed) opening) ≡ method_by opening
 unfolding method_by
 method_is closed None = refl
 method_is closed (Some o) = refl
@@ -158,7 +158,7 @@ or_then : {X : Type 0} (a b c : Option X) → option_or a (option_or b c) ≡ op
 or_then None b c = refl
 or_then (Some x) b c = refl
 
-opening_then : (before more : List Entry) (account : List ℕ)
+pub opening_then : (before more : List Entry) (account : List ℕ)
     → opening_of (before ++ more) account ≡ option_or (opening_of before account) (opening_of more account)
 opening_then [] more account = refl
 opening_then (entry ∷ before) more account =
@@ -176,6 +176,13 @@ may_before : (first then : Option OpeningOf) → method_by (option_or first then
 unfolding method_by
 may_before None then other = refl
 may_before (Some o) then other = may_match o.method other
+
+-- what was opened under NONE takes no lots away
+pub stays_unmatched : (closed : Option ℤ) (first then : Option OpeningOf) → is_none (option_map (standing_by closed) first) ≡ false
+    → method_by (option_or first then) ≡ Unmatched → may_reduce (method_of (option_map (standing_by closed) first)) ≡ false
+unfolding method_by
+stays_unmatched closed None then known none = cc
+stays_unmatched closed (Some o) then known none = ap may_reduce none
 
 -- ---- Books.
 

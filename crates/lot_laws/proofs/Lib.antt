@@ -15,5 +15,7 @@ pub mod LawOneSign
 pub mod LawKeys
 pub mod LawCosts
 pub mod LawSales
+pub mod LawLeft
+pub mod LawNone
 pub mod JudgedLaws
 pub mod GainLaws

@@ -65,7 +65,7 @@ later-given (Some latest) day e = ap Some (by (int_lt latest day) refl)
 
 -- ---- what an accepted transaction says of its day
 
-none_refused : (facts : Facts) (t : TransactionOf) (legs : List Leg) (refused : Option Refusal)
+pub none_refused : (facts : Facts) (t : TransactionOf) (legs : List Leg) (refused : Option Refusal)
     → JudgesTransaction facts t refused (Accept legs) → refused ≡ None
 none_refused facts t legs None judges = refl
 none_refused facts t legs (Some refusal) judges = cc
@@ -77,11 +77,11 @@ last_none [] (Some refusal) e = cc
 last_none (None ∷ conditions) condition e = last_none conditions condition e
 last_none (Some refusal ∷ conditions) condition e = cc
 
-not_mapped : {X Y : Type 0} (f : X → Y) (o : Option X) → option_map f o ≡ None → o ≡ None
+pub not_mapped : {X Y : Type 0} (f : X → Y) (o : Option X) → option_map f o ≡ None → o ≡ None
 not_mapped f None e = refl
 not_mapped f (Some x) e = cc
 
-none_passes : {X : Type 0} (p : X → Bool) (xs : List X) (k : ℕ) (x : X) → position p xs ≡ None → k < length xs
+pub none_passes : {X : Type 0} (p : X → Bool) (xs : List X) (k : ℕ) (x : X) → position p xs ≡ None → k < length xs
     → p (get_or xs k x) ≡ false
 none_passes p xs k x e below = fails_before_first p xs k x (elim (cases_lt (position_or_len p xs) (length xs)) [
   | inl found ↦ absurd (by (position_or_len p xs) (length xs) found e)

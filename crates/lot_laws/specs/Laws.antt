@@ -1,5 +1,5 @@
 -- The laws of books.
-use Rattle.std.specs.Prelude.{◌≡◌, ℕ, ◌&&◌, Bool, false, if◌then◌else◌, List, [], ◌∷◌, ◌++◌, map, filter, Option, None, Some, ℤ, pos, ◌*ℤ◌, int_lt, neg_ℤ}
+use Rattle.std.specs.Prelude.{◌≡◌, ℕ, ◌&&◌, Bool, false, not, if◌then◌else◌, List, [], ◌∷◌, ◌++◌, map, filter, Option, None, Some, ℤ, pos, ◌*ℤ◌, int_lt, neg_ℤ}
 use Rattle.std.specs.List.{AllByRecursion, IsDistinct}
 use Rattle.lot_num.specs.Sum.{sum_of}
 use Rattle.lot_base.specs.Text.{same_text}
@@ -12,11 +12,13 @@ use Rattle.lot_command.specs.declared.transaction.Amount.{Amount}
 use Rattle.lot_command.specs.declared.transaction.Posting.{Posting}
 use Rattle.lot_command.specs.declared.transaction.Transaction.{Transaction as TransactionOf}
 use Rattle.lot_book.specs.declared.leg.Leg.{Leg}
+use Rattle.lot_book.specs.declared.leg.Position.{Position}
 use Rattle.lot_book.specs.Balance.{weight_of, weights_in}
 use Rattle.lot_book.specs.Book.{after}
-use Rattle.lot_book.specs.Booking.{All, Booked, BooksAll}
+use Rattle.lot_book.specs.Booking.{All, Booked, BooksAll, legs_in}
 use Rattle.lot_book.specs.Currencies.{sum_in}
 use Rattle.lot_book.specs.Facts.{Entry, Facts, facts_of, is_at_cost, posts_at_cost, same_key}
+use Rattle.lot_book.specs.Leg.{sum_at}
 use Rattle.lot_book.specs.Step.{Outcome, Step, all_legs, fill_legs}
 
 -- ---- Balance.
@@ -125,3 +127,18 @@ is_booked_at_cost account commodity booked = same_text account booked.account &&
 -- the weights of the booked postings with braces, of the account and the commodity
 abbrev pub weights_at_cost : List ℕ → List ℕ → List Booked → List (List ℕ × ℤ)
 weights_at_cost account commodity booked = weights_in (filter (is_booked_at_cost account commodity) booked)
+
+-- ---- What becomes of a lot. A booked posting takes lots away, and is a sale, or it adds to a lot, or it is plain.
+
+-- the position of a lot
+abbrev pub lot_at : List ℕ → List ℕ → LotKey → Position
+lot_at account commodity lot = record { account = account; commodity = commodity; lot = Some lot }
+
+-- what was ever bought into a lot: the units of the legs there of all postings that take no lots away
+abbrev pub bought_into : List Booked → Position → ℤ
+bought_into booked lot = sum_at (legs_in (filter (λ (b : Booked). not b.reduces) booked)) lot
+
+-- what was ever sold of it: the units of the legs there of all postings that take lots away, with their sign, which is below
+-- zero where what they take is above it
+abbrev pub sold_of : List Booked → Position → ℤ
+sold_of booked lot = sum_at (legs_in (filter (λ (b : Booked). b.reduces) booked)) lot

@@ -1,5 +1,5 @@
 //! Laws of books: of their entries, of what they hold, and of what judging commands leaves.
-ghost use Rattle.std.specs.Prelude.{◌≡◌, ◌≢◌, ℕ, ℤ, true, Some, List, [], ◌∷◌, ◌++◌, ◌+ℤ◌, neg_ℤ};
+ghost use Rattle.std.specs.Prelude.{◌≡◌, ◌≢◌, ℕ, ℤ, pos, true, Some, List, [], ◌∷◌, ◌++◌, ◌+ℤ◌, neg_ℤ};
 ghost use Rattle.lot_booking.specs.declared.method.Method.TheVariants.{Unmatched};
 ghost use Rattle.lot_command.specs.Canonical.{canonical};
 ghost use Rattle.lot_command.specs.declared.command.Command.{Command};
@@ -17,7 +17,7 @@ ghost use Rattle.lot_book.specs.Currencies.{sum_in};
 ghost use Rattle.lot_book.specs.Facts.{Entry, facts_of, legs_of, standing_of, text_under};
 ghost use Rattle.lot_book.specs.Judged.{JudgesAll as JudgesNumbered};
 ghost use Rattle.lot_laws.specs.Laws.{BooksEntries, HaveOneKeyEach, HaveOneSign, IsBalanced, JudgesAll};
-ghost use Rattle.lot_laws.specs.Laws.{bought, cost_in, sold, weights_at_cost};
+ghost use Rattle.lot_laws.specs.Laws.{bought, bought_into, cost_in, lot_at, sold, sold_of, weights_at_cost};
 ghost use Rattle.lot_book.specs.Leg.{inventory_of, legs_at_lots, sum_at};
 ghost use Rattle.lot_book.specs.Sale.{AreLegsOf};
 ghost use Rattle.lot_book.specs.Step.{Accept, Outcome, Repeat, Step};
@@ -90,6 +90,23 @@ pub fn the_legs_of_a_sale_add_up_to_its_units()
     ensures { (line : Line) (booked : Booked) → IsBooked line booked → booked.reduces ≡ true
         → (lots : List (LotKey × ℤ)) × AreLegsOf line.amount.units lots
         × (booked.legs ≡ legs_at_lots line.entry line.place line.account line.amount.commodity 0 lots) }
+{}
+
+/// In every book, what was bought into a lot and what was sold of it, with its sign, add up to what is left of it. All three
+/// are sums over all entries: a lot that was sold out may be opened again under its key.
+pub fn what_was_bought_into_a_lot_is_sold_or_left()
+    ensures { (entries : List Entry) (booked : List Booked) (account commodity : List ℕ) (lot : LotKey)
+        → BooksEntries [] entries booked
+        → units_at (inventory_of (legs_of entries) account) (commodity, Some lot)
+        ≡ bought_into booked (lot_at account commodity lot) +ℤ sold_of booked (lot_at account commodity lot) }
+{}
+
+/// In every book nothing is sold of a lot of an account whose method is NONE: what is held of it is what was bought, where a
+/// posting of the other sign counts with its sign.
+pub fn nothing_is_sold_under_none()
+    ensures { (entries : List Entry) (booked : List Booked) (account commodity : List ℕ) (lot : LotKey)
+        → IsBook entries → BooksEntries [] entries booked → method_of (standing_of entries account) ≡ Unmatched
+        → sold_of booked (lot_at account commodity lot) ≡ pos 0 }
 {}
 
 /// Commands, each under the key of its number, are judged in one way: there is one list of verdicts, and one list of

@@ -4,4 +4,5 @@ pub mod TotalLemmas
 pub mod EachLemmas
 pub mod FedLemmas
 pub mod GainLemmas
+pub mod GainLaws
 pub mod HoldingLemmas

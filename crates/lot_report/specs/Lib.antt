@@ -4,4 +4,5 @@ pub mod Written
 pub mod Journal
 pub mod Fed
 pub mod Gains
+pub mod Proceeds
 pub mod Holdings

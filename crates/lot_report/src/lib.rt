@@ -8,12 +8,14 @@
 //! - `totals`: sums of amounts in each of their currencies.
 //! - `lot`: the line of units in a lot, and their value.
 //! - `line`: how a line reaches the writer.
+//! - `laws`: of the sums of reports.
 #![tactic(auto)]
 
 mod fault;
 mod gains;
 mod holdings;
 mod journal;
+pub mod laws;
 mod line;
 mod lot;
 mod reply;
