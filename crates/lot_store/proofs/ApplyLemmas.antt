@@ -1,5 +1,5 @@
 -- Applying a command: what is judged on a view, and what its writes come to.
-use Rattle.std.proofs.Common.{◌≡◌, ◌∙◌, None, Ok, Err, IsTrue, List, [], ◌∷◌, ◌++◌, All, refl, sym, subst, arith}
+use Rattle.std.proofs.Common.{◌≡◌, ◌∙◌, ◌⊎◌, inl, inr, false, None, Ok, Err, IsTrue, List, [], ◌∷◌, ◌++◌, All, refl, sym, subst, arith}
 use Rattle.sqlite.specs.Effect.{Database}
 use Rattle.sqlite.specs.State.{HasCleanDisk, IsUnchanged, KeepsCommit, State, Survives}
 use Rattle.sqlite.proofs.StateLemmas.{survives_then}
@@ -22,12 +22,14 @@ use Rattle.lot_laws.proofs.StepLooks.{same_decision}
 use Rattle.lot_print.specs.Sayable.{IsSayable}
 use Rattle.lot_ledger.specs.Decide.{Comes, Lists, StopsStep}
 use Rattle.lot_ledger.specs.declared.decision.Outcome.TheVariants as decided
+use Rattle.lot_record.specs.Call.{Stops}
 use Rattle.lot_record.specs.Write.{AreFit, IsGood, written_all}
-use Rattle.lot_record.specs.Writes.{ListsInOrder, writes_of}
+use Rattle.lot_record.specs.Writes.{AreNumbered, ListsInOrder, writes_of}
 use Rattle.lot_rows.specs.Tables.{Has, Tables, layout}
 use Rattle.lot_record.specs.declared.write.Write.{Write}
 use Rattle.lot_table.specs.Book.{Holds}
-use Rattle.lot_store.specs.Apply.{Applies, MayAdd, MayWrite, WritesDown, apply_fault_of}
+use Rattle.lot_table.specs.Statement.{DiskFailed}
+use Rattle.lot_store.specs.Apply.{Applies, HasNoRoomFor, MayAdd, MayWrite, RefusedByDevice, WritesDown, apply_fault_of}
 use Rattle.lot_store.specs.Session.{LeavesEntry}
 use Rattle.lot_store.specs.declared.book.Ack.TheVariants as ack
 use Rattle.lot_store.specs.declared.fault.ApplyFault.TheVariants.{Failed, Refused}
@@ -216,3 +218,35 @@ module _ (law : KeepsBook) (key : Key) (command : Command) (known : Facts) (chan
     crash = survives_then old mid new (λ _. ⊥) (MayWrite {A = Unit {0}} writes mid (Err fault)) (MayAdd key command old (Err (Failed fault))) (λ clean db none. absurd none)
         (λ clean db written. may_add (omega (arith, clean, crash.clean)) fault db written) looked crash;
   }
+
+  pub refused : HasCleanDisk mid → ((tables : Tables) → AreFit writes tables → Has mid tables → DiskFailed mid new ⊎ Stops writes tables new)
+      → RefusedByDevice key command old new
+  refused clean cause entries stands = by_cause (cause stands.tables (fit clean entries stands) (has_then clean stands.tables stands.has))
+    where
+      open_shut : (s : State) → IsTrue s.is_open → s.is_open ≡ false → ⊥
+      open_shut s opened shut = cc
+
+      by_cause : DiskFailed mid new ⊎ Stops writes stands.tables new → DiskFailed old new ⊎ HasNoRoomFor key command entries stands.tables new
+      by_cause (inl (inl more)) = inl (inl (omega (arith, more, looked.counts)))
+      by_cause (inl (inr shut)) = absurd (open_shut mid (same clean).0.is_open shut)
+      by_cause (inr stops) = inr (record {
+        known = known;
+        change = change;
+        agrees = agrees clean stands.tables stands.has entries stands.book stands.stand;
+        accepted = (decides, lists);
+        lacks = inr (subst (λ w. Stops w stands.tables new) are stops);
+      })
+
+-- ---- no row is written
+
+-- a number of what is accepted doesn't fit its column
+pub refused_number : (key : Key) (command : Command) (known : Facts) (change : Change) (old mid : State) → Comes known command (decided.Accept change)
+    → ((tables : Tables) → Has old tables → (entries : List Entry) → IsBook entries → StandFor tables entries → Agrees known (facts_of entries key) command)
+    → ¬ AreNumbered change → RefusedByDevice key command old mid
+refused_number key command known change old mid comes agrees numbers entries stands = inr (record {
+  known = known;
+  change = change;
+  agrees = agrees stands.tables stands.has entries stands.book stands.stand;
+  accepted = comes;
+  lacks = inl numbers;
+})

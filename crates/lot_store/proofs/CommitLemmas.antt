@@ -1,12 +1,19 @@
 -- A commit over what a transaction wrote, whatever that is.
-use Rattle.std.proofs.Common.{◌≡◌, ◌∙◌, inl, inr, true, refl, sym, subst, arith}
+use Rattle.std.proofs.Common.{◌≡◌, ◌∙◌, ◌⊎◌, inl, inr, true, false, IsTrue, List, refl, sym, subst, arith}
 use Rattle.sqlite.specs.Held.{Held, state}
 use Rattle.sqlite.specs.State.{HasCleanDisk, KeepsCommit, State, Survives}
 use Rattle.sqlite.specs.Store.{Ghosts}
 use Rattle.sqlite.specs.Tree.{Trees}
 use Rattle.sqlite.proofs.Callers.{survives_begin}
 use Rattle.sqlite.proofs.StateLemmas.{survives_then, survives_weaker}
+use Rattle.lot_record.specs.Call.{Stops}
+use Rattle.lot_record.specs.declared.write.Write.{Write}
+use Rattle.lot_rows.specs.Tables.{Has, Tables}
 use Rattle.lot_table.specs.Book.{IsUndone}
+use Rattle.lot_table.specs.Statement.{DiskFailed}
+use Rattle.lot_table.specs.declared.fault.Fault as table
+use Rattle.lot_store.specs.Apply.{store_fault_of}
+use Rattle.lot_store.specs.declared.fault.StoreFault.TheVariants.{Device}
 
 -- a call that does nothing leaves what could be left
 pub survives_same : (s : State) (P : Trees → Type 0) → Survives s s P
@@ -38,3 +45,40 @@ keeps_undone a b (inr undone) = record { was_open = undone.was_open; committed =
 
 pub keeps_then : (a b c : State) → KeepsCommit a b → KeepsCommit b c → KeepsCommit a c
 keeps_then a b c p q = record { was_open = λ h. p.was_open (q.was_open h); committed = λ h. q.committed h ∙ p.committed (q.was_open h) }
+
+-- ---- why a device refuses
+
+pub of_device : (fault : table.Fault) → store_fault_of fault ≡ Device → fault ≡ table.TheVariants.Device
+of_device table.TheVariants.Device is = refl
+of_device table.TheVariants.Damaged is = cc
+of_device table.TheVariants.Memory is = cc
+
+-- outside a transaction nothing is said of what the writes had made
+stops_undone : (writes : List Write) (tables : Tables) (a b : State) → b.in_transaction ≡ false → Stops writes tables a → Stops writes tables b
+stops_undone writes tables a b outside stops = record {
+  made = stops.made;
+  next = stops.next;
+  left = stops.left;
+  trees = stops.trees;
+  split = stops.split;
+  holds = stops.holds;
+  lacks = stops.lacks;
+  stands = λ inside. absurd (inside_outside b inside outside);
+}
+  where
+    inside_outside : (s : State) → IsTrue s.in_transaction → s.in_transaction ≡ false → ⊥
+    inside_outside s inside outside = cc
+
+-- what refused the writes of a transaction refused them for a caller who has it rolled back
+pub refused_undone : {S : Type 0} (g : Ghosts S) (old begun last end : Held S) (writes : List Write) (tables : Tables) → begun ≡ record old { in_transaction = true }
+    → (HasCleanDisk (state g last) → Has (state g begun) tables → DiskFailed (state g begun) (state g last) ⊎ Stops writes tables (state g last))
+    → Survives (state g last) (state g end) (λ _. ⊥) → end.in_transaction ≡ false → HasCleanDisk (state g end)
+    → Has (state g old) tables → DiskFailed (state g old) (state g end) ⊎ Stops writes tables (state g end)
+refused_undone g old begun last end writes tables is refused undone outside clean has =
+    by_cause (subst (λ h. Has (state g h) tables → DiskFailed (state g h) (state g last) ⊎ Stops writes tables (state g last)) is
+    (refused (omega (arith, clean, undone.clean))) has)
+  where
+    by_cause : DiskFailed (state g old) (state g last) ⊎ Stops writes tables (state g last) → DiskFailed (state g old) (state g end) ⊎ Stops writes tables (state g end)
+    by_cause (inl (inl more)) = inl (inl (omega (arith, more, undone.counts)))
+    by_cause (inl (inr shut)) = inl (inr shut)
+    by_cause (inr stops) = inr (stops_undone writes tables (state g last) (state g end) outside stops)

@@ -1,6 +1,7 @@
 -- What a step leaves, whichever row it reads.
-use Rattle.std.proofs.Common.{◌≡◌, ◌⊎◌, inl, inr, ◌∙◌, IsTrue, sym}
-use Rattle.sqlite.specs.State.{IsRolledBack, State}
+use Rattle.std.proofs.Common.{◌≡◌, ◌⊎◌, inl, inr, ◌∙◌, sym}
+use Rattle.sqlite.specs.State.{IsRolledBack, IsUnchanged, State}
+use Rattle.lot_table.specs.Book.{IsUndone}
 use Rattle.lot_page.specs.Cursor.{Stays}
 use Rattle.lot_store.specs.Step.{StaysOrGoesBack}
 
@@ -33,3 +34,15 @@ left_then old mid new same left = record {
     from : (new.now ≡ mid.now) ⊎ (new.now ≡ mid.committed) → (new.now ≡ old.now) ⊎ (new.now ≡ old.committed)
     from (inl is) = inl (is ∙ same.now)
     from (inr is) = inr (is ∙ same.committed)
+
+pub unchanged_left : (old new : State) → IsUnchanged old new → StaysOrGoesBack old new
+unchanged_left old new same = record {
+  mode = λ off. same.0.mode ∙ off;
+  was_open = λ opened. same.0.was_open;
+  now = λ opened. inl same.0.now_is;
+  committed = λ opened. same.0.committed_is;
+}
+
+pub undone_by : (old new : State) → IsUndone old new → StaysOrGoesBack old new
+undone_by old new (inl same) = unchanged_left old new same
+undone_by old new (inr back) = undone_left old new (inr back)

@@ -1,18 +1,25 @@
 -- What applying one command says of a book in a file.
-use Rattle.std.specs.Prelude.{◌≡◌, IfSome, IsTrue, List, None, Ok, Err, Option, Result, Some}
+use Rattle.std.specs.Prelude.{◌≡◌, ◌⊎◌, IfSome, IsTrue, List, None, Ok, Err, Option, Result, Some}
 use Rattle.sqlite.specs.State.{HasCleanDisk, IsUnchanged, KeepsCommit, State, Survives}
 use Rattle.sqlite.specs.Tree.{Trees}
 use Rattle.lot_command.specs.declared.command.Command.{Command}
 use Rattle.lot_command.specs.declared.key.Key.{Key}
-use Rattle.lot_book.specs.Facts.{Entry}
+use Rattle.lot_book.specs.Agree.{Agrees}
+use Rattle.lot_book.specs.Facts.{Entry, Facts, facts_of}
 use Rattle.lot_book.specs.Judged.{Judges}
+use Rattle.lot_book.specs.declared.change.Change.{Change}
 use Rattle.lot_book.specs.declared.verdict.Verdict.{Verdict}
 use Rattle.lot_book.specs.declared.verdict.Verdict.TheVariants as verdict
 use Rattle.lot_filed.specs.StandFor.{Stands}
+use Rattle.lot_ledger.specs.Decide.{Comes}
+use Rattle.lot_ledger.specs.declared.decision.Outcome.TheVariants.{Accept}
+use Rattle.lot_record.specs.Call.{Stops as StopsWriting}
 use Rattle.lot_record.specs.Write.{AreFit, written_all}
+use Rattle.lot_record.specs.Writes.{AreNumbered, writes_of}
 use Rattle.lot_record.specs.declared.write.Write.{Write}
 use Rattle.lot_rows.specs.Tables.{Has, Tables, layout}
 use Rattle.lot_table.specs.Book.{Holds}
+use Rattle.lot_table.specs.Statement.{DiskFailed}
 use Rattle.lot_table.specs.declared.fault.Fault as table
 use Rattle.lot_book.specs.declared.refusal.Stop.{Stop}
 use Rattle.lot_book.specs.declared.refusal.Stop.TheVariants as stop
@@ -125,3 +132,19 @@ pub record Applies (key : Key) (command : Command) (old new : State) (result : R
   -- damage is found only in tables that stand for no book
   pub damaged : HasCleanDisk new → result ≡ Err (Failed Damaged) → (entries : List Entry) → ¬ Stands old entries
   pub crash : Survives old new (MayAdd key command old result)
+
+-- ---- a device that refuses
+
+-- The database has no room for what a command writes that is accepted on facts which agree with the book's: a number of it
+-- doesn't fit its column, or a row its table.
+pub record HasNoRoomFor (key : Key) (command : Command) (entries : List Entry) (tables : Tables) (new : State) : Type 0 where
+  pub known : Facts
+  pub change : Change
+  pub agrees : Agrees known (facts_of entries key) command
+  pub accepted : Comes known command (Accept change)
+  pub lacks : (¬ AreNumbered change) ⊎ StopsWriting (writes_of known key command change) tables new
+
+-- the device refuses a command of a book only where the disk failed, or the database has no room
+abbrev pub RefusedByDevice : Key → Command → State → State → Type 0
+RefusedByDevice key command old new =
+    (entries : List Entry) (stands : Stands old entries) → DiskFailed old new ⊎ HasNoRoomFor key command entries stands.tables new

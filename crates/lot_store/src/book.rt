@@ -1,5 +1,5 @@
 ghost use Rattle.std.specs.Prelude.{◌≡◌, ◌≢◌, ◌↔◌, false, Err, IsTrue, None, OnErr};
-ghost use Rattle.lot_store.specs.Apply.{Applies, condition_after, ready_of};
+ghost use Rattle.lot_store.specs.Apply.{Applies, RefusedByDevice, condition_after, ready_of};
 ghost use Rattle.lot_store.specs.Step.{LeavesTables, Steps, condition_from};
 ghost use Rattle.lot_store.specs.declared.fault.ApplyFault.TheVariants.{Failed};
 ghost use Rattle.lot_table.specs.Statement.{DiskFailed};
@@ -49,13 +49,16 @@ pub struct Book<S: Alter> {
 impl<S: Alter> Book<S> {
     /// Applies a command under a key: judges it on the book, and makes it an entry in one commit where it is accepted.
     ///
-    /// It reads and writes only the rows that the command touches. After `Device` and `InDoubt`, and only then, the book
+    /// It reads and writes only the rows that the command touches. On a book `Device` comes only where the disk failed, or
+    /// the database has no room for what the command writes. After `Device` and `InDoubt`, and only then, the book
     /// needs reopening, and each further call returns `NeedsReopen`.
     pub fn apply(&mut self, key: &Key, command: &Command) -> Result<Ack, ApplyFault>
         ensures applies { Applies key.now command.now (state S.Store self.old.conn) (state S.Store self.new.conn) result }
         // With the connection open a crash leaves the last commit, and nothing else.
         ensures safe { IsTrue (state S.Store self.new.conn).is_open → (trees : Trees) → (state S.Store self.new.conn).may_leave trees
             → trees ≡ (state S.Store self.new.conn).committed.trees }
+        ensures device { HasCleanDisk (state S.Store self.new.conn) → result ≡ Err (Failed StoreFault.Device)
+            → RefusedByDevice key.now command.now (state S.Store self.old.conn) (state S.Store self.new.conn) }
         ensures in_doubt { HasCleanDisk (state S.Store self.new.conn) → result ≡ Err (Failed StoreFault.InDoubt)
             → DiskFailed (state S.Store self.old.conn) (state S.Store self.new.conn) }
         ensures reopen { (result ≡ Err (Failed StoreFault.NeedsReopen)) ↔ (self.old.condition ≡ Condition.NeedsReopen) }
@@ -146,6 +149,8 @@ fn apply_to<S: Alter>(
     requires unlimited { conn.old.step_limit ≡ None }
     ensures outside { HasCleanDisk (state S.Store conn.new) → conn.new.in_transaction ≡ false }
     ensures applies { Applies key.now command.now (state S.Store conn.old) (state S.Store conn.new) result }
+    ensures device { HasCleanDisk (state S.Store conn.new) → result ≡ Err (Failed StoreFault.Device)
+        → RefusedByDevice key.now command.now (state S.Store conn.old) (state S.Store conn.new) }
     ensures in_doubt { HasCleanDisk (state S.Store conn.new) → result ≡ Err (Failed StoreFault.InDoubt) → DiskFailed (state S.Store conn.old) (state S.Store conn.new) }
     ensures usable { result ≢ Err (Failed StoreFault.NeedsReopen) }
 {

@@ -1,8 +1,9 @@
-ghost use Rattle.std.specs.Prelude.{◌≡◌, ◌≢◌, false, Err, IsTrue, None, OnErr, OnOk};
+ghost use Rattle.std.specs.Prelude.{◌≡◌, ◌≢◌, ◌⊎◌, false, Err, IsTrue, None, OnErr, OnOk};
+ghost use Rattle.lot_record.specs.Call.{Stops};
 ghost use Rattle.lot_record.specs.Write.{AreFit};
 ghost use Rattle.lot_rows.specs.Tables.{Has, Tables};
 ghost use Rattle.lot_store.specs.Apply.{MayWrite, WritesDown, commit_outcome};
-ghost use Rattle.lot_store.specs.declared.fault.StoreFault.TheVariants.{Damaged, InDoubt, NeedsReopen};
+ghost use Rattle.lot_store.specs.declared.fault.StoreFault.TheVariants.{Damaged, Device, InDoubt, NeedsReopen};
 ghost use Rattle.lot_table.specs.Statement.{DiskFailed};
 ghost use Rattle.sqlite.specs.Held.{state};
 ghost use Rattle.sqlite.specs.State.{HasCleanDisk, KeepsCommit, Survives};
@@ -13,7 +14,8 @@ use sqlite::{Alter, Connection, Error, ErrorCode};
 
 /// Writes rows in one commit.
 ///
-/// After `InDoubt` the commit was made or not; after `Memory` it wasn't, but a crash may leave it. After any error the last
+/// `Device` comes of tables that the writes fit only where the disk failed, or the database has no room for a row. After
+/// `InDoubt` the commit was made or not; after `Memory` it wasn't, but a crash may leave it. After any error the last
 /// commit stands as long as the connection is open.
 pub(crate) fn commit<S: Alter>(conn: &mut Connection<S>, writes: &[Write]) -> Result<(), StoreFault>
     requires { HasCleanDisk (state S.Store conn.old) → conn.old.in_transaction ≡ false }
@@ -23,6 +25,8 @@ pub(crate) fn commit<S: Alter>(conn: &mut Connection<S>, writes: &[Write]) -> Re
     ensures settled { HasCleanDisk (state S.Store conn.new) → IsTrue (state S.Store conn.new).is_open → (state S.Store conn.new).now ≡ (state S.Store conn.new).committed }
     ensures damaged { HasCleanDisk (state S.Store conn.new) → result ≡ Err Damaged → (state S.Store conn.old).step_limit ≡ None
         → (tables : Tables) → AreFit writes.now tables → ¬ Has (state S.Store conn.old) tables }
+    ensures device { HasCleanDisk (state S.Store conn.new) → result ≡ Err Device → (tables : Tables) → AreFit writes.now tables → Has (state S.Store conn.old) tables
+        → DiskFailed (state S.Store conn.old) (state S.Store conn.new) ⊎ Stops writes.now tables (state S.Store conn.new) }
     ensures in_doubt { HasCleanDisk (state S.Store conn.new) → result ≡ Err InDoubt → DiskFailed (state S.Store conn.old) (state S.Store conn.new) }
     ensures usable { result ≢ Err NeedsReopen }
     ensures crash { Survives (state S.Store conn.old) (state S.Store conn.new) (MayWrite writes.now (state S.Store conn.old) result) }

@@ -24,6 +24,24 @@ pub enum StoreFault {
     Memory,
 }
 
+impl StoreFault {
+    ghost use Rattle.std.specs.Prelude.{◌≡◌};
+    ghost use Rattle.lot_store.specs.Run.{fault_name};
+
+    /// Returns the code and the name of the fault (docs/RULES.md, All codes).
+    pub fn name(self) -> &'static str
+        ensures { result.now ≡ fault_name self }
+    {
+        match self {
+            StoreFault::Device => "S4 Device",
+            StoreFault::InDoubt => "S5 InDoubt",
+            StoreFault::NeedsReopen => "S6 NeedsReopen",
+            StoreFault::Damaged => "S7 Damaged",
+            StoreFault::Memory => "Memory",
+        }
+    }
+}
+
 impl From<Fault> for StoreFault {
     ghost use Rattle.std.specs.Prelude.{◌≡◌};
     ghost use Rattle.lot_store.specs.Apply.{store_fault_of};

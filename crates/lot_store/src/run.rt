@@ -1,6 +1,6 @@
 ghost use Rattle.std.specs.Prelude.{◌≡◌, ◌≢◌, ◌+◌, ◌<◌, ◌^◌, [], ◌∷◌, length, IfErr, IsOk, IsTrue};
 ghost use Rattle.lot_report.specs.Printed.{reply};
-ghost use Rattle.lot_store.specs.Run.{FlushesLine, IsConditionAfter, RepliesTo, Runs, StopsAtOnce, StopsWith, WritesOut, count_refused, fault_name, flush_outcome, told};
+ghost use Rattle.lot_store.specs.Run.{FlushesLine, IsConditionAfter, RepliesTo, Runs, StopsAtOnce, StopsWith, WritesOut, count_refused, flush_outcome, told};
 ghost use Rattle.lot_store.specs.declared.run.Ending.TheVariants.{Stopped};
 ghost use Rattle.sqlite.specs.Held.{state};
 ghost use Rattle.sqlite.specs.Tree.{Trees};
@@ -141,7 +141,7 @@ fn write_reply<W: Write>(writer: &mut W, number: usize, verdict: &Verdict) -> Re
 fn stop<W: Write>(writer: &mut W, number: usize, fault: StoreFault) -> Ending
     ensures { StopsWith number fault (W.contents writer.old) (W.contents writer.new) result }
 {
-    let name = name(fault);
+    let name = fault.name();
     let printed = print_line(writer, format_args!("{number} fault {name}"));
     match flush_line(writer, printed) {
         Ok(()) => Ending::Stopped(fault),
@@ -166,18 +166,5 @@ fn flushed(outcome: io::Result<()>) -> Result<(), Ending>
     match outcome {
         Ok(()) => Ok(()),
         Err(_) => Err(Ending::Output),
-    }
-}
-
-/// Returns the code and the name of a fault.
-fn name(fault: StoreFault) -> &'static str
-    ensures { result.now ≡ fault_name fault }
-{
-    match fault {
-        StoreFault::Device => "S4 Device",
-        StoreFault::InDoubt => "S5 InDoubt",
-        StoreFault::NeedsReopen => "S6 NeedsReopen",
-        StoreFault::Damaged => "S7 Damaged",
-        StoreFault::Memory => "Memory",
     }
 }

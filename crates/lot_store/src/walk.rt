@@ -1,18 +1,25 @@
 //! Walks over the rows of a book: each is a value that borrows the book, and gives one row after another.
 //!
 //! - `place`: where a walk is among the rows.
-//! - `journal`: the entries.
+//! - `journal`: the entries; `holdings`: what accounts hold; `gains`: the sales of a range of days; `prices`: the prices at a
+//!   day.
 
 ghost use Rattle.std.specs.Prelude.{◌≡◌};
 ghost use Rattle.lot_store.specs.Walk.{Walks, stage_after};
 
+mod gains;
+mod holdings;
 mod journal;
 mod place;
+mod prices;
 
 use crate::book::Book;
 use crate::fault::StoreFault;
+pub use gains::Gains;
+pub use holdings::Holdings;
 pub use journal::Journal;
 pub(crate) use place::Place;
+pub use prices::Prices;
 use sqlite::Alter;
 use thiserror::Error;
 

@@ -37,6 +37,7 @@ impl<S: Alter> Book<S> {
     pub fn journal(&mut self) -> Journal<'_, S>
         ensures same_reference { result.book.ghost_name ≡ self.entry.ghost_name }
         ensures same { result.book.now ≡ self.old }
+        ensures going { result.stage ≡ Stage.Going }
         ensures begun { (entries : List EntryOf) → Stands (state S.Store self.old.conn) entries
             → HasGiven S.Store AreEntries IsBehindEntries result tt entries [] }
     {

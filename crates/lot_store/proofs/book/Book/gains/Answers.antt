@@ -1,0 +1,11 @@
+use Rattle.std.proofs.Common.{refl}
+use Rattle.lot_store.proofs.GainLemmas.{sold_none, sold_prefix}
+use Rattle.lot_store.proofs.book.Book.gains.Goals as goal
+
+pub returns-clause-begun : goal.returns-clause-begun
+returns-clause-begun g c = λ entries stands. record {
+  stands = stands;
+  prefix = sold_prefix stands.tables (c.args.first, c.args.last) entries stands.stand;
+  goes_on = refl;
+  behind = sold_none _ stands.tables (c.args.first, c.args.last) entries refl refl stands.stand (c.new.ensures.start stands.tables.sale);
+}
