@@ -3,6 +3,7 @@ pub mod DealLaws
 pub mod FileLaws
 pub mod FileLemmas
 pub mod HeaderLemmas
+pub mod KeyedLemmas
 pub mod LotLaws
 pub mod NoteLemmas
 pub mod ReadLemmas

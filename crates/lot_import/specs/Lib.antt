@@ -3,3 +3,4 @@ pub mod Deal
 pub mod File
 pub mod Reading
 pub mod Row
+pub mod Keyed

@@ -105,3 +105,36 @@ impl<T: Drop> From<AllocFailed<T>> for CommandFault {
         CommandFault::Memory
     }
 }
+
+/// Why the rows of a file have no commands under their keys.
+#[derive(Clone, Copy, Debug, PartialEq, Eq, Error)]
+pub enum KeyedFault {
+    /// The cash amount of a row isn't units: the number of the first such row, from 1.
+    #[error("row {row}: the cash amount isn't exact at eight decimals, or too large")]
+    InexactAmount { row: usize },
+    /// Out of memory.
+    #[error("out of memory")]
+    Memory,
+}
+
+impl From<AllocError> for KeyedFault {
+    ghost use Rattle.std.specs.Prelude.{◌≡◌};
+    ghost use Rattle.lot_import.specs.declared.fault.KeyedFault.TheVariants.{Memory};
+
+    ghost from_gives = { λ _ e. e ≡ Memory };
+
+    fn from(_error: AllocError) -> KeyedFault {
+        KeyedFault::Memory
+    }
+}
+
+impl<T: Drop> From<AllocFailed<T>> for KeyedFault {
+    ghost use Rattle.std.specs.Prelude.{◌≡◌};
+    ghost use Rattle.lot_import.specs.declared.fault.KeyedFault.TheVariants.{Memory};
+
+    ghost from_gives = { λ _ e. e ≡ Memory };
+
+    fn from(_failed: AllocFailed<T>) -> KeyedFault {
+        KeyedFault::Memory
+    }
+}

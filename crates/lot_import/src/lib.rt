@@ -5,7 +5,8 @@
 //! - `deal`: the command of a row (`command`).
 //! - `file`: the rows of a file (`read_rows`).
 //! - `written`: the row that a record of the file says, by its columns (`column`) in that version of the file (`version`).
-//! - `fault`: why there are no rows, or no command.
+//! - `keyed`: the commands of all rows, each under its key (`keyed_commands`).
+//! - `fault`: why there are no rows, or no commands.
 //! - `laws`: laws of the definitions that the contracts of `read_rows` and `command` cite.
 #![tactic(auto)]
 
@@ -14,6 +15,7 @@ mod column;
 mod deal;
 mod fault;
 mod file;
+mod keyed;
 pub mod laws;
 mod row;
 #[cfg(test)]
@@ -23,6 +25,7 @@ mod written;
 
 pub use accounts::Accounts;
 pub use deal::command;
-pub use fault::{Cause, CommandFault, RowsFault};
+pub use fault::{Cause, CommandFault, KeyedFault, RowsFault};
 pub use file::read_rows;
+pub use keyed::keyed_commands;
 pub use row::{Action, Row};

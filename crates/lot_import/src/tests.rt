@@ -1,7 +1,10 @@
 //! Broker files with the commands that they come to, or their fault.
+ghost use Rattle.std.specs.Prelude.{◌≤◌};
 
-use crate::{Accounts, Cause, CommandFault, Row, RowsFault, command, read_rows};
-use lot_base::Account;
+use crate::{
+    Accounts, Cause, CommandFault, KeyedFault, Row, RowsFault, command, keyed_commands, read_rows,
+};
+use lot_base::{Account, Label};
 use lot_command::canonical::body;
 use std::fmt::Display;
 use std::process::Abort;
@@ -315,6 +318,47 @@ fn a_file_has_up_to_100_000_rows(rt: HostRuntime) {
         cause: Cause::Length,
     };
     assert_read(&rt, &faulty, Err(last));
+}
+
+/// The keys and commands of the rows of a file from that number on, or the fault.
+fn keyed_told(rt: &(impl Abort + AllocGlobal), from: usize, file: &[u8]) -> String
+    requires { 1 ≤ from }
+{
+    let rows = read_rows(rt.alloc(), file).expect(rt, "rows");
+    let source = Label::new(rt.alloc(), "import:x").expect(rt, "label");
+    let keyed = match keyed_commands(rt.alloc(), &source, &accounts(rt), from, &rows) {
+        Ok(keyed) => keyed,
+        Err(fault) => return format!(in rt.alloc(); "{fault}").expect(rt, "fault"),
+    };
+    let mut text = String::new(rt.alloc());
+    for (key, command) in &keyed {
+        let body = body(rt.alloc(), command).expect(rt, "body");
+        let told = format!(in rt.alloc(); "{} {}\n{body}", key.source, key.name).expect(rt, "key");
+        text.push_str(told.as_str()).expect(rt, "text");
+    }
+    text
+}
+
+const TWO_ROWS: &[u8] =
+    b"A1,2020-01-02,BUY,HOOL,10,100,USD,1.5\nA2,2020-02-03,SELL,HOOL,4,130,USD,\n";
+
+const TWO_ROWS_AND_AN_INEXACT_ONE: &[u8] =
+    b"A1,2020-01-02,BUY,HOOL,10,100,USD,1.5\nA2,2020-02-03,SELL,HOOL,4,130,USD,\nA3,2020-03-01,BUY,HOOL,0.00000001,0.1,USD,\nA4,2020-03-01,BUY,HOOL,0.00000001,0.1,USD,\n";
+
+#[test]
+fn rows_have_keys(rt: HostRuntime) {
+    let two = file(&rt, FIRST, TWO_ROWS, 1);
+    let all = format!(in rt.alloc(); "import:x A1\n{BOUGHT}import:x A2\n{SOLD}").expect(&rt, "all");
+    assert_eq!(&rt; keyed_told(&rt, 1, &two).as_str(), all.as_str());
+    let second = format!(in rt.alloc(); "import:x A2\n{SOLD}").expect(&rt, "second");
+    assert_eq!(&rt; keyed_told(&rt, 2, &two).as_str(), second.as_str());
+    assert_eq!(&rt; keyed_told(&rt, 3, &two).as_str(), "");
+    assert_eq!(&rt; keyed_told(&rt, 10_000_000, &two).as_str(), "");
+    let inexact = file(&rt, FIRST, TWO_ROWS_AND_AN_INEXACT_ONE, 1);
+    let fault = "row 3: the cash amount isn't exact at eight decimals, or too large";
+    assert_eq!(&rt; keyed_told(&rt, 1, &inexact).as_str(), fault);
+    assert_eq!(&rt; keyed_told(&rt, 5, &inexact).as_str(), fault);
+    assert_shown(&rt, &KeyedFault::Memory, "out of memory");
 }
 
 /// Asserts what `{}` writes.

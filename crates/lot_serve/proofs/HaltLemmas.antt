@@ -7,7 +7,7 @@ use Rattle.lot_cli.specs.declared.batch.status.Status.{Status}
 use Rattle.lot_report.specs.Written.{WritesLine}
 use Rattle.lot_report.specs.declared.line.PrintFault.{PrintFault}
 use Rattle.lot_report.specs.declared.line.PrintFault.TheVariants.{Memory, Write}
-use Rattle.lot_serve.specs.Posts.{Finishes, Says}
+use Rattle.lot_serve.specs.Says.{Finishes, Says}
 
 pub said : (text : List ℕ) (status : Status) (old mid new : Option (List ℕ)) (printed : Result (Unit {0}) PrintFault) (end : ℕ)
     → WritesLine old mid printed text → Keeps mid new → Finishes printed status end → Says text status old new end

@@ -36,6 +36,19 @@ label_from text some short bytes =
     both (nat_le 1 (length text) && nat_le (length text) longest_label) (list_all is_label_byte text)
     (both (nat_le 1 (length text)) (nat_le (length text) longest_label) (yes 1 (length text) some) (yes (length text) longest_label short)) bytes
 
+-- a label is what it is by its tests
+label_parts : (text : List ℕ) → IsTrue (is_label text)
+    → (nat_le 1 (length text) && nat_le (length text) longest_label && list_all is_label_byte text) ≡ true
+unfolding is_label
+label_parts text is = is
+
+-- the words that send commands
+pub post_is_label : IsTrue (is_label (codes "post"))
+post_is_label = label_from (codes "post") (omega arith) (omega arith) refl
+
+pub import_is_label : IsTrue (is_label (codes "import"))
+import_is_label = label_from (codes "import") (omega arith) (omega arith) refl
+
 digit_byte : (d : ℕ) → d < 10 → is_label_byte (48 + d) ≡ true
 digit_byte d small = grind arith
 
@@ -80,13 +93,16 @@ batch_bytes (b ∷ batch) all =
     both (is_label_byte b) (list_all is_label_byte batch) (batch_byte b parts.0) (batch_bytes batch parts.1)
 
 -- where the commands of a batch come from is a label
-pub source_is_label : (batch : List ℕ) → IsTrue (is_batch batch) → IsTrue (is_label (source_of batch))
-source_is_label batch good =
+pub source_is_label : (word batch : List ℕ) → IsTrue (is_label word) → length word ≤ 16 → IsTrue (is_batch batch) → IsTrue (is_label (source_of word batch))
+source_is_label word batch label few good =
+    let named = and_parts (nat_le 1 (length word) && nat_le (length word) longest_label) (list_all is_label_byte word) (label_parts word label) in
     let parts = and_parts (nat_le 1 (length batch) && nat_le (length batch) longest_batch) (list_all is_batch_byte batch) good in
     let short = from_test (length batch) longest_batch (and_parts (nat_le 1 (length batch)) (nat_le (length batch) longest_batch) parts.0).1 in
-    let counted : length (source_of batch) ≡ 5 + length batch = length-append (codes "post:") batch in
-    label_from (source_of batch) (omega (arith, counted)) (omega (arith, counted, short))
-    (list_all-append is_label_byte (codes "post:") batch ∙ batch_bytes batch parts.1)
+    let some = from_test 1 (length word) (and_parts (nat_le 1 (length word)) (nat_le (length word) longest_label) named.0).0 in
+    let counted : length (source_of word batch) ≡ length word + suc (length batch) = length-append word (codes ":" ++ batch) in
+    label_from (source_of word batch) (omega (arith, counted, some)) (omega (arith, counted, short, few))
+    (list_all-append is_label_byte word (codes ":" ++ batch)
+    ∙ both (list_all is_label_byte word) (list_all is_label_byte (codes ":" ++ batch)) named.1 (batch_bytes batch parts.1))
 
 -- ---- commands in their order
 
@@ -106,27 +122,27 @@ one_more source number (first ∷ commands) command =
     counted_on m n = omega arith
 
 -- of the commands so many were taken in, and these are left
-pub record TakenIn (batch : List ℕ) (from : ℕ) (commands left : List Command) (count : ℕ) (keyed : List (Key × Command)) : Type 0 where
+pub record TakenIn (source : List ℕ) (from : ℕ) (commands left : List Command) (count : ℕ) (keyed : List (Key × Command)) : Type 0 where
   pub done : List Command
   pub split : commands ≡ done ++ left
   pub counted : count ≡ length done
-  pub taken : keyed ≡ keyed_from batch from done
+  pub taken : keyed ≡ keyed_from source from done
 
-pub none_yet : (batch : List ℕ) (from : ℕ) (commands left : List Command) (count : ℕ) (keyed : List (Key × Command))
-    → left ≡ commands → count ≡ 0 → keyed ≡ [] → TakenIn batch from commands left count keyed
-none_yet batch from commands left count keyed all none empty = record {
+pub none_yet : (source : List ℕ) (from : ℕ) (commands left : List Command) (count : ℕ) (keyed : List (Key × Command))
+    → left ≡ commands → count ≡ 0 → keyed ≡ [] → TakenIn source from commands left count keyed
+none_yet source from commands left count keyed all none empty = record {
   done = [];
   split = sym all;
   counted = none;
-  taken = empty ∙ ap (under_keys (source_of batch) from) (sym (drop_all (from - 1) [] (omega arith)));
+  taken = empty ∙ ap (under_keys source from) (sym (drop_all (from - 1) [] (omega arith)));
 }
 
-pub all_taken : (batch : List ℕ) (from : ℕ) (commands : List Command) (count : ℕ) (keyed : List (Key × Command))
-    → TakenIn batch from commands [] count keyed → keyed ≡ keyed_from batch from commands
-all_taken batch from commands count keyed so = so.taken ∙ ap (keyed_from batch from) (sym (so.split ∙ append-nil so.done))
+pub all_taken : (source : List ℕ) (from : ℕ) (commands : List Command) (count : ℕ) (keyed : List (Key × Command))
+    → TakenIn source from commands [] count keyed → keyed ≡ keyed_from source from commands
+all_taken source from commands count keyed so = so.taken ∙ ap (keyed_from source from) (sym (so.split ∙ append-nil so.done))
 
-module _ (batch : List ℕ) (from : ℕ) (commands left rest : List Command) (command : Command) (count number later : ℕ) (keyed : List (Key × Command))
-    (so : TakenIn batch from commands left count keyed) (is : left ≡ command ∷ rest) (numbered : number ≡ count + 1) (counted_on : later ≡ count + 1) where
+module _ (source : List ℕ) (from : ℕ) (commands left rest : List Command) (command : Command) (count number later : ℕ) (keyed : List (Key × Command))
+    (so : TakenIn source from commands left count keyed) (is : left ≡ command ∷ rest) (numbered : number ≡ count + 1) (counted_on : later ≡ count + 1) where
   abbrev more : List Command
   more = so.done ++ command ∷ []
 
@@ -137,28 +153,28 @@ module _ (batch : List ℕ) (from : ℕ) (commands left rest : List Command) (co
   count_more = counted_on ∙ ap (λ n. n + 1) so.counted ∙ sym (length-append so.done (command ∷ []))
 
   -- the command has a number from which on they are run
-  pub takes_next : (longer : List (Key × Command)) → longer ≡ keyed ++ (numbered_key (source_of batch) number, command) ∷ [] → 1 ≤ from → from ≤ number
-      → TakenIn batch from commands rest later longer
+  pub takes_next : (longer : List (Key × Command)) → longer ≡ keyed ++ (numbered_key source number, command) ∷ [] → 1 ≤ from → from ≤ number
+      → TakenIn source from commands rest later longer
   takes_next longer grown some here = record {
     done = more;
     split = split;
     counted = count_more;
     taken = grown ∙ sym (
-        ap (under_keys (source_of batch) from) (drop-append-le (from - 1) so.done (command ∷ []) (omega (arith, numbered, so.counted, here)))
-        ∙ one_more (source_of batch) from (drop (from - 1) so.done) command
-        ∙ ap (λ n. keyed_from batch from so.done ++ (numbered_key (source_of batch) n, command) ∷ [])
+        ap (under_keys source from) (drop-append-le (from - 1) so.done (command ∷ []) (omega (arith, numbered, so.counted, here)))
+        ∙ one_more source from (drop (from - 1) so.done) command
+        ∙ ap (λ n. keyed_from source from so.done ++ (numbered_key source n, command) ∷ [])
         (omega (arith, length-drop (from - 1) so.done, numbered, so.counted, some, here))
-        ∙ ap (λ (ks : List (Key × Command)). ks ++ (numbered_key (source_of batch) number, command) ∷ []) (sym so.taken)
+        ∙ ap (λ (ks : List (Key × Command)). ks ++ (numbered_key source number, command) ∷ []) (sym so.taken)
         );
   }
 
   -- the command is skipped
-  pub skips_next : number < from → TakenIn batch from commands rest later keyed
+  pub skips_next : number < from → TakenIn source from commands rest later keyed
   skips_next before = record {
     done = more;
     split = split;
     counted = count_more;
     taken = so.taken
-        ∙ ap (under_keys (source_of batch) from) (drop_all (from - 1) so.done (omega (arith, numbered, so.counted, before))
+        ∙ ap (under_keys source from) (drop_all (from - 1) so.done (omega (arith, numbered, so.counted, before))
         ∙ sym (drop_all (from - 1) more (omega (arith, count_more, counted_on, numbered, before))));
   }

@@ -1,4 +1,7 @@
 pub mod HaltLemmas
+pub mod InitLemmas
+pub mod InputLemmas
 pub mod KeyedLemmas
-pub mod PostLemmas
+pub mod ReportLemmas
+pub mod RowLemmas
 pub mod RunLemmas

@@ -10,10 +10,11 @@ use Rattle.lot_command.specs.declared.key.Key.{Key}
 use Rattle.lot_cli.specs.Status.{code_of}
 use Rattle.lot_filed.specs.StandFor.{Stands}
 use Rattle.lot_rows.specs.Tables.{Has, Tables}
-use Rattle.lot_serve.specs.Posts.{Halts, RunsOn, status_of_run}
+use Rattle.lot_serve.specs.Runs.{RunsOn, status_of_run}
+use Rattle.lot_serve.specs.Says.{Halts}
 use Rattle.lot_serve.specs.declared.halt.Halt.TheVariants as halt
 use Rattle.lot_store.proofs.ApplyLemmas.{stands_along}
-use Rattle.lot_store.specs.Create.{Tells}
+use Rattle.lot_store.specs.Create.{IsHandedBack, Tells, TellsOf}
 use Rattle.lot_store.specs.Run.{LeavesAfter, Runs}
 use Rattle.lot_store.specs.Session.{LeavesFirst, LeavesJudged, LeavesNext}
 use Rattle.lot_store.specs.declared.fault.AdoptFault.{AdoptFault}
@@ -74,6 +75,9 @@ runs_on commands from old mid new before written end status found same look ran 
 
 -- the book isn't taken up
 pub left_alone : (commands : List (Key × Command)) (from : ℕ) (old new : State) (before written : Option (List ℕ)) (fault : AdoptFault) (status : ℕ)
-    → (HasCleanDisk new → fault ≢ adopt.Device → (tables : Tables) → Has old tables → Tells tables.book (Err fault)) → (HasCleanDisk new → IsUndone old new)
-    → Survives old new (λ _. ⊥) → Halts (halt.Adopt fault) before written status → RunsOn commands from old new before written status
-left_alone commands from old new before written fault status told undone crash said = inr (fault, record { told = told; undone = undone; crash = crash }, said)
+    → (HasCleanDisk new → TellsOf old new (Err fault))
+    → (HasCleanDisk new → fault ≢ adopt.Device → (tables : Tables) → Has old tables → Tells tables.book (Err fault)) → (HasCleanDisk new → IsHandedBack old new)
+    → (HasCleanDisk new → IsUndone old new) → Survives old new (λ _. ⊥) → Halts (halt.Adopt fault) before written status
+    → RunsOn commands from old new before written status
+left_alone commands from old new before written fault status tells told back undone crash said =
+    inr (fault, record { tells = tells; told = told; handed_back = back; undone = undone; crash = crash }, said)

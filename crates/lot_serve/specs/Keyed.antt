@@ -1,11 +1,19 @@
--- The commands of a batch under their keys (docs/RULES.md, Keys and repeats).
+-- The commands of an input under their keys (docs/RULES.md, Keys and repeats).
 use Rattle.std.specs.Prelude.{ℕ, ◌-◌, suc, List, [], ◌∷◌, ◌++◌, codes, decimal, drop}
 use Rattle.lot_command.specs.declared.command.Command.{Command}
 use Rattle.lot_command.specs.declared.key.Key.{Key}
 
--- where the commands of a batch come from
-abbrev pub source_of : List ℕ → List ℕ
-source_of batch = codes "post:" ++ batch
+-- where the commands of a batch come from, by the word that sends them
+abbrev pub source_of : List ℕ → List ℕ → List ℕ
+source_of word batch = word ++ (codes ":" ++ batch)
+
+-- the source of commands in ledger text
+abbrev pub post_source : List ℕ → List ℕ
+post_source = source_of (codes "post")
+
+-- the source of rows of broker files
+abbrev pub import_source : List ℕ → List ℕ
+import_source = source_of (codes "import")
 
 -- the key of the command of that number, from a source
 abbrev pub numbered_key : List ℕ → ℕ → Key
@@ -16,6 +24,6 @@ abbrev pub under_keys : List ℕ → ℕ → List Command → List (Key × Comma
 under_keys source number [] = []
 under_keys source number (command ∷ commands) = (numbered_key source number, command) ∷ under_keys source (suc number) commands
 
--- those of a batch from that number on; the first of all has the number 1
+-- those from that number on; the first of all has the number 1
 abbrev pub keyed_from : List ℕ → ℕ → List Command → List (Key × Command)
-keyed_from batch from commands = under_keys (source_of batch) from (drop (from - 1) commands)
+keyed_from source from commands = under_keys source from (drop (from - 1) commands)

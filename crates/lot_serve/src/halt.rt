@@ -2,7 +2,8 @@ ghost use Rattle.std.specs.Prelude.{◌≡◌};
 ghost use Rattle.lot_report.specs.Written.{WritesLine};
 ghost use Rattle.lot_serve.specs.HaltLine.{adopt_name, create_name, halt_line, status_of_halt};
 
-use lot_cli::{Fault, Status, print_fault};
+use crate::fault::{InputFault, print_input_fault};
+use lot_cli::Status;
 use lot_report::{PrintFault, print_line};
 use lot_store::{AdoptFault, CreateFault};
 use std::io::Write;
@@ -11,7 +12,7 @@ use std::io::Write;
 #[derive(Clone, Copy, Debug, PartialEq, Eq)]
 pub(crate) enum Halt {
     /// What was read gives no commands.
-    Input(Fault),
+    Input(InputFault),
     /// The book isn't made.
     Create(CreateFault),
     /// The book isn't taken up.
@@ -35,7 +36,7 @@ pub(crate) fn print_halt<W: Write>(writer: &mut W, halt: Halt) -> Result<(), Pri
     ensures { WritesLine (W.contents writer.old) (W.contents writer.new) result (halt_line halt) }
 {
     match halt {
-        Halt::Input(fault) => print_fault(writer, fault),
+        Halt::Input(fault) => print_input_fault(writer, fault),
         Halt::Create(fault) => {
             let name = create_name(fault);
             print_line(writer, format_args!("fault {name}"))

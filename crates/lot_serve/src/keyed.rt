@@ -1,6 +1,6 @@
-ghost use Rattle.std.specs.Prelude.{◌≡◌, ◌≤◌, IfOk, IsTrue};
+ghost use Rattle.std.specs.Prelude.{◌≡◌, ◌≤◌, IfOk, IsTrue, length};
 ghost use Rattle.lot_base.specs.Name.{is_label};
-ghost use Rattle.lot_serve.specs.Keyed.{keyed_from, numbered_key, source_of};
+ghost use Rattle.lot_serve.specs.Keyed.{keyed_from, numbered_key, post_source, source_of};
 
 use lot_base::Label;
 use lot_command::{Command, Key};
@@ -16,9 +16,9 @@ pub(crate) fn keyed(
     commands: Vec<Command>,
 ) -> Result<Vec<(Key, Command)>, AllocError>
     requires { 1 ≤ from }
-    ensures { IfOk result (λ keyed. keyed.items ≡ keyed_from batch.now from commands.items) }
+    ensures { IfOk result (λ keyed. keyed.items ≡ keyed_from (post_source batch.now) from commands.items) }
 {
-    let source = source(alloc, batch)?;
+    let source = source(alloc, "post", batch)?;
     let mut keyed = Vec::new(alloc);
     for (index, command) in commands.into_iter().enumerate() {
         let number = index + 1;
@@ -30,12 +30,14 @@ pub(crate) fn keyed(
     Ok(keyed)
 }
 
-/// Returns where the commands of a batch come from.
-fn source(alloc: Global, batch: &Batch) -> Result<Label, AllocError>
-    ensures { IfOk result (λ source. source ≡ source_of batch.now) }
+/// Returns where the commands of a batch come from that this word sends. The only error is out of memory.
+pub(crate) fn source(alloc: Global, word: &str, batch: &Batch) -> Result<Label, AllocError>
+    requires label { IsTrue (is_label word.now) }
+    requires short { length word.now ≤ 16 }
+    ensures { IfOk result (λ source. source ≡ source_of word.now batch.now) }
 {
     let name = batch.as_str();
-    let text = format!(in alloc; "post:{name}")?;
+    let text = format!(in alloc; "{word}:{name}")?;
     label(alloc, text.as_str())
 }
 

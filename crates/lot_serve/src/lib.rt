@@ -1,15 +1,24 @@
-//! The actions that name a book: one is made, or ledger text is posted to it (docs/RULES.md, The program).
+//! The actions that name a book: one is made, ledger text or a broker file is posted to it, or a report of it is written
+//! (docs/RULES.md, The program).
 //!
 //! - `action`: `serve`, and what an action leaves.
-//! - `post`: the commands of an input, run on the book that is there.
+//! - `post`: the commands of ledger text; `import`: those of the rows of a broker file.
+//! - `run`: commands run on the book that is there.
+//! - `report`: reports of the book that is there.
 //! - `keyed`: the keys of the commands of a batch.
-//! - `halt`: why an action ends before its first command.
+//! - `halt`: why an action ends before its first command; `fault`: why an input gives no commands.
+//! - `laws`: what becomes of a row that comes again.
 #![tactic(auto)]
 
 mod action;
+mod fault;
 mod halt;
+mod import;
 mod keyed;
+pub mod laws;
 mod post;
+mod report;
+mod run;
 #[cfg(test)]
 mod tests;
 

@@ -1,139 +1,59 @@
-ghost use Rattle.std.specs.Prelude.{◌≡◌, ◌≤◌, ◌+◌, ◌<◌, ◌^◌, IfErr, IfOk, List, None, false, length};
+ghost use Rattle.std.specs.Prelude.{◌≡◌, ◌≤◌, IfErr, IfOk, None, false};
 ghost use Rattle.lot_cli.specs.Status.{IsStatus};
-ghost use Rattle.lot_command.specs.declared.command.Command.{Command as CommandOf};
-ghost use Rattle.lot_serve.specs.Keyed.{keyed_from};
-ghost use Rattle.lot_serve.specs.Posts.{Finishes, Gives, GivesNone, Halts, Posts, RunsOn, status_of_run};
-ghost use Rattle.std.specs.Io.KnownBytes.{Keeps};
+ghost use Rattle.lot_serve.specs.Input.{Gives, GivesNone};
+ghost use Rattle.lot_serve.specs.Posts.{IsFaultyText, Posts, TextMeans};
 ghost use Rattle.sqlite.specs.Held.{state};
 
 use crate::action::Served;
-use crate::halt::{Halt, print_halt};
+use crate::fault::InputFault;
+use crate::halt::Halt;
 use crate::keyed::keyed;
-use lot_cli::{Fault, Status, finish, slurp};
+use crate::run::{halted, run};
+use lot_cli::slurp;
 use lot_command::{Command, Key};
-use lot_report::PrintFault;
-use lot_store::{Ending, HandedBack, RunEnd, adopt};
 use lot_text::read;
-use lot_words::Batch;
+use lot_words::{Batch, Start};
 use sqlite::{Alter, Connection};
 use std::alloc::Global;
 use std::io::{Read, Write};
 
-/// Posts all that a reader has to the book that is there: its commands from that number on, each under the key of its
-/// number in the batch.
+/// Posts all that a reader has to the book that is there, as ledger text: its commands from that number on, each under the
+/// key of its number in the batch.
 ///
 /// All is read before the book is taken up.
 pub(crate) fn post<R: Read, W: Write, S: Alter>(
     alloc: Global,
     batch: &Batch,
-    from: usize,
+    from: Start,
     reader: &mut R,
     writer: &mut W,
     conn: Connection<S>,
 ) -> Served<S>
     requires outside { conn.in_transaction ≡ false }
     requires unlimited { conn.step_limit ≡ None }
-    requires first { 1 ≤ from }
-    requires small { from < 2 ^ 32 }
     ensures posts { Posts batch.now from (R.remaining reader.old) (state S.Store conn) (state S.Store result.conn)
         (W.contents writer.old) (W.contents writer.new) result.status }
     ensures status { IsStatus result.status }
 {
-    match keyed_input(alloc, batch, from, reader) {
-        Ok(commands) => run(alloc, &commands, from, writer, conn),
+    let first = from.number() as usize;
+    match keyed_text(alloc, batch, first, reader) {
+        Ok(commands) => run(alloc, &commands, first, writer, conn),
         Err(fault) => halted(writer, Halt::Input(fault), conn),
     }
 }
 
 /// Returns the commands of all that a reader has, from that number on, each under its key.
-fn keyed_input<R: Read>(
+fn keyed_text<R: Read>(
     alloc: Global,
     batch: &Batch,
     from: usize,
     reader: &mut R,
-) -> Result<Vec<(Key, Command)>, Fault>
+) -> Result<Vec<(Key, Command)>, InputFault>
     requires { 1 ≤ from }
-    ensures ok { IfOk result (λ keyed. (commands : List CommandOf) × Gives (R.remaining reader.old) commands
-        × (keyed.items ≡ keyed_from batch.now from commands)) }
-    ensures err { IfErr result (GivesNone (R.remaining reader.old)) }
-{
-    let commands = commands(alloc, reader)?;
-    Ok(keyed(alloc, batch, from, commands)?)
-}
-
-/// Returns the commands of all that a reader has.
-fn commands<R: Read>(alloc: Global, reader: &mut R) -> Result<Vec<Command>, Fault>
-    ensures ok { IfOk result (λ commands. Gives (R.remaining reader.old) commands.items) }
-    ensures err { IfErr result (GivesNone (R.remaining reader.old)) }
+    ensures ok { IfOk result (λ keyed. Gives (TextMeans batch.now from) (R.remaining reader.old) keyed.items) }
+    ensures err { IfErr result (GivesNone IsFaultyText (R.remaining reader.old)) }
 {
     let text = slurp(alloc, reader)?;
-    Ok(read(alloc, &text)?)
-}
-
-/// Takes up the book that is there and runs commands on it, the first of which has that number.
-fn run<W: Write, S: Alter>(
-    alloc: Global,
-    commands: &[(Key, Command)],
-    from: usize,
-    writer: &mut W,
-    conn: Connection<S>,
-) -> Served<S>
-    requires outside { conn.in_transaction ≡ false }
-    requires unlimited { conn.step_limit ≡ None }
-    requires numbers { length commands.now + from < 2 ^ 64 }
-    ensures runs { RunsOn commands.now from (state S.Store conn) (state S.Store result.conn)
-        (W.contents writer.old) (W.contents writer.new) result.status }
-    ensures status { IsStatus result.status }
-{
-    match adopt(alloc, conn) {
-        Ok(mut book) => {
-            let end = book.run(commands, from, writer);
-            Served {
-                status: status_of_run(end).code(),
-                conn: book.into_connection(),
-            }
-        }
-        Err(HandedBack { fault, conn }) => halted(writer, Halt::Adopt(fault), conn),
-    }
-}
-
-/// Returns the status of a run that ended so.
-fn status_of_run(end: RunEnd) -> Status
-    ensures { result ≡ status_of_run end }
-{
-    match end.ending {
-        Ending::Complete if end.refused == 0 => Status::Accepted,
-        Ending::Complete => Status::Refused,
-        Ending::Stopped(_) | Ending::Output => Status::Stopped,
-    }
-}
-
-/// Reports why an action ends before its first command, and hands the connection on.
-pub(crate) fn halted<W: Write, S: Alter>(
-    writer: &mut W,
-    halt: Halt,
-    conn: Connection<S>,
-) -> Served<S>
-    ensures says { Halts halt (W.contents writer.old) (W.contents writer.new) result.status }
-    ensures same { result.conn ≡ conn }
-    ensures status { IsStatus result.status }
-{
-    let printed = print_halt(writer, halt);
-    Served {
-        status: tell(writer, printed, halt.status()),
-        conn,
-    }
-}
-
-/// Flushes a line that was printed of an action that ends with that status. Returns the status of the program: where the
-/// writer failed, the action is stopped.
-pub(crate) fn tell<W: Write>(writer: &mut W, printed: Result<(), PrintFault>, status: Status) -> u8
-    ensures kept { Keeps (W.contents writer.old) (W.contents writer.new) }
-    ensures end { Finishes printed status result }
-    ensures status { IsStatus result }
-{
-    match printed {
-        Ok(()) => finish(writer, Ok(status)).code(),
-        Err(_) => Status::Stopped.code(),
-    }
+    let commands = read(alloc, &text)?;
+    Ok(keyed(alloc, batch, from, commands)?)
 }

@@ -1,7 +1,7 @@
 //! Stops: the log, or the database's file, fails at each of its calls while a book is made and a small ledger is posted.
 
 use crate::{Served, serve};
-use lot_words::{Action, Batch};
+use lot_words::{Action, Batch, Start};
 use sqlite::{Connection, FileStore, Files, Options};
 use sqlite_disk::{Crash, Fuse, Memory};
 use std::alloc::Global;
@@ -119,7 +119,7 @@ fn a_stop_at_each_call(rt: HostRuntime) -> Result<(), Fail> {
     let post = Action::Post {
         book: String::new(rt.alloc()),
         batch,
-        from: 1,
+        from: Start::at_first(),
     };
     for side in [Side::Log, Side::Database] {
         for calls in 0..CALLS {

@@ -1,5 +1,5 @@
 -- What is read of the values that `clap` matched, and what it says of the words of the program.
-use Rattle.std.proofs.Common.{◌≡◌, ◌≢◌, lt-ltb, ltb-true, refl, ℕ, Bool, true, false, List, [], ◌∷◌, Option, Some, None, Err, Ok, length, option_map}
+use Rattle.std.proofs.Common.{◌≡◌, ◌≢◌, ◌∙◌, ap, subst, sym, inl, inr, lt-ltb, ltb-true, refl, ℕ, Bool, true, false, List, [], ◌∷◌, Option, Some, None, Err, Ok, length, option_map}
 use Rattle.std.specs.Prelude.{Result, unwrap_or, ◌^◌, nat_lt}
 use Rattle.std.specs.Char.{digit_value}
 use Rattle.std.specs.List.{list_all}
@@ -9,17 +9,20 @@ use Rattle.std.specs.Option.{option_map_or}
 use Rattle.std.specs.Str.Parse.{AllDigits}
 use Rattle.std.specs.Result.{result_unwrap_or}
 use Rattle.std.specs.Prelude.{IfOk, IsErrAnd}
-use Rattle.clap.specs.Words.{Kinds}
+use Rattle.clap.specs.Words.{HasKind, IsAmong, Kinds}
 use Rattle.clap.specs.Words.{ReadsOne, Row, Text, kind_of, subcommand_name_of, subcommand_rows_of}
 use Rattle.clap.specs.declared.error.Error.{Error}
 use Rattle.clap.specs.declared.error.ErrorKind.TheVariants as kind
 use Rattle.clap.specs.declared.parser.matches.ArgMatches.{ArgMatches}
 use Rattle.clap.proofs.WalkLemmas.{both}
-use Rattle.lot_words.specs.Words.{Ask, HaveBad, Refuses, WordAsks, WordHasBad, is_number, number_or_one}
+use Rattle.lot_words.specs.Faults.{Refuses}
+use Rattle.lot_words.specs.Options.{options_of}
+use Rattle.lot_words.specs.Steps.{Judges}
+use Rattle.lot_words.specs.Words.{Ask, WordAsks, bad_of, is_number, number_or_one}
 use Rattle.lot_words.specs.declared.action.Action.{Action}
-use Rattle.lot_words.specs.declared.words.BadOption.{BadOption}
-use Rattle.lot_words.specs.declared.words.WordsFault.{WordsFault}
-use Rattle.lot_words.specs.declared.words.WordsFault.TheVariants.{BadValue, Memory, Usage}
+use Rattle.lot_words.specs.declared.fault.BadOption.{BadOption}
+use Rattle.lot_words.specs.declared.fault.WordsFault.{WordsFault}
+use Rattle.lot_words.specs.declared.fault.WordsFault.TheVariants.{BadValue, Memory, Usage}
 
 -- a text that is there, or else the empty one
 pub text_or_empty : (o : Option (Bor Text)) (none : Bor Text) (v : Option Text) → none.now ≡ [] → option_map (λ s. s.now) o ≡ v
@@ -84,16 +87,19 @@ met_word m word rows named values = pair_of_parts _ _ _ word rows named values
 
 -- what was matched asks for the action of its word
 pub ask_of_word : (o : Option (Text × List Row)) (faults : Kinds) (r : Result Action WordsFault) (word : Text) (rows : List Row)
-    → o ≡ Some (word, rows) → faults ≡ [] → IfOk r (WordAsks word rows)
-    → IfOk r (λ _. (bad : BadOption) → WordHasBad word rows bad → ⊥)
-    → IfOk r (λ action. (faults ≡ []) × Ask o action × ((bad : BadOption) → HaveBad o bad → ⊥))
-ask_of_word o faults (Ok action) word rows met none asks good =
-    (none, rw met asks, λ bad h. let same : HaveBad (Some (word, rows)) bad = rw met at h in good bad same)
-ask_of_word o faults (Err e) word rows met none asks good = tt
+    → o ≡ Some (word, rows) → faults ≡ [] → IfOk r (WordAsks word rows) → Judges rows (options_of word) r
+    → IfOk r (λ action. (faults ≡ []) × Ask o action × (bad_of o ≡ None))
+ask_of_word o faults (Ok action) word rows met none asks judged = (none, rw met asks, rw met judged)
+ask_of_word o faults (Err e) word rows met none asks judged = tt
 
-pub bad_of_word : (o : Option (Text × List Row)) (faults : Kinds) (bad : BadOption) (word : Text) (rows : List Row)
-    → o ≡ Some (word, rows) → faults ≡ [] → WordHasBad word rows bad → (faults ≡ []) × HaveBad o bad
-bad_of_word o faults bad word rows met none has = (none, rw met has)
+pub bad_of_word : (o : Option (Text × List Row)) (faults : Kinds) (r : Result Action WordsFault) (bad : BadOption) (word : Text) (rows : List Row)
+    → o ≡ Some (word, rows) → faults ≡ [] → Judges rows (options_of word) r → r ≡ Err (BadValue bad) → (faults ≡ []) × (bad_of o ≡ Some bad)
+bad_of_word o faults (Ok action) bad word rows met none judged e = cc
+bad_of_word o faults (Err (Usage error)) bad word rows met none judged e = absurd judged
+bad_of_word o faults (Err Memory) bad word rows met none judged e = cc
+bad_of_word o faults (Err (BadValue told)) bad word rows met none judged e =
+    let same : told ≡ bad = cc in
+    (none, rw met (judged ∙ ap Some same))
 
 -- an error of `clap` that is out of memory is told as that
 pub no_usage : (error : Error) (r : Result Action WordsFault) → IsErrAnd r (Refuses error) → kind_of error ≡ kind.OutOfMemory
@@ -102,3 +108,15 @@ no_usage error (Ok action) refused memory told e = cc
 no_usage error (Err (Usage other)) refused memory told e = refused.1 memory
 no_usage error (Err (BadValue bad)) refused memory told e = absurd refused
 no_usage error (Err Memory) refused memory told e = cc
+
+-- of which kind the error is that is told
+pub kind_told : (error : Error) (r : Result Action WordsFault) (known kinds : Kinds) → IsErrAnd r (Refuses error) → HasKind known error → known ≡ kinds
+    → (told : Error) → r ≡ Err (Usage told) → IsAmong (kind_of told) kinds
+kind_told error (Ok action) known kinds refused has is told e = cc
+kind_told error (Err (BadValue bad)) known kinds refused has is told e = absurd refused
+kind_told error (Err Memory) known kinds refused has is told e = cc
+kind_told error (Err (Usage other)) known kinds refused has is told e =
+    let same : error ≡ told = let one : other ≡ told = cc in sym refused.0 ∙ one in
+    let Kind : Error → Type 0 = λ x. IsAmong (kind_of x) known in
+    let Told : Kinds → Type 0 = λ ks. IsAmong (kind_of told) ks in
+    elim has [ inl memory ↦ absurd (refused.1 memory) | inr among ↦ subst Told is (subst Kind same among) ]

@@ -1,7 +1,8 @@
 -- Words that the laws speak of.
 use Rattle.std.specs.Prelude.{ℕ, List, [], ◌∷◌, Option, codes, option_map}
 use Rattle.clap.specs.Words.{Row, Text}
-use Rattle.lot_words.specs.Words.{from_of, value_of}
+use Rattle.lot_words.specs.Options.{value_of}
+use Rattle.lot_words.specs.Words.{from_of}
 
 -- lotbook post --book f --batch a --from 7
 abbrev pub a_post : List Text

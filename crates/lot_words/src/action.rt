@@ -1,19 +1,43 @@
 use crate::batch::Batch;
+use crate::start::Start;
+use lot_base::Day;
+use lot_import::Accounts;
 
-/// What the program is asked to do.
+/// What the program is asked to do. A book is named by the path of its file.
 #[derive(Debug, Drop)]
 pub enum Action {
     /// No words: ledger text is judged on a fresh book in memory.
     Check,
-    /// A book is made in the file of that path.
+    /// A book is made in a file.
     Init {
         book: String,
     },
-    /// Ledger text is judged on the book in the file of that path, and kept there.
+    /// Ledger text is judged on a book, and kept there.
     Post {
         book: String,
         batch: Batch,
-        /// The number of the first command that is run, from 1.
-        from: u32,
+        from: Start,
+    },
+    /// The rows of a broker file are posted to the accounts of a book, and kept there.
+    Import {
+        book: String,
+        batch: Batch,
+        accounts: Accounts,
+        from: Start,
+    },
+    /// What a book holds is written, with what its lots are worth on the day, where one is given.
+    Holdings {
+        book: String,
+        day: Option<Day>,
+    },
+    /// What the sales of a book gained is written: those from the first to the last day, both included, where they are given.
+    Gains {
+        book: String,
+        first: Option<Day>,
+        last: Option<Day>,
+    },
+    /// The entries of a book are written.
+    Journal {
+        book: String,
     },
 }

@@ -1,85 +1,19 @@
-ghost use Rattle.std.specs.Prelude.{◌≡◌, ◌≢◌, ◌⊎◌, true, Err, IfOk, codes, map};
+ghost use Rattle.std.specs.Prelude.{◌≡◌, ◌≢◌, true, Err, IfOk, map};
 ghost use Rattle.std.specs.String.{string_bytes};
 ghost use Rattle.clap.specs.Words.{IsAmong, fault_of, found_of, kind_of, rows_of, takes};
 ghost use Rattle.clap.specs.declared.error.ErrorKind.TheVariants.{OutOfMemory};
+ghost use Rattle.lot_words.specs.Options.{options_of};
 ghost use Rattle.lot_words.specs.Program.{program_app};
-ghost use Rattle.lot_words.specs.Words.{AskFor, HaveBadIn, WordAsks, WordHasBad, from_of, value_of};
-ghost use Rattle.lot_words.specs.declared.words.BadOption.{BadOption};
-ghost use Rattle.lot_words.specs.declared.words.WordsFault.TheVariants.{BadValue, Usage};
+ghost use Rattle.lot_words.specs.Steps.{IsWord, Judges};
+ghost use Rattle.lot_words.specs.Words.{AskFor, HaveBadIn, WordAsks};
+ghost use Rattle.lot_words.specs.declared.fault.WordsFault.TheVariants.{BadValue, Usage};
 
 use crate::action::Action;
-use crate::batch::{Batch, BatchFault};
+use crate::fault::{BadOption, WordsFault};
 use crate::program::program;
-use clap::error::ErrorKind;
-use clap::{ArgMatches, Error};
-use std::alloc::{AllocError, Global};
-use std::fmt;
-
-/// The number of the first command to run where none is given.
-const FIRST_COMMAND: u32 = 1;
-
-/// An option whose value can be outside its rule.
-#[derive(Clone, Copy, Debug, PartialEq, Eq)]
-pub enum BadOption {
-    /// `--batch`, whose value is no name of a batch.
-    Batch,
-}
-
-impl fmt::Display for BadOption {
-    /// Writes the option with its dashes.
-    fn fmt<W: fmt::Write>(&self, f: &mut fmt::Formatter<W>) -> Result<(), fmt::Error> {
-        match self {
-            BadOption::Batch => f.write_str("--batch"),
-        }
-    }
-}
-
-/// Why words name no action.
-#[derive(Debug, Drop)]
-pub enum WordsFault {
-    /// `clap` doesn't take the words, or help was asked for: its error says which, and has the text to show.
-    Usage(Error),
-    /// The value of the option is outside its rule.
-    BadValue(BadOption),
-    /// Out of memory.
-    Memory,
-}
-
-impl From<AllocError> for WordsFault {
-    ghost use Rattle.lot_words.specs.declared.words.WordsFault.TheVariants.{Memory};
-
-    ghost from_gives = { λ _ fault. fault ≡ Memory };
-
-    fn from(_error: AllocError) -> WordsFault {
-        WordsFault::Memory
-    }
-}
-
-impl From<BatchFault> for WordsFault {
-    ghost use Rattle.lot_words.specs.Words.{fault_of_batch};
-
-    ghost from_gives = { λ fault r. r ≡ fault_of_batch fault };
-
-    fn from(fault: BatchFault) -> WordsFault {
-        match fault {
-            BatchFault::Bad => WordsFault::BadValue(BadOption::Batch),
-            BatchFault::Memory => WordsFault::Memory,
-        }
-    }
-}
-
-impl From<Error> for WordsFault {
-    ghost use Rattle.lot_words.specs.Words.{Refuses};
-
-    ghost from_gives = { Refuses };
-
-    fn from(error: Error) -> WordsFault {
-        match error.kind() {
-            ErrorKind::OutOfMemory => WordsFault::Memory,
-            _ => WordsFault::Usage(error),
-        }
-    }
-}
+use crate::values::{accounts, batch, book, day, from};
+use clap::ArgMatches;
+use std::alloc::Global;
 
 /// Returns the action that the words ask for, of which the first is the program's name.
 ///
@@ -102,33 +36,34 @@ pub fn parse_words(alloc: Global, words: &[String]) -> Result<Action, WordsFault
 
 /// Returns the action that a word asks for with the values of its options.
 fn asked(alloc: Global, word: &str, options: &ArgMatches<'_>) -> Result<Action, WordsFault>
-    requires { (word.now ≡ codes "init") ⊎ (word.now ≡ codes "post") }
+    requires { IsWord word.now }
     ensures action { IfOk result (WordAsks word.now (rows_of (found_of options.now))) }
-    ensures good { IfOk result (λ _. (bad : BadOption) → WordHasBad word.now (rows_of (found_of options.now)) bad → ⊥) }
-    ensures bad { (bad : BadOption) → result ≡ Err (BadValue bad) → WordHasBad word.now (rows_of (found_of options.now)) bad }
+    ensures judges { Judges (rows_of (found_of options.now)) (options_of word.now) result }
     ensures usage { (error : _) → result ≢ Err (Usage error) }
 {
-    let book = String::from_str(alloc, value(options, "book"))?;
-    if word == "init" {
-        return Ok(Action::Init { book });
+    let book = book(alloc, options)?;
+    match word {
+        "init" => Ok(Action::Init { book }),
+        "post" => Ok(Action::Post {
+            book,
+            batch: batch(alloc, options)?,
+            from: from(options),
+        }),
+        "import" => Ok(Action::Import {
+            book,
+            batch: batch(alloc, options)?,
+            accounts: accounts(alloc, options)?,
+            from: from(options),
+        }),
+        "holdings" => Ok(Action::Holdings {
+            book,
+            day: day(options, BadOption::Day)?,
+        }),
+        "gains" => Ok(Action::Gains {
+            book,
+            first: day(options, BadOption::First)?,
+            last: day(options, BadOption::Last)?,
+        }),
+        _ => Ok(Action::Journal { book }),
     }
-    Ok(Action::Post {
-        book,
-        batch: Batch::new(alloc, value(options, "batch"))?,
-        from: from(options),
-    })
-}
-
-/// Returns the value of an option, which `clap` has seen to where it is required, and else the empty text.
-fn value<'a>(options: &ArgMatches<'a>, name: &str) -> &'a str
-    ensures { result.now ≡ value_of name.now (rows_of (found_of options.now)) }
-{
-    options.get_str(name).unwrap_or("")
-}
-
-/// Returns the number of the first command to run.
-fn from(options: &ArgMatches<'_>) -> u32
-    ensures { result ≡ from_of (rows_of (found_of options.now)) }
-{
-    options.get_one::<u32>("from").unwrap_or(FIRST_COMMAND)
 }

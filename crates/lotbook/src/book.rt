@@ -1,9 +1,9 @@
 //! The book in the file that the words name.
 
-use crate::progress::Progress;
 use lot_serve::{Served, serve};
 use lot_words::Action;
 use sqlite::{Connection, Error, ErrorCode};
+use std::io::Write;
 use std::path::Path;
 use std::{fs, io};
 
@@ -16,18 +16,10 @@ const STOPPED: u8 = 4;
 /// Does what an action asks for on the book in the file of that path, and returns the status of the program.
 ///
 /// The file is opened before anything is read. Where it can't be opened, one line says so.
-pub fn serve_file(rt: &HostRuntime, action: &Action, path: &str) -> u8 {
+pub fn serve_file<W: Write>(rt: &HostRuntime, action: &Action, path: &str, output: &mut W) -> u8 {
     match Connection::open(rt, path) {
         Ok(conn) => {
-            let mut output = Progress::new(rt, io::writer(rt));
-            let Served { status, conn } = serve(
-                rt.alloc(),
-                action,
-                &mut rt.reader(),
-                &mut output,
-                conn,
-            );
-            output.end();
+            let Served { status, conn } = serve(rt.alloc(), action, &mut rt.reader(), output, conn);
             if status <= REFUSED {
                 // Commits are safe in the log beside the file, also where it can't be copied into the file.
                 let _ = conn.close();
@@ -40,9 +32,14 @@ pub fn serve_file(rt: &HostRuntime, action: &Action, path: &str) -> u8 {
 
 /// Does what an action asks for on the book that is in the file of that path; where there is none, on an empty database of
 /// which nothing stays.
-pub fn serve_existing(rt: &HostRuntime, action: &Action, path: &str) -> u8 {
+pub fn serve_existing<W: Write>(
+    rt: &HostRuntime,
+    action: &Action,
+    path: &str,
+    output: &mut W,
+) -> u8 {
     if !is_missing(rt, path) {
-        return serve_file(rt, action, path);
+        return serve_file(rt, action, path, output);
     }
     match Connection::open_in_memory(rt.alloc()) {
         Ok(conn) => {
@@ -50,7 +47,7 @@ pub fn serve_existing(rt: &HostRuntime, action: &Action, path: &str) -> u8 {
                 rt.alloc(),
                 action,
                 &mut rt.reader(),
-                &mut io::writer(rt),
+                output,
                 conn,
             );
             status

@@ -9,6 +9,7 @@ mod book;
 mod progress;
 mod words;
 
+use crate::progress::Progress;
 use crate::words::{Asked, understand};
 use lot_words::Action;
 use std::io::{self, BufWriter};
@@ -25,8 +26,34 @@ fn main(rt: HostRuntime) -> ExitCode {
 fn act(rt: &HostRuntime, action: &Action) -> u8 {
     match action {
         Action::Check => check(rt),
-        Action::Init { book } => book::serve_file(rt, action, book.as_str()),
-        Action::Post { book, .. } => book::serve_existing(rt, action, book.as_str()),
+        Action::Init { book } => {
+            book::serve_file(rt, action, book.as_str(), &mut io::writer(rt))
+        }
+        Action::Post { book, .. } | Action::Import { book, .. } => run(rt, action, book.as_str()),
+        Action::Holdings { book, .. } | Action::Gains { book, .. } | Action::Journal { book } =>
+            report(rt, action, book.as_str()),
+    }
+}
+
+/// Runs commands on a book, and shows how far that is.
+fn run(rt: &HostRuntime, action: &Action, path: &str) -> u8 {
+    let mut output = Progress::new(rt, io::writer(rt));
+    let status = book::serve_existing(rt, action, path, &mut output);
+    output.end();
+    status
+}
+
+/// Writes a report of a book.
+fn report(rt: &HostRuntime, action: &Action, path: &str) -> u8 {
+    match BufWriter::new(rt.alloc(), io::writer(rt)) {
+        Ok(mut output) => {
+            let status = book::serve_existing(rt, action, path, &mut output);
+            // What could not be written is discarded; dropping the buffer would try once more.
+            let _unwritten = output.into_parts();
+            status
+        }
+        // Without memory for a buffer each piece is written at once.
+        Err(_) => book::serve_existing(rt, action, path, &mut io::writer(rt)),
     }
 }
 

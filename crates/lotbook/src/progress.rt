@@ -15,14 +15,18 @@ pub struct Progress<'a, W> {
     output: W,
     /// How many lines were written out.
     lines: u64,
-    clock: Option<Clock>,
+    clock: Clock,
 }
 
-/// When a run began, and when its progress was shown last.
+/// The clock of a run.
 #[derive(Clone, Copy)]
-struct Clock {
-    begun: Instant,
-    shown: Duration,
+enum Clock {
+    /// Its progress isn't shown.
+    Unseen,
+    /// No line was written out yet.
+    Waiting,
+    /// When the first line was written out, and how long after that the progress was shown last.
+    Running { begun: Instant, shown: Duration },
 }
 
 impl<'a, W: Write> Progress<'a, W> {
@@ -32,34 +36,50 @@ impl<'a, W: Write> Progress<'a, W> {
             rt,
             output,
             lines: 0,
-            clock: begin(rt),
+            clock: unbegun(rt),
         }
     }
 
     /// Ends the line that shows the progress, if there is one.
     pub fn end(&self) {
-        if self.clock.is_some_and(|clock| clock.shown > Duration::ZERO) {
+        if matches!(self.clock, Clock::Running { shown, .. } if shown > Duration::ZERO) {
             let _ = eprintln!(self.rt; "");
         }
     }
 
-    /// Shows the progress, if it is time.
+    /// Shows the progress, if it is time. The clock runs from the first line on.
     fn show(&mut self) {
-        let Some(clock) = self.clock else {
+        match self.clock {
+            Clock::Unseen => {}
+            Clock::Waiting => self.begin(),
+            Clock::Running { begun, shown } => self.go_on(begun, shown),
+        }
+    }
+
+    /// Starts the clock.
+    fn begin(&mut self) {
+        if let Ok(begun) = Instant::now(self.rt) {
+            self.clock = Clock::Running {
+                begun,
+                shown: Duration::ZERO,
+            };
+        }
+    }
+
+    /// Shows the progress of a run that began then, if it is time.
+    fn go_on(&mut self, begun: Instant, shown: Duration) {
+        let Ok(passed) = begun.elapsed(self.rt) else {
             return;
         };
-        let Ok(passed) = clock.begun.elapsed(self.rt) else {
-            return;
-        };
-        if passed.saturating_sub(clock.shown) < Duration::from_millis(PAUSE) {
+        if passed.saturating_sub(shown) < Duration::from_millis(PAUSE) {
             return;
         }
         let (lines, rate) = (self.lines, rate(self.lines, passed));
         let _ = eprint!(self.rt; "\r{lines} commands, {rate} a second");
-        self.clock = Some(Clock {
-            begun: clock.begun,
+        self.clock = Clock::Running {
+            begun,
             shown: passed,
-        });
+        };
     }
 }
 
@@ -77,16 +97,13 @@ impl<W: Write> Write for Progress<'_, W> {
     }
 }
 
-/// Returns the clock of a run that begins now, if its progress is shown.
-fn begin(rt: &HostRuntime) -> Option<Clock> {
-    if !rt.stderr().is_terminal() || rt.stdout().is_terminal() {
-        return None;
+/// Returns the clock of a run that hasn't begun.
+fn unbegun(rt: &HostRuntime) -> Clock {
+    if rt.stderr().is_terminal() && !rt.stdout().is_terminal() {
+        Clock::Waiting
+    } else {
+        Clock::Unseen
     }
-    let begun = Instant::now(rt).ok()?;
-    Some(Clock {
-        begun,
-        shown: Duration::ZERO,
-    })
 }
 
 /// Returns how many lines a second that is.

@@ -1,11 +1,16 @@
-use Rattle.std.proofs.Common.{subst}
-use Rattle.sqlite.specs.Held.{state}
-use Rattle.lot_serve.specs.Posts.{Posts}
 use Rattle.lot_serve.proofs.action.serve.Goals as goal
 
 pub returns-in-Post-clause-serves : goal.returns-in-Post-clause-serves
-returns-in-Post-clause-serves g c =
-    rw c.in-Post.is
-    (subst (λ from. Posts c.in-Post.batch from (g.R.Read.remaining c.args.reader.now) (state g.S.Store c.args.conn) (state g.S.Store c.post.result.conn)
-    (g.W.Write.contents c.args.writer.now) (g.W.Write.contents c.post.new.writer) c.post.result.status)
-    c.max-first.ensures c.post.ensures.posts)
+returns-in-Post-clause-serves g c = rw c.in-Post.is c.post.ensures.posts
+
+pub returns-in-Import-clause-serves : goal.returns-in-Import-clause-serves
+returns-in-Import-clause-serves g c = rw c.in-Import.is c.import.ensures.imports
+
+pub returns-in-Holdings-clause-serves : goal.returns-in-Holdings-clause-serves
+returns-in-Holdings-clause-serves g c = rw c.in-Holdings.is c.write_report.ensures.reports
+
+pub returns-in-Gains-clause-serves : goal.returns-in-Gains-clause-serves
+returns-in-Gains-clause-serves g c = rw c.in-Gains.is c.write_report-in-Gains.ensures.reports
+
+pub returns-in-Journal-clause-serves : goal.returns-in-Journal-clause-serves
+returns-in-Journal-clause-serves g c = rw c.in-Journal.is c.write_report-in-Journal.ensures.reports

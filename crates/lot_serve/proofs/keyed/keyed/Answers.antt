@@ -1,8 +1,11 @@
 use Rattle.std.proofs.Common.{◌∙◌, ◌+◌, ◌++◌, ◌∷◌, [], ap}
 use Rattle.lot_command.specs.declared.key.Key.{Key}
 use Rattle.lot_serve.specs.Keyed.{numbered_key}
-use Rattle.lot_serve.proofs.KeyedLemmas.{none_yet, skips_next, takes_next}
+use Rattle.lot_serve.proofs.KeyedLemmas.{none_yet, post_is_label, skips_next, takes_next}
 use Rattle.lot_serve.proofs.keyed.keyed.Goals as goal
+
+pub source-requires-clause-label : goal.source-requires-clause-label
+source-requires-clause-label c = post_is_label
 
 pub loop-index-init : goal.loop-index-init
 loop-index-init c =

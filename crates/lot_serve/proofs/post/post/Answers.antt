@@ -1,10 +1,8 @@
-use Rattle.sqlite.specs.Held.{state}
-use Rattle.std.proofs.Common.{◌∙◌}
-use Rattle.lot_serve.proofs.PostLemmas.{posted}
+use Rattle.lot_serve.specs.Posts.{IsFaultyText, TextMeans}
+use Rattle.lot_serve.proofs.InputLemmas.{runs_given}
 use Rattle.lot_serve.proofs.post.post.Goals as goal
 
 pub returns-in-Ok-clause-posts : goal.returns-in-Ok-clause-posts
 returns-in-Ok-clause-posts g c =
-    let (commands, gives, is) = c.in-Ok.ensures.ok in
-    posted c.args.batch.now c.args.from _ commands c.deref.result.now (state g.S.Store c.args.conn) (state g.S.Store c.run.result.conn) _ _ c.run.result.status
-    gives (c.deref.ensures.value ∙ is) c.run.ensures.runs
+    runs_given (TextMeans c.args.batch.now) IsFaultyText c.args.from _ _ _ c.run.result.status _ _ c.number-first.result c.in-Ok.commands.items c.deref.result.now
+    c.number-first.ensures.value c.deref.ensures.value c.in-Ok.ensures.ok c.run.ensures.runs

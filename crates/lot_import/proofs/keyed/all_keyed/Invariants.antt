@@ -1,0 +1,7 @@
+-- The rows so far have their commands.
+use Rattle.std.proofs.Common.{take}
+use Rattle.lot_import.specs.Keyed.{AreKeyed}
+use Rattle.lot_import.proofs.keyed.all_keyed.Given as goal
+
+abbrev pub invariant-loop-index : goal.invariant-loop-index
+invariant-loop-index l = AreKeyed l.source l.accounts (take l.index l.rows) l.all.items

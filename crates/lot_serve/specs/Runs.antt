@@ -1,0 +1,71 @@
+-- What is run of an input on the book that is there (docs/RULES.md, The program).
+use Rattle.std.specs.Prelude.{◌≡◌, ◌≢◌, ◌⊎◌, ℕ, zero, suc, List, Option, Err, Ok}
+use Rattle.sqlite.specs.State.{HasCleanDisk, State, Survives}
+use Rattle.lot_cli.specs.Status.{code_of}
+use Rattle.lot_cli.specs.declared.batch.status.Status.{Status}
+use Rattle.lot_cli.specs.declared.batch.status.Status.TheVariants.{Accepted, Refused, Stopped}
+use Rattle.lot_command.specs.declared.command.Command.{Command}
+use Rattle.lot_command.specs.declared.key.Key.{Key}
+use Rattle.lot_rows.specs.Tables.{Has, Tables}
+use Rattle.lot_serve.specs.Input.{Gives, GivesNone}
+use Rattle.lot_serve.specs.Says.{Halts}
+use Rattle.lot_serve.specs.declared.fault.InputFault.{InputFault}
+use Rattle.lot_serve.specs.declared.halt.Halt.TheVariants as halt
+use Rattle.lot_store.specs.Create.{IsHandedBack, Tells, TellsOf}
+use Rattle.lot_store.specs.Run.{Runs}
+use Rattle.lot_store.specs.declared.fault.AdoptFault.{AdoptFault}
+use Rattle.lot_store.specs.declared.fault.AdoptFault.TheVariants as adopt
+use Rattle.lot_store.specs.declared.run.Ending.{Ending}
+use Rattle.lot_store.specs.declared.run.Ending.TheVariants as ending
+use Rattle.lot_store.specs.declared.run.RunEnd.{RunEnd}
+use Rattle.lot_table.specs.Book.{IsUndone}
+
+-- ---- the book
+
+-- nothing was asked of the database
+pub record IsUntouched (old new : State) : Type 0 where
+  pub now : new.now ≡ old.now
+  pub committed : new.committed ≡ old.committed
+  pub is_open : new.is_open ≡ old.is_open
+  pub crash : Survives old new (λ _. ⊥)
+
+-- The database isn't taken up as a book, for what its table `book` tells, or for why the database doesn't tell it. It is
+-- handed back as it was.
+pub record IsLeft (old new : State) (fault : AdoptFault) : Type 0 where
+  pub tells : HasCleanDisk new → TellsOf old new (Err fault)
+  pub told : HasCleanDisk new → fault ≢ adopt.Device → (tables : Tables) → Has old tables → Tells tables.book (Err fault)
+  pub handed_back : HasCleanDisk new → IsHandedBack old new
+  pub undone : HasCleanDisk new → IsUndone old new
+  pub crash : Survives old new (λ _. ⊥)
+
+-- the database is a book, as its table `book` tells
+abbrev pub IsTaken : State → State → Type 0
+IsTaken old new = HasCleanDisk new → (tables : Tables) → Has old tables → Tells tables.book (Ok tt)
+
+-- ---- commands
+
+-- the status of a run that ended so, of whose replies so many refuse: a fault goes before a refusal
+abbrev pub status_ending : Ending → ℕ → Status
+status_ending ending.Complete zero = Accepted
+status_ending ending.Complete (suc refused) = Refused
+status_ending (ending.Stopped fault) refused = Stopped
+status_ending ending.Output refused = Stopped
+
+abbrev pub status_of_run : RunEnd → Status
+status_of_run end = status_ending end.ending end.refused
+
+-- commands, of which the first has that number, are run on the book that is there; or it isn't taken up
+abbrev pub RunsOn : List (Key × Command) → ℕ → State → State → Option (List ℕ) → Option (List ℕ) → ℕ → Type 0
+RunsOn commands from old new before written status =
+    ((end : RunEnd) × IsTaken old new × Runs commands from old new before written end × (status ≡ code_of (status_of_run end)))
+    ⊎ ((fault : AdoptFault) × IsLeft old new fault × Halts (halt.Adopt fault) before written status)
+
+-- ---- an input
+
+-- What is read gives no commands, and nothing is done to the book; or those that it gives are run. `Means` tells which
+-- commands an input gives, and `IsFaulty` which fault it has. The first of the commands has that number.
+abbrev pub RunsInput : (List ℕ → List (Key × Command) → Type 0) → (List ℕ → InputFault → Type 0)
+    → ℕ → Option (List ℕ) → State → State → Option (List ℕ) → Option (List ℕ) → ℕ → Type 0
+RunsInput Means IsFaulty from known old new before written status =
+    ((fault : InputFault) × GivesNone IsFaulty known fault × IsUntouched old new × Halts (halt.Input fault) before written status)
+    ⊎ ((keyed : List (Key × Command)) × Gives Means known keyed × RunsOn keyed from old new before written status)

@@ -1,0 +1,17 @@
+-- The report of what the sales of a book gained on the days of a range (docs/FORMATS.md, Gains).
+use Rattle.std.specs.Prelude.{ℕ, List, Option, Result}
+use Rattle.lot_book.specs.Facts.{Entry}
+use Rattle.lot_book.specs.Sale.{SaleParts}
+use Rattle.lot_report.specs.Gains.{IsEnd, fits, sale_lines}
+use Rattle.lot_show.specs.Show.{Shows, ShowsSome}
+use Rattle.lot_show.specs.declared.fault.ShowFault.{ShowFault}
+use Rattle.lot_store.specs.Gains.{AreSalesWithin, Range}
+
+-- the report of all sales of the book on those days is written, or as much of it as its fault leaves
+abbrev pub ShowsGains : List Entry → Range → Option (List ℕ) → Option (List ℕ) → Result (Unit {0}) ShowFault → Type 0
+ShowsGains entries range start now result =
+    (sales : List SaleParts) × AreSalesWithin range entries sales × Shows sale_lines fits IsEnd sales start now result
+
+-- whatever the tables are, the report of some sales is
+abbrev pub ShowsSomeGains : Option (List ℕ) → Option (List ℕ) → Result (Unit {0}) ShowFault → Type 0
+ShowsSomeGains start now result = ShowsSome sale_lines fits IsEnd start now result

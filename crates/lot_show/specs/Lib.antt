@@ -1,0 +1,5 @@
+pub mod Fault
+pub mod Gains
+pub mod Holdings
+pub mod Journal
+pub mod Show

@@ -1,0 +1,18 @@
+//! The reports of a book in a file: the rows of a walk are written one after another, each as it comes.
+//!
+//! - `journal`: the entries of the book.
+//! - `holdings`: what the book holds, and what its lots are worth at a day; `prices`: the prices at that day.
+//! - `gains`: what its sales gained on the days of a range.
+//! - `fault`: why a report ends before its end.
+#![tactic(auto)]
+
+mod fault;
+mod gains;
+mod holdings;
+mod journal;
+mod prices;
+
+pub use fault::ShowFault;
+pub use gains::show_gains;
+pub use holdings::show_holdings;
+pub use journal::show_journal;
