@@ -1,77 +1,90 @@
-//! Runs statements on the tables of a book in memory. Each line of input is one; it is printed behind `> `, and below it what it
-//! answers. The scripts `tests/tables.sh` and `bench/tables.sh` run it.
+//! Runs statements on the tables of a book. Each line of input is one; it is printed behind `> `, and below it what it answers.
+//! The tables are those of the file that an argument names, or else lie in memory. The scripts `tests/tables.sh` and
+//! `bench/tables.sh` run it.
 //!
-//! - `statement`: what a line asks for, and what it answers. Besides these a line `new` begins a new database, `time RUNS MOST
-//!   STATEMENT` measures a statement, and `stops log` and `stops database` stop a disk.
+//! - `statement`: what a line asks for, and what it answers. Besides these a line `new` begins a new database in memory, `time
+//!   RUNS MOST STATEMENT` measures a statement, and `stops log` and `stops database` stop a disk.
 //! - `calls`: one call of `lot_rows` each.
 //! - `rows`: the rows that texts say; `texts`: the texts of rows.
-//! - `stops`: one write, with its disk stopped.
+//! - `memory`: databases in memory; `stops`: one write, with its disk stopped.
+//! - `timing`: how long a statement takes.
 #![tactic(auto)]
 
 mod calls;
+mod memory;
 mod rows;
 mod statement;
 mod stops;
 mod texts;
+mod timing;
 
-use anyhow::Result;
+use anyhow::{Result, anyhow};
+use memory::{empty, opened};
 use sqlite::{Alter, Connection};
 use statement::answer;
-use std::alloc::{AllocError, Global};
-use std::time::Instant;
-use stops::{Stopped, outcomes};
+use std::env;
+use stops::outcomes;
+use timing::timed;
 
 fn main(rt: HostRuntime) -> Result<()> {
-    let alloc = rt.alloc();
-    let mut conn = Connection::open_in_memory(alloc)?;
-    for line in rt.lines(alloc) {
-        let line = line?;
-        println!(rt; "> {line}")?;
-        if line.as_str() == "new" {
-            conn = Connection::open_in_memory(alloc)?;
-            continue;
-        }
-        let text = match line.as_str() {
-            "stops log" => outcomes(alloc, Stopped::Log)?,
-            "stops database" => outcomes(alloc, Stopped::Database)?,
-            statement => ran(&rt, &mut conn, statement)?,
-        };
-        if !text.is_empty() {
-            println!(rt; "{text}")?;
-        }
+    let lines = lines(&rt)?;
+    let mut runs = lines.split(|line| line.as_str() == "new");
+    let first = runs.next().unwrap_or(&[]);
+    match env::args(&rt)?.nth(1) {
+        Some(path) => in_file(&rt, path.as_str(), first)?,
+        None => in_memory(&rt, first)?,
+    }
+    for statements in runs {
+        println!(rt; "> new")?;
+        in_memory(&rt, statements)?;
     }
     Ok(())
 }
 
-/// Runs a statement once, or as often as it says, and returns what it answers or how long it takes.
-fn ran<S: Alter>(rt: &HostRuntime, conn: &mut Connection<S>, text: &str) -> Result<String> {
-    match text.strip_prefix("time ") {
-        Some(rest) => timed(rt, conn, rest),
-        None => Ok(answer(rt.alloc(), conn, text)?),
+/// The lines of the input.
+fn lines(rt: &HostRuntime) -> Result<Vec<String>> {
+    let mut lines = Vec::new(rt.alloc());
+    for line in rt.lines(rt.alloc()) {
+        lines.push(line?)?;
+    }
+    Ok(lines)
+}
+
+/// Runs statements on the tables of a file.
+fn in_file(rt: &HostRuntime, path: &str, statements: &[String]) -> Result<()> {
+    let mut conn = Connection::open(rt, path)?;
+    run_all(rt, &mut conn, statements)
+}
+
+/// Runs statements on a new database in memory.
+fn in_memory(rt: &HostRuntime, statements: &[String]) -> Result<()> {
+    match opened(rt.alloc(), empty(rt.alloc())) {
+        Ok(mut conn) => run_all(rt, &mut conn, statements),
+        Err(_) => Err(anyhow!("no new database")),
     }
 }
 
-/// Runs a statement some times, as `1000 500 greatest`, and returns how long one takes, in nanoseconds. A `#` in it stands for a
-/// number that changes from run to run, from 1 to the second number.
-fn timed<S: Alter>(rt: &HostRuntime, conn: &mut Connection<S>, text: &str) -> Result<String> {
-    let alloc = rt.alloc();
-    let (runs, rest) = text.split_once(' ').unwrap_or((text, ""));
-    let (most, statement) = rest.split_once(' ').unwrap_or((rest, ""));
-    let runs = runs.parse::<u32>().unwrap_or(1);
-    let most = u64::from(most.parse::<u32>().unwrap_or(1).max(1));
-    let start = Instant::now(rt)?;
-    for run in 0..runs {
-        let number = u64::from(run) * 7919 % most + 1;
-        answer(alloc, conn, numbered(alloc, statement, number)?.as_str())?;
+fn run_all<S: Alter>(
+    rt: &HostRuntime,
+    conn: &mut Connection<S>,
+    statements: &[String],
+) -> Result<()> {
+    for statement in statements {
+        run(rt, conn, statement.as_str())?;
     }
-    let each = start.elapsed(rt)?.as_nanos() / u128::from(runs.max(1));
-    Ok(format!(in alloc; "{each}")?)
+    Ok(())
 }
 
-/// A statement with a number in place of its `#`.
-fn numbered(alloc: Global, statement: &str, number: u64) -> Result<String, AllocError> {
-    match statement.split_once('#') {
-        Some((front, back)) => format!(in alloc; "{front}{number}{back}"),
-        None => String::from_str(alloc, statement),
+/// Prints a statement and what it answers.
+fn run<S: Alter>(rt: &HostRuntime, conn: &mut Connection<S>, statement: &str) -> Result<()> {
+    println!(rt; "> {statement}")?;
+    let text = match statement.split_once(' ') {
+        Some(("stops", file)) => outcomes(rt.alloc(), file)?,
+        Some(("time", rest)) => timed(rt, conn, rest)?,
+        _ => answer(rt.alloc(), conn, statement)?,
+    };
+    if !text.is_empty() {
+        println!(rt; "{text}")?;
     }
+    Ok(())
 }

@@ -1,10 +1,10 @@
 //! Rows that texts say, as `Assets:X | HOOL | 2020-01-01 USD 100 =x | 5`: the fields of a row with a bar between them. Amounts
-//! are their mantissas, the parts of a lot stand between blanks with the label behind `=`, and `-` is nothing.
+//! are their mantissas, the parts of a lot stand between blanks with the label behind `=`, and `-` is nothing. In any text `\x0a`
+//! is the character of that number, of two digits to the base 16.
 
-use lot_base::{Account, Commodity, Day, Label};
-use lot_command::{Method, Price, UnitPrice, WholePrice};
+use lot_base::Day;
+use lot_command::{Price, UnitPrice, WholePrice};
 use lot_inv::LotKey;
-use lot_num::{Rate, Units};
 use lot_rows::account::AccountRow;
 use lot_rows::allowed::AllowedRow;
 use lot_rows::book::BookRow;
@@ -16,215 +16,192 @@ use lot_rows::lot::LotRow;
 use lot_rows::plain::PlainRow;
 use lot_rows::price::PriceRow;
 use lot_rows::sale::SaleRow;
-use lot_table::{AnyText, Ordinal, Sum};
+use lot_table::Cell;
+use sqlite::types::ValueRef;
 use std::alloc::Global;
 
-/// The field at a place, which counts from 0.
-fn field<'a>(text: &'a str, place: usize) -> Option<&'a str> {
-    text.split(" | ").nth(place)
+/// The fields of a row.
+pub(crate) fn fields<'a>(alloc: Global, text: &'a str) -> Option<Vec<&'a str>> {
+    text.split(" | ").collect(alloc).ok()
 }
 
-fn number(text: &str) -> Option<i64> {
-    text.parse::<i64>().ok()
-}
-
-fn units(text: &str) -> Option<Units> {
-    Units::from_mantissa(number(text)?)
-}
-
-fn rate(text: &str) -> Option<Rate> {
-    Rate::from_mantissa(text.parse::<u64>().ok()?)
-}
-
-fn day(text: &str) -> Option<Day> {
-    Day::parse(text).ok()
-}
-
-fn commodity_of(alloc: Global, text: &str) -> Option<Commodity> {
-    Commodity::new(alloc, text).ok()
-}
-
-fn label_of(alloc: Global, text: &str) -> Option<Label> {
-    Label::new(alloc, text).ok()
-}
-
-fn sum(text: &str, place: usize) -> Option<Sum> {
-    Sum::new(units(field(text, place)?)?)
-}
-
-fn index(text: &str, place: usize) -> Option<u32> {
-    field(text, place)?.parse::<u32>().ok()
-}
-
-fn day_at(text: &str, place: usize) -> Option<Day> {
-    day(field(text, place)?)
-}
-
-pub(crate) fn ordinal(text: &str, place: usize) -> Option<Ordinal> {
-    Ordinal::new(index(text, place)?)
-}
-
-pub(crate) fn account(alloc: Global, text: &str, place: usize) -> Option<Account> {
-    Account::new(alloc, field(text, place)?).ok()
-}
-
-pub(crate) fn commodity(alloc: Global, text: &str, place: usize) -> Option<Commodity> {
-    commodity_of(alloc, field(text, place)?)
-}
-
-pub(crate) fn label(alloc: Global, text: &str, place: usize) -> Option<Label> {
-    label_of(alloc, field(text, place)?)
-}
-
-fn any_text(alloc: Global, text: &str, place: usize) -> Option<AnyText> {
-    let text = String::from_str(alloc, field(text, place)?).ok()?;
-    Some(AnyText::new(text))
-}
-
-/// The part of a lot or of a price at a place. The last of four parts may hold blanks.
-fn part<'a>(text: &'a str, place: usize) -> Option<&'a str> {
-    text.splitn(4, " ").nth(place)
-}
-
-/// The lot in a field: day, currency, number, and the label, if there is one.
-fn lot(alloc: Global, text: &str) -> Option<LotKey> {
-    let label = match text.split_once('=') {
-        Some((_, label)) => Some(label_of(alloc, label)?),
-        None => None,
-    };
-    Some(LotKey {
-        day: day(part(text, 0)?)?,
-        currency: commodity_of(alloc, part(text, 1)?)?,
-        number: rate(part(text, 2)?)?,
-        label,
-    })
-}
-
-pub(crate) fn lot_at(alloc: Global, text: &str, place: usize) -> Option<LotKey> {
-    lot(alloc, field(text, place)?)
-}
-
-/// The lot in a field, or none where it has `-`.
-fn lot_or_none(alloc: Global, text: &str) -> Option<Option<LotKey>> {
-    match text {
-        "-" => Some(None),
-        parts => Some(Some(lot(alloc, parts)?)),
+/// The value of a column in the field at a place, which counts from 0.
+pub(crate) fn field<C: Cell + Drop>(alloc: Global, fields: &[&str], place: usize) -> Option<C> {
+    let text = *fields.get(place)?;
+    match C::of_cell(alloc, number_or_null(text)) {
+        Ok(value) => Some(value),
+        Err(_) => text_field(alloc, text),
     }
 }
 
-/// The price in a field: `@` or `@@`, the amount and the currency; or none where it has `-`.
-fn price(alloc: Global, text: &str) -> Option<Option<Price>> {
-    if text == "-" {
+/// The value of a column that holds a text.
+fn text_field<C: Cell>(alloc: Global, text: &str) -> Option<C> {
+    let text = unescaped(alloc, text)?;
+    C::of_cell(alloc, ValueRef::Text(text.as_bytes())).ok()
+}
+
+/// What a column holds for a number or a day, or for nothing.
+fn number_or_null(text: &str) -> ValueRef<'static> {
+    match (text.parse::<i64>(), Day::parse(text)) {
+        (Ok(number), _) => ValueRef::Int(number),
+        (_, Ok(day)) => ValueRef::Int(i64::from(day.number())),
+        _ => ValueRef::Null,
+    }
+}
+
+/// A text with the characters that its escapes say.
+fn unescaped(alloc: Global, text: &str) -> Option<String> {
+    let mut pieces = text.split("\\x");
+    let mut whole = String::from_str(alloc, pieces.next()?).ok()?;
+    for piece in pieces {
+        push_escape(&mut whole, piece)?;
+    }
+    Some(whole)
+}
+
+/// Appends the character of two digits, and what is behind them.
+fn push_escape(whole: &mut String, piece: &str) -> Option<()> {
+    let (digits, rest) = piece.split_at_checked(2)?;
+    let code = u8::from_str_radix(digits, 16).ok()?;
+    whole.push(char::from(code)).ok()?;
+    whole.push_str(rest).ok()
+}
+
+/// The lot in the field at a place: day, currency, number, and the label, if there is one, which may hold blanks.
+pub(crate) fn lot(alloc: Global, fields: &[&str], place: usize) -> Option<LotKey> {
+    let text = *fields.get(place)?;
+    let parts: Vec<&str> = text.splitn(4, " ").collect(alloc).ok()?;
+    Some(LotKey {
+        day: field(alloc, &parts, 0)?,
+        currency: field(alloc, &parts, 1)?,
+        number: field(alloc, &parts, 2)?,
+        label: match text.split_once('=') {
+            Some((_, label)) => Some(text_field(alloc, label)?),
+            None => None,
+        },
+    })
+}
+
+/// The lot in the field at a place, or none where it has `-`.
+fn lot_or_none(alloc: Global, fields: &[&str], place: usize) -> Option<Option<LotKey>> {
+    if *fields.get(place)? == "-" {
         return Some(None);
     }
-    let currency = commodity_of(alloc, part(text, 2)?)?;
-    match part(text, 0)? {
-        "@" => {
-            let rate = rate(part(text, 1)?)?;
-            Some(Some(Price::Each(UnitPrice { rate, currency })))
-        }
-        "@@" => {
-            let total = units(part(text, 1)?)?;
-            Some(Some(Price::Whole(WholePrice::new(total, currency)?)))
-        }
-        _ => None,
-    }
+    Some(Some(lot(alloc, fields, place)?))
 }
 
-pub(crate) fn book_row(alloc: Global, text: &str) -> Option<BookRow> {
+/// The price in the field at a place: `@` or `@@`, the amount and the currency; or none where it has `-`.
+fn price(alloc: Global, fields: &[&str], place: usize) -> Option<Option<Price>> {
+    let text = *fields.get(place)?;
+    let parts: Vec<&str> = text.split(' ').collect(alloc).ok()?;
+    Some(match *parts.first()? {
+        "@" => Some(Price::Each(UnitPrice {
+            rate: field(alloc, &parts, 1)?,
+            currency: field(alloc, &parts, 2)?,
+        })),
+        "@@" => Some(Price::Whole(WholePrice::new(
+            field(alloc, &parts, 1)?,
+            field(alloc, &parts, 2)?,
+        )?)),
+        "-" => None,
+        _ => return None,
+    })
+}
+
+pub(crate) fn book_row(alloc: Global, fields: &[&str]) -> Option<BookRow> {
     Some(BookRow {
-        mark: any_text(alloc, text, 0)?,
-        edition: number(field(text, 1)?)?,
+        mark: field(alloc, fields, 0)?,
+        edition: field(alloc, fields, 1)?,
     })
 }
 
-pub(crate) fn account_row(alloc: Global, text: &str) -> Option<AccountRow> {
+pub(crate) fn account_row(alloc: Global, fields: &[&str]) -> Option<AccountRow> {
     Some(AccountRow {
-        name: account(alloc, text, 0)?,
-        opened: day_at(text, 1)?,
-        closed: Day::parse(field(text, 2)?).ok(),
-        method: Method::from_name(field(text, 3)?)?,
+        name: field(alloc, fields, 0)?,
+        opened: field(alloc, fields, 1)?,
+        closed: field(alloc, fields, 2)?,
+        method: field(alloc, fields, 3)?,
     })
 }
 
-pub(crate) fn allowed_row(alloc: Global, text: &str) -> Option<AllowedRow> {
+pub(crate) fn allowed_row(alloc: Global, fields: &[&str]) -> Option<AllowedRow> {
     Some(AllowedRow {
-        account: account(alloc, text, 0)?,
-        place: index(text, 1)?,
-        commodity: commodity(alloc, text, 2)?,
+        account: field(alloc, fields, 0)?,
+        place: field(alloc, fields, 1)?,
+        commodity: field(alloc, fields, 2)?,
     })
 }
 
-pub(crate) fn commodity_row(alloc: Global, text: &str) -> Option<CommodityRow> {
+pub(crate) fn commodity_row(alloc: Global, fields: &[&str]) -> Option<CommodityRow> {
     Some(CommodityRow {
-        name: commodity(alloc, text, 0)?,
-        day: day_at(text, 1)?,
+        name: field(alloc, fields, 0)?,
+        day: field(alloc, fields, 1)?,
     })
 }
 
-pub(crate) fn price_row(alloc: Global, text: &str) -> Option<PriceRow> {
+pub(crate) fn price_row(alloc: Global, fields: &[&str]) -> Option<PriceRow> {
     Some(PriceRow {
-        base: commodity(alloc, text, 0)?,
-        quote: commodity(alloc, text, 1)?,
-        day: day_at(text, 2)?,
-        rate: rate(field(text, 3)?)?,
+        base: field(alloc, fields, 0)?,
+        quote: field(alloc, fields, 1)?,
+        day: field(alloc, fields, 2)?,
+        rate: field(alloc, fields, 3)?,
     })
 }
 
-pub(crate) fn entry_row(alloc: Global, text: &str) -> Option<EntryRow> {
+pub(crate) fn entry_row(alloc: Global, fields: &[&str]) -> Option<EntryRow> {
     Some(EntryRow {
-        number: ordinal(text, 0)?,
-        source: label(alloc, text, 1)?,
-        name: label(alloc, text, 2)?,
-        body: any_text(alloc, text, 3)?,
+        number: field(alloc, fields, 0)?,
+        source: field(alloc, fields, 1)?,
+        name: field(alloc, fields, 2)?,
+        body: field(alloc, fields, 3)?,
     })
 }
 
-pub(crate) fn leg_row(alloc: Global, text: &str) -> Option<LegRow> {
+pub(crate) fn leg_row(alloc: Global, fields: &[&str]) -> Option<LegRow> {
     Some(LegRow {
-        entry: ordinal(text, 0)?,
-        posting: ordinal(text, 1)?,
-        place: index(text, 2)?,
-        account: account(alloc, text, 3)?,
-        commodity: commodity(alloc, text, 4)?,
-        units: units(field(text, 5)?)?,
-        lot: lot_or_none(alloc, field(text, 6)?)?,
+        entry: field(alloc, fields, 0)?,
+        posting: field(alloc, fields, 1)?,
+        place: field(alloc, fields, 2)?,
+        account: field(alloc, fields, 3)?,
+        commodity: field(alloc, fields, 4)?,
+        units: field(alloc, fields, 5)?,
+        lot: lot_or_none(alloc, fields, 6)?,
     })
 }
 
-pub(crate) fn sale_row(alloc: Global, text: &str) -> Option<SaleRow> {
+pub(crate) fn sale_row(alloc: Global, fields: &[&str]) -> Option<SaleRow> {
     Some(SaleRow {
-        entry: ordinal(text, 0)?,
-        posting: ordinal(text, 1)?,
-        day: day_at(text, 2)?,
-        account: account(alloc, text, 3)?,
-        commodity: commodity(alloc, text, 4)?,
-        units: sum(text, 5)?,
-        price: price(alloc, field(text, 6)?)?,
+        entry: field(alloc, fields, 0)?,
+        posting: field(alloc, fields, 1)?,
+        day: field(alloc, fields, 2)?,
+        account: field(alloc, fields, 3)?,
+        commodity: field(alloc, fields, 4)?,
+        units: field(alloc, fields, 5)?,
+        price: price(alloc, fields, 6)?,
     })
 }
 
-pub(crate) fn lot_row(alloc: Global, text: &str) -> Option<LotRow> {
+pub(crate) fn lot_row(alloc: Global, fields: &[&str]) -> Option<LotRow> {
     Some(LotRow {
-        account: account(alloc, text, 0)?,
-        commodity: commodity(alloc, text, 1)?,
-        lot: lot_at(alloc, text, 2)?,
-        units: sum(text, 3)?,
+        account: field(alloc, fields, 0)?,
+        commodity: field(alloc, fields, 1)?,
+        lot: lot(alloc, fields, 2)?,
+        units: field(alloc, fields, 3)?,
     })
 }
 
-pub(crate) fn plain_row(alloc: Global, text: &str) -> Option<PlainRow> {
+pub(crate) fn plain_row(alloc: Global, fields: &[&str]) -> Option<PlainRow> {
     Some(PlainRow {
-        account: account(alloc, text, 0)?,
-        commodity: commodity(alloc, text, 1)?,
-        units: sum(text, 2)?,
+        account: field(alloc, fields, 0)?,
+        commodity: field(alloc, fields, 1)?,
+        units: field(alloc, fields, 2)?,
     })
 }
 
-pub(crate) fn head_row(alloc: Global, text: &str) -> Option<HeadRow> {
+pub(crate) fn head_row(alloc: Global, fields: &[&str]) -> Option<HeadRow> {
     Some(HeadRow {
-        account: account(alloc, text, 0)?,
-        commodity: commodity(alloc, text, 1)?,
-        day: day_at(text, 2)?,
+        account: field(alloc, fields, 0)?,
+        commodity: field(alloc, fields, 1)?,
+        day: field(alloc, fields, 2)?,
     })
 }

@@ -9,11 +9,13 @@
 //! What is read has its rows as its answer, a change has none, and what fails its fault. A statement that is none of these is
 //! answered by `?`.
 
-use crate::calls;
+use crate::calls::{self, Answer};
+use crate::rows::fields;
+use crate::texts::{found, listed, told};
+use lot_rows::entry::greatest;
 use lot_table::Fault;
-use sqlite::{Alter, Connection};
+use sqlite::{Alter, Connection, Row, Transaction};
 use std::alloc::{AllocError, Global};
-use std::fmt::Debug;
 
 /// What a statement answers.
 pub(crate) fn answer<S: Alter>(
@@ -21,7 +23,20 @@ pub(crate) fn answer<S: Alter>(
     conn: &mut Connection<S>,
     statement: &str,
 ) -> Result<String, AllocError> {
-    match said(alloc, conn, statement) {
+    let (verb, rest) = first_word(statement);
+    let text = match verb {
+        "make" | "put" | "delete" => changed(alloc, conn, verb, rest),
+        "list" | "list_of" | "find" => read(alloc, conn, verb, rest),
+        "greatest" => Some(found(alloc, greatest(alloc, conn))),
+        "sql" => Some(told(alloc, conn.execute(rest, &[]))),
+        "ask" => Some(listed(alloc, ask(conn, rest))),
+        "limit" => {
+            conn.set_step_limit(rest.parse::<u64>().ok());
+            Some(Ok(String::new(alloc)))
+        }
+        _ => None,
+    };
+    match text {
         Some(text) => text,
         None => String::from_str(alloc, "?"),
     }
@@ -32,65 +47,45 @@ fn first_word(text: &str) -> (&str, &str) {
     text.split_once(' ').unwrap_or((text, ""))
 }
 
-fn said<S: Alter>(
-    alloc: Global,
-    conn: &mut Connection<S>,
-    statement: &str,
-) -> Option<Result<String, AllocError>> {
-    let (verb, rest) = first_word(statement);
-    let (table, row) = first_word(rest);
-    Some(match verb {
-        "make" => told(alloc, calls::make(conn)?),
-        "limit" => {
-            conn.set_step_limit(rest.parse::<u64>().ok());
-            Ok(String::new(alloc))
-        }
-        "sql" => told(alloc, calls::run(conn, rest).map(|_changed| ())),
-        "put" | "delete" => changed(alloc, conn, statement)?,
-        "ask" => shown(alloc, calls::ask(alloc, conn, rest)),
-        "list" => shown(alloc, calls::list(alloc, conn, table)?),
-        "list_of" => shown(alloc, calls::list_of(alloc, conn, table, row)?),
-        "find" => shown(alloc, calls::find(alloc, conn, table, row)?),
-        "greatest" => shown(alloc, calls::greatest(alloc, conn)),
-        _ => return None,
-    })
+fn ask<S: Alter>(conn: &mut Connection<S>, sql: &str) -> Result<Vec<Row>, Fault> {
+    Ok(conn.query_all(sql, &[])?)
 }
 
-fn shown(alloc: Global, read: Result<String, Fault>) -> Result<String, AllocError> {
-    match read {
-        Ok(text) => Ok(text),
-        Err(fault) => format!(in alloc; "{fault:?}"),
+/// Reads rows of a table.
+fn read<S: Alter>(alloc: Global, conn: &mut Connection<S>, verb: &str, rest: &str) -> Answer {
+    let (table, key) = first_word(rest);
+    let fields = fields(alloc, key)?;
+    match verb {
+        "list" => calls::list(alloc, conn, table),
+        "list_of" => calls::list_of(alloc, conn, table, &fields),
+        _ => calls::find(alloc, conn, table, &fields),
     }
 }
 
-fn told<E: Debug + Drop>(alloc: Global, made: Result<(), E>) -> Result<String, AllocError> {
-    match made {
-        Ok(()) => Ok(String::new(alloc)),
-        Err(fault) => format!(in alloc; "{fault:?}"),
-    }
-}
-
-/// Puts or deletes a row and commits.
-fn changed<S: Alter>(
-    alloc: Global,
-    conn: &mut Connection<S>,
-    statement: &str,
-) -> Option<Result<String, AllocError>> {
-    let (verb, rest) = first_word(statement);
+/// Makes the tables, or puts or deletes a row, and commits.
+fn changed<S: Alter>(alloc: Global, conn: &mut Connection<S>, verb: &str, rest: &str) -> Answer {
     let (table, row) = first_word(rest);
+    let fields = fields(alloc, row)?;
     if !conn.is_autocommit() {
         return None;
     }
+    if verb == "make" {
+        return Some(told(alloc, calls::make(conn)));
+    }
     let mut tx = conn.transaction();
     let made = match verb {
-        "put" => calls::put(alloc, &mut tx, table, row)?,
-        _ => calls::delete(alloc, &mut tx, table, row)?,
+        "put" => calls::put(alloc, &mut tx, table, &fields)?,
+        _ => calls::delete(alloc, &mut tx, table, &fields)?,
     };
     if made.is_err() {
         return Some(told(alloc, made));
     }
-    Some(match tx.commit() {
-        Ok(()) => told(alloc, made),
+    Some(committed(alloc, tx))
+}
+
+fn committed<S: Alter>(alloc: Global, tx: Transaction<'_, S>) -> Result<String, AllocError> {
+    match tx.commit() {
+        Ok(()) => Ok(String::new(alloc)),
         Err(_) => String::from_str(alloc, "not committed"),
-    })
+    }
 }

@@ -1,4 +1,4 @@
-//! The texts of rows, in the form that rows are made of, and those of lists of rows.
+//! The texts of rows, in the form that rows are made of, and what calls answer.
 
 use lot_command::Price;
 use lot_inv::LotKey;
@@ -13,155 +13,250 @@ use lot_rows::lot::LotRow;
 use lot_rows::plain::PlainRow;
 use lot_rows::price::PriceRow;
 use lot_rows::sale::SaleRow;
-use lot_table::Fault;
+use lot_table::{Fault, Ordinal};
+use sqlite::types::ValueRef;
+use sqlite::{Error, Row};
 use std::alloc::{AllocError, Global};
+use std::fmt::Debug;
 
 /// What has a text.
 pub(crate) trait Shown: Drop {
-    fn text(&self, alloc: Global) -> Result<String, AllocError>;
+    /// Appends the text.
+    fn show(&self, line: &mut String) -> Result<(), AllocError>;
 }
 
-/// The texts of rows, each on a line.
-pub(crate) fn list_text<R: Shown>(
+/// The rows that a call read, each on a line, or its fault.
+pub(crate) fn listed<R: Shown, E: Debug + Drop>(
     alloc: Global,
-    rows: Result<Vec<R>, Fault>,
-) -> Result<String, Fault> {
-    let mut list = String::new(alloc);
-    for row in &rows? {
-        push(&mut list, "\n", row.text(alloc)?.as_str())?;
+    rows: Result<Vec<R>, E>,
+) -> Result<String, AllocError> {
+    match rows {
+        Ok(rows) => lines(alloc, &rows),
+        Err(fault) => format!(in alloc; "{fault:?}"),
     }
-    Ok(list)
 }
 
-/// Appends a text, behind a separator if there is a text before it.
-pub(crate) fn push(list: &mut String, separator: &str, text: &str) -> Result<(), AllocError> {
-    if !list.is_empty() {
-        list.push_str(separator)?;
+fn lines<R: Shown>(alloc: Global, rows: &[R]) -> Result<String, AllocError> {
+    let mut lines = String::new(alloc);
+    for row in rows {
+        if !lines.is_empty() {
+            lines.push('\n')?;
+        }
+        row.show(&mut lines)?;
     }
-    list.push_str(text)
+    Ok(lines)
 }
 
-/// The text of the row that was found, or `none`.
-pub(crate) fn found_text<R: Shown>(
+/// The row that a call found, or `none`, or its fault.
+pub(crate) fn found<R: Shown>(
     alloc: Global,
     row: Result<Option<R>, Fault>,
-) -> Result<String, Fault> {
-    let text = match row? {
-        Some(row) => row.text(alloc)?,
-        None => String::from_str(alloc, "none")?,
-    };
-    Ok(text)
+) -> Result<String, AllocError> {
+    let mut line = String::new(alloc);
+    match row {
+        Ok(Some(row)) => row.show(&mut line)?,
+        Ok(None) => line.push_str("none")?,
+        Err(fault) => write!(line, "{fault:?}")?,
+    }
+    Ok(line)
 }
 
-/// The text of a lot: day, currency, number and label.
-fn lot_text(alloc: Global, lot: &LotKey) -> Result<String, AllocError> {
-    let number = lot.number.mantissa();
-    match &lot.label {
-        Some(label) => format!(in alloc; "{} {} {number} ={label}", lot.day, lot.currency),
-        None => format!(in alloc; "{} {} {number}", lot.day, lot.currency),
+/// Nothing, or the fault of a call that reads nothing.
+pub(crate) fn told<T: Drop, E: Debug + Drop>(
+    alloc: Global,
+    made: Result<T, E>,
+) -> Result<String, AllocError> {
+    match made {
+        Ok(_) => Ok(String::new(alloc)),
+        Err(fault) => format!(in alloc; "{fault:?}"),
     }
 }
 
-fn price_text(alloc: Global, price: &Price) -> Result<String, AllocError> {
-    match price {
-        Price::Each(price) => {
-            format!(in alloc; "@ {} {}", price.rate.mantissa(), price.currency)
+/// Appends a text with escapes for control characters but tabs, and for a `\` before an `x`.
+fn push_escaped(line: &mut String, text: &str) -> Result<(), AllocError> {
+    for (place, piece) in text.split("\\x").enumerate() {
+        if place > 0 {
+            line.push_str("\\x5cx")?;
         }
-        Price::Whole(price) => {
-            format!(in alloc; "@@ {} {}", price.total().mantissa(), price.currency())
+        push_piece(line, piece)?;
+    }
+    Ok(())
+}
+
+fn push_piece(line: &mut String, piece: &str) -> Result<(), AllocError> {
+    for c in piece.chars() {
+        if c.is_control() && c != '\t' {
+            write!(line, "\\x{:02x}", u32::from(c))?;
+        } else {
+            line.push(c)?;
         }
+    }
+    Ok(())
+}
+
+/// Columns as literals of SQL.
+impl Shown for Row {
+    fn show(&self, line: &mut String) -> Result<(), AllocError> {
+        for at in 0..self.column_count() {
+            if at > 0 {
+                line.push_str(", ")?;
+            }
+            push_literal(line, self.get_ref(at))?;
+        }
+        Ok(())
+    }
+}
+
+fn push_literal(line: &mut String, value: Result<ValueRef<'_>, Error>) -> Result<(), AllocError> {
+    match value {
+        Ok(ValueRef::Null) => line.push_str("NULL"),
+        Ok(ValueRef::Int(number)) => write!(line, "{number}"),
+        Ok(ValueRef::Text(bytes)) => {
+            line.push('\'')?;
+            push_escaped(line, std::str::from_utf8(bytes).unwrap_or("not UTF-8"))?;
+            line.push('\'')
+        }
+        _ => line.push_str("neither a number nor a text"),
+    }
+}
+
+impl Shown for Ordinal {
+    fn show(&self, line: &mut String) -> Result<(), AllocError> {
+        write!(line, "{}", self.number())
+    }
+}
+
+/// Day, currency, number and label.
+impl Shown for LotKey {
+    fn show(&self, line: &mut String) -> Result<(), AllocError> {
+        write!(
+            line,
+            "{} {} {}",
+            self.day,
+            self.currency,
+            self.number.mantissa()
+        )?;
+        match &self.label {
+            Some(label) => write!(line, " ={label}"),
+            None => Ok(()),
+        }
+    }
+}
+
+impl Shown for Price {
+    fn show(&self, line: &mut String) -> Result<(), AllocError> {
+        match self {
+            Price::Each(price) => write!(line, "@ {} {}", price.rate.mantissa(), price.currency),
+            Price::Whole(price) => {
+                write!(line, "@@ {} {}", price.total().mantissa(), price.currency())
+            }
+        }
+    }
+}
+
+/// Appends a text, or `-` for none.
+fn push_or_none<T: Shown>(line: &mut String, value: &Option<T>) -> Result<(), AllocError> {
+    match value {
+        Some(value) => value.show(line),
+        None => line.push('-'),
     }
 }
 
 impl Shown for BookRow {
-    fn text(&self, alloc: Global) -> Result<String, AllocError> {
-        format!(in alloc; "{} | {}", self.mark.as_str(), self.edition)
+    fn show(&self, line: &mut String) -> Result<(), AllocError> {
+        write!(line, "{} | {}", self.mark.as_str(), self.edition)
     }
 }
 
 impl Shown for AccountRow {
-    fn text(&self, alloc: Global) -> Result<String, AllocError> {
-        let (name, opened, method) = (&self.name, self.opened, self.method.name());
+    fn show(&self, line: &mut String) -> Result<(), AllocError> {
+        write!(line, "{} | {} | ", self.name, self.opened)?;
         match self.closed {
-            Some(closed) => format!(in alloc; "{name} | {opened} | {closed} | {method}"),
-            None => format!(in alloc; "{name} | {opened} | - | {method}"),
+            Some(closed) => write!(line, "{closed} | {}", self.method.name()),
+            None => write!(line, "- | {}", self.method.name()),
         }
     }
 }
 
 impl Shown for AllowedRow {
-    fn text(&self, alloc: Global) -> Result<String, AllocError> {
-        format!(in alloc; "{} | {} | {}", self.account, self.place, self.commodity)
+    fn show(&self, line: &mut String) -> Result<(), AllocError> {
+        write!(
+            line,
+            "{} | {} | {}",
+            self.account, self.place, self.commodity
+        )
     }
 }
 
 impl Shown for CommodityRow {
-    fn text(&self, alloc: Global) -> Result<String, AllocError> {
-        format!(in alloc; "{} | {}", self.name, self.day)
+    fn show(&self, line: &mut String) -> Result<(), AllocError> {
+        write!(line, "{} | {}", self.name, self.day)
     }
 }
 
 impl Shown for PriceRow {
-    fn text(&self, alloc: Global) -> Result<String, AllocError> {
+    fn show(&self, line: &mut String) -> Result<(), AllocError> {
         let rate = self.rate.mantissa();
-        format!(in alloc; "{} | {} | {} | {rate}", self.base, self.quote, self.day)
+        write!(
+            line,
+            "{} | {} | {} | {rate}",
+            self.base, self.quote, self.day
+        )
     }
 }
 
 impl Shown for EntryRow {
-    fn text(&self, alloc: Global) -> Result<String, AllocError> {
-        let (number, body) = (self.number.number(), self.body.as_str());
-        format!(in alloc; "{number} | {} | {} | {body}", self.source, self.name)
+    fn show(&self, line: &mut String) -> Result<(), AllocError> {
+        let number = self.number.number();
+        write!(line, "{number} | {} | {} | ", self.source, self.name)?;
+        push_escaped(line, self.body.as_str())
     }
 }
 
 impl Shown for LegRow {
-    fn text(&self, alloc: Global) -> Result<String, AllocError> {
-        let lot = match &self.lot {
-            Some(lot) => lot_text(alloc, lot)?,
-            None => String::from_str(alloc, "-")?,
-        };
+    fn show(&self, line: &mut String) -> Result<(), AllocError> {
         let (entry, posting) = (self.entry.number(), self.posting.number());
-        let (place, units) = (self.place, self.units.mantissa());
-        let (account, commodity) = (&self.account, &self.commodity);
-        format!(in alloc;
-            "{entry} | {posting} | {place} | {account} | {commodity} | {units} | {lot}"
-        )
+        write!(
+            line,
+            "{entry} | {posting} | {} | {} | ",
+            self.place, self.account
+        )?;
+        write!(line, "{} | {} | ", self.commodity, self.units.mantissa())?;
+        push_or_none(line, &self.lot)
     }
 }
 
 impl Shown for SaleRow {
-    fn text(&self, alloc: Global) -> Result<String, AllocError> {
-        let price = match &self.price {
-            Some(price) => price_text(alloc, price)?,
-            None => String::from_str(alloc, "-")?,
-        };
+    fn show(&self, line: &mut String) -> Result<(), AllocError> {
         let (entry, posting) = (self.entry.number(), self.posting.number());
-        let (day, units) = (self.day, self.units.units().mantissa());
-        let (account, commodity) = (&self.account, &self.commodity);
-        format!(in alloc;
-            "{entry} | {posting} | {day} | {account} | {commodity} | {units} | {price}"
-        )
+        let units = self.units.units().mantissa();
+        write!(
+            line,
+            "{entry} | {posting} | {} | {} | ",
+            self.day, self.account
+        )?;
+        write!(line, "{} | {units} | ", self.commodity)?;
+        push_or_none(line, &self.price)
     }
 }
 
 impl Shown for LotRow {
-    fn text(&self, alloc: Global) -> Result<String, AllocError> {
-        let lot = lot_text(alloc, &self.lot)?;
-        let units = self.units.units().mantissa();
-        format!(in alloc; "{} | {} | {lot} | {units}", self.account, self.commodity)
+    fn show(&self, line: &mut String) -> Result<(), AllocError> {
+        write!(line, "{} | {} | ", self.account, self.commodity)?;
+        self.lot.show(line)?;
+        write!(line, " | {}", self.units.units().mantissa())
     }
 }
 
 impl Shown for PlainRow {
-    fn text(&self, alloc: Global) -> Result<String, AllocError> {
+    fn show(&self, line: &mut String) -> Result<(), AllocError> {
         let units = self.units.units().mantissa();
-        format!(in alloc; "{} | {} | {units}", self.account, self.commodity)
+        write!(line, "{} | {} | {units}", self.account, self.commodity)
     }
 }
 
 impl Shown for HeadRow {
-    fn text(&self, alloc: Global) -> Result<String, AllocError> {
-        format!(in alloc; "{} | {} | {}", self.account, self.commodity, self.day)
+    fn show(&self, line: &mut String) -> Result<(), AllocError> {
+        write!(line, "{} | {} | {}", self.account, self.commodity, self.day)
     }
 }

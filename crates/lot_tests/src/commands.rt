@@ -61,16 +61,10 @@ const OPENINGS: &[(&[&str], Method, &str)] = &[
     ),
 ];
 
-pub(crate) fn opening(
-    rt: &(impl Abort + AllocGlobal),
-    date: &str,
-    name: &str,
-    texts: &[&str],
-    method: Method,
-) -> Command {
+fn opening(rt: &(impl Abort + AllocGlobal), texts: &[&str], method: Method) -> Command {
     Command::Opening(Opening {
-        day: day(rt, date),
-        account: account(rt, name),
+        day: day(rt, "2020/1/5"),
+        account: account(rt, "Assets:Broker"),
         currencies: currencies(rt, texts),
         method,
     })
@@ -79,26 +73,25 @@ pub(crate) fn opening(
 #[test]
 fn openings_have_a_text(rt: HostRuntime) {
     for (texts, method, want) in OPENINGS {
-        let opening = opening(&rt, "2020/1/5", "Assets:Broker", texts, *method);
-        assert_body(&rt, &opening, want);
+        assert_body(&rt, &opening(&rt, texts, *method), want);
     }
 }
 
-pub(crate) fn closing(rt: &(impl Abort + AllocGlobal), date: &str, name: &str) -> Command {
+fn closing(rt: &(impl Abort + AllocGlobal)) -> Command {
     Command::Closing(Closing {
-        day: day(rt, date),
-        account: account(rt, name),
+        day: day(rt, "9999-12-31"),
+        account: account(rt, "Expenses:0"),
     })
 }
 
-pub(crate) fn declaring(rt: &(impl Abort + AllocGlobal)) -> Command {
+fn declaring(rt: &(impl Abort + AllocGlobal)) -> Command {
     Command::Declaring(Declaring {
         day: day(rt, "0001-01-01"),
         commodity: commodity(rt, "HOOL.B"),
     })
 }
 
-pub(crate) fn quoting(rt: &(impl Abort + AllocGlobal)) -> Command {
+fn quoting(rt: &(impl Abort + AllocGlobal)) -> Command {
     Command::Quoting(Quoting {
         day: day(rt, "2020-02-29"),
         base: commodity(rt, "HOOL"),
@@ -109,8 +102,7 @@ pub(crate) fn quoting(rt: &(impl Abort + AllocGlobal)) -> Command {
 
 #[test]
 fn commands_without_postings_have_a_text(rt: HostRuntime) {
-    let closing = closing(&rt, "9999-12-31", "Expenses:0");
-    assert_body(&rt, &closing, "9999-12-31 close Expenses:0\n");
+    assert_body(&rt, &closing(&rt), "9999-12-31 close Expenses:0\n");
     assert_body(&rt, &declaring(&rt), "0001-01-01 commodity HOOL.B\n");
     assert_body(&rt, &quoting(&rt), "2020-02-29 price HOOL 1502.12 USD\n");
 }

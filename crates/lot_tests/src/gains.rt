@@ -162,19 +162,26 @@ fn gains_are_proceeds_less_cost(rt: HostRuntime) {
     }
 }
 
+/// The day, the account, the commodity, the units and the legs of a sale.
+fn parts_text(rt: &(impl Abort + AllocGlobal), sale: &Sale) -> String {
+    let units = sale.units().text(rt.alloc()).expect(rt, "units");
+    let lots = lots_text(rt, sale.legs());
+    let (day, account, commodity) = (sale.day(), sale.account(), sale.commodity());
+    format!(in rt.alloc(); "{day} {account} {commodity} {units}:{lots}").expect(rt, "parts")
+}
+
+/// The parts of a copy of the sale of a row.
+fn copied(rt: &(impl Abort + AllocGlobal), number: &str, at: &str) -> String {
+    let sale = sale(rt, number, at, OF_TWO).expect(rt, number);
+    let copy = sale.copy(rt.alloc()).expect(rt, number);
+    parts_text(rt, &copy)
+}
+
 #[test]
 fn a_copy_has_every_part(rt: HostRuntime) {
-    let sale = sale(&rt, "-15", "@ 130 USD", OF_TWO).expect(&rt, "sale");
-    let copy = sale.copy(rt.alloc()).expect(&rt, "copy");
-    let day = copy.day().text(rt.alloc()).expect(&rt, "day");
-    let units = copy.units().text(rt.alloc()).expect(&rt, "units");
-    assert_text(&rt, day.as_str(), "2020-03-15");
-    assert_text(&rt, copy.account().as_str(), "Assets:Broker");
-    assert_text(&rt, copy.commodity().as_str(), "HOOL");
-    assert_text(&rt, units.as_str(), "-15");
     assert_text(
         &rt,
-        lots_text(&rt, copy.legs()).as_str(),
-        " -10 {100 USD, 2020-01-01} -5 {120 USD, 2020-02-01, \"x\"}",
+        copied(&rt, "-15", "@ 130 USD").as_str(),
+        "2020-03-15 Assets:Broker HOOL -15: -10 {100 USD, 2020-01-01} -5 {120 USD, 2020-02-01, \"x\"}",
     );
 }

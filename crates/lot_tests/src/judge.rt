@@ -11,6 +11,7 @@ use crate::make::{account, commodity, day, place, units};
 use lot_command::{Command, Currencies, Method};
 use lot_ledger::{Change, Leg, Outcome, Position, Standing, Stop, View, decide};
 use lot_num::Units;
+use lot_text::read;
 use std::process::Abort;
 
 /// An account, and units, a commodity and the parts of a lot key or an empty text.
@@ -50,6 +51,11 @@ fn put_held(rt: &(impl Abort + AllocGlobal), view: &mut View, rows: &[Held<'_>])
     }
 }
 
+/// Puts the text that stands under the key.
+fn put_text(rt: &(impl Abort + AllocGlobal), view: &mut View, text: &str) {
+    view.put_text(String::from_str(rt.alloc(), text).expect(rt, text));
+}
+
 /// A view of so many entries, with accounts of that method that hold units.
 fn view_of(
     rt: &(impl Abort + AllocGlobal),
@@ -63,6 +69,14 @@ fn view_of(
     }
     put_held(rt, &mut view, held);
     view
+}
+
+/// The one command that a text says.
+fn said(rt: &(impl Abort + AllocGlobal), text: &str) -> Command {
+    let mut commands = read(rt.alloc(), text.as_bytes()).expect(rt, text);
+    let command = commands.pop().expect(rt, text);
+    assert!(rt; commands.is_empty());
+    command
 }
 
 /// What becomes of a command: `accepted`, `repeat`, or the refusal.
@@ -79,6 +93,13 @@ fn reply(rt: &(impl Abort + AllocGlobal), decided: &Result<Outcome, Stop>) -> St
 fn assert_reply(rt: &(impl Abort + AllocGlobal), view: &View, command: &Command, want: &str) {
     let decided = decide(rt.alloc(), view, command);
     assert_text(rt, reply(rt, &decided).as_str(), want);
+}
+
+/// Asserts what becomes of each command: its text, and the reply.
+fn assert_replies(rt: &(impl Abort + AllocGlobal), view: &View, cases: &[(&str, &str)]) {
+    for (text, want) in cases {
+        assert_reply(rt, view, &said(rt, text), want);
+    }
 }
 
 /// What a command changes, which has to be accepted.

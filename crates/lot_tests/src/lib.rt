@@ -15,7 +15,8 @@
 //! - `judge`: commands judged on a view of a book: what they change, their sales, and the refusals that no text shows.
 //!
 //! What keeps the proofs of tests short: no `?`, which adds a path on which all that lives is dropped; tables that are
-//! slices, and not arrays that a loop takes by value; assertions in functions of their own.
+//! slices, and not arrays that a loop takes by value; assertions in functions of their own; one command at a time, in a loop over
+//! ledger texts.
 #![tactic(auto)]
 
 #[cfg(test)]

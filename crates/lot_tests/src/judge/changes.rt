@@ -1,10 +1,9 @@
 //! What an accepted command changes.
 
-use super::{Held, changed, view_of};
+use super::{Held, changed, said, view_of};
 use crate::assertions::assert_text;
-use crate::commands::{Row, closing, declaring, opening, quoting, transaction};
 use crate::make::{push_key, push_texts};
-use lot_command::{Command, Method};
+use lot_command::Method;
 use lot_ledger::{Change, Position, View};
 use lot_num::Units;
 use std::process::Abort;
@@ -51,20 +50,21 @@ fn change_text(rt: &(impl Abort + AllocGlobal), change: &Change) -> String {
     text
 }
 
-/// Asserts what a command changes.
-fn assert_changes(rt: &(impl Abort + AllocGlobal), view: &View, command: &Command, want: &str) {
-    let change = changed(rt, view, command);
+/// Asserts what the command of a text changes.
+fn assert_changes(rt: &(impl Abort + AllocGlobal), view: &View, text: &str, want: &str) {
+    let change = changed(rt, view, &said(rt, text));
     assert_text(rt, change_text(rt, &change).as_str(), want);
 }
 
-const SOLD_AND_BOUGHT: &[Row<'_>] = &[
-    ["Assets:Broker", "-12 HOOL", "{", "@ 130 USD"],
-    ["Assets:Cash", "1560 USD", "", ""],
-    ["Income:Gains", "", "", ""],
-    ["Assets:Broker", "-8 HOOL", "{", ""],
-    ["Assets:Broker", "1 HOOL", "{7 EUR 2019-12-31 =x", ""],
-    ["Assets:Broker", "2 HOOL", "", ""],
-];
+const SOLD_AND_BOUGHT: &str = "\
+2020-03-15 *
+  Assets:Broker -12 HOOL {} @ 130 USD
+  Assets:Cash 1560 USD
+  Income:Gains
+  Assets:Broker -8 HOOL {}
+  Assets:Broker 1 HOOL {7 EUR, 2019-12-31, \"x\"}
+  Assets:Broker 2 HOOL
+";
 
 const ITS_CHANGES: &str = "\
 leg 7.1.0 Assets:Broker -10 HOOL {100 USD, 2020-01-01}
@@ -88,14 +88,15 @@ latest Assets:Broker HOOL 2020-03-15
 ";
 
 /// Currencies in which the elided posting takes something, behind one in which it doesn't.
-const THREE_CURRENCIES: &[Row<'_>] = &[
-    ["Assets:Cash", "5 USD", "", ""],
-    ["Assets:Cash", "-5 USD", "", ""],
-    ["Equity:Start", "", "", ""],
-    ["Assets:Cash", "3 EUR", "", ""],
-    ["Assets:Broker", "2 HOOL", "{4 CHF", ""],
-    ["Assets:Cash", "1 ABC", "", ""],
-];
+const THREE_CURRENCIES: &str = "\
+2020-03-15 *
+  Assets:Cash 5 USD
+  Assets:Cash -5 USD
+  Equity:Start
+  Assets:Cash 3 EUR
+  Assets:Broker 2 HOOL {4 CHF}
+  Assets:Cash 1 ABC
+";
 
 const THEIR_FILL: &str = "\
 leg 7.1.0 Assets:Cash 5 USD
@@ -116,17 +117,21 @@ holds Equity:Start -3 EUR
 latest Assets:Broker HOOL 2020-03-15
 ";
 
+/// Commands that list nothing but themselves, and the two above.
+const CASES: &[(&str, &str)] = &[
+    (SOLD_AND_BOUGHT, ITS_CHANGES),
+    (THREE_CURRENCIES, THEIR_FILL),
+    ("2020-03-15 *", ""),
+    ("2020-03-15 open Assets:New", ""),
+    ("2020-03-15 close Assets:Cash", ""),
+    ("0001-01-01 commodity HOOL.B", ""),
+    ("2020-02-29 price HOOL 1502.12 USD", ""),
+];
+
 #[test]
 fn changes_list_what_they_change(rt: HostRuntime) {
     let view = view_of(&rt, 6, Method::Fifo, BOUGHT);
-    let transaction = |rows| transaction(&rt, &[], rows);
-    assert_changes(&rt, &view, &transaction(SOLD_AND_BOUGHT), ITS_CHANGES);
-    assert_changes(&rt, &view, &transaction(THREE_CURRENCIES), THEIR_FILL);
-    assert_changes(&rt, &view, &transaction(&[]), "");
-    let open = opening(&rt, "2020-03-15", "Assets:New", &[], Method::Strict);
-    assert_changes(&rt, &view, &open, "");
-    let close = closing(&rt, "2020-03-15", "Assets:Cash");
-    assert_changes(&rt, &view, &close, "");
-    assert_changes(&rt, &view, &declaring(&rt), "");
-    assert_changes(&rt, &view, &quoting(&rt), "");
+    for (text, want) in CASES {
+        assert_changes(&rt, &view, text, want);
+    }
 }

@@ -1,7 +1,9 @@
 //! The refusals that go before and behind all others: a reused key and a full book.
 
-use super::{Held, assert_reply, changed, opened, put_account, view_of};
-use crate::commands::{Row, closing, currencies, declaring, opening, quoting, transaction};
+use super::{
+    Held, assert_replies, assert_reply, changed, opened, put_account, put_text, said, view_of,
+};
+use crate::commands::currencies;
 use crate::make::{account, commodity, day, key, units};
 use lot_command::{Command, Method};
 use lot_ledger::{Standing, View};
@@ -25,96 +27,97 @@ const HELD: &[Held<'_>] = &[
 ];
 
 /// Each refusal of a transaction alone: its postings, and the refusal.
-const ALONE: &[(&[Row<'_>], &str)] = &[
+const ALONE: &[(&[&str], &str)] = &[
     (
-        &[["Assets:None", "0 USD", "", ""]],
+        &["Assets:None 0 USD"],
         "Refused(UnknownAccount { posting: Some(1) })",
     ),
     (
-        &[["Assets:Late", "0 EUR", "", ""]],
+        &["Assets:Late 0 EUR"],
         "Refused(NotOpenYet { posting: Some(1) })",
     ),
     (
-        &[["Assets:Gone", "0 EUR", "", ""]],
+        &["Assets:Gone 0 EUR"],
         "Refused(Closed { posting: Some(1) })",
     ),
     (
-        &[["Assets:Euro", "0 USD", "", ""]],
+        &["Assets:Euro 0 USD"],
         "Refused(CurrencyNotAllowed { posting: 1 })",
     ),
+    (&["Assets:Cash 0 USD"; 65], "Refused(TooManyPostings)"),
+    (&["Equity:Start", "Equity:Start"], "Refused(TwoElided)"),
     (
-        &[["Assets:Cash", "0 USD", "", ""]; 65],
-        "Refused(TooManyPostings)",
-    ),
-    (
-        &[["Equity:Start", "", "", ""], ["Equity:Start", "", "", ""]],
-        "Refused(TwoElided)",
-    ),
-    (
-        &[["Assets:Broker", "1 OLD", "{0 USD", ""]],
+        &["Assets:Broker 1 OLD {0 USD}"],
         "Refused(BackDated { posting: 1 })",
     ),
     (
-        &[["Assets:Broker", "-1 HOOL", "{50", ""]],
+        &["Assets:Broker -1 HOOL {50}"],
         "Refused(NoMatch { posting: 1 })",
     ),
     (
-        &[["Assets:Broker", "-1 HOOL", "{", ""]],
+        &["Assets:Broker -1 HOOL {}"],
         "Refused(Ambiguous { posting: 1 })",
     ),
     (
-        &[["Assets:Broker", "-11 HOOL", "{100", ""]],
+        &["Assets:Broker -11 HOOL {100}"],
         "Refused(NotEnough { posting: 1 })",
     ),
     (
-        &[["Assets:Broker", "1 HOOL", "{", ""]],
+        &["Assets:Broker 1 HOOL {}"],
         "Refused(IncompleteCost { posting: 1 })",
     ),
     (
-        &[["Assets:Broker", "3 HOOL", "{{100 USD", ""]],
+        &["Assets:Broker 3 HOOL {{100 USD}}"],
         "Refused(InexactCost { posting: 1 })",
     ),
     (
-        &[["Assets:Broker", "0 HOOL", "{", ""]],
+        &["Assets:Broker 0 HOOL {}"],
         "Refused(ZeroUnits { posting: 1 })",
     ),
     (
-        &[["Assets:Cash", "1 TOP", "{0 USD 2020-01-01", ""]],
+        &["Assets:Cash 1 TOP {0 USD, 2020-01-01}"],
         "Refused(Range { posting: 1 })",
     ),
     (
-        &[
-            ["Assets:Cash", "0.00000001 HOOL", "{0.1 USD", ""],
-            ["Equity:Start", "", "", ""],
-        ],
+        &["Assets:Cash 0.00000001 HOOL {0.1 USD}", "Equity:Start"],
         "Refused(InexactFill { currency: \"USD\" })",
     ),
     (
-        &[
-            ["Assets:Cash", "5 USD", "", ""],
-            ["Assets:Euro", "", "", ""],
-        ],
+        &["Assets:Cash 5 USD", "Assets:Euro"],
         "Refused(FillNotAllowed { currency: \"USD\" })",
     ),
     (
-        &[
-            ["Equity:Start", "-1 TOP", "", ""],
-            ["Assets:Cash", "", "", ""],
-        ],
+        &["Equity:Start -1 TOP", "Assets:Cash"],
         "Refused(Range { posting: 2 })",
     ),
     (
-        &[["Assets:Cash", "1 USD", "", ""]],
+        &["Assets:Cash 1 USD"],
         "Refused(NotBalanced { currency: \"USD\" })",
     ),
     (
-        &[["Income:Gains", "1 HOOL", "{0 USD", ""]],
+        &["Income:Gains 1 HOOL {0 USD}"],
         "Refused(TooManyLots { posting: 1 })",
     ),
 ];
 
-/// A transaction that no other refusal meets.
-const NOTHING: &[Row<'_>] = &[["Assets:Cash", "0 USD", "", ""]];
+/// The postings of a transaction that no other refusal meets.
+const NOTHING: &[&str] = &["Assets:Cash 0 USD"];
+
+/// A transaction of 2020-03-15 with these postings, as a text.
+fn posted(rt: &(impl Abort + AllocGlobal), postings: &[&str]) -> String {
+    let mut text = String::from_str(rt.alloc(), "2020-03-15 *").expect(rt, "text");
+    for posting in postings {
+        text.push_str("\n  ").expect(rt, posting);
+        text.push_str(posting).expect(rt, posting);
+    }
+    text
+}
+
+/// Asserts what becomes of a transaction with these postings.
+fn assert_posted(rt: &(impl Abort + AllocGlobal), view: &View, postings: &[&str], want: &str) {
+    let text = posted(rt, postings);
+    assert_reply(rt, view, &said(rt, text.as_str()), want);
+}
 
 /// An account that allows EUR alone.
 fn in_euros(rt: &(impl Abort + AllocGlobal)) -> Standing {
@@ -157,42 +160,29 @@ fn refusing(rt: &(impl Abort + AllocGlobal), entries: u32) -> View {
 
 /// Asserts the reply to each refusal alone.
 fn assert_alone(rt: &(impl Abort + AllocGlobal), view: &View) {
-    for (rows, want) in ALONE {
-        assert_reply(rt, view, &transaction(rt, &[], rows), want);
+    for (postings, want) in ALONE {
+        assert_posted(rt, view, postings, want);
     }
 }
 
 #[test]
 fn a_full_book_is_refused_last(rt: HostRuntime) {
-    let nothing = transaction(&rt, &[], NOTHING);
     let roomy = refusing(&rt, 1_999_999_999);
     assert_alone(&rt, &roomy);
-    assert_reply(&rt, &roomy, &nothing, "accepted");
+    assert_posted(&rt, &roomy, NOTHING, "accepted");
     let full = refusing(&rt, 2_000_000_000);
     assert_alone(&rt, &full);
-    assert_reply(&rt, &full, &nothing, "Refused(BookFull)");
+    assert_posted(&rt, &full, NOTHING, "Refused(BookFull)");
 }
 
 #[test]
 fn a_reused_key_is_refused_first(rt: HostRuntime) {
     let mut view = refusing(&rt, 2_000_000_000);
-    let text = String::from_str(rt.alloc(), "2020-03-15 *\n").expect(&rt, "text");
-    view.put_text(text);
-    for (rows, _) in ALONE {
-        assert_reply(
-            &rt,
-            &view,
-            &transaction(&rt, &[], rows),
-            "Refused(KeyReused)",
-        );
+    put_text(&rt, &mut view, "2020-03-15 *\n");
+    for (postings, _) in ALONE {
+        assert_posted(&rt, &view, postings, "Refused(KeyReused)");
     }
-    let nothing = transaction(&rt, &[], NOTHING);
-    assert_reply(&rt, &view, &nothing, "Refused(KeyReused)");
-}
-
-/// The opening of an account, with no currencies.
-fn open(rt: &(impl Abort + AllocGlobal), name: &str) -> Command {
-    opening(rt, "2020-01-01", name, &[], Method::Strict)
+    assert_posted(&rt, &view, NOTHING, "Refused(KeyReused)");
 }
 
 /// A view on which a command has made the last entry.
@@ -203,34 +193,32 @@ fn last_recorded(rt: &(impl Abort + AllocGlobal), command: &Command) -> View {
     view.record(command, &change).expect(rt, "recorded")
 }
 
-/// Asserts that a command is refused for the full book alone.
-fn assert_full(rt: &(impl Abort + AllocGlobal), full: &View, command: &Command) {
-    assert_reply(rt, full, command, "Refused(BookFull)");
-}
+/// Commands on a full book in which an account was opened: those that are refused for that alone, and those that have a refusal
+/// of their own.
+const ON_A_FULL_BOOK: &[(&str, &str)] = &[
+    ("2020-01-01 open Assets:New", "Refused(BookFull)"),
+    ("2020-01-01 close Assets:Cash", "Refused(BookFull)"),
+    ("0001-01-01 commodity HOOL.B", "Refused(BookFull)"),
+    ("2020-02-29 price HOOL 1502.12 USD", "Refused(BookFull)"),
+    ("2020-03-15 *", "Refused(BookFull)"),
+    ("2020-03-15 *\n  Assets:Cash 0 USD", "Refused(BookFull)"),
+    ("2020-01-01 open Assets:Cash", "Refused(AlreadyOpen)"),
+    (
+        "2020-01-01 close Assets:New",
+        "Refused(UnknownAccount { posting: None })",
+    ),
+    (
+        "2019-12-31 close Assets:Cash",
+        "Refused(NotOpenYet { posting: None })",
+    ),
+    (
+        "2020-03-15 *\n  Assets:Cash 1 USD",
+        "Refused(NotBalanced { currency: \"USD\" })",
+    ),
+];
 
 #[test]
 fn a_book_has_a_last_entry(rt: HostRuntime) {
-    let full = last_recorded(&rt, &open(&rt, "Assets:Cash"));
-    assert_full(&rt, &full, &open(&rt, "Assets:New"));
-    assert_full(&rt, &full, &closing(&rt, "2020-01-01", "Assets:Cash"));
-    assert_full(&rt, &full, &declaring(&rt));
-    assert_full(&rt, &full, &quoting(&rt));
-    assert_full(&rt, &full, &transaction(&rt, &[], &[]));
-    assert_full(&rt, &full, &transaction(&rt, &[], NOTHING));
-}
-
-#[test]
-fn commands_on_a_full_book_have_their_own_refusals(rt: HostRuntime) {
-    let full = last_recorded(&rt, &open(&rt, "Assets:Cash"));
-    let again = open(&rt, "Assets:Cash");
-    assert_reply(&rt, &full, &again, "Refused(AlreadyOpen)");
-    let unknown = closing(&rt, "2020-01-01", "Assets:New");
-    let want = "Refused(UnknownAccount { posting: None })";
-    assert_reply(&rt, &full, &unknown, want);
-    let early = closing(&rt, "2019-12-31", "Assets:Cash");
-    let want = "Refused(NotOpenYet { posting: None })";
-    assert_reply(&rt, &full, &early, want);
-    let unbalanced = transaction(&rt, &[], &[["Assets:Cash", "1 USD", "", ""]]);
-    let want = "Refused(NotBalanced { currency: \"USD\" })";
-    assert_reply(&rt, &full, &unbalanced, want);
+    let full = last_recorded(&rt, &said(&rt, "2020-01-01 open Assets:Cash"));
+    assert_replies(&rt, &full, ON_A_FULL_BOOK);
 }
