@@ -248,7 +248,8 @@ sys.stdout.write(shown.decode())' "$scratch/out" "$2" "$program" "${@:4}")
     if [[ $shown =~ $3 ]]; then pass "$1"; else fail "$1" "$(head -c 100 <<<"$shown")"; fi
 }
 makes "$scratch/watched.book"
-watched "progress on a terminal" "$scratch/many" $'^\r[0-9]+ commands, [0-9]+ a second' post --book "$scratch/watched.book" --batch a
+awk 'BEGIN { for (n = 0; n < 10000; n++) printf "2020-01-01 open Assets:A%d\n", n }' >"$scratch/more"
+watched "progress on a terminal" "$scratch/more" $'^\r[0-9]+ commands, [0-9]+ a second' post --book "$scratch/watched.book" --batch a
 watched "no progress of a short run" "$scratch/good" '^$' post --book "$scratch/watched.book" --batch b
 
 # ---- stops

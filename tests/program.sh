@@ -90,7 +90,8 @@ unusable() {
     fi
 }
 unusable "sell" sell
-unusable "holdings" holdings --book f
+unusable "migrate" migrate --book f
+for word in holdings gains journal import; do unusable "--book" "$word" --batch a; done
 unusable "--batch" post --book f
 unusable "--book" post --batch a
 unusable "--book" init
@@ -101,6 +102,18 @@ unusable "fault U2 BadValue --batch" post --book f --batch ''
 unusable "fault U2 BadValue --batch" post --book f --batch 123456789012345678901234567890123
 unusable "--from" post --book f --batch a/b --from 0
 unusable "UTF-8" post --book f --batch $'\xff'
+unusable "fault U2 BadValue --day" holdings --book f --day 2020-02-30
+unusable "fault U2 BadValue --first" gains --book f --last x --first ''
+unusable "fault U2 BadValue --last" gains --book f --last x --first 2020-01-01
+
+# Of the options of an import each has to be there, and the first one that is bad is named.
+good=(--batch a --invest Assets:A --cash Assets:B --fees Expenses:F --gains Income:G)
+bad=(--batch / --invest Assets --cash assets:B --fees '' --gains Income:)
+for ((at = 0; at < 10; at += 2)); do
+    unusable "${good[at]}" import --book f "${good[@]:0:at}" "${good[@]:at+2}"
+    unusable "fault U2 BadValue ${good[at]}" import --book f "${bad[@]:at}" "${good[@]:0:at}"
+done
+unusable "--from" import --book f "${bad[@]}" --from 0
 
 # Help that is asked for: status 0, on standard output, with an example of each word.
 helps() {
@@ -116,6 +129,9 @@ helps "lotbook < " -h
 helps "lotbook init --book" init --help
 helps "lotbook post --book" post --help
 helps "--from 120" post -h
+helps "lotbook import --book" import --help
+helps "the oldest first" import --help
+helps "--invest Assets:Broker" import -h
 "$program" --help </dev/null 2>"$scratch/err" >/dev/full && status=0 || status=$?
 stops "help on a full disk"
 

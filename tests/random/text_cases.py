@@ -107,8 +107,9 @@ def units_of(number):
 
 
 def folders():
-    """The folders with stored answers."""
-    return sorted({path.parent for top in ("tests/cases", "examples") for path in (ROOT / top).rglob("*.ledger")})
+    """The folders with stored answers. A text of the guide has none: it goes on with a book that is there."""
+    found = {path.parent for top in ("tests/cases", "examples") for path in (ROOT / top).rglob("*.ledger")}
+    return sorted(found - {ROOT / "examples" / "guide"})
 
 
 def other_answers(folder):

@@ -1,0 +1,105 @@
+#!/usr/bin/env bash
+# What a row of each report costs, and how that grows with the entries of the book: time by the clock, and the most memory, both
+# without those of a call that opens the book and does nothing else. Of interest are the ratios, not the times of this machine.
+set -u -o pipefail
+
+cd "$(dirname "$(readlink -f "${BASH_SOURCE[0]}")")" || exit 1
+# The books lie in memory where the machine has room for files there: a report only reads.
+if [[ -d /dev/shm && -w /dev/shm ]]; then export TMPDIR=/dev/shm; fi
+. lib/books.sh
+. lib/runs.sh
+
+# trades COUNT: the accounts and a price of each commodity; then so many transactions, two purchases and a sale of one of them in turn.
+# A third of the entries is a lot that is held, a third a sale; a commodity has at most ten lots.
+trades() {
+    awk -v count="$1" 'BEGIN {
+        print "2020-01-01 open Assets:Broker \"FIFO\"\n2020-01-01 open Assets:Cash\n2020-01-01 open Income:Gains"
+        for (n = 0; n < count; n++) {
+            if (n % 30 == 0) printf "2020-01-02 price C%d 120 USD\n", n / 30
+            if (n % 3 < 2) printf "2020-01-02 * \"Buy\"\n  Assets:Broker 2 C%d {%d.%02d USD}\n  Assets:Cash\n", n / 30, 100 + n % 30, n % 100
+            else printf "2020-01-02 * \"Sell\"\n  Assets:Broker -2 C%d {} @ 130 USD\n  Assets:Cash 260 USD\n  Income:Gains\n", n / 30
+        }
+    }'
+}
+
+# lots COUNT: so many lots of one commodity in each of two accounts, and a sale of all of one of them. A transaction opens thirty of each.
+lots() {
+    awk -v count="$1" 'BEGIN {
+        print "2020-01-01 open Assets:Broker \"FIFO\"\n2020-01-01 open Assets:Cash\n2020-01-01 open Assets:Kept\n2020-01-01 open Income:Gains"
+        for (n = 0; n < count; n++) {
+            if (n % 30 == 0) print (n ? "  Assets:Cash\n" : "") "2020-01-02 *"
+            printf "  Assets:Broker 1 HOOL {%d.5 USD}\n  Assets:Kept 1 HOOL {%d.5 USD}\n", n, n
+        }
+        print "  Assets:Cash"
+        printf "2020-01-03 *\n  Assets:Broker -%d HOOL {} @ 100 USD\n  Assets:Cash %d USD\n  Income:Gains\n", count, count * 100
+    }'
+}
+
+# clock BOOK WORDS..: the microseconds of a call on the book, the least of nine. What it prints is kept.
+clock() {
+    local turn begun ended
+    for ((turn = 0; turn < 9; turn++)); do
+        begun=$(date +%s%N)
+        "$program" "${@:2}" --book "$1" </dev/null >"$scratch/out" || echo "it failed: ${*:2}" >&2
+        ended=$(date +%s%N)
+        echo $(((ended - begun) / 1000))
+    done | sort -n | head -n 1
+}
+
+# most BOOK WORDS..: the most memory of a call on the book, in KiB.
+most() {
+    local key value rest peak=0 pid
+    "$program" "${@:2}" --book "$1" </dev/null >/dev/null &
+    pid=$!
+    while [[ -e /proc/$pid/exe ]]; do
+        while read -r key value rest; do
+            if [[ $key == VmHWM: ]] && ((value > peak)); then peak=$value; fi
+        done 2>/dev/null <"/proc/$pid/status"
+    done
+    wait "$pid"
+    echo "$peak"
+}
+
+# rows_of REPORT: the rows that the last call printed: lots, legs of sales, or entries.
+rows_of() {
+    case $1 in
+        holdings*) grep -c ' {' "$scratch/out" ;;
+        gains) grep -c '^  ' "$scratch/out" ;;
+        journal) grep -c '^; entry ' "$scratch/out" ;;
+    esac
+}
+
+# table BOOK..: a line for each report and each of the books, which are named by their size.
+table() {
+    local report book words opened taken room rows first each
+    printf '%-26s %9s %9s %9s %9s %9s %9s\n' report "$size" rows 'rows/ms' 'us/row' ratio KiB
+    for report in holdings "holdings --day 2020-12-31" gains journal; do
+        read -ra words <<<"$report"
+        first=""
+        for book in "$@"; do
+            opened=$(clock "$book" post --batch none)
+            taken=$(clock "$book" "${words[@]}")
+            rows=$(rows_of "$report")
+            room=$(($(most "$book" "${words[@]}") - $(most "$book" post --batch none)))
+            each=$(awk -v taken="$taken" -v opened="$opened" -v rows="$rows" 'BEGIN { print (taken > opened ? taken - opened : 1) / rows }')
+            first=${first:-$each}
+            awk -v report="$report" -v size="$(basename "$book" .book)" -v rows="$rows" -v each="$each" -v first="$first" -v kib="$room" \
+                'BEGIN { printf "%-26s %9s %9d %9.0f %9.2f %9.2f %9d\n", report, size, rows, 1000 / each, each, each / first, kib }'
+        done
+    done
+}
+
+echo "books of so many entries: rows of the report in a millisecond, microseconds for a row and their ratio, and memory"
+size=entries
+for entries in 1000 10000 100000; do
+    trades "$((entries - 3 - entries / 31))" | made "$scratch/$entries.book"
+done
+table "$scratch"/{1000,10000,100000}.book
+
+echo
+echo "an account with so many lots of one commodity, and a sale of as many legs"
+size=lots
+for count in 100 1000 10000; do
+    lots "$count" | made "$scratch/$count.book"
+done
+table "$scratch"/{100,1000,10000}.book

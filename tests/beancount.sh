@@ -1,0 +1,86 @@
+#!/usr/bin/env bash
+# The journals of books, read by Beancount 2 where the machine has it: it finds no error in them, and holds the same lots and the same
+# plain units (tests/lib/by_beancount.py says what is compared). Each text of tests/cases/ and of examples/ that has no fault, the texts
+# of each session of tests/reports/ and a book of 1,000 trades are posted, and the journal is read as it stands. Left out are books
+# with HIFO, which Beancount 2 doesn't know; tests/beancount.differs names the journals that it judges otherwise, with the reason.
+# The books lie in memory where the machine has room for files there.
+if [[ -d /dev/shm && -w /dev/shm ]]; then export TMPDIR=/dev/shm; fi
+source "$(dirname "$(readlink -f "${BASH_SOURCE[0]}")")/lib/cases.sh"
+
+# The Python that has Beancount, first on the path.
+mkdir "$scratch/bin"
+for python in python3 /usr/bin/python3; do
+    if "$python" -c 'import beancount.loader' 2>/dev/null; then
+        ln -sf "$(command -v "$python")" "$scratch/bin/python3"
+        PATH=$scratch/bin:$PATH
+        break
+    fi
+done
+if [[ ! -e $scratch/bin/python3 ]]; then
+    echo "skipped: there is no Beancount on this machine (no Python that has the module 'beancount')"
+    finish
+fi
+need_program
+
+journals=$scratch/journals book=$scratch/family.book
+
+# keep NAME: posts this call's standard input to a new book, and keeps its journal and its holdings, unless the text is faulty or an
+# account of it has the method HIFO.
+keep() {
+    rm -f "$book"*
+    "$program" init --book "$book" </dev/null >/dev/null || fail "$1" "a book can't be made"
+    "$program" post --book "$book" --batch a >"$scratch/out"
+    if grep -q '^fault' "$scratch/out"; then return; fi
+    "$program" journal --book "$book" </dev/null >"$scratch/journal" || fail "$1" "it has no journal"
+    if grep -q '"HIFO"$' "$scratch/journal"; then return; fi
+    mkdir -p "$(dirname "$journals/$1")"
+    mv "$scratch/journal" "$journals/$1.journal"
+    "$program" holdings --book "$book" </dev/null >"$journals/$1.holdings" || fail "$1" "it has no holdings"
+}
+while IFS= read -r ledger; do
+    name=${ledger#"$root/"}
+    keep "${name%.ledger}" <"$ledger"
+done < <(find "$root/tests/cases" "$examples" -name '*.ledger' | sort)
+for session in "$root"/tests/reports/*.session; do
+    name=${session#"$root/"}
+    sed -n 's/^> //p' "$session" | keep "${name%.session}"
+done
+
+# trades: purchases and sales of three commodities by FIFO, LIFO and STRICT, on successive days, some with a label, some for a whole
+# cost; a sale of more than is held is refused, and so isn't in the journal.
+trades() {
+    awk 'function draw(below) { seed = (seed * 1103515245 + 12345) % 2147483648; return int(seed / 65536) % below }
+    BEGIN {
+        seed = 1
+        split("Fifo Lifo Strict", names)
+        for (i = 1; i <= 3; i++) printf "2000-01-01 open Assets:%s \"%s\"\n", names[i], toupper(names[i])
+        print "2000-01-01 open Assets:Cash\n2000-01-01 open Income:Gains"
+        for (n = 0; n < 1000; n++) {
+            account = names[1 + draw(3)]; commodity = "C" draw(3)
+            printf "%d-%02d-%02d * \"Trade %d\"\n", 2001 + int(n / 336), 1 + int(n / 28) % 12, 1 + n % 28, n
+            if (draw(5) < 3 && account != "Strict" || draw(2)) {
+                units = 1 + draw(40)
+                if (draw(4)) printf "  Assets:%s %d.%d %s {%d.%02d USD%s}\n", account, units, draw(10), commodity, 50 + draw(100), draw(100), draw(3) ? "" : ", \"lot " n "\""
+                else printf "  Assets:%s %d %s {{%d USD}}\n", account, units, commodity, units * (50 + draw(100))
+                print "  Assets:Cash"
+            } else if (account == "Strict") {
+                printf "  Assets:%s -%d %s {} @ %d USD\n  Assets:Cash %d USD\n  Income:Gains\n", account, units, commodity, 100, units * 100
+            } else {
+                units = 1 + draw(60)
+                printf "  Assets:%s -%d.5 %s {} @ %d USD\n  Assets:Cash %d USD\n  Income:Gains\n", account, units, commodity, 100, units * 100 + 50
+            }
+        }
+    }'
+}
+trades | keep trades
+run_python tests/lib/by_beancount.py "$journals" "$root/tests/beancount.differs"
+
+# The command itself, on one of them.
+if command -v bean-check >/dev/null; then
+    if bean-check "$journals/trades.journal" >"$scratch/out" 2>&1 && [[ ! -s $scratch/out ]]; then
+        pass "bean-check on the journal of the trades"
+    else
+        fail "bean-check on the journal of the trades" "$(head -n 3 "$scratch/out" | tr '\n' '|')"
+    fi
+fi
+finish

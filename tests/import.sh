@@ -1,0 +1,125 @@
+#!/usr/bin/env bash
+# Every broker file under tests/import/ and examples/broker/. The program imports NAME.csv into a book, writes NAME.expected, byte
+# for byte, and ends with status 3 after a fault, 1 where a row was refused, else 0. Each file begins with a new book, on which
+# the accounts of `openings.ledger` are open; the files of a folder are imported into one book, in the order of their names.
+# Where there is a NAME.holdings, that is what is held then.
+source "$(dirname "$(readlink -f "${BASH_SOURCE[0]}")")/lib/cases.sh"
+need_program
+
+shopt -s nullglob
+book=$scratch/family.book
+accounts=(--invest Assets:Broker --cash Assets:Cash --fees Expenses:Fees --gains Income:Gains)
+
+# begin LEDGER: a new book on which the ledger is posted.
+begin() {
+    rm -f "$book"*
+    if ! "$program" init --book "$book" >/dev/null || ! "$program" post --book "$book" --batch openings <"$1" >/dev/null; then
+        fail "a new book" "it can't be made, or the accounts can't be opened"
+    fi
+}
+
+# import WORDS..: imports this call's standard input.
+import() { run import --book "$book" --batch x "${accounts[@]}" "$@"; }
+
+# imports NAME FILE: imports the file, with the output that stands beside it.
+imports() {
+    local expected=${2%.csv}.expected wanted=0
+    if grep -qs '^fault ' "$expected"; then wanted=3; elif grep -qs ' refused ' "$expected"; then wanted=1; fi
+    import <"$2"
+    expect "$1" "$wanted" "$expected"
+}
+
+# holds NAME FILE: what is held is what the file says.
+holds() {
+    run holdings --book "$book"
+    expect "what is held after $1" 0 "$2"
+}
+
+openings=$root/tests/import/openings.ledger
+cases=("$root"/tests/import/*.csv "$root"/tests/import/*/)
+for case in "${cases[@]}"; do
+    case=${case%/} name=${case##*/}
+    name=${name%.csv}
+    files=("$case")
+    if [[ -d $case ]]; then files=("$case"/*.csv); fi
+    begin "$openings"
+    for file in "${files[@]}"; do
+        part=${file##*/}
+        imports "$name: ${part%.csv}" "$file"
+    done
+    if [[ -f $root/tests/import/$name.holdings ]]; then holds "$name" "$root/tests/import/$name.holdings"; fi
+done
+# Output without a file would otherwise go unnoticed.
+for output in "$root"/tests/import/{,*/}*.{expected,holdings}; do
+    if [[ ! -f ${output%.*}.csv && ! -d ${output%.*} ]]; then fail "${output##*/}" "there is no broker file for it"; fi
+done
+
+# The example: a year at a broker, and its next file, which has some rows of the first one.
+begin "$examples/broker/accounts.ledger"
+for file in "$examples"/broker/*.csv; do
+    name=${file##*/}
+    imports "the example ${name%.csv}" "$file"
+done
+holds "the example" "$examples/broker/holdings.expected"
+
+# answers NAME STATUS TEXT: the last import ended with STATUS and wrote the lines of TEXT, or nothing.
+answers() {
+    printf '%s' "${3:+$3$'\n'}" >"$scratch/expected"
+    expect "$1" "$2" "$scratch/expected"
+}
+
+header=ref,date,action,symbol,units,price,currency,fee
+row=A1,2020-01-02,BUY,HOOL,1,100,USD,
+inexact=A0,2020-01-02,BUY,HOOL,0.00000001,0.1,USD,
+rows() { yes "$row" | head -n "$1"; }
+
+# Rows that are skipped.
+begin "$openings"
+printf '%s\n' "$header" "$row" "A2${row#A1}" | import --from 2
+answers "the first row is skipped" 0 "2 accepted"
+printf '%s\n' "$header" "$row" | import --from 2
+answers "all rows are skipped" 0 ""
+printf '%s\n' "$header" "$row," "$row" | import --from 2
+answers "a faulty row that is skipped" 3 "fault row 1 C2 BadRow Length"
+printf '%s\n' "$header" "$inexact" "$row" | import --from 2
+answers "an inexact row that is skipped" 3 "fault row 1 C4 InexactAmount"
+printf '%s\n' "$header" "$row" "A2${row#A1}" | import
+answers "faults of skipped rows applied nothing" 0 $'1 accepted\n2 repeat'
+
+# Long files.
+{ echo "$header" && rows 100000; } | import --from 100000
+answers "100,000 rows" 0 "100000 repeat"
+{ echo "$header" && rows 100000 && echo x; } | import
+answers "a row too many" 3 "fault C3 TooManyRows"
+{ echo "$header,lot" && rows 100000 | sed 's/$/,/'; } | import --from 100000
+answers "100,000 rows of version 2" 0 "100000 repeat"
+{ echo "$header,lot" && rows 100001 | sed 's/$/,/'; } | import
+answers "a row too many of version 2" 3 "fault C3 TooManyRows"
+{ echo "$header" && echo "$inexact" && rows 100000; } | import
+answers "a row too many behind an inexact row" 3 "fault C3 TooManyRows"
+{ echo "$header" && rows 99999 && echo x && rows 1; } | import
+answers "a faulty row before the row too many" 3 "fault row 100000 C2 BadRow Length"
+{ echo "$header" && head -c 1000000 /dev/zero | tr '\0' A && echo "${row#A1}"; } | import
+answers "a reference of a million bytes" 3 "fault row 1 C2 BadRow Ref"
+
+# What comes first: a file that can't be opened, then a fault of the input, then one of the book.
+rm -f "$book"*
+printf '%s\n' "$header" "$row" | import
+answers "no book" 4 "fault S1 NotABook"
+printf '%s\n' "$row" | import
+answers "a faulty file and no book" 3 "fault header C1 BadHeader"
+if [[ ! -e $book ]]; then pass "no book is left"; else fail "no book is left" "there is a file"; fi
+python3 -B "$root/tests/book/tables.py" foreign "$book" notes
+printf '%s\n' "$header" "$row" | import
+answers "another database" 4 "fault S1 NotABook"
+printf '%s\n' "$header" "$row" "$inexact" | import
+answers "a faulty file and another database" 3 "fault row 2 C4 InexactAmount"
+rm -f "$book"*
+echo "no database" >"$book"
+printf '%s\n' "$row" | import
+if ((status == 4)) && [[ $(<"$scratch/out") == "fault open" && -s $scratch/err ]]; then
+    pass "a faulty file and a file that is no database"
+else
+    fail "a faulty file and a file that is no database" "status $status, $(head -n 1 "$scratch/out")"
+fi
+finish

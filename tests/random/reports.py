@@ -1,0 +1,317 @@
+"""Compares the reports of books in files with plain ones, on ledgers drawn from seeds.
+
+    reports.py PROGRAM SCRATCH [--first SEED] [--count N]
+
+The plain reports are written from docs/FORMATS.md and docs/RULES.md alone, over the entries of the plain judge: each looks over
+all entries of the book. Each ledger is posted to a new book; then its holdings, with and without days, its gains, whole and in
+ranges, and its journal are compared, byte for byte. It prints a line `ok NAME` or `FAILED NAME: ..` for the ledgers of a hundred
+seeds, and for each kind of row, which has to occur at least some times. A difference goes to standard error, with its seed.
+"""
+
+import argparse
+import collections
+import concurrent.futures
+import os
+import random
+import subprocess
+import sys
+
+import draw
+import model
+import spell
+from model import ONE, day_text, key_order, money_text, number_text
+
+A_CASE = 100  # seeds
+AT_LEAST = 3  # times that each kind occurs
+FIRST_DAY, LAST_DAY = (1, 1, 1), (9999, 12, 31)
+
+KINDS = (
+    "a price of each unit", "a total price", "no price", "a price in another currency than that of a lot", "lots of several currencies",
+    "one leg", "several legs", "lots sold", "shorts covered", "a gain", "a loss", "a lot with a label",
+    "totals in several currencies", "sales without a total", "no sales", "a range that leaves some sales out", "a range of one day with a sale",
+    "a range whose first day is after its last", "a value", "no value", "a value below zero", "a value on the day of its price",
+    "a price that was replaced", "a later price that doesn't count", "plain units of a commodity with lots", "nothing held",
+    "an entry of Opening", "an entry of Closing", "an entry of Declaring", "an entry of Quoting", "an entry of Transaction",
+    "a refused command before an entry",
+)
+
+
+def money(weight):
+    """The text of a weight, which has scale 16."""
+    return money_text(weight, 16)
+
+
+def lot_text(key):
+    label = "" if key.label is None else f', "{key.label}"'
+    return f"{{{number_text(key.number)} {key.currency}, {day_text(key.day)}{label}}}"
+
+
+# Holdings.
+
+
+def price_at(book, day, base, quote, seen):
+    """The rate of the last quoting of the greatest day that isn't after this one, or none."""
+    quotings = [e.command for e in book if isinstance(e.command, model.Quoting) and (e.command.base, e.command.quote) == (base, quote)]
+    days = [quoting.day for quoting in quotings if quoting.day <= day]
+    if len(days) < len(quotings):
+        seen["a later price that doesn't count"] += 1
+    if not days:
+        return None
+    rates = [quoting.rate for quoting in quotings if quoting.day == max(days)]
+    if len(rates) > 1:
+        seen["a price that was replaced"] += 1
+    if max(days) == day:
+        seen["a value on the day of its price"] += 1
+    return rates[-1]
+
+
+def holdings(book, day, seen):
+    """The lines of the holdings, with values where there is a day."""
+    lines, costs, values = [], {}, {}
+    held = model.Held(book)
+    for pair in held.pairs():
+        account, commodity = pair
+        lots = held.lots_of(pair)
+        if pair in held.plain:
+            lines.append(f"{account} {money_text(held.plain[pair])} {commodity}")
+            seen["plain units of a commodity with lots"] += bool(lots)
+        for key in sorted(lots, key=key_order):
+            line = f"{account} {number_text(lots[key])} {commodity} {lot_text(key)}"
+            costs[key.currency] = costs.get(key.currency, 0) + lots[key] * key.number
+            if day is not None:
+                rate = price_at(book, day, commodity, key.currency, seen)
+                if rate is None:
+                    line += " value none"
+                    seen["no value"] += 1
+                else:
+                    value = lots[key] * rate
+                    values[key.currency] = values.get(key.currency, 0) + value
+                    line += f" value {money(value)} {key.currency}"
+                    seen["a value below zero" if value < 0 else "a value"] += 1
+            lines.append(line)
+    if not lines:
+        seen["nothing held"] += 1
+        return ["nothing held"]
+    lines += [f"total cost {money(costs[currency])} {currency}" for currency in sorted(costs)]
+    return lines + [f"total value {money(values[currency])} {currency}" for currency in sorted(values)]
+
+
+# Gains.
+
+
+def gain_of(posting, legs):
+    """Proceeds and cost of a sale, or none where it is unpriced."""
+    price = posting.amount.price
+    if price is None or any(leg.key.currency != price.currency for leg in legs):
+        return None
+    if price.whole:
+        proceeds = price.amount * ONE if posting.amount.units < 0 else -price.amount * ONE
+    else:
+        proceeds = sum(-leg.units * price.amount for leg in legs)
+    return proceeds, sum(-leg.units * leg.key.number for leg in legs)
+
+
+def note_sale(posting, legs, gain, seen):
+    price = posting.amount.price
+    currencies = {leg.key.currency for leg in legs}
+    seen["no price" if price is None else "a total price" if price.whole else "a price of each unit"] += 1
+    seen["several legs" if len(legs) > 1 else "one leg"] += 1
+    seen["lots sold" if posting.amount.units < 0 else "shorts covered"] += 1
+    seen["lots of several currencies"] += len(currencies) > 1
+    seen["a lot with a label"] += any(leg.key.label is not None for leg in legs)
+    if price is not None and gain is None:
+        seen["a price in another currency than that of a lot"] += 1
+    if gain is not None:
+        seen["a gain"] += gain[0] > gain[1]
+        seen["a loss"] += gain[0] < gain[1]
+
+
+def gains(book, first, last, seen):
+    """The lines of the gains of a range of days."""
+    lines, totals, left_out = [], {}, 0
+    for entry in book:
+        if not isinstance(entry.command, model.Transaction):
+            continue
+        for posting, booked in zip(entry.command.postings, entry.booked):
+            if not booked.reduces:
+                continue
+            if not first <= entry.command.day <= last:
+                left_out += 1
+                continue
+            gain = gain_of(posting, booked.legs)
+            note_sale(posting, booked.legs, gain, seen)
+            units, commodity, _, price = posting.amount
+            line = f"{day_text(entry.command.day)} {posting.account} {number_text(units)} {commodity}"
+            if gain is None:
+                lines.append(line + " unpriced")
+            else:
+                proceeds, cost = gain
+                lines.append(f"{line} proceeds {money(proceeds)} cost {money(cost)} gain {money(proceeds - cost)} {price.currency}")
+                totals[price.currency] = totals.get(price.currency, 0) + proceeds - cost
+            lines += [f"  {number_text(leg.units)} {commodity} {lot_text(leg.key)}" for leg in booked.legs]
+    seen["a range that leaves some sales out"] += bool(left_out and lines)
+    seen["a range of one day with a sale"] += bool(first == last and lines)
+    seen["a range whose first day is after its last"] += bool(first > last and left_out)
+    seen["no sales"] += not lines and not left_out
+    seen["sales without a total"] += bool(lines and not totals)
+    seen["totals in several currencies"] += len(totals) > 1
+    lines += [f"total gain {money(totals[currency])} {currency}" for currency in sorted(totals)]
+    return lines or ["no gains"]
+
+
+# The journal.
+
+
+def note_text(note):
+    return '"' + note.replace("\\", "\\\\").replace('"', '\\"') + '"'
+
+
+def cost_text(cost):
+    parts = []
+    if cost.number is not None or cost.currency is not None:
+        number = "" if cost.number is None else number_text(cost.number)
+        parts.append(" ".join(filter(None, (number, cost.currency))))
+    if cost.day is not None:
+        parts.append(day_text(cost.day))
+    if cost.label is not None:
+        parts.append(f'"{cost.label}"')
+    opened, closed = ("{{", "}}") if cost.whole else ("{", "}")
+    return opened + ", ".join(parts) + closed
+
+
+def posting_text(posting):
+    text = "  " + posting.account
+    if posting.amount is None:
+        return text
+    units, commodity, cost, price = posting.amount
+    text += f" {number_text(units)} {commodity}"
+    if cost is not None:
+        text += " " + cost_text(cost)
+    if price is not None:
+        text += f" {'@@' if price.whole else '@'} {number_text(price.amount)} {price.currency}"
+    return text
+
+
+def canonical(command):
+    """The lines of the canonical text of a command."""
+    day = day_text(command.day)
+    if isinstance(command, model.Opening):
+        currencies = " " + ",".join(command.currencies) if command.currencies else ""
+        method = "" if command.method == "STRICT" else f' "{command.method}"'
+        return [f"{day} open {command.account}{currencies}{method}"]
+    if isinstance(command, model.Closing):
+        return [f"{day} close {command.account}"]
+    if isinstance(command, model.Declaring):
+        return [f"{day} commodity {command.commodity}"]
+    if isinstance(command, model.Quoting):
+        return [f"{day} price {command.base} {number_text(command.rate)} {command.quote}"]
+    notes = [note_text(note) for note in (command.payee, command.narration) if note is not None]
+    return [" ".join((day, command.flag, *notes))] + [posting_text(posting) for posting in command.postings]
+
+
+def journal(judged, seen):
+    """The lines of the journal of these commands, which were sent as the batch `r`."""
+    lines, entries = [], 0
+    for number, it in enumerate(judged, 1):
+        if it.entry is not None:
+            entries += 1
+            seen["an entry of " + type(it.command).__name__] += 1
+            seen["a refused command before an entry"] += number > entries
+            lines += [f"; entry {entries} key post:r {number}"] + canonical(it.command)
+    return lines
+
+
+# Comparing.
+
+
+def call(program, words, text=b""):
+    done = subprocess.run([program, *words], input=text, capture_output=True, timeout=120)
+    return done.stdout.decode(), done.returncode, done.stderr.decode()
+
+
+def quote_more(rng, drawing):
+    """Adds prices to a drawing, of what is held in lots and in their currencies, on days around those of the ledger."""
+    days = sorted({entry.command.day for entry in drawing.book}) or [(2020, 1, 1)]
+    for (_, commodity), lots in sorted(model.Held(drawing.book).lots.items()):
+        for currency in sorted({key.currency for key in lots}):
+            for _ in range(rng.choice((0, 1, 2, 3))):
+                drawing.judge(model.Quoting(rng.choice(days), commodity, rng.choice(draw.RATES), currency))
+
+
+def asked(rng, book):
+    """The days and the ranges to ask for: around those of the ledger, and at the ends of the calendar."""
+    days = sorted({entry.command.day for entry in book}) or [(2020, 1, 1)]
+    sold = [e.command.day for e in book if any(booked.reduces for booked in e.booked)] or days
+    one = rng.choice(sold)
+    ranges = [(FIRST_DAY, LAST_DAY), (one, one), (FIRST_DAY, one), (one, LAST_DAY), (rng.choice(days), rng.choice(days)), (LAST_DAY, FIRST_DAY)]
+    return [rng.choice(days), rng.choice(days), FIRST_DAY, LAST_DAY], ranges
+
+
+def compare(program, scratch, seed):
+    """How the reports of a drawn ledger differ, or nothing; and what occurs in them."""
+    drawing = draw.small(seed)
+    rng, seen = random.Random(seed), collections.Counter()
+    quote_more(rng, drawing)
+    text = spell.Speller(drawing.rng).ledger([it.command for it in drawing.judged])
+    book = os.path.join(scratch, f"drawn-{seed}.book")
+    call(program, ["init", "--book", book])
+    posted = call(program, ["post", "--book", book, "--batch", "r"], text)
+    wanted = [model.reply(number, it.refused) for number, it in enumerate(drawing.judged, 1)]
+    cases = [(["post"], wanted, (posted[0], 0, posted[2]))]
+    days, ranges = asked(rng, drawing.book)
+    reports = [(["holdings"], holdings(drawing.book, None, seen)), (["journal"], journal(drawing.judged, seen))]
+    reports += [(["holdings", "--day", day_text(day)], holdings(drawing.book, day, seen)) for day in days]
+    for first, last in ranges:
+        reports.append((["gains", "--first", day_text(first), "--last", day_text(last)], gains(drawing.book, first, last, seen)))
+    reports.append((["gains"], gains(drawing.book, FIRST_DAY, LAST_DAY, seen)))
+    for words, lines in reports:
+        cases.append((words, lines, call(program, [words[0], "--book", book, *words[1:]])))
+    for name in (book, book + "-wal"):
+        if os.path.exists(name):
+            os.remove(name)
+    found = ""
+    for words, lines, got in cases:
+        report = "".join(line + "\n" for line in lines)
+        if got != (report, 0, ""):
+            found += f"--- {' '.join(words)}, wanted\n{report}--- got, status {got[1]}\n{got[0]}{got[2]}"
+    return found and text.decode() + found, seen
+
+
+def compare_seeds(program, scratch, seeds):
+    differing, census = {}, collections.Counter()
+    for seed in seeds:
+        found, seen = compare(program, scratch, seed)
+        census.update({kind: 1 for kind in seen if seen[kind]})
+        if found:
+            differing[seed] = found
+    return differing, census
+
+
+def main():
+    words = argparse.ArgumentParser()
+    words.add_argument("program")
+    words.add_argument("scratch")
+    words.add_argument("--first", type=int, default=1)
+    words.add_argument("--count", type=int, default=400)
+    words = words.parse_args()
+    seeds = range(words.first, words.first + words.count)
+    census = collections.Counter()
+    with concurrent.futures.ProcessPoolExecutor(os.cpu_count()) as processes:
+        parts = [seeds[at : at + A_CASE] for at in range(0, words.count, A_CASE)]
+        for part, case in [(part, processes.submit(compare_seeds, words.program, words.scratch, part)) for part in parts]:
+            differing, found = case.result()
+            census += found
+            name = f"the reports of the ledgers {part[0]} to {part[-1]}"
+            for seed, difference in differing.items():
+                print(f"=== seed {seed}\n{difference}", file=sys.stderr)
+            if differing:
+                print(f"FAILED {name}: seeds {' '.join(map(str, list(differing)[:10]))}, {len(differing)} in all", flush=True)
+            else:
+                print(f"ok {name}", flush=True)
+    for kind in KINDS:
+        said = f"{kind}: in {census[kind]} ledgers"
+        print(f"ok {said}" if census[kind] >= AT_LEAST else f"FAILED {said}")
+
+
+if __name__ == "__main__":
+    main()
