@@ -10,7 +10,7 @@ use Rattle.lot_book.specs.Facts.{Entry}
 use Rattle.lot_filed.specs.StandFor.{Stands}
 use Rattle.lot_page.specs.Cursor.{Stays}
 use Rattle.lot_rows.specs.Tables.{Has, Tables}
-use Rattle.lot_serve.specs.Reports.{Concludes, IsRead, Reports, Shows}
+use Rattle.lot_serve.specs.Reports.{Concludes, IsRead, Reports, Shows, ShowsSome}
 use Rattle.lot_serve.specs.Says.{Halts}
 use Rattle.lot_serve.specs.declared.halt.Halt.TheVariants as halt
 use Rattle.lot_serve.specs.declared.report.Report.{Report}
@@ -78,8 +78,8 @@ pub reported : {S : Type 0} (g : Ghosts S) (report : Report) (old : State) (book
     → (HasCleanDisk (state g book.conn) → IsUnchanged old (state g book.conn)) → Survives old (state g book.conn) (λ _. ⊥) → book.condition ≡ Ready
     → ReadsBook g book later shown
     → HoldsOfBook g book later (λ entries. Shows report entries before mid shown)
-    → Concludes shown mid written status → Reports report old (state g later.conn) before written status
-reported g report old book later shown before mid written status found same look ready reads shows concludes =
+    → ShowsSome report before mid shown → Concludes shown mid written status → Reports report old (state g later.conn) before written status
+reported g report old book later shown before mid written status found same look ready reads shows some concludes =
     let calm_so : HasCleanDisk (state g later.conn) → HasCleanDisk (state g book.conn) = λ clean. omega (arith, clean, reads.crash.clean) in
     inl (
       shown,
@@ -87,6 +87,7 @@ reported g report old book later shown before mid written status found same look
       (λ clean. found (calm_so clean)),
       reads_on g old book later shown same look ready reads,
       (λ clean entries stands. shows.holds clean entries (stands_along old (state g book.conn) entries (same (calm_so clean)).0.now_is stands)),
+      some,
       concludes,
     )
 

@@ -15,9 +15,9 @@ use Rattle.lot_serve.specs.declared.halt.Halt.TheVariants as halt
 use Rattle.lot_serve.specs.declared.report.Report.{Report}
 use Rattle.lot_serve.specs.declared.report.Report.TheVariants.{Holdings, Gains, Journal}
 use Rattle.lot_show.specs.Fault.{fault_name, is_of_writer}
-use Rattle.lot_show.specs.Gains.{ShowsGains}
-use Rattle.lot_show.specs.Holdings.{ShowsHoldings}
-use Rattle.lot_show.specs.Journal.{ShowsJournal}
+use Rattle.lot_show.specs.Gains.{ShowsGains, ShowsSomeGains}
+use Rattle.lot_show.specs.Holdings.{ShowsHoldings, ShowsSomeHoldings}
+use Rattle.lot_show.specs.Journal.{ShowsJournal, ShowsSomeJournal}
 use Rattle.lot_show.specs.Show.{UnlessStopped}
 use Rattle.lot_show.specs.declared.fault.ShowFault.{ShowFault}
 use Rattle.lot_show.specs.declared.fault.ShowFault.TheVariants.{Row as AtRow, Walk as AtWalk}
@@ -69,10 +69,16 @@ Shows (Holdings day) entries = ShowsHoldings entries day
 Shows (Gains first last) entries = ShowsGains entries (first, last)
 Shows Journal entries = ShowsJournal (entry_rows 1 entries)
 
+-- whatever the tables are, the report of some rows is written, or as much of it as its fault leaves
+abbrev pub ShowsSome : Report → Option (List ℕ) → Option (List ℕ) → Result (Unit {0}) ShowFault → Type 0
+ShowsSome (Holdings day) = ShowsSomeHoldings
+ShowsSome (Gains first last) = ShowsSomeGains
+ShowsSome Journal = ShowsSomeJournal
+
 -- a report of the book that is there is written, as far as its fault lets it, and concluded; or the database isn't taken up
 abbrev pub Reports : Report → State → State → Option (List ℕ) → Option (List ℕ) → ℕ → Type 0
 Reports report old new before written status =
     ((shown : Result (Unit {0}) ShowFault) × (mid : Option (List ℕ)) × IsTaken old new × IsRead old new shown
     × (HasCleanDisk new → (entries : List Entry) → Stands old entries → Shows report entries before mid shown)
-    × Concludes shown mid written status)
+    × ShowsSome report before mid shown × Concludes shown mid written status)
     ⊎ ((fault : AdoptFault) × IsLeft old new fault × Halts (halt.Adopt fault) before written status)

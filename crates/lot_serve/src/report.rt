@@ -2,7 +2,7 @@
 ghost use Rattle.std.specs.Prelude.{◌≡◌, None, false};
 ghost use Rattle.lot_cli.specs.Status.{IsStatus};
 ghost use Rattle.lot_cli.specs.declared.batch.status.Status.TheVariants.{Stopped};
-ghost use Rattle.lot_serve.specs.Reports.{Concludes, Reports, Shows, report_line};
+ghost use Rattle.lot_serve.specs.Reports.{Concludes, Reports, Shows, ShowsSome, report_line};
 ghost use Rattle.lot_serve.specs.Says.{Says};
 ghost use Rattle.lot_show.specs.Show.{HoldsOfBook, ReadsBook};
 ghost use Rattle.sqlite.specs.Held.{state};
@@ -69,6 +69,7 @@ fn show<W: Write, S: Alter>(
 ) -> Result<(), ShowFault>
     ensures shows { HoldsOfBook S.Store book.old book.new
         (λ entries. Shows report entries (W.contents writer.old) (W.contents writer.new) result) }
+    ensures some { ShowsSome report (W.contents writer.old) (W.contents writer.new) result }
     ensures reads { ReadsBook S.Store book.old book.new result }
 {
     match report {
