@@ -35,14 +35,17 @@ lots() {
     }'
 }
 
-# clock BOOK WORDS..: the microseconds of a call on the book, the least of nine. What it prints is kept.
+# clock RUNS BOOK WORDS..: the microseconds of a call on the book, as the mean of so many one after another, the least of five
+# such. What it prints is kept.
 clock() {
-    local turn begun ended
-    for ((turn = 0; turn < 9; turn++)); do
+    local turn run begun ended
+    for ((turn = 0; turn < 5; turn++)); do
         begun=$(date +%s%N)
-        "$program" "${@:2}" --book "$1" </dev/null >"$scratch/out" || echo "it failed: ${*:2}" >&2
+        for ((run = 0; run < $1; run++)); do
+            "$program" "${@:3}" --book "$2" </dev/null >"$scratch/out" || echo "it failed: ${*:3}" >&2
+        done
         ended=$(date +%s%N)
-        echo $(((ended - begun) / 1000))
+        echo $(((ended - begun) / 1000 / $1))
     done | sort -n | head -n 1
 }
 
@@ -71,14 +74,16 @@ rows_of() {
 
 # table BOOK..: a line for each report and each of the books, which are named by their size.
 table() {
-    local report book words opened taken room rows first each
+    local report book words runs opened taken room rows first each
     printf '%-26s %9s %9s %9s %9s %9s %9s\n' report "$size" rows 'rows/ms' 'us/row' ratio KiB
     for report in holdings "holdings --day 2020-12-31" gains journal; do
         read -ra words <<<"$report"
         first=""
         for book in "$@"; do
-            opened=$(clock "$book" post --batch none)
-            taken=$(clock "$book" "${words[@]}")
+            # A small book is read so often that its rows take some time.
+            runs=$((most_rows / $(basename "$book" .book)))
+            opened=$(clock "$runs" "$book" post --batch none)
+            taken=$(clock "$runs" "$book" "${words[@]}")
             rows=$(rows_of "$report")
             room=$(($(most "$book" "${words[@]}") - $(most "$book" post --batch none)))
             each=$(awk -v taken="$taken" -v opened="$opened" -v rows="$rows" 'BEGIN { print (taken > opened ? taken - opened : 1) / rows }')
@@ -90,7 +95,7 @@ table() {
 }
 
 echo "books of so many entries: rows of the report in a millisecond, microseconds for a row and their ratio, and memory"
-size=entries
+size=entries most_rows=100000
 for entries in 1000 10000 100000; do
     trades "$((entries - 3 - entries / 31))" | made "$scratch/$entries.book"
 done
@@ -98,7 +103,7 @@ table "$scratch"/{1000,10000,100000}.book
 
 echo
 echo "an account with so many lots of one commodity, and a sale of as many legs"
-size=lots
+size=lots most_rows=10000
 for count in 100 1000 10000; do
     lots "$count" | made "$scratch/$count.book"
 done
