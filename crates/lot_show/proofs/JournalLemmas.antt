@@ -10,6 +10,7 @@ use Rattle.lot_report.specs.Journal.{GrowsByEntry, entry_text, journal_text as p
 use Rattle.lot_report.specs.declared.journal.Entry.{Entry as Printed}
 use Rattle.lot_report.specs.declared.journal.JournalFault.TheVariants.{Write, Spent}
 use Rattle.lot_report.specs.declared.journal.JournalFault.{JournalFault}
+use Rattle.lot_rows.specs.Tables.{Tables}
 use Rattle.lot_rows.specs.declared.entry.EntryRow.{EntryRow}
 use Rattle.lot_show.specs.Fault.{of_journal}
 use Rattle.lot_show.proofs.ReadLemmas.{IsRead, reads_cut}
@@ -20,8 +21,8 @@ use Rattle.lot_store.specs.declared.book.Condition.TheVariants.{NeedsReopen}
 use Rattle.lot_report.specs.declared.fault.ReportFault.TheVariants as report
 use Rattle.lot_report.specs.declared.fault.RowFault.TheVariants.{Report}
 use Rattle.lot_show.specs.declared.fault.ShowFault.TheVariants.{Walk as AtWalk}
-use Rattle.lot_store.specs.Journal.{AreEntries, IsBehindEntries, said}
-use Rattle.lot_store.specs.Walk.{HasGiven}
+use Rattle.lot_store.specs.Journal.{AreAllEntryRows, AreEntries, IsBehindEntries, IsBehindEntryRows, said}
+use Rattle.lot_store.specs.Walk.{HasGiven, HasGivenRows}
 use Rattle.lot_store.specs.declared.fault.StoreFault.{StoreFault}
 use Rattle.lot_store.specs.declared.walk.Walk.{Walk}
 use Rattle.lot_store.specs.declared.walk.WalkFault.TheVariants.{Failed}
@@ -117,6 +118,30 @@ module _ {S : Type 0} (g : Ghosts S) where
         subst (λ (text : List ℕ). Appends start later (text ++ part)) (told has.printed) appended,
       )
   cut before after entries start now later entry Spent has given fresh appended = absurd (fresh refl)
+
+-- ---- of tables, whatever they stand for
+
+module _ {S : Type 0} (g : Ghosts S) where
+  -- a walk has given rows, and their text is written behind what the writer held
+  pub record HasWrittenRows (walk : Walk S JournalPlace g) (tables : Tables) (start now : Option (List ℕ)) : Type 0 where
+    pub printed : List Printed
+    pub given : HasGivenRows g IsBehindEntryRows walk tt tables (map said printed)
+    pub written : Appends start now (printed_text printed)
+
+  -- all are written
+  pub rows_end : (walk : Walk S JournalPlace g) (tables : Tables) (start now : Option (List ℕ)) → (has : HasWrittenRows walk tables start now)
+      → AreAllEntryRows tt tables (map said has.printed) → Appends start now (journal_text tables.entry)
+  rows_end walk tables start now has all = subst (λ (text : List ℕ). Appends start now text) (told has.printed ∙ ap journal_text all) has.written
+
+  -- one more is written
+  pub rows_grow : (before after : Walk S JournalPlace g) (tables : Tables) (start now later : Option (List ℕ)) (entry : Printed)
+      → (has : HasWrittenRows before tables start now) → HasGivenRows g IsBehindEntryRows after tt tables (map said has.printed ++ said entry ∷ [])
+      → GrowsByEntry has.printed entry start later (Ok tt) → HasWrittenRows after tables start later
+  rows_grow before after tables start now later entry has given grown = record {
+    printed = has.printed ++ entry ∷ [];
+    given = subst (λ (rows : List EntryRow). HasGivenRows g IsBehindEntryRows after tt tables rows) (sym (said_with has.printed entry)) given;
+    written = grown;
+  }
 
 -- the fault of the journal is one of the writer, and leaves the book as it was
 pub journal_cut : {S : Type 0} (g : Ghosts S) (old new : Book S g) (fault : JournalFault) → ((fault ≡ Spent) → ⊥) → IsRead g old new

@@ -11,7 +11,7 @@ use Rattle.lot_report.specs.declared.fault.RowFault.{RowFault}
 use Rattle.lot_report.specs.declared.fault.RowFault.TheVariants.{Spent}
 use Rattle.lot_rows.specs.Tables.{Tables, layout}
 use Rattle.lot_table.specs.Book.{Holds}
-use Rattle.lot_show.specs.Show.{HoldsOfBook, ReadsBook, UnlessStopped, condition_after}
+use Rattle.lot_show.specs.Show.{HoldsOfBook, HoldsOfTables, ReadsBook, UnlessStopped, condition_after}
 use Rattle.lot_show.specs.declared.fault.ShowFault.{ShowFault}
 use Rattle.lot_show.specs.declared.fault.ShowFault.TheVariants.{Row as AtRow, Walk as AtWalk}
 use Rattle.lot_store.proofs.PlaceLemmas.{early, failed_after, stays_itself, stays_then, survives_both, survives_itself}
@@ -85,6 +85,9 @@ module _ {S : Type 0} (g : Ghosts S) where
 
   pub handed_holds : (old mid new : Book S g) (Fact : List Entry → Type 0) → new ≡ mid → HoldsOfBook g old mid Fact → HoldsOfBook g old new Fact
   handed_holds old mid new Fact is holds = subst (λ (book : Book S g). HoldsOfBook g old book Fact) (sym is) holds
+
+  pub handed_tables : (old mid new : Book S g) (Fact : Tables → Type 0) → new ≡ mid → HoldsOfTables g old mid Fact → HoldsOfTables g old new Fact
+  handed_tables old mid new Fact is holds = subst (λ (book : Book S g). HoldsOfTables g old book Fact) (sym is) holds
 
   -- ---- where the book doesn't stop the report
 

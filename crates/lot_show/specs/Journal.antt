@@ -1,10 +1,11 @@
 -- The journal of a book, written as its entries are read (docs/FORMATS.md, Journal).
-use Rattle.std.specs.Prelude.{◌≡◌, ℕ, List, ◌∷◌, ◌++◌, Option, Result, Ok, Err, codes, decimal, flat_map}
+use Rattle.std.specs.Prelude.{◌≡◌, ℕ, List, ◌∷◌, ◌++◌, OnOk, Option, Result, Ok, Err, codes, decimal, flat_map}
 use Rattle.std.specs.Io.KnownBytes.{Appends}
 use Rattle.lot_report.specs.Printed.{line}
 use Rattle.lot_report.specs.Written.{IsProperPrefixOf}
 use Rattle.lot_report.specs.declared.fault.ReportFault.TheVariants as report
 use Rattle.lot_report.specs.declared.fault.RowFault.TheVariants.{Report, Spent}
+use Rattle.lot_rows.specs.Tables.{Tables}
 use Rattle.lot_rows.specs.declared.entry.EntryRow.{EntryRow}
 use Rattle.lot_show.specs.declared.fault.ShowFault.{ShowFault}
 use Rattle.lot_show.specs.declared.fault.ShowFault.TheVariants.{Row as AtRow, Walk as AtWalk}
@@ -34,3 +35,7 @@ ShowsJournal all start now (Err (AtRow Spent)) = ⊥
 -- whatever the tables are, the journal of some entries is written, or as much of it as its fault leaves
 abbrev pub ShowsSomeJournal : Option (List ℕ) → Option (List ℕ) → Result (Unit {0}) ShowFault → Type 0
 ShowsSomeJournal start now result = (rows : List EntryRow) × ShowsJournal rows start now result
+
+-- where no fault ends it, the journal is that of all rows of the table
+abbrev pub ShowsAllRows : Tables → Option (List ℕ) → Option (List ℕ) → Result (Unit {0}) ShowFault → Type 0
+ShowsAllRows tables start now result = OnOk result (Appends start now (journal_text tables.entry))

@@ -12,6 +12,7 @@ use Rattle.lot_report.specs.Fed.{EndsReport, GrowsByRow, IsWhole, text_of}
 use Rattle.lot_report.specs.Report.{EachFits}
 use Rattle.lot_report.specs.declared.fault.ReportFault.{ReportFault}
 use Rattle.lot_report.specs.declared.fault.RowFault.TheVariants.{Report, Spent}
+use Rattle.lot_rows.specs.Tables.{Has, Tables}
 use Rattle.lot_show.specs.declared.fault.ShowFault.{ShowFault}
 use Rattle.lot_show.specs.declared.fault.ShowFault.TheVariants.{Row as AtRow, Walk as AtWalk}
 use Rattle.lot_store.specs.Step.{LeavesTables}
@@ -72,6 +73,10 @@ UnlessStopped (Err (AtRow fault)) P = P
 -- what holds of the book whose entries the tables stand for, on a disk that returned what was written
 pub record HoldsOfBook {S : Type 0} (g : Ghosts S) (old new : Book S g) (Fact : List Entry → Type 0) : Type 0 where
   pub holds : HasCleanDisk (state g new.conn) → (entries : List Entry) → Stands (state g old.conn) entries → Fact entries
+
+-- what holds of the rows of its tables, whatever those stand for, on such a disk
+pub record HoldsOfTables {S : Type 0} (g : Ghosts S) (old new : Book S g) (Fact : Tables → Type 0) : Type 0 where
+  pub holds : HasCleanDisk (state g new.conn) → (tables : Tables) → Has (state g old.conn) tables → Fact tables
 
 -- the fault is one of the book
 abbrev pub IsOfBook : ShowFault → Type 0

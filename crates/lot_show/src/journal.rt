@@ -1,6 +1,6 @@
 ghost use Rattle.lot_filed.specs.Rows.{entry_rows};
-ghost use Rattle.lot_show.specs.Journal.{ShowsJournal, ShowsSomeJournal};
-ghost use Rattle.lot_show.specs.Show.{HoldsOfBook, ReadsBook};
+ghost use Rattle.lot_show.specs.Journal.{ShowsAllRows, ShowsJournal, ShowsSomeJournal};
+ghost use Rattle.lot_show.specs.Show.{HoldsOfBook, HoldsOfTables, ReadsBook};
 
 use crate::fault::ShowFault;
 use lot_report::Journal;
@@ -11,11 +11,14 @@ use std::io::Write;
 /// Writes the journal of a book: its entries in their order, each as it is read. Nothing is flushed.
 ///
 /// Where the book stops, the entries before are written, and nothing behind them. Where the writer fails, a prefix of the
-/// next one is, too; the book can be used on then.
+/// next one is, too; the book can be used on then. Where it ends well all rows of the table are written, whatever the tables
+/// stand for.
 pub fn show_journal<S: Alter, W: Write>(book: &mut Book<S>, writer: &mut W) -> Result<(), ShowFault>
     ensures shows { HoldsOfBook S.Store book.old book.new
         (λ entries. ShowsJournal (entry_rows 1 entries) (W.contents writer.old) (W.contents writer.new) result) }
     ensures lines { ShowsSomeJournal (W.contents writer.old) (W.contents writer.new) result }
+    ensures rows { HoldsOfTables S.Store book.old book.new
+        (λ tables. ShowsAllRows tables (W.contents writer.old) (W.contents writer.new) result) }
     ensures reads { ReadsBook S.Store book.old book.new result }
 {
     let mut journal = Journal::new();

@@ -1,5 +1,6 @@
 -- What a cursor over a table tells of the rows that it hasn't given.
 use Rattle.std.proofs.Common.{◌≡◌, ◌∙◌, ◌++◌, [], ◌∷◌, List, map, refl, sym, ap, subst}
+use Rattle.std.specs.List.{AllByRecursion}
 use Rattle.std.proofs.lemmas.List.{append-nil, append_assoc, map-append}
 use Rattle.sqlite.specs.Order.{Row}
 use Rattle.sqlite.specs.Tree.{IsAscending}
@@ -9,6 +10,14 @@ pub suffix_up : {X : Type 0} (R : X → X → Type 0) (xs ys all : List X) → x
 suffix_up R [] ys all e up = subst (IsAscending R) (sym e) up
 suffix_up R (x ∷ xs) ys [] e up = absurd cc
 suffix_up R (x ∷ xs) ys (z ∷ all) e up = let more : xs ++ ys ≡ all = cc in suffix_up R xs ys all more up.1
+
+all_unmapped : {X Y : Type 0} (P : Y → Type 0) (f : X → Y) (xs : List X) → AllByRecursion P (map f xs) → AllByRecursion (λ x. P (f x)) xs
+all_unmapped P f [] all = tt
+all_unmapped P f (x ∷ xs) all = (all.0, all_unmapped P f xs all.1)
+
+pub unmapped_up : {X Y : Type 0} (R : Y → Y → Type 0) (f : X → Y) (xs : List X) → IsAscending R (map f xs) → IsAscending (λ a b. R (f a) (f b)) xs
+unmapped_up R f [] up = tt
+unmapped_up R f (x ∷ xs) up = (all_unmapped (R (f x)) f xs up.0, unmapped_up R f xs up.1)
 
 cancelled : {X : Type 0} (xs ys zs : List X) → xs ++ ys ≡ xs ++ zs → ys ≡ zs
 cancelled [] ys zs e = e

@@ -219,7 +219,7 @@ ReadsLot before after = CursorSteps lot_cells IsLotRow (λ (b : Tables). b.lot) 
 abbrev unread : Fault → Result (Option LotRow) Fault
 unread fault = Err fault
 
-lot_there : (plain : Option PlainRow) (lot : Option LotRow) → is_lot_next plain lot ≡ true → (row : LotRow) × (lot ≡ Some row)
+pub lot_there : (plain : Option PlainRow) (lot : Option LotRow) → is_lot_next plain lot ≡ true → (row : LotRow) × (lot ≡ Some row)
 lot_there plain None e = absurd (true≢false (sym e))
 lot_there plain (Some row) e = (row, refl)
 

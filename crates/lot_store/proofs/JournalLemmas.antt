@@ -20,8 +20,8 @@ use Rattle.lot_table.specs.declared.fault.Fault.TheVariants.{Damaged, Device}
 use Rattle.lot_page.specs.Cursor.{Place, Steps as CursorSteps}
 use Rattle.lot_page.proofs.BehindLemmas.{all_rows, behind_rows}
 use Rattle.lot_filed.specs.Rows.{entry_rows}
-use Rattle.lot_store.specs.Journal.{AreEntries, HasCanonicalText, IsBehindEntries, said}
-use Rattle.lot_store.specs.Step.{Steps}
+use Rattle.lot_store.specs.Journal.{AreAllEntryRows, AreEntries, HasCanonicalText, IsBehindEntries, IsBehindEntryRows, said}
+use Rattle.lot_store.specs.Step.{Steps, StepsOverRows}
 use Rattle.lot_store.specs.declared.walk.journal.JournalPlace.{JournalPlace}
 
 -- ---- the text of one command
@@ -116,3 +116,15 @@ module _ (before after : JournalPlace) (old new : State) where
     failed = λ clean is. let of : fault ≡ Device = cc in absurd (apart of);
     crash = read.crash;
   }
+
+  -- ---- rows of a table that may be those of no book
+
+  abbrev pub GivesRows : Result (Option Printed) Fault → Type 0
+  GivesRows = StepsOverRows said AreAllEntryRows IsBehindEntryRows before after old new
+
+  pub entry_rows_end : ReadsRow (Ok None) → GivesRows (Ok None)
+  entry_rows_end read = λ clean tables has asked given behind. all_rows entry_cells same_row given tables.entry (read.gives clean tables has given behind)
+
+  pub entry_rows_next : (row : EntryRow) (entry : Printed) → said entry ≡ row → ReadsRow (Ok (Some row)) → GivesRows (Ok (Some entry))
+  entry_rows_next row entry says read = λ clean tables has asked given behind.
+      subst (λ (r : EntryRow). IsBehindEntryRows after tables asked (given ++ r ∷ [])) (sym says) (read.gives clean tables has given behind)

@@ -4,9 +4,11 @@ pub mod CommitLemmas
 pub mod CreateLemmas
 pub mod CursorLemmas
 pub mod GainLemmas
+pub mod GainRowLemmas
 pub mod HandedLemmas
 pub mod HoldingBeginLemmas
 pub mod HoldingLemmas
+pub mod HoldingRowLemmas
 pub mod HoldingStepLemmas
 pub mod JournalLemmas
 pub mod LastLemmas

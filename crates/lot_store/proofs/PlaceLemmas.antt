@@ -8,8 +8,8 @@ use Rattle.lot_page.specs.Cursor.{Stays}
 use Rattle.lot_rows.specs.Tables.{Has, Tables, layout}
 use Rattle.lot_table.specs.Book.{Holds}
 use Rattle.lot_table.specs.Statement.{DiskFailed}
-use Rattle.lot_store.specs.Place.{Went}
-use Rattle.lot_store.specs.Step.{Steps}
+use Rattle.lot_store.specs.Place.{KeepsRows, Went}
+use Rattle.lot_store.specs.Step.{Steps, StepsOverRows}
 
 -- ---- the connection
 
@@ -87,3 +87,19 @@ module _ {Place Asked Shown : Type 0} (IsBehind : Place → Tables → Asked →
           failed_after old now new (went.same was) went.survives (steps.failed clean is);
       crash = survives_both old now new went.survives steps.crash;
     }
+
+-- the same of rows that may be those of no book
+module _ {Place Asked Shown : Type 0} (IsBehindRows : Place → Tables → Asked → List Shown → Type 0) where
+  pub keeps_then : (before mid after : Place) (old now new : State) → (HasCleanDisk now → Stays old now) → Survives now new (λ _. ⊥)
+      → KeepsRows IsBehindRows before mid old now → KeepsRows IsBehindRows mid after now new → KeepsRows IsBehindRows before after old new
+  keeps_then before mid after old now new same crash one two = λ clean tables has asked given behind.
+      let was = early now new crash clean in
+      two clean tables (has_still old now tables (same was) has) asked given (one was tables has asked given behind)
+
+  pub rows_after : {Row : Type 0} (F : Type 0) (shown : Row → Shown) (AreAllRows : Asked → Tables → List Shown → Type 0) (before mid after : Place) (old now new : State)
+      (result : Result (Option Row) F) → (HasCleanDisk now → Stays old now) → Survives now new (λ _. ⊥) → KeepsRows IsBehindRows before mid old now
+      → StepsOverRows shown AreAllRows IsBehindRows mid after now new result → StepsOverRows shown AreAllRows IsBehindRows before after old new result
+  rows_after F shown AreAllRows before mid after old now new (Ok found) same crash one steps = λ clean tables has asked given behind.
+      let was = early now new crash clean in
+      steps clean tables (has_still old now tables (same was) has) asked given (one was tables has asked given behind)
+  rows_after F shown AreAllRows before mid after old now new (Err fault) same crash one steps = λ clean. tt

@@ -6,6 +6,7 @@ use Rattle.std.proofs.lemmas.List.{append-nil, append_assoc}
 use Rattle.sqlite.specs.State.{HasCleanDisk, State}
 use Rattle.sqlite_keyed.proofs.ListLemmas.{ascending-filter}
 use Rattle.lot_book.specs.Facts.{Entry}
+use Rattle.lot_table.specs.Rows.{key_order}
 use Rattle.lot_table.specs.declared.fault.Fault.{Fault}
 use Rattle.lot_table.specs.declared.fault.Fault.TheVariants.{Damaged, Device}
 use Rattle.lot_rows.specs.Price.{IsPriceRow, price_cells}
@@ -14,18 +15,23 @@ use Rattle.lot_rows.specs.declared.price.PriceRow.{PriceRow}
 use Rattle.lot_rows.proofs.PriceLemmas.{same_row}
 use Rattle.lot_filed.specs.StandFor.{StandFor}
 use Rattle.lot_page.specs.Cursor.{IsBehind, Place, Steps as CursorSteps}
-use Rattle.lot_store.specs.Prices.{ArePrices, ArePricesAt, HasGiven, IsAnyPrice, IsBehindPrices, IsRead, Progresses, StepsOver, before_row, is_by, is_of_pair, last_after, last_rows, price_of, prices_by, progress_of, shown_price, waiting}
-use Rattle.lot_store.specs.Step.{IsPrefix, StepGives}
+use Rattle.lot_store.specs.Prices.{AreAllPriceRows, ArePrices, ArePricesAt, HasGiven, IsAnyPrice, IsBehindPriceRows, IsBehindPrices, IsRead, Progresses, ProgressesOverRows, StepsOver, before_row, is_by, is_of_pair, last_after, last_rows, price_of, prices_by, progress_of, shown_price, waiting}
+use Rattle.lot_store.specs.Step.{GivesOfRows, IsPrefix, StepGives}
 use Rattle.lot_store.specs.declared.price.PairPrice.{PairPrice}
 use Rattle.lot_store.specs.declared.walk.prices.PricesPlace.{PricesPlace}
 use Rattle.lot_store.specs.declared.walk.prices.Progress.{Progress}
 use Rattle.lot_store.specs.declared.walk.prices.Progress.TheVariants.{Gives, Passed}
-use Rattle.lot_store.proofs.CursorLemmas.{next_left, none_left, suffix_up}
+use Rattle.lot_store.proofs.CursorLemmas.{next_left, none_left, suffix_up, unmapped_up}
 use Rattle.lot_store.proofs.LastLemmas.{AreUp, last_rows-next, last_rows-pair, row_cmp}
 use Rattle.lot_store.proofs.PlaceLemmas.{stays_itself, survives_itself}
 use Rattle.lot_store.proofs.PriceLemmas.{are_prices, rows_up}
 
 -- ---- rows that wait, and one more
+
+-- the rows of the table rise, whatever they are
+held_up : (s : State) (tables : Tables) → Has s tables → AreUp tables.price
+held_up s tables has =
+    rows_up tables.price (unmapped_up (λ a b. key_order 3 a b ≡ Less) price_cells tables.price has.1.held.1.1.1.1.0.rises)
 
 -- what waits behind a row, and what is given by it
 abbrev Carries : List PriceRow → List PriceRow → List PriceRow → Progress → Type 0
@@ -47,17 +53,21 @@ carries done (Some last) row others true up = by (is_of_pair last row) refl
     by false apart = (last, refl, append_assoc done (last ∷ []) (row ∷ others), last_rows-next last row others up apart)
 
 module _ (tables : Tables) (entries : List Entry) (stand : StandFor tables entries) (day : ℤ) where
-  waiting_up : (place : PricesPlace) (done left : List PriceRow) → done ++ waiting place left ≡ filter (is_by place.day) tables.price → AreUp (waiting place left)
-  waiting_up place done left e =
-      suffix_up (λ a b. row_cmp a b ≡ Less) done (waiting place left) (filter (is_by place.day) tables.price) e
-      (ascending-filter (λ a b. row_cmp a b ≡ Less) (is_by place.day) tables.price (rows_up tables.price stand.ordered.price))
-
-  all_given : (given : List PairPrice) (on : ℤ) → on ≡ day → given ≡ prices_by on tables.price → ArePrices entries day given
-  all_given given on is e = subst (ArePrices entries day) (sym (e ∙ ap (λ d. prices_by d tables.price) is)) (are_prices tables entries stand day)
+  all_given : (given : List PairPrice) → given ≡ prices_by day tables.price → ArePrices entries day given
+  all_given given e = subst (ArePrices entries day) (sym e) (are_prices tables entries stand day)
 
   prefix_given : (place : PricesPlace) (given : List PairPrice) → HasGiven place tables day given → IsPrefix ArePricesAt day entries given
   prefix_given place given has =
-      let rest = map price_of (last_rows (waiting place has.left)) in (rest, all_given (given ++ rest) place.day has.on has.rows)
+      let rest = map price_of (last_rows (waiting place has.left)) in (rest, all_given (given ++ rest) (has.rows ∙ ap (λ d. prices_by d tables.price) has.on))
+
+stood_up : (tables : Tables) (entries : List Entry) → StandFor tables entries → AreUp tables.price
+stood_up tables entries stand = rows_up tables.price stand.ordered.price
+
+module _ (tables : Tables) (rising : AreUp tables.price) (day : ℤ) where
+  waiting_up : (place : PricesPlace) (done left : List PriceRow) → done ++ waiting place left ≡ filter (is_by place.day) tables.price → AreUp (waiting place left)
+  waiting_up place done left e =
+      suffix_up (λ a b. row_cmp a b ≡ Less) done (waiting place left) (filter (is_by place.day) tables.price) e
+      (ascending-filter (λ a b. row_cmp a b ≡ Less) (is_by place.day) tables.price rising)
 
   -- ---- a row more
 
@@ -111,10 +121,10 @@ module _ (tables : Tables) (entries : List Entry) (stand : StandFor tables entri
   -- with no row left the last one that waits is given, and then none
   ends : (before after : PricesPlace) (given : List PairPrice) (last : Option PriceRow) (has : HasGiven before tables day given) → has.left ≡ [] → before.last ≡ last
       → after.is_past_last ≡ true → after.day ≡ before.day → after.last ≡ None
-      → elim last as (λ _. Type 0) [ None ↦ ArePrices entries day given | Some row ↦ HasGiven after tables day (given ++ price_of row ∷ []) ]
+      → elim last as (λ _. Type 0) [ None ↦ AreAllPriceRows day tables given | Some row ↦ HasGiven after tables day (given ++ price_of row ∷ []) ]
   ends before after given None has left at past on gone =
       let none : waiting before has.left ≡ [] = λ i. option_to_list (at i) ++ filter (is_by before.day) (left i) in
-      all_given given before.day has.on (sym (append-nil given) ∙ ap (λ xs. given ++ map price_of (last_rows xs)) (sym none) ∙ has.rows)
+      sym (append-nil given) ∙ ap (λ xs. given ++ map price_of (last_rows xs)) (sym none) ∙ has.rows ∙ ap (λ d. prices_by d tables.price) has.on
   ends before after given (Some row) has left at past on gone =
       let was : waiting before has.left ≡ row ∷ [] = λ i. option_to_list (at i) ++ filter (is_by before.day) (left i) in
       let is : waiting after [] ≡ [] = λ i. option_to_list (gone i) ++ [] in
@@ -161,22 +171,26 @@ next_row before tables day given has row cursor behind =
 module _ (before after : PricesPlace) (old new : State) (reading : before.is_past_last ≡ false) where
   module _ (row : PriceRow) (reads : ReadsRow before after old new (Ok (Some row))) (past : after.is_past_last ≡ before.is_past_last) (on : after.day ≡ before.day)
       (last : after.last ≡ last_after before.day before.last row) where
-    come : HasCleanDisk new → (tables : Tables) (entries : List Entry) → Has old tables → (stand : StandFor tables entries) (day : ℤ) (given : List PairPrice)
-        → HasGiven before tables day given → Comes tables entries stand day after given (progress_of before.day before.last row)
-    come clean tables entries has stand day given was =
+    come : HasCleanDisk new → (tables : Tables) → Has old tables → (rising : AreUp tables.price) (day : ℤ) (given : List PairPrice)
+        → HasGiven before tables day given → Comes tables rising day after given (progress_of before.day before.last row)
+    come clean tables has rising day given was =
         let behind = reads.gives clean tables has was.read (behind_rows before tables day given was reading) in
         let next = next_row before tables day given was row after.rows behind in
-        comes tables entries stand day before after given row was next.0 next.1 behind (past ∙ reading) on last
+        comes tables rising day before after given row was next.0 next.1 behind (past ∙ reading) on last
+
+    comes_to : (progress : Progress) → progress ≡ progress_of before.day before.last row → HasCleanDisk new → (tables : Tables) → Has old tables
+        → (rising : AreUp tables.price) (day : ℤ) (given : List PairPrice) → HasGiven before tables day given → Comes tables rising day after given progress
+    comes_to progress is clean tables has rising day given was = subst (Comes tables rising day after given) (sym is) (come clean tables has rising day given was)
 
     pub row_read : (progress : Progress) → progress ≡ progress_of before.day before.last row → Progresses before after old new (Ok progress)
     row_read Passed is = record {
-      keeps = λ clean tables entries has book stand day given was. subst (Comes tables entries stand day after given) (sym is) (come clean tables entries has stand day given was);
+      keeps = λ clean tables entries has book stand day given was. comes_to Passed is clean tables has (stood_up tables entries stand) day given was;
       same = reads.same;
       survives = reads.crash;
     }
     row_read (Gives found) is = record {
       gives = λ clean tables entries has book stand day given was.
-          given_row found tables entries stand day given (subst (Comes tables entries stand day after given) (sym is) (come clean tables entries has stand day given was));
+          given_row found tables entries stand day given (comes_to (Gives found) is clean tables has (stood_up tables entries stand) day given was);
       good = good_price found;
       same = reads.same;
       damaged = λ clean e. cc;
@@ -185,7 +199,7 @@ module _ (before after : PricesPlace) (old new : State) (reading : before.is_pas
     }
       where
         given_row : (found : Option PairPrice) (tables : Tables) (entries : List Entry) (stand : StandFor tables entries) (day : ℤ) (given : List PairPrice)
-            → Comes tables entries stand day after given (Gives found)
+            → Comes tables (stood_up tables entries stand) day after given (Gives found)
             → StepGives shown_price IsAnyPrice ArePricesAt IsBehindPrices after tables day entries given found
         given_row None tables entries stand day given none = absurd none
         given_row (Some price) tables entries stand day given has = (has, prefix_given tables entries stand day after (given ++ price ∷ []) has)
@@ -193,6 +207,11 @@ module _ (before after : PricesPlace) (old new : State) (reading : before.is_pas
         good_price : (found : Option PairPrice) → IfSome found IsAnyPrice
         good_price None = tt
         good_price (Some price) = tt
+
+    pub row_read_over : (progress : Progress) → progress ≡ progress_of before.day before.last row → ProgressesOverRows before after old new (Ok progress)
+    row_read_over Passed is = λ clean tables has day given was. comes_to Passed is clean tables has (held_up old tables has) day given was
+    row_read_over (Gives None) is = λ clean tables has day given was. absurd (comes_to (Gives None) is clean tables has (held_up old tables has) day given was)
+    row_read_over (Gives (Some price)) is = λ clean tables has day given was. comes_to (Gives (Some price)) is clean tables has (held_up old tables has) day given was
 
   pub row_unread : (fault : Fault) → ReadsRow before after old new (Err fault) → StepsOver before after old new (Err fault)
   row_unread fault reads = record {
@@ -207,12 +226,20 @@ module _ (before after : PricesPlace) (old new : State) (reading : before.is_pas
   }
 
 -- what is given once no row is left
+end_over : (before after : PricesPlace) (tables : Tables) (rising : AreUp tables.price) (day : ℤ) (given : List PairPrice) (last : Option PriceRow)
+    (has : HasGiven before tables day given) → has.left ≡ [] → before.last ≡ last → after.is_past_last ≡ true → after.day ≡ before.day → after.last ≡ None
+    → GivesOfRows shown_price AreAllPriceRows IsBehindPriceRows after tables day given (option_map price_of last)
+end_over before after tables rising day given None has left at past on gone = ends tables rising day before after given None has left at past on gone
+end_over before after tables rising day given (Some row) has left at past on gone = ends tables rising day before after given (Some row) has left at past on gone
+
+-- and that in tables which stand for a book
 end_gives : (before after : PricesPlace) (tables : Tables) (entries : List Entry) (stand : StandFor tables entries) (day : ℤ) (given : List PairPrice) (last : Option PriceRow)
     (has : HasGiven before tables day given) → has.left ≡ [] → before.last ≡ last → after.is_past_last ≡ true → after.day ≡ before.day → after.last ≡ None
     → StepGives shown_price IsAnyPrice ArePricesAt IsBehindPrices after tables day entries given (option_map price_of last)
-end_gives before after tables entries stand day given None has left at past on gone = ends tables entries stand day before after given None has left at past on gone
+end_gives before after tables entries stand day given None has left at past on gone =
+    all_given tables entries stand day given (end_over before after tables (stood_up tables entries stand) day given None has left at past on gone)
 end_gives before after tables entries stand day given (Some row) has left at past on gone =
-    let next = ends tables entries stand day before after given (Some row) has left at past on gone in
+    let next = end_over before after tables (stood_up tables entries stand) day given (Some row) has left at past on gone in
     (next, prefix_given tables entries stand day after (given ++ price_of row ∷ []) next)
 
 good_last : (last : Option PriceRow) → IfSome (option_map price_of last) IsAnyPrice
@@ -246,6 +273,19 @@ end_read before after old new last reading reads at past on gone = record {
   failed = λ clean is. cc;
   crash = reads.crash;
 }
+
+pub end_reached_over : (before after : PricesPlace) (s : State) (last : Option PriceRow) → before.last ≡ last → before.is_past_last ≡ true
+    → after.is_past_last ≡ before.is_past_last → after.day ≡ before.day → after.last ≡ None → ProgressesOverRows before after s s (Ok (Gives (option_map price_of last)))
+end_reached_over before after s last at past still on gone = λ clean tables has day given was.
+    end_over before after tables (held_up s tables has) day given last was (subst (λ p. IsRead p was.read was.left tables.price before.rows) past was.cursor) at
+    (still ∙ past) on gone
+
+pub end_read_over : (before after : PricesPlace) (old new : State) (last : Option PriceRow) → before.is_past_last ≡ false → ReadsRow before after old new (Ok None)
+    → before.last ≡ last → after.is_past_last ≡ true → after.day ≡ before.day → after.last ≡ None
+    → ProgressesOverRows before after old new (Ok (Gives (option_map price_of last)))
+end_read_over before after old new last reading reads at past on gone = λ clean tables has day given was.
+    let all = reads.gives clean tables has was.read (behind_rows before tables day given was reading) in
+    end_over before after tables (held_up old tables has) day given last was (none_left price_cells was.read was.left tables.price was.all all) at past on gone
 
 -- before the first row
 pub has_none : (place : PricesPlace) (tables : Tables) (day : ℤ) → place.day ≡ day → place.last ≡ None → place.is_past_last ≡ false

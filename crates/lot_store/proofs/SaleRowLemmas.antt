@@ -156,6 +156,7 @@ module _ (row : SaleRow) where
     pub legs_unread : (fault : Fault) → ReadsLegs (Err fault) → Tells (Err fault)
     legs_unread fault read = record {
       says = λ clean. tt;
+      of_row = tt;
       good = tt;
       same = λ clean. tt;
       damaged = λ clean is limit tables has legs are rows.
@@ -174,6 +175,7 @@ module _ (row : SaleRow) where
         → ReadsLegs (Ok found) → Tells (Err fault)
     legs_refused found fault apart refused read = record {
       says = λ clean. tt;
+      of_row = tt;
       good = tt;
       same = λ clean. tt;
       damaged = λ clean is limit tables has legs are rows.
@@ -188,6 +190,7 @@ module _ (row : SaleRow) where
     legs_told found legs sale takes are is read = record {
       says = λ clean tables has others rows.
           is ∙ ap (sale_with row) (one_legs legs others (sym takes ∙ read_taken tables others found.items rows read.good (read.says clean tables has)));
+      of_row = (legs, is);
       good = subst HasLegs (sym is) are;
       same = read.same;
       damaged = λ clean bad. cc;

@@ -6,16 +6,18 @@ use Rattle.sqlite.specs.State.{HasCleanDisk, State, Survives}
 use Rattle.sqlite.specs.Store.{Ghosts}
 use Rattle.lot_book.specs.Facts.{Entry}
 use Rattle.lot_filed.specs.StandFor.{Stands}
+use Rattle.lot_page.specs.Cursor.{Stays}
 use Rattle.lot_rows.specs.Tables.{Has, Tables, layout}
 use Rattle.lot_table.specs.Book.{Holds}
-use Rattle.lot_store.specs.Step.{Steps}
-use Rattle.lot_store.specs.Walk.{Gives, HasGiven, Walks, is_at_end, is_at_fault, stage_after}
+use Rattle.lot_store.specs.Step.{Steps, StepsOverRows}
+use Rattle.lot_store.specs.Walk.{Gives, HasGiven, HasGivenRows, Walks, WalksOverRows, is_at_end, is_at_fault, stage_after}
 use Rattle.lot_store.specs.declared.fault.StoreFault.{StoreFault}
 use Rattle.lot_store.specs.declared.fault.StoreFault.TheVariants.{Damaged, Device, NeedsReopen}
 use Rattle.lot_store.specs.declared.book.Condition.TheVariants.{NeedsReopen as Spent}
 use Rattle.lot_store.specs.declared.walk.Stage.TheVariants.{Going}
 use Rattle.lot_store.specs.declared.walk.Walk.{Walk}
 use Rattle.lot_store.specs.declared.walk.WalkFault.{WalkFault}
+use Rattle.lot_store.proofs.PlaceLemmas.{has_still}
 
 -- tables are those of a state's database alone
 stands_on : (a b : State) (entries : List Entry) → b.now ≡ a.now → Stands a entries → Stands b entries
@@ -87,4 +89,25 @@ module _ {S Place Row Asked Shown : Type 0} (g : Ghosts S) (shown : Row → Show
     same = steps.same;
     left = λ clean. tt;
     crash = steps.crash;
+  }
+
+-- the same of rows that may be those of no book
+module _ {S Place Row Asked Shown : Type 0} (g : Ghosts S) (shown : Row → Shown) (AreAllRows : Asked → Tables → List Shown → Type 0)
+    (IsBehindRows : Place → Tables → Asked → List Shown → Type 0) (old new : Walk S Place g) where
+  abbrev was : State
+  was = state g old.book.now.conn
+
+  abbrev is : State
+  is = state g new.book.now.conn
+
+  abbrev reads : Option Row → Result (Option Row) StoreFault
+  reads found = Ok found
+
+  pub walks_over_rows : (found : Option Row) → new.stage ≡ stage_after (reads found) → (HasCleanDisk is → Stays was is)
+      → StepsOverRows shown AreAllRows IsBehindRows old.place new.place was is (reads found) → WalksOverRows g shown AreAllRows IsBehindRows old new (Ok found)
+  walks_over_rows None stage same steps = λ clean asked tables given has. steps clean tables has.has asked given has.behind
+  walks_over_rows (Some row) stage same steps = λ clean asked tables given has. record {
+    has = has_still was is tables (same clean) has.has;
+    goes_on = stage;
+    behind = steps clean tables has.has asked given has.behind;
   }

@@ -1,5 +1,5 @@
 -- The walk over the sales of a book on the days of a range, each with its legs (docs/RULES.md, Gains).
-use Rattle.std.specs.Prelude.{◌≡◌, ℕ, ℤ, ◌&&◌, Bool, true, not, int_lt, filter, List, ◌++◌, map, Option, None, Some}
+use Rattle.std.specs.Prelude.{◌≡◌, ℕ, ℤ, ◌&&◌, Bool, true, not, int_lt, filter, List, [], ◌++◌, map, Option, None, Some}
 use Rattle.lot_inv.specs.declared.lot_key.LotKey.{LotKey}
 use Rattle.lot_book.specs.Facts.{Entry}
 use Rattle.lot_book.specs.Leg.{legs_at_lots}
@@ -75,3 +75,27 @@ at_lot leg = (Some leg.0, leg.1)
 
 abbrev pub sale_with : SaleRow → List (LotKey × ℤ) → SaleParts
 sale_with row legs = record { day = row.day; account = row.account; commodity = row.commodity; units = row.units; price = row.price; legs = legs }
+
+-- ---- the rows of the table, whatever it stands for
+
+-- what a row says of its sale, all but the legs
+abbrev pub sale_of_row : SaleRow → SaleParts
+sale_of_row row = sale_with row []
+
+abbrev pub without_legs : SaleParts → SaleParts
+without_legs sale = record { day = sale.day; account = sale.account; commodity = sale.commodity; units = sale.units; price = sale.price; legs = [] }
+
+abbrev pub rows_within : Range → List SaleRow → List SaleRow
+rows_within range rows = filter (λ (row : SaleRow). is_within range row.day) rows
+
+-- these are the sales of the rows on the days of a range, all of them, whatever their legs
+abbrev pub AreAllSaleRows : Range → Tables → List SaleParts → Type 0
+AreAllSaleRows range tables given = map without_legs given ≡ map sale_of_row (rows_within range tables.sale)
+
+pub record IsBehindSaleRows (place : GainsPlace) (tables : Tables) (range : Range) (given : List SaleParts) : Type 0 where
+  pub first : place.first ≡ range.0
+  pub last : place.last ≡ range.1
+  -- the rows that were read
+  pub rows : List SaleRow
+  pub read : IsBehind sale_cells rows tables.sale place.cursor
+  pub within : map without_legs given ≡ map sale_of_row (rows_within range rows)

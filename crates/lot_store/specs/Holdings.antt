@@ -1,5 +1,5 @@
 -- What a book holds, as rows.
-use Rattle.std.specs.Prelude.{◌≡◌, Bool, true, false, List, [], ◌∷◌, ◌++◌, map, Option, None, Some, Result, Err, OnErr, OnOk, ⊤}
+use Rattle.std.specs.Prelude.{◌≡◌, Bool, true, false, List, [], ◌∷◌, ◌++◌, filter, map, not, Option, None, Some, Result, Err, OnErr, OnOk, ⊤}
 use Rattle.std.specs.declared.cmp.Ordering.{Ordering}
 use Rattle.std.specs.Option.{option_to_list}
 use Rattle.std.specs.Ordering.{is_lt}
@@ -12,7 +12,8 @@ use Rattle.lot_book.specs.Holding.{ListsHoldings, position_of}
 use Rattle.lot_book.specs.Leg.{position_cmp}
 use Rattle.lot_book.specs.Recorded.{facts_in}
 use Rattle.lot_filed.specs.StandFor.{StandFor}
-use Rattle.lot_page.specs.Cursor.{IsBehind, Place, Stays}
+use Rattle.lot_inv.specs.declared.lot_key.LotKey.{LotKey}
+use Rattle.lot_page.specs.Cursor.{Gives, IsBehind, Place, Stays}
 use Rattle.lot_rows.specs.Lot.{lot_cells}
 use Rattle.lot_rows.specs.Tables.{Has, Tables}
 use Rattle.lot_rows.specs.declared.lot.LotRow.{LotRow}
@@ -95,6 +96,43 @@ IsAtStage false place tables given = HasNotBegun place tables given
 abbrev pub IsAt : HoldingsPlace → Tables → List Holding → Type 0
 IsAt place tables given = IsAtStage place.has_begun place tables given
 
+-- ---- the rows of both, whatever the tables stand for
+
+abbrev pub is_lot : Option LotKey → Bool
+is_lot None = false
+is_lot (Some lot) = true
+
+abbrev pub is_at_lot : Holding → Bool
+is_at_lot holding = is_lot holding.lot
+
+abbrev pub is_plain : Holding → Bool
+is_plain holding = not (is_lot holding.lot)
+
+-- These are the rows of both tables, all of them: those at no lot are the rows of plain units, and the others the lots, which
+-- are told by their columns, each kind in its order.
+pub record AreAllHoldingRows (asked : Unit {0}) (tables : Tables) (given : List Holding) : Type 0 where
+  pub lots : List LotRow
+  pub of_lot : map lot_cells lots ≡ map lot_cells tables.lot
+  pub at_lots : filter is_at_lot given ≡ map lot_holding lots
+  pub plain : filter is_plain given ≡ map plain_holding tables.plain
+
+-- a place has given the first rows of each table
+pub record HasGivenRows (place : HoldingsPlace) (tables : Tables) (given : List Holding) : Type 0 where
+  pub passed : List PlainRow
+  pub taken : List LotRow
+  pub plain : passed ++ plain_left place ≡ tables.plain
+  pub read_all : place.plain ≡ None → into_iter_items place.more ≡ []
+  pub ahead : Gives lot_cells taken tables.lot place.lots place.lot
+  pub of_plain : filter is_plain given ≡ map plain_holding passed
+  pub of_lot : filter is_at_lot given ≡ map lot_holding taken
+
+abbrev pub IsAtRowsStage : Bool → HoldingsPlace → Tables → List Holding → Type 0
+IsAtRowsStage true place tables given = HasGivenRows place tables given
+IsAtRowsStage false place tables given = HasNotBegun place tables given
+
+abbrev pub IsBehindHoldingRows : HoldingsPlace → Tables → Unit {0} → List Holding → Type 0
+IsBehindHoldingRows place tables asked given = IsAtRowsStage place.has_begun place tables given
+
 -- a row is told as it is, and each is good
 abbrev pub shown_holding : Holding → Holding
 shown_holding holding = holding
@@ -125,3 +163,9 @@ pub record Begins (before after : HoldingsPlace) (old new : State) (result : Res
   pub failed : HasCleanDisk new → result ≡ Err Device → DiskFailed old new
   pub left : HasCleanDisk new → OnErr result (StaysOrGoesBack old new)
   pub crash : Survives old new (λ _. ⊥)
+
+-- the same of rows that may be those of no book
+abbrev pub BeginsOverRows : HoldingsPlace → HoldingsPlace → State → State → Result (Unit {0}) Fault → Type 0
+BeginsOverRows before after old new result =
+    HasCleanDisk new → OnOk result ((tables : Tables) → Has old tables → (asked : Unit {0}) (given : List Holding) → IsBehindHoldingRows before tables asked given
+    → IsBehindHoldingRows after tables asked given)

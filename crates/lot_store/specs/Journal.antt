@@ -31,7 +31,14 @@ HasCanonicalText entry = IsCanonical (string_bytes entry.body)
 abbrev pub AreEntries : Unit {0} → List Entry → List EntryRow → Type 0
 AreEntries asked entries rows = rows ≡ entry_rows 1 entries
 
+-- these are the rows of the table, all of them
+abbrev pub AreAllEntryRows : Unit {0} → Tables → List EntryRow → Type 0
+AreAllEntryRows asked tables rows = rows ≡ tables.entry
+
 -- ---- the place among them
 
+abbrev pub IsBehindEntryRows : JournalPlace → Tables → Unit {0} → List EntryRow → Type 0
+IsBehindEntryRows place tables asked given = IsBehind entry_cells given tables.entry place.cursor
+
 abbrev pub IsBehindEntries : JournalPlace → Tables → Unit {0} → List Entry → List EntryRow → Type 0
-IsBehindEntries place tables asked entries given = IsBehind entry_cells given tables.entry place.cursor
+IsBehindEntries place tables asked entries given = IsBehindEntryRows place tables asked given

@@ -13,3 +13,9 @@ pub record Went {Place Asked Shown : Type 0} (IsBehind : Place → Tables → As
       → (asked : Asked) (given : List Shown) → IsBehind before tables asked entries given → IsBehind after tables asked entries given
   pub same : HasCleanDisk new → Stays old new
   pub survives : Survives old new (λ _. ⊥)
+
+-- it is behind them still, whatever the tables stand for
+abbrev pub KeepsRows : {Place Asked Shown : Type 0} → (Place → Tables → Asked → List Shown → Type 0) → Place → Place → State → State → Type 0
+KeepsRows {Asked} {Shown} IsBehindRows before after old new =
+    HasCleanDisk new → (tables : Tables) → Has old tables → (asked : Asked) (given : List Shown) → IsBehindRows before tables asked given
+    → IsBehindRows after tables asked given

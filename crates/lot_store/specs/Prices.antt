@@ -17,8 +17,8 @@ use Rattle.lot_rows.specs.Tables.{Tables}
 use Rattle.lot_rows.specs.declared.price.PriceRow.{PriceRow}
 use Rattle.lot_table.specs.declared.fault.Fault.{Fault}
 use Rattle.lot_table.specs.declared.fault.Fault.TheVariants.{Damaged, Device}
-use Rattle.lot_store.specs.Place.{Went}
-use Rattle.lot_store.specs.Step.{StaysOrGoesBack, Steps}
+use Rattle.lot_store.specs.Place.{KeepsRows, Went}
+use Rattle.lot_store.specs.Step.{StaysOrGoesBack, Steps, StepsOverRows}
 use Rattle.lot_store.specs.declared.walk.prices.PricesPlace.{PricesPlace}
 use Rattle.lot_store.specs.declared.walk.prices.Progress.{Progress}
 use Rattle.lot_store.specs.declared.walk.prices.Progress.TheVariants.{Gives, Passed}
@@ -102,6 +102,13 @@ pub record HasGiven (place : PricesPlace) (tables : Tables) (day : ℤ) (given :
   pub split : done ++ waiting place left ≡ filter (is_by place.day) tables.price
   pub rows : given ++ map price_of (last_rows (waiting place left)) ≡ prices_by place.day tables.price
 
+-- the rows of the table give these prices at the day, all of them
+abbrev pub AreAllPriceRows : ℤ → Tables → List PairPrice → Type 0
+AreAllPriceRows day tables given = given ≡ prices_by day tables.price
+
+abbrev pub IsBehindPriceRows : PricesPlace → Tables → ℤ → List PairPrice → Type 0
+IsBehindPriceRows place tables day given = HasGiven place tables day given
+
 -- a price is told as it is, and each is good
 abbrev pub shown_price : PairPrice → PairPrice
 shown_price price = price
@@ -135,3 +142,12 @@ abbrev pub Progresses : PricesPlace → PricesPlace → State → State → Resu
 Progresses before after old new (Ok Passed) = Went IsBehindPrices before after old new
 Progresses before after old new (Ok (Gives found)) = StepsOver before after old new (Ok found)
 Progresses before after old new (Err fault) = StepsOver before after old new (Err fault) × (HasCleanDisk new → StaysOrGoesBack old new)
+
+-- the same of rows that may be those of no book
+abbrev pub GivesPrices : PricesPlace → PricesPlace → State → State → Result (Option PairPrice) Fault → Type 0
+GivesPrices = StepsOverRows shown_price AreAllPriceRows IsBehindPriceRows
+
+abbrev pub ProgressesOverRows : PricesPlace → PricesPlace → State → State → Result Progress Fault → Type 0
+ProgressesOverRows before after old new (Ok Passed) = KeepsRows IsBehindPriceRows before after old new
+ProgressesOverRows before after old new (Ok (Gives found)) = GivesPrices before after old new (Ok found)
+ProgressesOverRows before after old new (Err fault) = Unit {0}

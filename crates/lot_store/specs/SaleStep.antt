@@ -24,6 +24,8 @@ pub record HasRowsOf (row : SaleRow) (tables : Tables) (legs : List (LotKey × �
 
 pub record TellsSale (row : SaleRow) (old new : State) (result : Result SaleParts Fault) : Type 0 where
   pub says : HasCleanDisk new → IfOk result (λ sale. (tables : Tables) → Has old tables → (legs : List (LotKey × ℤ)) → HasRowsOf row tables legs → sale ≡ sale_with row legs)
+  -- it is the sale of the row, whatever the tables are
+  pub of_row : IfOk result (λ sale. (legs : List (LotKey × ℤ)) × (sale ≡ sale_with row legs))
   pub good : IfOk result HasLegs
   pub same : HasCleanDisk new → OnOk result (IsUnchanged old new)
   pub damaged : HasCleanDisk new → result ≡ Err Damaged → old.step_limit ≡ None → (tables : Tables) → Has old tables → (legs : List (LotKey × ℤ)) → AreLegsOf row.units legs → ¬ HasRowsOf row tables legs

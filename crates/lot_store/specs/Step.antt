@@ -57,3 +57,18 @@ module _ {Place Row Asked Shown : Type 0} (shown : Row → Shown) (IsGood : Row 
         → (asked : Asked) (given : List Shown) → ¬ IsBehind before tables asked entries given
     pub failed : HasCleanDisk new → result ≡ Err device → DiskFailed old new
     pub crash : Survives old new (λ _. ⊥)
+
+-- The same in tables whose rows may be those of no book. `AreAllRows` says which rows those of tables are, for what was asked,
+-- and `IsBehindRows` which of them a place has given.
+module _ {Place Row Asked Shown : Type 0} (shown : Row → Shown) (AreAllRows : Asked → Tables → List Shown → Type 0)
+    (IsBehindRows : Place → Tables → Asked → List Shown → Type 0) where
+  -- a row is the next one; with none, those that were given are all: damage is no end
+  abbrev pub GivesOfRows : Place → Tables → Asked → List Shown → Option Row → Type 0
+  GivesOfRows place tables asked given (Some row) = IsBehindRows place tables asked (given ++ shown row ∷ [])
+  GivesOfRows place tables asked given None = AreAllRows asked tables given
+
+  -- what a step gives of them
+  abbrev pub StepsOverRows : {F : Type 0} → Place → Place → State → State → Result (Option Row) F → Type 0
+  StepsOverRows before after old new result =
+      HasCleanDisk new → IfOk result (λ found. (tables : Tables) → Has old tables → (asked : Asked) (given : List Shown)
+      → IsBehindRows before tables asked given → GivesOfRows after tables asked given found)

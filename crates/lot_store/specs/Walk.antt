@@ -7,7 +7,7 @@ use Rattle.sqlite.specs.Store.{Ghosts}
 use Rattle.lot_book.specs.Facts.{Entry}
 use Rattle.lot_filed.specs.StandFor.{Stands}
 use Rattle.lot_page.specs.Cursor.{Stays}
-use Rattle.lot_rows.specs.Tables.{Tables}
+use Rattle.lot_rows.specs.Tables.{Has, Tables}
 use Rattle.lot_table.specs.Statement.{DiskFailed}
 use Rattle.lot_store.specs.Step.{IsPrefix, LeavesTables, condition_from}
 use Rattle.lot_store.specs.declared.book.Condition.{Condition}
@@ -95,3 +95,26 @@ module _ {S Place Row Asked Shown : Type 0} (g : Ghosts S) (shown : Row → Show
     pub same : HasCleanDisk (state g new.book.now.conn) → OnOk result (Stays (state g old.book.now.conn) (state g new.book.now.conn))
     pub left : HasCleanDisk (state g new.book.now.conn) → OnErr result (LeavesTables (state g old.book.now.conn) (state g new.book.now.conn))
     pub crash : Survives (state g old.book.now.conn) (state g new.book.now.conn) (λ _. ⊥)
+
+-- ---- the rows of tables that may stand for no book
+
+-- a walk over the rows of these tables has given these, and goes on
+pub record HasGivenRows {S Place Asked Shown : Type 0} (g : Ghosts S) (IsBehindRows : Place → Tables → Asked → List Shown → Type 0)
+    (walk : Walk S Place g) (asked : Asked) (tables : Tables) (given : List Shown) : Type 0 where
+  pub has : Has (state g walk.book.now.conn) tables
+  pub goes_on : walk.stage ≡ Going
+  pub behind : IsBehindRows walk.place tables asked given
+
+module _ {S Place Row Asked Shown : Type 0} (g : Ghosts S) (shown : Row → Shown) (AreAllRows : Asked → Tables → List Shown → Type 0)
+    (IsBehindRows : Place → Tables → Asked → List Shown → Type 0) where
+  -- a row is the next one; with none, those that were given are all rows of the tables: a walk never ends at a damaged row as if
+  -- it were complete
+  abbrev pub GivesRows : Walk S Place g → Asked → Tables → List Shown → Option Row → Type 0
+  GivesRows walk asked tables given (Some row) = HasGivenRows g IsBehindRows walk asked tables (given ++ shown row ∷ [])
+  GivesRows walk asked tables given None = AreAllRows asked tables given
+
+  -- what a call gives of them
+  abbrev pub WalksOverRows : Walk S Place g → Walk S Place g → Result (Option Row) WalkFault → Type 0
+  WalksOverRows old new result =
+      HasCleanDisk (state g new.book.now.conn) → IfOk result (λ found. (asked : Asked) (tables : Tables) (given : List Shown)
+      → HasGivenRows g IsBehindRows old asked tables given → GivesRows new asked tables given found)

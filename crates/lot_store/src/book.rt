@@ -1,6 +1,6 @@
 ghost use Rattle.std.specs.Prelude.{◌≡◌, ◌≢◌, ◌↔◌, false, Err, IsTrue, None, OnErr};
 ghost use Rattle.lot_store.specs.Apply.{Applies, RefusedByDevice, condition_after, ready_of};
-ghost use Rattle.lot_store.specs.Step.{LeavesTables, Steps, condition_from};
+ghost use Rattle.lot_store.specs.Step.{LeavesTables, Steps, StepsOverRows, condition_from};
 ghost use Rattle.lot_store.specs.declared.fault.ApplyFault.TheVariants.{Failed};
 ghost use Rattle.lot_table.specs.Statement.{DiskFailed};
 ghost use Rattle.sqlite.specs.Held.{state};
@@ -105,6 +105,7 @@ impl<S: Alter> Book<S> {
     ) -> Result<Option<P::Row>, StoreFault>
         ensures steps { Steps P.Place.shown P.Place.IsGood P.Place.AreAll P.Place.IsBehind StoreFault.Damaged StoreFault.Device
             place.old place.new (state S.Store self.old.conn) (state S.Store self.new.conn) result }
+        ensures rows { StepsOverRows P.Place.shown P.Place.AreAllRows P.Place.IsBehindRows place.old place.new (state S.Store self.old.conn) (state S.Store self.new.conn) result }
         ensures reopen { (result ≡ Err StoreFault.NeedsReopen) ↔ (self.old.condition ≡ Condition.NeedsReopen) }
         ensures condition { self.new.condition ≡ condition_from self.old.condition result }
         ensures sure { result ≢ Err StoreFault.InDoubt }

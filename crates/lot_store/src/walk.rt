@@ -5,7 +5,7 @@
 //!   day.
 
 ghost use Rattle.std.specs.Prelude.{◌≡◌};
-ghost use Rattle.lot_store.specs.Walk.{Walks, stage_after};
+ghost use Rattle.lot_store.specs.Walk.{Walks, WalksOverRows, stage_after};
 
 mod gains;
 mod holdings;
@@ -67,10 +67,12 @@ impl<S: Alter, P: Place> Walk<'_, S, P> {
     /// Returns the next row, or `None` past the last. It changes nothing in the file.
     ///
     /// After a fault each further call returns `Ended`. After `Device`, and only then, the book needs reopening. The error is
-    /// `Damaged` only where the tables stand for no book.
+    /// `Damaged` only where the tables stand for no book. A row that is damaged never ends a walk as if it were complete: at `None`
+    /// all rows of the tables were given, whatever those stand for.
     pub fn next(&mut self) -> Result<Option<P::Row>, WalkFault>
         ensures same_reference { self.new.book.ghost_name ≡ self.old.book.ghost_name }
         ensures walks { Walks S.Store P.Place.shown P.Place.IsGood P.Place.AreAll P.Place.IsBehind self.old self.new result }
+        ensures rows { WalksOverRows S.Store P.Place.shown P.Place.AreAllRows P.Place.IsBehindRows self.old self.new result }
     {
         match self.stage {
             Stage::Going => {}

@@ -3,9 +3,10 @@ ghost use Rattle.lot_book.specs.Facts.{Entry as EntryOf};
 ghost use Rattle.lot_book.specs.Sale.{SaleParts};
 ghost use Rattle.lot_filed.specs.StandFor.{Stands};
 ghost use Rattle.lot_inv.specs.declared.lot_key.LotKey.{LotKey as LotKeyOf};
-ghost use Rattle.lot_store.specs.Gains.{AreSalesWithin, HasLegs, IsBehindSales, Range, at_lot, is_from, is_up_to, is_within, taken};
+ghost use Rattle.lot_rows.specs.Tables.{Has, Tables};
+ghost use Rattle.lot_store.specs.Gains.{AreAllSaleRows, AreSalesWithin, HasLegs, IsBehindSaleRows, IsBehindSales, Range, at_lot, is_from, is_up_to, is_within, taken};
 ghost use Rattle.lot_store.specs.SaleStep.{TellsSale};
-ghost use Rattle.lot_store.specs.Walk.{HasGiven};
+ghost use Rattle.lot_store.specs.Walk.{HasGiven, HasGivenRows};
 ghost use Rattle.sqlite.specs.Held.{state};
 
 use super::{Place, Stage, Walk};
@@ -40,6 +41,7 @@ impl<S: Alter> Book<S> {
         ensures going { result.stage ≡ Stage.Going }
         ensures begun { (entries : List EntryOf) → Stands (state S.Store self.old.conn) entries
             → HasGiven S.Store AreSalesWithin IsBehindSales result (first, last) entries [] }
+        ensures rows { (tables : Tables) → Has (state S.Store self.old.conn) tables → HasGivenRows S.Store IsBehindSaleRows result (first, last) tables [] }
     {
         let place = GainsPlace {
             cursor: SaleCursor::new(self.allocator()),
@@ -68,6 +70,10 @@ impl Place for GainsPlace {
     ghost AreAll = { AreSalesWithin };
 
     ghost IsBehind = { IsBehindSales };
+
+    ghost AreAllRows = { AreAllSaleRows };
+
+    ghost IsBehindRows = { IsBehindSaleRows };
 
     /// `Memory` is returned also where more sales are passed over than a `u64` counts.
     fn next<S: Alter>(

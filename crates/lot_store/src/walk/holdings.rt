@@ -3,9 +3,9 @@ ghost use Rattle.sqlite.specs.Held.{state};
 ghost use Rattle.lot_book.specs.Facts.{Entry};
 ghost use Rattle.lot_book.specs.declared.holding.Holding.{Holding as HoldingOf};
 ghost use Rattle.lot_filed.specs.StandFor.{Stands};
-ghost use Rattle.lot_rows.specs.Tables.{Tables};
-ghost use Rattle.lot_store.specs.Holdings.{AreHoldings, Begins, HasNotBegun, IsAnyHolding, IsBehindHoldings, Takes, is_lot_next, lot_holding, plain_holding, shown_holding};
-ghost use Rattle.lot_store.specs.Walk.{HasGiven};
+ghost use Rattle.lot_rows.specs.Tables.{Has, Tables};
+ghost use Rattle.lot_store.specs.Holdings.{AreAllHoldingRows, AreHoldings, Begins, BeginsOverRows, HasNotBegun, IsAnyHolding, IsBehindHoldingRows, IsBehindHoldings, Takes, is_lot_next, lot_holding, plain_holding, shown_holding};
+ghost use Rattle.lot_store.specs.Walk.{HasGiven, HasGivenRows};
 
 use super::{Place, Stage, Walk};
 use crate::book::Book;
@@ -43,6 +43,7 @@ impl<S: Alter> Book<S> {
         ensures going { result.stage ≡ Stage.Going }
         ensures begun { (entries : List Entry) → Stands (state S.Store self.old.conn) entries
             → HasGiven S.Store AreHoldings IsBehindHoldings result tt entries [] }
+        ensures rows { (tables : Tables) → Has (state S.Store self.old.conn) tables → HasGivenRows S.Store IsBehindHoldingRows result tt tables [] }
     {
         let place = HoldingsPlace::new(self.allocator());
         Walk {
@@ -67,6 +68,10 @@ impl Place for HoldingsPlace {
     ghost AreAll = { AreHoldings };
 
     ghost IsBehind = { IsBehindHoldings };
+
+    ghost AreAllRows = { AreAllHoldingRows };
+
+    ghost IsBehindRows = { IsBehindHoldingRows };
 
     fn next<S: Alter>(
         &mut self,
@@ -100,6 +105,7 @@ impl HoldingsPlace {
     /// Reads the rows of plain units and the first lot, unless they are read.
     fn begin<S: Alter>(&mut self, alloc: Global, conn: &mut Connection<S>) -> Result<(), Fault>
         ensures begins { Begins self.old self.new (state S.Store conn.old) (state S.Store conn.new) result }
+        ensures rows { BeginsOverRows self.old self.new (state S.Store conn.old) (state S.Store conn.new) result }
     {
         if self.has_begun {
             return Ok(());

@@ -4,9 +4,10 @@ ghost use Rattle.lot_command.specs.Canonical.{canonical};
 ghost use Rattle.lot_command.specs.declared.command.Command.{Command as CommandOf};
 ghost use Rattle.lot_filed.specs.StandFor.{Stands};
 ghost use Rattle.lot_print.specs.Sayable.{IsSayable};
+ghost use Rattle.lot_rows.specs.Tables.{Has, Tables};
 ghost use Rattle.lot_rows.specs.declared.entry.EntryRow.{EntryRow as EntryRowOf};
-ghost use Rattle.lot_store.specs.Journal.{AreEntries, HasCanonicalText, IsBehindEntries, IsCanonical, said};
-ghost use Rattle.lot_store.specs.Walk.{HasGiven};
+ghost use Rattle.lot_store.specs.Journal.{AreAllEntryRows, AreEntries, HasCanonicalText, IsBehindEntries, IsBehindEntryRows, IsCanonical, said};
+ghost use Rattle.lot_store.specs.Walk.{HasGiven, HasGivenRows};
 ghost use Rattle.sqlite.specs.Held.{state};
 
 use super::{Place, Stage, Walk};
@@ -40,6 +41,7 @@ impl<S: Alter> Book<S> {
         ensures going { result.stage ≡ Stage.Going }
         ensures begun { (entries : List EntryOf) → Stands (state S.Store self.old.conn) entries
             → HasGiven S.Store AreEntries IsBehindEntries result tt entries [] }
+        ensures rows { (tables : Tables) → Has (state S.Store self.old.conn) tables → HasGivenRows S.Store IsBehindEntryRows result tt tables [] }
     {
         let place = JournalPlace {
             cursor: EntryCursor::new(self.allocator()),
@@ -66,6 +68,10 @@ impl Place for JournalPlace {
     ghost AreAll = { AreEntries };
 
     ghost IsBehind = { IsBehindEntries };
+
+    ghost AreAllRows = { AreAllEntryRows };
+
+    ghost IsBehindRows = { IsBehindEntryRows };
 
     fn next<S: Alter>(
         &mut self,

@@ -4,7 +4,7 @@ ghost use Rattle.sqlite.specs.State.{HasCleanDisk};
 ghost use Rattle.lot_book.specs.Facts.{Entry};
 ghost use Rattle.lot_rows.specs.Tables.{Tables};
 ghost use Rattle.lot_table.specs.declared.fault.Fault.TheVariants.{Damaged, Device};
-ghost use Rattle.lot_store.specs.Step.{StaysOrGoesBack, Steps};
+ghost use Rattle.lot_store.specs.Step.{StaysOrGoesBack, Steps, StepsOverRows};
 
 use lot_table::Fault;
 use sqlite::{Alter, Connection};
@@ -29,7 +29,12 @@ pub trait Place: Drop {
 
     ghost IsBehind: { Self → Tables → Asked → List Entry → List Shown → Type 0 };
 
-    /// Returns the next row, or `None` past the last. It changes nothing.
+    // The same of tables whose rows may be those of no book.
+    ghost AreAllRows: { Asked → Tables → List Shown → Type 0 };
+
+    ghost IsBehindRows: { Self → Tables → Asked → List Shown → Type 0 };
+
+    /// Returns the next row, or `None` past the last, which is never behind a row that is damaged. It changes nothing.
     ///
     /// The error is `Damaged` only where the tables stand for no book.
     fn next<S: Alter>(
@@ -38,5 +43,6 @@ pub trait Place: Drop {
         conn: &mut Connection<S>,
     ) -> Result<Option<Self::Row>, Fault>
         ensures steps { Steps shown IsGood AreAll IsBehind Damaged Device self.old self.new (state S.Store conn.old) (state S.Store conn.new) result }
+        ensures rows { StepsOverRows shown AreAllRows IsBehindRows self.old self.new (state S.Store conn.old) (state S.Store conn.new) result }
         ensures left { HasCleanDisk (state S.Store conn.new) → OnErr result (StaysOrGoesBack (state S.Store conn.old) (state S.Store conn.new)) };
 }

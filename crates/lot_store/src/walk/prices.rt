@@ -4,10 +4,10 @@ ghost use Rattle.lot_book.specs.Facts.{Entry};
 ghost use Rattle.lot_filed.specs.StandFor.{Stands};
 ghost use Rattle.lot_page.specs.Cursor.{IsBehind};
 ghost use Rattle.lot_rows.specs.Price.{price_cells};
-ghost use Rattle.lot_rows.specs.Tables.{Tables};
+ghost use Rattle.lot_rows.specs.Tables.{Has, Tables};
 ghost use Rattle.lot_rows.specs.declared.price.PriceRow.{PriceRow as PriceRowOf};
-ghost use Rattle.lot_store.specs.Prices.{ArePricesAt, IsAnyPrice, IsBehindPrices, Progresses, is_of_pair, last_after, price_of, progress_of, shown_price};
-ghost use Rattle.lot_store.specs.Walk.{HasGiven};
+ghost use Rattle.lot_store.specs.Prices.{AreAllPriceRows, ArePricesAt, IsAnyPrice, IsBehindPriceRows, IsBehindPrices, Progresses, ProgressesOverRows, is_of_pair, last_after, price_of, progress_of, shown_price};
+ghost use Rattle.lot_store.specs.Walk.{HasGiven, HasGivenRows};
 ghost use Rattle.lot_store.specs.declared.price.PairPrice.{PairPrice as PairPriceOf};
 
 use super::{Place, Stage, Walk};
@@ -50,6 +50,7 @@ impl<S: Alter> Book<S> {
         ensures going { result.stage ≡ Stage.Going }
         ensures begun { (entries : List Entry) → Stands (state S.Store self.old.conn) entries
             → HasGiven S.Store ArePricesAt IsBehindPrices result day entries [] }
+        ensures rows { (tables : Tables) → Has (state S.Store self.old.conn) tables → HasGivenRows S.Store IsBehindPriceRows result day tables [] }
     {
         let place = PricesPlace::new(self.allocator(), day);
         Walk {
@@ -74,6 +75,10 @@ impl Place for PricesPlace {
     ghost AreAll = { ArePricesAt };
 
     ghost IsBehind = { IsBehindPrices };
+
+    ghost AreAllRows = { AreAllPriceRows };
+
+    ghost IsBehindRows = { IsBehindPriceRows };
 
     fn next<S: Alter>(
         &mut self,
@@ -109,6 +114,7 @@ impl PricesPlace {
     /// Reads one more row, if one is left.
     fn step<S: Alter>(&mut self, conn: &mut Connection<S>) -> Result<Progress, Fault>
         ensures progress { Progresses self.old self.new (state S.Store conn.old) (state S.Store conn.new) result }
+        ensures rows { ProgressesOverRows self.old self.new (state S.Store conn.old) (state S.Store conn.new) result }
     {
         if self.is_past_last {
             return Ok(self.give_last());

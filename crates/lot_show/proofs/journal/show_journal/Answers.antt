@@ -2,8 +2,8 @@ use Rattle.std.proofs.Common.{◌∙◌, [], ap, Err, Ok, None, Some, arith, ref
 use Rattle.std.proofs.KnownBytes.{Appends-nil}
 use Rattle.std.proofs.lemmas.Result.{err_from_is_err_and}
 use Rattle.lot_report.specs.Journal.{is_spent}
-use Rattle.lot_show.proofs.JournalLemmas.{cut, ends, grows, journal_cut, no_entries, some_cut, some_grown, some_stopped, some_whole, stops as stops_at}
-use Rattle.lot_show.proofs.ReadLemmas.{handed, handed_holds, is_failure, is_false, never_both, reads_from, reads_short, reads_whole, stops, usable, walked_out, walks_on, was_clean}
+use Rattle.lot_show.proofs.JournalLemmas.{cut, ends, grows, journal_cut, no_entries, rows_end, rows_grow, some_cut, some_grown, some_stopped, some_whole, stops as stops_at}
+use Rattle.lot_show.proofs.ReadLemmas.{handed, handed_holds, handed_tables, is_failure, is_false, never_both, reads_from, reads_short, reads_whole, stops, usable, walked_out, walks_on, was_clean}
 use Rattle.lot_store.specs.Journal.{AreEntries, HasCanonicalText, IsBehindEntries, said}
 use Rattle.lot_store.specs.declared.fault.StoreFault.TheVariants.{Memory}
 use Rattle.lot_show.proofs.journal.show_journal.Goals as goal
@@ -15,6 +15,11 @@ entries-init g c = record {
   usable = λ below. absurd (omega arith);
   fresh = c.new-journal.ensures;
   lines = no_entries (g.W.Write.contents c.args.writer.now);
+  rows = λ clean tables has. record {
+    printed = [];
+    given = c.journal-walk.ensures.rows tables has;
+    written = Appends-nil (g.W.Write.contents c.args.writer.now);
+  };
   written = λ clean entries stands. record {
     printed = [];
     given = c.journal-walk.ensures.begun entries stands;
@@ -112,6 +117,7 @@ entries-preserved g c =
     let before = c.entries.walk in
     let after = c.next.new.self in
     let walks = rw c.in-Some.is at c.in_ok-entry.ensures.walks in
+    let given = rw c.in-Some.is at c.in_ok-entry.ensures.rows in
     record {
       same_book = c.in_ok-entry.ensures.same_reference ∙ loop.same_book;
       reading = walks_on g.S.Store said HasCanonicalText AreEntries IsBehindEntries c.args.book.now before after loop.reading c.in-Some.entry walks;
@@ -119,6 +125,11 @@ entries-preserved g c =
       fresh = is_false (is_spent c.row.new.self) c.in_ok-row.ensures.after.1;
       lines = some_grown (g.W.Write.contents c.args.writer.now) (g.W.Write.contents c.entries.writer) loop.lines _ c.in-Some.entry
           (c.in_ok-row.ensures.text loop.lines.printed _ loop.lines.written);
+      rows = λ clean tables has.
+          let was = was_clean g.S.Store said HasCanonicalText AreEntries IsBehindEntries c.args.book.now before after loop.reading (Ok (Some c.in-Some.entry)) walks clean in
+          let had = loop.rows was tables has in
+          rows_grow g.S.Store before after tables _ (g.W.Write.contents c.entries.writer) _ c.in-Some.entry had
+          (given clean tt tables _ had.given) (c.in_ok-row.ensures.text had.printed _ had.written);
       written = λ clean entries stands.
           let was = was_clean g.S.Store said HasCanonicalText AreEntries IsBehindEntries c.args.book.now before after loop.reading (Ok (Some c.in-Some.entry)) walks clean in
           let has = loop.written was entries stands in
@@ -168,3 +179,26 @@ pub returns-clause-lines : goal.returns-clause-lines
 returns-clause-lines g c =
     let loop = c.entries.invariant in
     rw c.from.ensures (some_stopped (g.W.Write.contents c.args.writer.now) (g.W.Write.contents c.entries.writer) loop.lines Memory)
+
+pub returns-in_err-entry-clause-rows : goal.returns-in_err-entry-clause-rows
+returns-in_err-entry-clause-rows g c =
+    let fault = err_from_is_err_and c.from_residual.result c.from_residual.ensures.1 in rw fault.1 (record { holds = λ clean tables has. tt })
+
+pub returns-in_default-clause-rows : goal.returns-in_default-clause-rows
+returns-in_default-clause-rows g c =
+    let loop = c.entries.invariant in
+    let before = c.entries.walk in
+    let after = c.next.new.self in
+    let walks = rw c.in_default.is at c.in_ok-entry.ensures.walks in
+    let all = rw c.in_default.is at c.in_ok-entry.ensures.rows in
+    rw c.in_ok-end.ensures.text
+    (handed_tables g.S.Store c.args.book.now after.book.now _ _ (search rules) (record {
+      holds = λ clean tables has.
+          let was = was_clean g.S.Store said HasCanonicalText AreEntries IsBehindEntries c.args.book.now before after loop.reading (Ok None) walks clean in
+          let had = loop.rows was tables has in
+          (rows_end g.S.Store before tables _ _ had (all clean tt tables _ had.given));
+    }))
+
+pub returns-in_err-row-clause-rows : goal.returns-in_err-row-clause-rows
+returns-in_err-row-clause-rows g c =
+    let fault = err_from_is_err_and c.from_residual-in_err-row.result c.from_residual-in_err-row.ensures.1 in rw fault.1 (record { holds = λ clean tables has. tt })

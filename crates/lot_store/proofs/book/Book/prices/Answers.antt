@@ -12,3 +12,10 @@ returns-clause-begun g c = λ entries stands. record {
   behind = has_none c.new-place.result stands.tables c.args.day c.new-place.ensures.day c.new-place.ensures.last c.new-place.ensures.past
       (c.new-place.ensures.first stands.tables.price);
 }
+
+pub returns-clause-rows : goal.returns-clause-rows
+returns-clause-rows g c = λ tables has. record {
+  has = has;
+  goes_on = refl;
+  behind = has_none c.new-place.result tables c.args.day c.new-place.ensures.day c.new-place.ensures.last c.new-place.ensures.past (c.new-place.ensures.first tables.price);
+}

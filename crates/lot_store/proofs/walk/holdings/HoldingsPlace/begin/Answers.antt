@@ -3,6 +3,7 @@ use Rattle.std.specs.Vec.Iter.{into_iter_items}
 use Rattle.std.proofs.lemmas.Result.{err_from_is_err_and}
 use Rattle.sqlite.specs.Held.{state}
 use Rattle.lot_store.proofs.HoldingBeginLemmas.{begin_done, begin_unread, no_rows}
+use Rattle.lot_store.proofs.HoldingRowLemmas.{begun_over}
 use Rattle.lot_store.proofs.walk.holdings.HoldingsPlace.begin.Goals as goal
 
 pub returns-in_err-self : goal.returns-in_err-self
@@ -12,6 +13,7 @@ returns-in_err-self g c =
       begins = rw (fault.1, fault.2)
           (begin_unread c.args.self.now _ (state g.S.Store c.args.conn.now) (state g.S.Store c.list.new.conn) (state g.S.Store c.next-2.new.conn) c.in_ok-list.field-0
           c.if-self.false c.in_ok-list.ensures.lists c.in_err-self.field-0.0 c.in_err-self.ensures.steps);
+      rows = rw fault.1 (λ clean. tt);
     }
 
 pub returns : goal.returns
@@ -21,5 +23,8 @@ returns g c =
     record {
       begins =
           begin_done c.args.self.now _ (state g.S.Store c.args.conn.now) (state g.S.Store c.list.new.conn) (state g.S.Store c.next-2.new.conn) c.in_ok-list.field-0
+          c.if-self.false c.in_ok-list.ensures.lists c.in_ok-self.field-0 c.in_ok-self.ensures.steps refl (sym c.next.ensures.items ∙ c.into_iter.ensures.rest) read_all refl;
+      rows =
+          begun_over c.args.self.now _ (state g.S.Store c.args.conn.now) (state g.S.Store c.list.new.conn) (state g.S.Store c.next-2.new.conn) c.in_ok-list.field-0
           c.if-self.false c.in_ok-list.ensures.lists c.in_ok-self.field-0 c.in_ok-self.ensures.steps refl (sym c.next.ensures.items ∙ c.into_iter.ensures.rest) read_all refl;
     }

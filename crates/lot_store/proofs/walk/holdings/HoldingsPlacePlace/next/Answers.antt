@@ -1,11 +1,13 @@
 use Rattle.std.proofs.Common.{◌≡◌, Err, Ok, false, true, option_map, refl, rules}
 use Rattle.std.proofs.lemmas.Result.{err_from_is_err_and}
 use Rattle.sqlite.specs.Held.{state}
+use Rattle.lot_table.specs.declared.fault.Fault.{Fault}
 use Rattle.lot_table.specs.declared.fault.Fault.TheVariants.{Damaged, Device}
-use Rattle.lot_store.specs.Holdings.{AreHoldings, IsAnyHolding, IsBehindHoldings, is_lot_next, lot_holding, shown_holding}
+use Rattle.lot_store.specs.Holdings.{AreAllHoldingRows, AreHoldings, IsAnyHolding, IsBehindHoldingRows, IsBehindHoldings, is_lot_next, lot_holding, shown_holding}
 use Rattle.lot_store.proofs.HoldingBeginLemmas.{begin_failed, begun_went}
+use Rattle.lot_store.proofs.HoldingRowLemmas.{begun_keeps, lot_rows, plain_rows}
 use Rattle.lot_store.proofs.HoldingStepLemmas.{lot_steps, lot_unread, plain_steps}
-use Rattle.lot_store.proofs.PlaceLemmas.{steps_after}
+use Rattle.lot_store.proofs.PlaceLemmas.{rows_after, steps_after, survives_itself}
 use Rattle.lot_store.proofs.walk.holdings.HoldingsPlacePlace.next.Goals as goal
 
 pub returns-in_err-begin-clause-steps : goal.returns-in_err-begin-clause-steps
@@ -51,3 +53,27 @@ returns-clause-steps g c =
     steps_after IsBehindHoldings shown_holding IsAnyHolding AreHoldings Damaged Device c.args.self.now mid _ old now new (Ok c.map.result)
     (begun_went c.args.self.now mid old now begins)
     (lot_steps mid _ now new c.in_ok-next.next c.map.result begins.begun e refl refl refl c.replace.ensures.after c.in_ok-next.ensures.steps is)
+
+pub returns-then-not-is_lot_next-clause-rows : goal.returns-then-not-is_lot_next-clause-rows
+returns-then-not-is_lot_next-clause-rows g c =
+    let mid = c.begin.new.self in
+    let old = state g.S.Store c.args.conn.now in
+    let now = state g.S.Store c.begin.new.conn in
+    let begins = c.in_ok-begin.ensures.begins in
+    let e : is_lot_next mid.plain mid.lot ≡ false = search rules in
+    rows_after IsBehindHoldingRows Fault shown_holding AreAllHoldingRows c.args.self.now mid c.next_plain.new.self old now now (Ok c.next_plain.result) begins.same (survives_itself now)
+    (begun_keeps c.args.self.now mid old now c.in_ok-begin.ensures.rows)
+    (plain_rows mid c.next_plain.new.self now c.next_plain.result begins.begun e c.next_plain.ensures.begun c.next_plain.ensures.lot c.next_plain.ensures.lots c.next_plain.ensures.takes)
+
+pub returns-clause-rows : goal.returns-clause-rows
+returns-clause-rows g c =
+    let mid = c.begin.new.self in
+    let old = state g.S.Store c.args.conn.now in
+    let now = state g.S.Store c.begin.new.conn in
+    let new = state g.S.Store c.next.new.conn in
+    let begins = c.in_ok-begin.ensures.begins in
+    let e : is_lot_next mid.plain mid.lot ≡ true = search rules in
+    let is : c.map.result ≡ option_map lot_holding mid.lot = search rules in
+    rows_after IsBehindHoldingRows Fault shown_holding AreAllHoldingRows c.args.self.now mid _ old now new (Ok c.map.result) begins.same c.in_ok-next.ensures.steps.crash
+    (begun_keeps c.args.self.now mid old now c.in_ok-begin.ensures.rows)
+    (lot_rows mid _ now new c.in_ok-next.next c.map.result begins.begun e refl refl refl c.replace.ensures.after c.in_ok-next.ensures.steps is)

@@ -1,7 +1,7 @@
 use Rattle.std.proofs.Common.{◌∙◌, Err, ap, rules}
 use Rattle.std.proofs.lemmas.Result.{err_from_is_err_and}
 use Rattle.sqlite.specs.Held.{state}
-use Rattle.lot_store.proofs.JournalLemmas.{entry_next, entry_none, entry_refused, entry_unread}
+use Rattle.lot_store.proofs.JournalLemmas.{entry_next, entry_none, entry_refused, entry_rows_end, entry_rows_next, entry_unread}
 use Rattle.lot_store.proofs.StepLemmas.{stays_left, undone_left}
 use Rattle.lot_store.proofs.walk.journal.JournalPlacePlace.next.Goals as goal
 
@@ -26,3 +26,12 @@ pub returns-clause-steps : goal.returns-clause-steps
 returns-clause-steps g c =
     let made = c.in_ok-entry_of.ensures in
     entry_next c.args.self.now _ (state g.S.Store c.args.conn.now) (state g.S.Store c.next.new.conn) c.in-Some.row c.in_ok-entry_of.field-0 made.ok made.good (rw c.in-Some.is at c.in_ok-row.ensures.steps)
+
+pub returns-in_default-clause-rows : goal.returns-in_default-clause-rows
+returns-in_default-clause-rows g c =
+    entry_rows_end c.args.self.now _ (state g.S.Store c.args.conn.now) (state g.S.Store c.next.new.conn) (rw c.in_default.is at c.in_ok-row.ensures.steps)
+
+pub returns-clause-rows : goal.returns-clause-rows
+returns-clause-rows g c =
+    entry_rows_next c.args.self.now _ (state g.S.Store c.args.conn.now) (state g.S.Store c.next.new.conn) c.in-Some.row c.in_ok-entry_of.field-0 c.in_ok-entry_of.ensures.ok
+    (rw c.in-Some.is at c.in_ok-row.ensures.steps)
