@@ -1,6 +1,8 @@
 //! What a command looks at of a book in a file, as a view to judge it on.
 //!
-//! - `learn`: all that a command looks at.
+//! - `look`: all that a command looks at, on what is known already.
+//! - `kept`: what is known between commands.
+//! - `learn`: what there is of what a command looks at.
 //! - `begin`: the number of entries, and the text under a key.
 //! - `account`: how accounts stand.
 //! - `commodity`: which commodities are declared.
@@ -13,8 +15,11 @@ mod account;
 mod begin;
 mod commodity;
 mod held;
+mod kept;
 mod learn;
+mod look;
 mod pair;
 mod plain;
 
-pub use learn::look;
+pub use kept::Kept;
+pub use look::look_on;

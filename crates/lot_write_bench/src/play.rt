@@ -4,7 +4,7 @@ ghost use Rattle.std.specs.Prelude.{◌≡◌, false};
 
 use crate::plan::Planned;
 use anyhow::Result;
-use lot_look::look;
+use lot_look::look_on;
 use lot_record::{Write, write_all};
 use lot_rows::book::{self, BookRow};
 use lot_rows::tables;
@@ -83,7 +83,7 @@ pub fn play<S: Alter>(
 
 /// Asks for what a command looks at.
 fn ask<S: Alter>(alloc: Global, conn: &mut Connection<S>, planned: &Planned) -> Result<(), Fault> {
-    let _view = look(alloc, conn, &planned.key, &planned.command)?;
+    let _kept = look_on(alloc, conn, None, &planned.key, &planned.command)?;
     Ok(())
 }
 
