@@ -1,7 +1,6 @@
 -- Steps by which more is known of a book: one after another, and over the keys of a set or the rows of a table.
 use Rattle.std.specs.Prelude.{◌≡◌, ℕ, List, [], ◌∷◌, Option, Some, None}
-use Rattle.std.specs.FinMap as finite
-use Rattle.std.proofs.Common.{refl, sym, ◌∙◌, inl, inr}
+use Rattle.std.proofs.Common.{refl, ◌∙◌, inl, inr}
 use Rattle.lot_inv.specs.Inventory.{Position}
 use Rattle.lot_inv.specs.declared.lot_key.LotKey.{LotKey}
 use Rattle.lot_book.specs.Facts.{Facts}

@@ -18,7 +18,7 @@ use Rattle.lot_book.specs.Facts.{Facts}
 use Rattle.lot_book.specs.Recorded.{with_declared, with_head, with_position, with_standing}
 use Rattle.lot_book.specs.declared.standing.Standing.{Standing}
 use Rattle.lot_book.proofs.CaseLemmas.{by_bool}
-use Rattle.lot_look.specs.Known.{Fills, IsKept, IsPart, KnowsAt, KnowsDeclared, KnowsHead, KnowsStanding, Learns}
+use Rattle.lot_look.specs.Known.{IsKept, IsPart, KnowsAt, KnowsDeclared, KnowsHead, KnowsStanding, Learns}
 use Rattle.lot_look.proofs.LearnLemmas.{fills_none}
 
 kept_if : {X : Type 0} (b : Bool) (book before new : X) → (b ≡ true → new ≡ book) → IsKept book before (cond b new before)

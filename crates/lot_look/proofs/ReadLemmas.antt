@@ -1,10 +1,10 @@
 -- Calls one after another, each of which leaves the connection as it was, tell together what each of them told.
-use Rattle.std.specs.Prelude.{◌≡◌, List, None, Ok, Err, Result, IfErr, IsTrue, OnOk}
+use Rattle.std.specs.Prelude.{◌≡◌, List, Ok, Err, Result, IfErr, IsTrue, OnOk}
 use Rattle.std.specs.Result.{IsErrAnd}
 use Rattle.std.proofs.Common.{refl, sym, ap, subst, ◌∙◌, arith, inl, inr}
 use Rattle.std.proofs.lemmas.Bool.{true≢false}
 use Rattle.sqlite.specs.Effect.{Database}
-use Rattle.sqlite.specs.State.{HasCleanDisk, IsRolledBack, IsUnchanged, State, Survives}
+use Rattle.sqlite.specs.State.{HasCleanDisk, IsUnchanged, State, Survives}
 use Rattle.sqlite.proofs.StateLemmas.{survives_then}
 use Rattle.lot_book.specs.Book.{IsBook}
 use Rattle.lot_book.specs.Facts.{Entry}

@@ -1,14 +1,14 @@
 -- What the rows of a book say: entries, accounts with their currencies, commodities and heads.
-use Rattle.std.specs.Prelude.{◌≡◌, ℕ, suc, ◌+◌, ◌≤◌, Bool, true, false, cond, ◌||◌, ◌&&◌, List, [], ◌∷◌, ◌++◌, length, map, find, filter, reverse, slice_get, Option, None, Some, is_some, option_map, ℤ, pos, All}
+use Rattle.std.specs.Prelude.{◌≡◌, ℕ, suc, ◌+◌, ◌≤◌, Bool, true, false, cond, ◌||◌, ◌&&◌, List, [], ◌∷◌, ◌++◌, length, map, find, filter, reverse, slice_get, Option, None, Some, is_some, option_map, ℤ, All}
 use Rattle.std.specs.List.{AllByRecursion}
 use Rattle.std.specs.Option.{option_or}
 use Rattle.std.specs.Ordering.{is_eq, ordering_then}
 use Rattle.std.specs.declared.cmp.Ordering.TheVariants.{Equal}
-use Rattle.std.proofs.Common.{refl, sym, ap, subst, ◌∙◌, arith, inl}
+use Rattle.std.proofs.Common.{refl, ap, ◌∙◌, arith}
 use Rattle.std.proofs.lemmas.List.{reverse-append}
 use Rattle.std.proofs.lemmas.List.Elements.{All-from_recursion, recursion_from_All}
 use Rattle.sqlite_keyed.proofs.ListLemmas.{all-filter, all_weaker}
-use Rattle.sqlite.specs.declared.types.Value.TheVariants.{Int, Text}
+use Rattle.sqlite.specs.declared.types.Value.TheVariants.{Text}
 use Rattle.sqlite_value.specs.Order.{value_cmp}
 use Rattle.lot_base.specs.Text.{same_text, text_cmp}
 use Rattle.lot_inv.proofs.InventoryLemmas.{eq_then}
@@ -18,10 +18,9 @@ use Rattle.lot_command.specs.declared.command.Command.{Command}
 use Rattle.lot_command.specs.declared.command.Command.TheVariants.{Opening, Closing, Declaring, Quoting, Transaction}
 use Rattle.lot_command.specs.declared.command.Opening.{Opening as OpeningOf}
 use Rattle.lot_command.specs.declared.key.Key.{Key}
-use Rattle.lot_book.specs.Facts.{Entry, Facts, facts_of, declares, is_declared, opening_by, opening_of, same_key, standing_by, standing_of, closing_of, text_under}
-use Rattle.lot_book.specs.declared.standing.Standing.{Standing}
-use Rattle.lot_book.specs.Recorded.{facts_in, nothing_but}
-use Rattle.lot_look.specs.Known.{IsPart, KnowsPair, KnowsTouched, Learns, begun}
+use Rattle.lot_book.specs.Facts.{Entry, Facts, facts_of, declares, is_declared, opening_by, opening_of, same_key, standing_by, text_under}
+use Rattle.lot_book.specs.Recorded.{facts_in}
+use Rattle.lot_look.specs.Known.{KnowsPair, KnowsTouched}
 use Rattle.std.specs.BTreeSet.{IsFromIterResult}
 use Rattle.lot_book.specs.Agree.{Agrees, HaveSameOf}
 use Rattle.lot_book.specs.Change.{pair_cmp}
@@ -35,7 +34,7 @@ use Rattle.lot_rows.specs.declared.account.AccountRow.{AccountRow}
 use Rattle.lot_rows.specs.declared.allowed.AllowedRow.{AllowedRow}
 use Rattle.lot_rows.specs.declared.entry.EntryRow.{EntryRow}
 use Rattle.lot_filed.specs.Kept.{currencies_in, currencies_of, declared_on, declaring_by}
-use Rattle.lot_filed.specs.Rows.{account_row, allowed_rows, commodity_row, entry_row, entry_rows}
+use Rattle.lot_filed.specs.Rows.{account_row, allowed_rows, entry_row, entry_rows}
 use Rattle.lot_filed.proofs.KeyLemmas.{and_true, text_tie}
 
 -- ---- options
@@ -176,37 +175,25 @@ pub good_filtered : {X : Type 0} (IsGood : X → Type 0) (p : X → Bool) (rows 
 good_filtered IsGood p rows good =
     All-from_recursion IsGood (filter p rows) (all-filter IsGood p rows (recursion_from_All IsGood rows good))
 
--- ---- the first that is known
+-- ---- what a command looks at
 
-pub begun_is : (count : ℕ) (text : Option (List ℕ)) (entries : List Entry) (key : Key) → count ≡ length entries → text ≡ text_under entries key
-    → record (nothing_but count) { text = text } ≡ begun entries key
-begun_is count text entries key counted found = λ i. record (nothing_but (counted i)) { text = found i }
-
--- what is begun with is what the book says
-pub begun_is_part : (entries : List Entry) (key : Key) → IsPart (facts_in entries) (begun entries key)
-begun_is_part entries key = record {
-  standing = λ account. inl refl;
-  is_declared = λ commodity. inl refl;
-  latest_at_cost = λ account commodity. inl refl;
-  held = λ account position. inl refl;
-}
-
-pub looked : (entries : List Entry) (key : Key) (command : Command) (t : Touched) (before after : Facts)
+-- facts of which all is known that a command looks at agree with the book
+pub looked : (entries : List Entry) (key : Key) (command : Command) (t : Touched) (facts : Facts)
     → IsFromIterResult text_cmp (accounts_in command) t.accounts → IsFromIterResult text_cmp (declared_in command) t.declared
     → IsFromIterResult pair_cmp (pairs_in command) t.pairs → IsFromIterResult text_cmp (plain_in command) t.plain
-    → before ≡ begun entries key → Learns (KnowsTouched t) (facts_in entries) before after → Agrees after (facts_of entries key) command
-looked entries key command t before after accounts declared pairs plain first step =
-    let knows = step.knows (subst (IsPart (facts_in entries)) (sym first) (begun_is_part entries key)) in
-    agrees_from_touched after (facts_of entries key) command t accounts declared pairs plain (record {
-      entries = step.entries ∙ ap (λ (f : Facts). f.entries) first;
-      text = step.text ∙ ap (λ (f : Facts). f.text) first;
+    → facts.entries ≡ length entries → facts.text ≡ text_under entries key → KnowsTouched t (facts_in entries) facts
+    → Agrees facts (facts_of entries key) command
+looked entries key command t facts accounts declared pairs plain count text knows =
+    agrees_from_touched facts (facts_of entries key) command t accounts declared pairs plain (record {
+      entries = count;
+      text = text;
       standing = knows.0;
       is_declared = knows.1;
-      latest_at_cost = all_weaker (λ (pair : Pair). KnowsPair pair (facts_in entries) after)
-          (λ (pair : Pair). after.latest_at_cost pair.account pair.commodity ≡ (facts_of entries key).latest_at_cost pair.account pair.commodity)
+      latest_at_cost = all_weaker (λ (pair : Pair). KnowsPair pair (facts_in entries) facts)
+          (λ (pair : Pair). facts.latest_at_cost pair.account pair.commodity ≡ (facts_of entries key).latest_at_cost pair.account pair.commodity)
           (λ pair known. known.0) t.pairs.keys knows.2;
-      held = all_weaker (λ (pair : Pair). KnowsPair pair (facts_in entries) after)
-          (λ (pair : Pair). HaveSameOf pair.commodity (after.held pair.account) ((facts_of entries key).held pair.account))
+      held = all_weaker (λ (pair : Pair). KnowsPair pair (facts_in entries) facts)
+          (λ (pair : Pair). HaveSameOf pair.commodity (facts.held pair.account) ((facts_of entries key).held pair.account))
           (λ pair known. known.1) t.pairs.keys knows.2;
       plain_units = knows.3;
     })

@@ -1,17 +1,14 @@
 -- What the rows of lots and of plain units say: all that a book holds.
-use Rattle.std.specs.Prelude.{◌≡◌, ◌≢◌, ℕ, suc, ◌<◌, ◌+◌, ◌==◌, Bool, true, false, cond, ◌&&◌, List, [], ◌∷◌, length, map, get_or, drop, filter, slice_get, Option, None, Some, option_map, ℤ, pos, All}
+use Rattle.std.specs.Prelude.{◌≡◌, ◌≢◌, ℕ, suc, ◌<◌, ◌+◌, ◌==◌, Bool, true, ◌&&◌, List, [], ◌∷◌, length, map, get_or, drop, Option, None, Some, option_map, ℤ, pos, All}
 use Rattle.std.specs.FinMap as finite
 use Rattle.std.specs.List.{AllByRecursion}
-use Rattle.std.proofs.Common.{refl, sym, ap, subst, ◌∙◌, arith, inl, inr, add-one, drop-cons}
-use Rattle.std.proofs.lemmas.Bool.{and_parts}
+use Rattle.std.proofs.Common.{refl, sym, ap, subst, ◌∙◌, arith, inl, inr, drop-cons}
 use Rattle.std.proofs.lemmas.Bool.Decides.{Decides-eqb}
 use Rattle.std.proofs.lemmas.List.Elements.{All-from_recursion, recursion_from_All}
 use Rattle.sqlite.specs.Order.{Row}
 use Rattle.sqlite.specs.declared.types.Value.TheVariants.{Int}
 use Rattle.sqlite_rules.specs.Lists.{Has}
 use Rattle.sqlite_rules.proofs.ListLemmas.{all_from, all_has, has_filtered, has_kept}
-use Rattle.lot_base.specs.Text.{same_text}
-use Rattle.lot_base.proofs.TextLemmas.{one_text, same_text-itself}
 use Rattle.lot_inv.specs.Inventory.{Position as Place, non_zero}
 use Rattle.lot_inv.specs.declared.lot_key.LotKey.{LotKey}
 use Rattle.lot_book.specs.Facts.{Entry, Facts, legs_of}
@@ -37,9 +34,9 @@ use Rattle.lot_rows.specs.declared.plain.PlainRow.{PlainRow}
 use Rattle.lot_filed.specs.Kept.{is_of_posting, legs_of_posting}
 use Rattle.lot_filed.specs.Rows.{leg_row, lot_key, lot_row, name_key, pair_key, plain_row, posting_key, row_at}
 use Rattle.lot_filed.specs.StandFor.{StandFor, sum_in}
-use Rattle.lot_filed.proofs.KeyLemmas.{has_lot, has_name, has_pair}
+use Rattle.lot_filed.proofs.KeyLemmas.{has_lot}
 use Rattle.lot_filed.proofs.LookupLemmas.{has_own_key, row-only, row-there}
-use Rattle.lot_look.specs.Known.{IsPart, IsTrueLot, IsTruePlain, KnowsAt, KnowsEach, KnowsLot, KnowsLots, KnowsPlain, KnowsUnits, Learns}
+use Rattle.lot_look.specs.Known.{IsPart, IsTrueLot, IsTruePlain, KnowsEach, KnowsLot, KnowsLots, KnowsPlain, KnowsUnits, Learns}
 use Rattle.lot_look.proofs.LearnLemmas.{IsLeft, Stays, left_more}
 use Rattle.lot_look.proofs.PutLemmas.{nothing_held}
 use Rattle.lot_look.proofs.RowLemmas.{good_filtered, mapped_none, mapped_some}

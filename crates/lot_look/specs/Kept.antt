@@ -5,6 +5,7 @@ use Rattle.lot_book.specs.Recorded.{facts_in}
 use Rattle.lot_look.specs.Known.{IsPart, KnowsTouched}
 use Rattle.lot_look.specs.declared.kept.Kept.{Kept}
 use Rattle.lot_view.specs.View.{known}
+use Rattle.lot_view.specs.declared.touched.Touched.{Touched}
 
 -- the facts that are known
 abbrev pub seen : Kept → Facts
@@ -20,3 +21,9 @@ pub record Keeps (kept : Kept) (entries : List Entry) : Type 0 where
 -- so is what is kept, if anything is
 abbrev pub IsOf : Option Kept → List Entry → Type 0
 IsOf kept entries = IfSome kept (λ k. Keeps k entries)
+
+-- now this is known whole, too, and the text is what it was
+pub record Covers (touched : Touched) (entries : List Entry) (before after : Kept) : Type 0 where
+  pub keeps : Keeps after entries
+  pub text : (seen after).text ≡ (seen before).text
+  pub knows : KnowsTouched touched (facts_in entries) (seen after)

@@ -1,12 +1,11 @@
 -- What is known of a book grows: nothing is put but what the book says.
-use Rattle.std.specs.Prelude.{◌≡◌, ◌⊎◌, ℕ, List, length, Some, None}
+use Rattle.std.specs.Prelude.{◌≡◌, ◌⊎◌, ℕ, List, Option, Some, None}
 use Rattle.std.specs.FinMap as finite
 use Rattle.std.specs.List.{AllByRecursion}
 use Rattle.lot_inv.specs.Inventory.{Position}
 use Rattle.lot_inv.specs.declared.lot_key.LotKey.{LotKey}
-use Rattle.lot_command.specs.declared.key.Key.{Key}
 use Rattle.lot_book.specs.Agree.{HaveSameOf, HaveSamePlain}
-use Rattle.lot_book.specs.Facts.{Entry, Facts, text_under}
+use Rattle.lot_book.specs.Facts.{Facts}
 use Rattle.lot_book.specs.Recorded.{nothing_but}
 use Rattle.lot_book.specs.declared.change.Pair.{Pair}
 use Rattle.lot_view.specs.declared.touched.Touched.{Touched}
@@ -95,8 +94,8 @@ IsTrueLot book row = finite.get (book.held row.account) (row.commodity, Some row
 abbrev pub IsTruePlain : Facts → PlainRow → Type 0
 IsTruePlain book row = finite.get (book.held row.account) (row.commodity, None) ≡ Some row.units
 
--- ---- the first that is known
+-- ---- the text
 
--- the number of entries and the text under a key
-abbrev pub begun : List Entry → Key → Facts
-begun entries key = record (nothing_but (length entries)) { text = text_under entries key }
+-- the same, with the text that stands under another key, or none
+abbrev pub turned_to : Option (List ℕ) → Facts → Facts
+turned_to text facts = record facts { text = text }

@@ -3,23 +3,25 @@
 //! - `look`: all that a command looks at, on what is known already.
 //! - `kept`: what is known between commands.
 //! - `learn`: what there is of what a command looks at.
-//! - `begin`: the number of entries, and the text under a key.
+//! - `entry`: the number of entries, and the text under a key.
 //! - `account`: how accounts stand.
 //! - `commodity`: which commodities are declared.
 //! - `pair`: what there is of an account and a commodity.
 //! - `plain`: all plain units of an account.
 //! - `held`: rows of units.
+//! - `whole`: sets of what is known whole.
 #![tactic(auto)]
 
 mod account;
-mod begin;
 mod commodity;
+mod entry;
 mod held;
 mod kept;
 mod learn;
 mod look;
 mod pair;
 mod plain;
+mod whole;
 
 pub use kept::Kept;
 pub use look::look_on;

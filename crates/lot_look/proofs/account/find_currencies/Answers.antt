@@ -2,7 +2,6 @@
 use Rattle.std.specs.Prelude.{◌≡◌, ◌≤◌, List, ℕ, length, map}
 use Rattle.std.proofs.Common.{sym, ap, subst, ◌∙◌, rules}
 use Rattle.sqlite.specs.Held.{state}
-use Rattle.lot_book.specs.Facts.{Entry}
 use Rattle.lot_command.specs.Currencies.{most_currencies}
 use Rattle.lot_filed.specs.Kept.{currencies_of}
 use Rattle.lot_filed.specs.Rows.{name_key}

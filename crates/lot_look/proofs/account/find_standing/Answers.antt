@@ -1,13 +1,13 @@
 -- The row and the currencies say how the account stands.
-use Rattle.std.specs.Prelude.{◌≡◌, List, ℕ, Option, Some, None, option_map}
-use Rattle.std.proofs.Common.{sym, ap, ◌∙◌}
+use Rattle.std.specs.Prelude.{◌≡◌, Some, option_map}
+use Rattle.std.proofs.Common.{sym, ◌∙◌}
 use Rattle.sqlite.specs.Held.{state}
 use Rattle.lot_book.specs.Facts.{closing_of, opening_of, standing_of}
 use Rattle.lot_filed.specs.Rows.{account_row, name_key}
 use Rattle.lot_rows.specs.Account.{IsAccountRow, account_cells}
 use Rattle.lot_table.specs.Rows.{has_key}
 use Rattle.lot_look.proofs.ReadLemmas.{HasRead, fails_first, passes, reads_first, reads_next, tells}
-use Rattle.lot_look.proofs.RowLemmas.{good_filtered, mapped_none, standing_is}
+use Rattle.lot_look.proofs.RowLemmas.{good_filtered, standing_is}
 use Rattle.lot_look.proofs.account.find_standing.Goals as goal
 
 pub returns-in_err-row : goal.returns-in_err-row

@@ -1,13 +1,9 @@
 -- An account that was opened has a row, another has none.
-use Rattle.std.specs.Prelude.{◌≡◌, List, ℕ, Option, Some, None, option_map, slice_get, length, map}
-use Rattle.std.specs.List.{AllByRecursion}
-use Rattle.std.proofs.Common.{sym, ap, subst, ◌∙◌}
+use Rattle.std.proofs.Common.{sym, ◌∙◌}
 use Rattle.sqlite.specs.Held.{state}
-use Rattle.lot_book.specs.Facts.{Entry, Facts, closing_of, opening_of, standing_of}
 use Rattle.lot_book.specs.Recorded.{facts_in}
-use Rattle.lot_table.specs.Rows.{has_key}
 use Rattle.lot_view.specs.View.{known}
-use Rattle.lot_look.proofs.ReadLemmas.{HasRead, denies, fails_first, passes, reads_first, reads_next, tells, tells_done, tells_last}
+use Rattle.lot_look.proofs.ReadLemmas.{reads_first, tells}
 use Rattle.lot_look.specs.Known.{KnowsStanding, Learns}
 use Rattle.lot_look.proofs.PutLemmas.{no_standing, put_standing}
 use Rattle.lot_look.proofs.account.learn_account.Goals as goal

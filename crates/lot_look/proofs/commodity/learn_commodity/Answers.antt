@@ -1,8 +1,7 @@
 -- A commodity with a row is declared, one without isn't.
-use Rattle.std.specs.Prelude.{◌≡◌, List, Bool, Option, is_some, slice_get}
+use Rattle.std.specs.Prelude.{is_some}
 use Rattle.std.proofs.Common.{sym, ap, ◌∙◌}
 use Rattle.sqlite.specs.Held.{state}
-use Rattle.lot_book.specs.Facts.{is_declared}
 use Rattle.lot_book.specs.Recorded.{facts_in}
 use Rattle.lot_filed.specs.Kept.{declared_on}
 use Rattle.lot_filed.specs.Rows.{commodity_row, name_key}

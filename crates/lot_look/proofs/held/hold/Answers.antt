@@ -1,5 +1,5 @@
 -- Units that are there are the book's; else the sum is what is added.
-use Rattle.std.specs.Prelude.{◌≡◌, ◌≢◌, pos, option_copied, Some}
+use Rattle.std.specs.Prelude.{option_copied, Some}
 use Rattle.std.proofs.Common.{sym, ap, ◌∙◌}
 use Rattle.lot_inv.specs.Inventory.{Position, units_at}
 use Rattle.lot_view.specs.View.{known}

@@ -1,5 +1,5 @@
 -- One more row is known; at the end all are.
-use Rattle.std.specs.Prelude.{List, Some, None}
+use Rattle.std.specs.Prelude.{List, None}
 use Rattle.std.proofs.Common.{subst}
 use Rattle.std.proofs.lemmas.List.{drop_all}
 use Rattle.lot_look.specs.Known.{IsTruePlain, KnowsUnits}

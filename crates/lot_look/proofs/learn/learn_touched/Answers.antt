@@ -1,14 +1,9 @@
 -- The four steps, one after another.
-use Rattle.std.specs.Prelude.{◌≡◌, List, ℕ, Option, Some, None, option_map, slice_get, length, map}
-use Rattle.std.specs.List.{AllByRecursion}
-use Rattle.std.proofs.Common.{sym, ap, subst, ◌∙◌}
 use Rattle.sqlite.specs.Held.{state}
-use Rattle.lot_book.specs.Facts.{Entry, Facts, closing_of, opening_of, standing_of}
+use Rattle.lot_book.specs.Facts.{Facts}
 use Rattle.lot_book.specs.Recorded.{facts_in}
-use Rattle.lot_table.specs.Rows.{has_key}
 use Rattle.lot_view.specs.View.{known}
-use Rattle.lot_look.proofs.ReadLemmas.{HasRead, denies, fails_first, passes, reads_first, reads_next, tells, tells_done, tells_last}
-use Rattle.std.specs.BTreeSet.{BTreeSet}
+use Rattle.lot_look.proofs.ReadLemmas.{HasRead, reads_first, reads_next, tells_last}
 use Rattle.lot_look.specs.Known.{KnowsDeclared, KnowsEach, KnowsPair, KnowsPlain, KnowsStanding, KnowsTouched, Learns}
 use Rattle.lot_look.proofs.LearnLemmas.{both_stay, declared_stays, each_stays, learns_as, learns_both, pair_stays, standing_stays}
 use Rattle.lot_view.specs.declared.touched.Touched.{Touched}

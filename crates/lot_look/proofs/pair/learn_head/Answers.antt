@@ -1,12 +1,12 @@
 -- The row has the latest day; without one there is no day.
-use Rattle.std.specs.Prelude.{◌≡◌, List, ℕ, Some, None, option_map, slice_get}
-use Rattle.std.proofs.Common.{sym, ap, subst, ◌∙◌}
+use Rattle.std.specs.Prelude.{Some}
+use Rattle.std.proofs.Common.{sym, ap, ◌∙◌}
 use Rattle.sqlite.specs.Held.{state}
 use Rattle.lot_book.specs.Facts.{latest_at_cost}
 use Rattle.lot_book.specs.Recorded.{facts_in}
 use Rattle.lot_table.specs.Rows.{has_key}
 use Rattle.lot_view.specs.View.{known}
-use Rattle.lot_look.proofs.ReadLemmas.{fails_first, passes, reads_first, tells, tells_done, tells_last}
+use Rattle.lot_look.proofs.ReadLemmas.{fails_first, passes, reads_first, tells}
 use Rattle.lot_filed.specs.Rows.{head_row, pair_key}
 use Rattle.lot_rows.specs.Head.{IsHeadRow, head_cells}
 use Rattle.lot_rows.specs.declared.head.HeadRow.{HeadRow}

@@ -1,13 +1,10 @@
 -- The three steps, one after another.
-use Rattle.std.specs.Prelude.{◌≡◌, List, ℕ, Option, Some, None, option_map, slice_get, length}
-use Rattle.std.specs.List.{AllByRecursion}
-use Rattle.std.proofs.Common.{sym, ap, subst, ◌∙◌}
+use Rattle.std.specs.Prelude.{None}
 use Rattle.sqlite.specs.Held.{state}
-use Rattle.lot_book.specs.Facts.{Entry, Facts, text_under}
-use Rattle.lot_book.specs.Recorded.{facts_in, with_text}
-use Rattle.lot_table.specs.Rows.{has_key}
+use Rattle.lot_book.specs.Facts.{Facts}
+use Rattle.lot_book.specs.Recorded.{facts_in}
 use Rattle.lot_view.specs.View.{known}
-use Rattle.lot_look.proofs.ReadLemmas.{fails_first, passes, reads_first, reads_next, tells, tells_done, tells_last}
+use Rattle.lot_look.proofs.ReadLemmas.{reads_first, reads_next, tells_last}
 use Rattle.lot_look.specs.Known.{KnowsAt, KnowsHead, KnowsLots, KnowsPair, Learns}
 use Rattle.lot_look.proofs.LearnLemmas.{both_stay, head_stays, learns_as, learns_both, lots_stay, pair_known}
 use Rattle.lot_look.proofs.ReadLemmas.{HasRead}

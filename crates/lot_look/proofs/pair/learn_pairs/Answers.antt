@@ -1,10 +1,10 @@
 -- One more is known; at the end all are.
-use Rattle.std.specs.Prelude.{◌≡◌, List, [], ◌∷◌, ℕ}
+use Rattle.std.specs.Prelude.{◌≡◌, List, [], ◌∷◌}
 use Rattle.std.proofs.Common.{subst}
 use Rattle.sqlite.specs.Held.{state}
 use Rattle.lot_book.specs.Recorded.{facts_in}
 use Rattle.lot_book.specs.declared.change.Pair.{Pair}
-use Rattle.lot_look.specs.Known.{KnowsPair, KnowsEach, Learns}
+use Rattle.lot_look.specs.Known.{KnowsPair}
 use Rattle.lot_look.proofs.LearnLemmas.{IsLeft, pair_stays, left_more, left_none}
 use Rattle.lot_look.proofs.ReadLemmas.{reads_as, reads_next, tells}
 use Rattle.lot_view.specs.View.{known}

@@ -1,12 +1,11 @@
 -- The row has the plain units; without one there are none.
-use Rattle.std.specs.Prelude.{◌≡◌, List, ℕ, Some, None, option_map, slice_get}
-use Rattle.std.proofs.Common.{sym, ap, subst, ◌∙◌}
+use Rattle.std.specs.Prelude.{None}
+use Rattle.std.proofs.Common.{sym, ◌∙◌}
 use Rattle.sqlite.specs.Held.{state}
-use Rattle.lot_book.specs.Facts.{latest_at_cost}
 use Rattle.lot_book.specs.Recorded.{facts_in}
 use Rattle.lot_table.specs.Rows.{has_key}
 use Rattle.lot_view.specs.View.{known}
-use Rattle.lot_look.proofs.ReadLemmas.{fails_first, passes, reads_first, tells, tells_done, tells_last}
+use Rattle.lot_look.proofs.ReadLemmas.{fails_first, passes, reads_first, tells}
 use Rattle.lot_filed.specs.Rows.{pair_key}
 use Rattle.lot_rows.specs.Plain.{IsPlainRow, plain_cells}
 use Rattle.lot_look.specs.Known.{KnowsAt, Learns}

@@ -3,7 +3,7 @@ use Rattle.std.specs.Prelude.{◌≡◌, List, [], ◌∷◌, ℕ}
 use Rattle.std.proofs.Common.{subst}
 use Rattle.sqlite.specs.Held.{state}
 use Rattle.lot_book.specs.Recorded.{facts_in}
-use Rattle.lot_look.specs.Known.{KnowsPlain, KnowsEach, Learns}
+use Rattle.lot_look.specs.Known.{KnowsPlain}
 use Rattle.lot_look.proofs.LearnLemmas.{IsLeft, plain_stays, left_more, left_none}
 use Rattle.lot_look.proofs.ReadLemmas.{reads_as, reads_next, tells}
 use Rattle.lot_view.specs.View.{known}

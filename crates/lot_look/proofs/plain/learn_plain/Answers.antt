@@ -1,13 +1,13 @@
 -- All rows of the account are put, and they are all its plain units.
-use Rattle.std.specs.Prelude.{◌≡◌, List, ℕ, Option, Some, None, option_map, slice_get, length}
+use Rattle.std.specs.Prelude.{List}
 use Rattle.std.specs.List.{AllByRecursion}
-use Rattle.std.proofs.Common.{sym, ap, subst, ◌∙◌}
+use Rattle.std.proofs.Common.{sym, subst}
 use Rattle.sqlite.specs.Held.{state}
-use Rattle.lot_book.specs.Facts.{Entry, Facts, text_under}
-use Rattle.lot_book.specs.Recorded.{facts_in, with_text}
+use Rattle.lot_book.specs.Facts.{Facts}
+use Rattle.lot_book.specs.Recorded.{facts_in}
 use Rattle.lot_table.specs.Rows.{has_key}
 use Rattle.lot_view.specs.View.{known}
-use Rattle.lot_look.proofs.ReadLemmas.{fails_first, passes, reads_first, reads_next, tells, tells_done, tells_last}
+use Rattle.lot_look.proofs.ReadLemmas.{fails_first, passes, reads_first, tells_done}
 use Rattle.lot_filed.specs.Rows.{name_key}
 use Rattle.lot_rows.specs.Plain.{IsPlainRow, plain_cells}
 use Rattle.lot_rows.specs.declared.plain.PlainRow.{PlainRow}

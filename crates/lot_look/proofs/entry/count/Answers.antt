@@ -1,12 +1,11 @@
 -- Entries are numbered from 1, so the greatest number is how many there are.
-use Rattle.std.specs.Prelude.{◌≡◌, ℕ, length, Some, None}
+use Rattle.std.specs.Prelude.{◌≡◌, ℕ, length, Some}
 use Rattle.std.proofs.Common.{sym, ap, ◌∙◌}
 use Rattle.sqlite.specs.Held.{state}
-use Rattle.lot_book.specs.Facts.{Entry}
 use Rattle.lot_rows.specs.Entry.{greatest_number}
 use Rattle.lot_look.proofs.ReadLemmas.{reads_first, tells}
 use Rattle.lot_look.proofs.RowLemmas.{greatest_none, greatest_some}
-use Rattle.lot_look.proofs.begin.count.Goals as goal
+use Rattle.lot_look.proofs.entry.count.Goals as goal
 
 pub returns-in-Some : goal.returns-in-Some
 returns-in-Some g c =

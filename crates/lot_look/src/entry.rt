@@ -1,36 +1,17 @@
 ghost use Rattle.std.specs.Prelude.{◌≡◌, length, option_map};
 ghost use Rattle.std.specs.String.{string_bytes};
 ghost use Rattle.lot_book.specs.Facts.{text_under};
-ghost use Rattle.lot_look.specs.Known.{begun};
 ghost use Rattle.lot_look.specs.Tells.{Tells};
-ghost use Rattle.lot_view.specs.View.{known};
 ghost use Rattle.sqlite.specs.Held.{state};
 
 use lot_command::Key;
 use lot_rows::entry;
 use lot_table::Fault;
-use lot_view::View;
 use sqlite::{Alter, Connection};
 use std::alloc::Global;
 
-/// Returns a view of the number of entries and the text under a key alone.
-pub(crate) fn begin<S: Alter>(
-    alloc: Global,
-    conn: &mut Connection<S>,
-    key: &Key,
-) -> Result<View, Fault>
-    ensures tells { Tells (λ view entries. known view ≡ begun entries key.now)
-        (state S.Store conn.old) (state S.Store conn.new) result }
-{
-    let mut view = View::new(alloc, count(alloc, conn)?);
-    if let Some(text) = find_text(alloc, conn, key)? {
-        view.put_text(text);
-    }
-    Ok(view)
-}
-
 /// Returns the number of entries, which are numbered from 1.
-fn count<S: Alter>(alloc: Global, conn: &mut Connection<S>) -> Result<u32, Fault>
+pub(crate) fn count<S: Alter>(alloc: Global, conn: &mut Connection<S>) -> Result<u32, Fault>
     ensures tells { Tells (λ count entries. count ≡ length entries)
         (state S.Store conn.old) (state S.Store conn.new) result }
 {
@@ -41,7 +22,7 @@ fn count<S: Alter>(alloc: Global, conn: &mut Connection<S>) -> Result<u32, Fault
 }
 
 /// Returns the canonical text that stands under a key.
-fn find_text<S: Alter>(
+pub(crate) fn find_text<S: Alter>(
     alloc: Global,
     conn: &mut Connection<S>,
     key: &Key,

@@ -1,14 +1,14 @@
 -- The row of the key has the text.
-use Rattle.std.specs.Prelude.{◌≡◌, List, ℕ, Option, Some, None, option_map, slice_get}
+use Rattle.std.specs.Prelude.{◌≡◌, List, Some, None, option_map, slice_get}
 use Rattle.std.specs.String.{string_bytes}
 use Rattle.std.proofs.Common.{sym, ap, ◌∙◌}
 use Rattle.sqlite.specs.Held.{state}
-use Rattle.lot_book.specs.Facts.{Entry, text_under}
+use Rattle.lot_book.specs.Facts.{text_under}
 use Rattle.lot_rows.specs.Entry.{IsEntryRow, entry_cells, is_named, named}
 use Rattle.lot_rows.specs.declared.entry.EntryRow.{EntryRow}
 use Rattle.lot_look.proofs.ReadLemmas.{fails_first, passes, reads_first, tells}
 use Rattle.lot_look.proofs.RowLemmas.{good_filtered, named_text}
-use Rattle.lot_look.proofs.begin.find_text.Goals as goal
+use Rattle.lot_look.proofs.entry.find_text.Goals as goal
 
 pub returns-in_err-row : goal.returns-in_err-row
 returns-in_err-row g c =
