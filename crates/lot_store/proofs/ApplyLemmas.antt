@@ -1,8 +1,8 @@
 -- Applying a command: what is judged on a view, and what its writes come to.
-use Rattle.std.proofs.Common.{◌≡◌, ◌∙◌, ◌⊎◌, inl, inr, false, None, Ok, Err, IsTrue, List, [], ◌∷◌, ◌++◌, All, refl, sym, subst, arith}
+use Rattle.std.proofs.Common.{◌≡◌, ◌∙◌, ◌⊎◌, inl, inr, false, IfSome, None, Ok, Err, IsTrue, List, [], ◌∷◌, ◌++◌, All, Option, Result, Some, refl, sym, subst, arith}
 use Rattle.sqlite.specs.Effect.{Database}
 use Rattle.sqlite.specs.State.{HasCleanDisk, IsUnchanged, KeepsCommit, State, Survives}
-use Rattle.sqlite.proofs.StateLemmas.{survives_then}
+use Rattle.sqlite.proofs.StateLemmas.{survives_then, survives_weaker}
 use Rattle.sqlite.specs.Tree.{Trees}
 use Rattle.lot_command.specs.declared.command.Command.{Command}
 use Rattle.lot_command.specs.declared.key.Key.{Key}
@@ -12,15 +12,14 @@ use Rattle.lot_book.specs.Facts.{Entry, Facts, facts_of}
 use Rattle.lot_book.specs.Judged.{Judges}
 use Rattle.lot_book.specs.Step.{Accept, Decides, Refuse, Repeat, Step}
 use Rattle.lot_book.specs.declared.refusal.Refusal.{Refusal}
-use Rattle.lot_book.specs.declared.refusal.Stop.{Stop}
-use Rattle.lot_book.specs.declared.refusal.Stop.TheVariants as stop
 use Rattle.lot_book.specs.declared.change.Change.{Change}
+use Rattle.lot_book.specs.declared.verdict.Verdict.{Verdict}
 use Rattle.lot_book.specs.declared.verdict.Verdict.TheVariants.{Accepted}
 use Rattle.lot_filed.specs.StandFor.{AreOfBook, StandFor, Stands}
 use Rattle.lot_laws.proofs.RecordedBook.{book-grows, key_was_new}
 use Rattle.lot_laws.proofs.StepLooks.{same_decision}
 use Rattle.lot_print.specs.Sayable.{IsSayable}
-use Rattle.lot_ledger.specs.Decide.{Comes, Lists, StopsStep}
+use Rattle.lot_ledger.specs.Decide.{Comes, Lists}
 use Rattle.lot_ledger.specs.declared.decision.Outcome.TheVariants as decided
 use Rattle.lot_record.specs.Call.{Stops}
 use Rattle.lot_record.specs.Write.{AreFit, IsGood, written_all}
@@ -29,9 +28,11 @@ use Rattle.lot_rows.specs.Tables.{Has, Tables, layout}
 use Rattle.lot_record.specs.declared.write.Write.{Write}
 use Rattle.lot_table.specs.Book.{Holds}
 use Rattle.lot_table.specs.Statement.{DiskFailed}
-use Rattle.lot_store.specs.Apply.{Applies, HasNoRoomFor, MayAdd, MayWrite, RefusedByDevice, WritesDown, apply_fault_of}
+use Rattle.lot_store.specs.Apply.{Applies, AppliesWith, HasNoRoomFor, MayAdd, MayWrite, RefusedByDeviceWith, StandsWith, WritesDown, verdict_of}
 use Rattle.lot_store.specs.Session.{LeavesEntry}
+use Rattle.lot_store.specs.declared.book.Ack.{Ack}
 use Rattle.lot_store.specs.declared.book.Ack.TheVariants as ack
+use Rattle.lot_store.specs.declared.fault.ApplyFault.{ApplyFault}
 use Rattle.lot_store.specs.declared.fault.ApplyFault.TheVariants.{Failed, Refused}
 use Rattle.lot_store.specs.declared.fault.StoreFault.{StoreFault}
 use Rattle.lot_store.specs.declared.fault.StoreFault.TheVariants.{Damaged, Device, InDoubt, Memory, NeedsReopen}
@@ -88,20 +89,32 @@ module _ (law : KeepsBook) (entries : List Entry) (key : Key) (command : Command
 
   pub stands_on : (s : State) (tables : Tables) → StandFor tables entries
       → (AreFit (writes_of known key command change) tables → Has s (written_all (writes_of known key command change) tables))
-      → (after : List Entry) × Judges entries key command Accepted after × Stands s after
+      → Judges entries key command Accepted (entries ++ entry_of key command change.legs ∷ []) × Stands s (entries ++ entry_of key command change.legs ∷ [])
   stands_on s tables stand has = (
-    entries ++ entry_of key command change.legs ∷ [],
     (change.legs, step, refl),
     record { book = grown; tables = written_all (writes_of known key command change) tables; has = has (kept tables stand).0; stand = (kept tables stand).1 },
   )
 
+-- ---- what was looked at, with what was kept
+
+-- What is known of a book that the tables stand for, of which was what was kept: it agrees with the book on what the command
+-- looks at, and what was looked at is of the book.
+abbrev pub LooksOn : (Kept Looked : List Entry → Type 0) → Facts → Key → Command → State → Type 0
+LooksOn Kept Looked known key command old =
+    (tables : Tables) → Has old tables → (entries : List Entry) → IsBook entries → StandFor tables entries → Kept entries
+    → Looked entries × Agrees known (facts_of entries key) command
+
 -- ---- a command that changes nothing, after what it looks at was read
 
-module _ (key : Key) (command : Command) (known : Facts) (old new : State) (same : HasCleanDisk new → IsUnchanged old new)
-    (agrees : HasCleanDisk new → (tables : Tables) → Has old tables → (entries : List Entry) → IsBook entries → StandFor tables entries → Agrees known (facts_of entries key) command)
+module _ (Kept Looked : List Entry → Type 0) (key : Key) (command : Command) (known : Facts) (old new : State) (same : HasCleanDisk new → IsUnchanged old new)
+    (looks : HasCleanDisk new → LooksOn Kept Looked known key command old)
     (settled : HasCleanDisk new → IsTrue old.is_open → old.now ≡ old.committed) (crash : Survives old new (λ _. ⊥)) where
-  stays : HasCleanDisk new → (entries : List Entry) → Stands old entries → Stands new entries
-  stays clean entries stands = stands_along old new entries (same clean).0.now_is stands
+  stays : HasCleanDisk new → (entries : List Entry) → StandsWith Kept old entries → StandsWith Looked new entries
+  stays clean entries there =
+      (stands_along old new entries (same clean).0.now_is there.0, (looks clean there.0.tables there.0.has entries there.0.book there.0.stand there.1).0)
+
+  agrees : HasCleanDisk new → (entries : List Entry) → StandsWith Kept old entries → Agrees known (facts_of entries key) command
+  agrees clean entries there = (looks clean there.0.tables there.0.has entries there.0.book there.0.stand there.1).1
 
   keeps : HasCleanDisk new → KeepsCommit old new
   keeps clean = record { was_open = λ _. (same clean).0.was_open; committed = λ _. (same clean).0.committed_is }
@@ -110,51 +123,32 @@ module _ (key : Key) (command : Command) (known : Facts) (old new : State) (same
   committed clean =
       let it = (same clean).0 in (it.is_open, it.committed_is ∙ sym (settled clean it.was_open) ∙ sym it.now_is)
 
-  pub repeats : Decides known command Repeat → Applies key command old new (Ok ack.Repeat)
+  pub repeats : Decides known command Repeat → AppliesWith Kept Looked key command old new (Ok ack.Repeat)
   repeats decides = record {
-    judged = λ clean entries stands. (
-      entries,
-      (same_decision known (facts_of entries key) command Repeat (agrees clean stands.tables stands.has entries stands.book stands.stand) decides, refl),
-      stays clean entries stands,
-    );
+    judged = λ clean entries there.
+        (entries, (same_decision known (facts_of entries key) command Repeat (agrees clean entries there) decides, refl), stays clean entries there);
     settled = committed;
     rest = same;
     damaged = λ clean is. cc;
-    crash = leaves_none old new (MayAdd key command old (Ok ack.Repeat)) crash;
+    crash = leaves_none old new (MayAdd (StandsWith Kept old) key command (Ok ack.Repeat)) crash;
   }
 
-  pub refuses : (refusal : Refusal) → Decides known command (Refuse refusal) → Applies key command old new (Err (Refused refusal))
+  pub refuses : (refusal : Refusal) → Decides known command (Refuse refusal) → AppliesWith Kept Looked key command old new (Err (Refused refusal))
   refuses refusal decides = record {
-    judged = λ clean entries stands. (
-      entries,
-      (same_decision known (facts_of entries key) command (Refuse refusal) (agrees clean stands.tables stands.has entries stands.book stands.stand) decides, refl),
-      stays clean entries stands,
-    );
+    judged = λ clean entries there.
+        (entries, (same_decision known (facts_of entries key) command (Refuse refusal) (agrees clean entries there) decides, refl), stays clean entries there);
     settled = committed;
     rest = same;
     damaged = λ clean is. cc;
-    crash = leaves_none old new (MayAdd key command old (Err (Refused refusal))) crash;
+    crash = leaves_none old new (MayAdd (StandsWith Kept old) key command (Err (Refused refusal))) crash;
   }
-
-  runs_out : Applies key command old new (Err (Failed Memory))
-  runs_out = record {
-    judged = λ clean entries stands. tt;
-    settled = λ clean. tt;
-    rest = λ clean. (keeps clean, λ opened. (same clean).0.now_is);
-    damaged = λ clean is. cc;
-    crash = leaves_none old new (MayAdd key command old (Err (Failed Memory))) crash;
-  }
-
-  pub stops : (stopped : Stop) → StopsStep known command stopped → Applies key command old new (Err (apply_fault_of stopped))
-  stops (stop.Refused refusal) decides = refuses refusal decides
-  stops stop.Memory none = runs_out
 
 -- ---- a command that is accepted, after what it looks at was read, with its writes committed or not
 
-module _ (law : KeepsBook) (key : Key) (command : Command) (known : Facts) (change : Change) (writes : List Write) (are : writes ≡ writes_of known key command change)
-    (decides : Decides known command (Accept change.legs)) (lists : Lists known command change) (ordered : ListsInOrder command change) (sayable : IsSayable command) (good : All IsGood writes)
-    (old mid new : State) (same : HasCleanDisk mid → IsUnchanged old mid)
-    (agrees : HasCleanDisk mid → (tables : Tables) → Has old tables → (entries : List Entry) → IsBook entries → StandFor tables entries → Agrees known (facts_of entries key) command)
+module _ (law : KeepsBook) (Kept Looked : List Entry → Type 0) (key : Key) (command : Command) (known : Facts) (change : Change) (writes : List Write)
+    (are : writes ≡ writes_of known key command change) (comes : Comes known command (decided.Accept change)) (ordered : ListsInOrder command change)
+    (sayable : IsSayable command) (good : All IsGood writes) (old mid new : State) (same : HasCleanDisk mid → IsUnchanged old mid)
+    (looks : HasCleanDisk mid → LooksOn Kept Looked known key command old)
     (settled : HasCleanDisk mid → IsTrue old.is_open → old.now ≡ old.committed) (looked : Survives old mid (λ _. ⊥)) where
   all_good : All IsGood (writes_of known key command change)
   all_good = subst (All IsGood) are good
@@ -163,46 +157,56 @@ module _ (law : KeepsBook) (key : Key) (command : Command) (known : Facts) (chan
   has_then : HasCleanDisk mid → (tables : Tables) → Has old tables → Has mid tables
   has_then clean tables has = subst (λ (db : Database). (db.schema ≡ layout.schema) × Holds layout db.trees tables) (sym (same clean).0.now_is) has
 
-  fit : HasCleanDisk mid → (entries : List Entry) (stands : Stands old entries) → AreFit writes stands.tables
-  fit clean entries stands =
-      subst (λ w. AreFit w stands.tables) (sym are)
-      (kept law entries key command known change stands.book (agrees clean stands.tables stands.has entries stands.book stands.stand) decides lists ordered sayable all_good stands.tables stands.stand).0
+  told : HasCleanDisk mid → (entries : List Entry) → (there : StandsWith Kept old entries) → Looked entries × Agrees known (facts_of entries key) command
+  told clean entries there = looks clean there.0.tables there.0.has entries there.0.book there.0.stand there.1
+
+  fit : HasCleanDisk mid → (entries : List Entry) → (there : StandsWith Kept old entries) → AreFit writes there.0.tables
+  fit clean entries there =
+      subst (λ w. AreFit w there.0.tables) (sym are)
+      (kept law entries key command known change there.0.book (told clean entries there).1 comes.0 comes.1 ordered sayable all_good there.0.tables there.0.stand).0
 
   leave : HasCleanDisk mid → (trees : Trees) → ((tables : Tables) → Has mid tables → AreFit writes tables → Holds layout trees (written_all writes tables))
-      → (entries : List Entry) → Stands old entries → LeavesEntry entries key command trees
-  leave clean trees written entries stands =
-      let tables = stands.tables in
-      let holds = written tables (has_then clean tables stands.has) (fit clean entries stands) in
-      leaves law entries key command known change stands.book (agrees clean tables stands.has entries stands.book stands.stand) decides lists ordered sayable all_good trees tables stands.stand
+      → (entries : List Entry) → StandsWith Kept old entries → LeavesEntry entries key command trees
+  leave clean trees written entries there =
+      let tables = there.0.tables in
+      let holds = written tables (has_then clean tables there.0.has) (fit clean entries there) in
+      leaves law entries key command known change there.0.book (told clean entries there).1 comes.0 comes.1 ordered sayable all_good trees tables there.0.stand
       (λ _. subst (λ w. Holds layout trees (written_all w tables)) are holds)
 
-  pub accepts : (HasCleanDisk new → WritesDown writes mid new) → Survives mid new (MayWrite {A = Unit {0}} writes mid (Ok tt)) → Applies key command old new (Ok ack.Accepted)
-  accepts done crash = record {
-    judged = λ clean entries stands.
+  -- what is kept then is of the book with the entry
+  pub accepts : (KeptThen : List Entry → Type 0)
+      → ((entries : List Entry) → IsBook entries → Looked entries → Agrees known (facts_of entries key) command → KeptThen (entries ++ entry_of key command change.legs ∷ []))
+      → (HasCleanDisk new → WritesDown writes mid new) → Survives mid new (MayWrite {A = Unit {0}} writes mid (Ok tt))
+      → AppliesWith Kept KeptThen key command old new (Ok ack.Accepted)
+  accepts KeptThen records done crash = record {
+    judged = λ clean entries there.
         let early : HasCleanDisk mid = omega (arith, clean, crash.clean) in
-        let tables = stands.tables in
-        let has = (done clean).tables tables (has_then early tables stands.has) (fit early entries stands) in
-        stands_on law entries key command known change stands.book (agrees early tables stands.has entries stands.book stands.stand) decides lists ordered sayable all_good new tables stands.stand
-        (λ _. subst (λ w. Has new (written_all w tables)) are has);
+        let tables = there.0.tables in
+        let now = told early entries there in
+        let has = (done clean).tables tables (has_then early tables there.0.has) (fit early entries there) in
+        let it =
+        stands_on law entries key command known change there.0.book now.1 comes.0 comes.1 ordered sayable all_good new tables there.0.stand
+        (λ _. subst (λ w. Has new (written_all w tables)) are has) in
+        (entries ++ entry_of key command change.legs ∷ [], it.0, (it.1, records entries there.0.book now.0 now.1));
     settled = λ clean. ((done clean).is_open, (done clean).committed);
     rest = λ clean. tt;
     damaged = λ clean is. cc;
-    crash = survives_then old mid new (λ _. ⊥) (MayWrite {A = Unit {0}} writes mid (Ok tt)) (MayAdd key command old (Ok ack.Accepted)) (λ clean db none. absurd none)
+    crash = survives_then old mid new (λ _. ⊥) (MayWrite {A = Unit {0}} writes mid (Ok tt)) (MayAdd (StandsWith Kept old) key command (Ok ack.Accepted)) (λ clean db none. absurd none)
         (λ clean db written. leave (omega (arith, clean, crash.clean)) db written) looked crash;
   }
 
-  may_add : HasCleanDisk mid → (fault : StoreFault) (db : Trees) → MayWrite {A = Unit {0}} writes mid (Err fault) db → MayAdd key command old (Err (Failed fault)) db
+  may_add : HasCleanDisk mid → (fault : StoreFault) (db : Trees) → MayWrite {A = Unit {0}} writes mid (Err fault) db → MayAdd (StandsWith Kept old) key command (Err (Failed fault)) db
   may_add clean InDoubt db written = leave clean db written
   may_add clean Memory db written = leave clean db written
   may_add clean Device db none = none
   may_add clean NeedsReopen db none = none
   may_add clean Damaged db none = none
 
-  pub fails : (fault : StoreFault) → (HasCleanDisk new → KeepsCommit mid new) → (HasCleanDisk new → IsTrue new.is_open → new.now ≡ new.committed)
+  pub fails : (KeptThen : List Entry → Type 0) (fault : StoreFault) → (HasCleanDisk new → KeepsCommit mid new) → (HasCleanDisk new → IsTrue new.is_open → new.now ≡ new.committed)
       → (HasCleanDisk new → fault ≡ Damaged → (tables : Tables) → AreFit writes tables → ¬ Has mid tables)
-      → Survives mid new (MayWrite {A = Unit {0}} writes mid (Err fault)) → Applies key command old new (Err (Failed fault))
-  fails fault kept_last now_is found crash = record {
-    judged = λ clean entries stands. tt;
+      → Survives mid new (MayWrite {A = Unit {0}} writes mid (Err fault)) → AppliesWith Kept KeptThen key command old new (Err (Failed fault))
+  fails KeptThen fault kept_last now_is found crash = record {
+    judged = λ clean entries there. tt;
     settled = λ clean. tt;
     rest = λ clean.
         let early : HasCleanDisk mid = omega (arith, clean, crash.clean) in
@@ -211,17 +215,18 @@ module _ (law : KeepsBook) (key : Key) (command : Command) (known : Facts) (chan
           keeps_then old mid new before (kept_last clean),
           λ opened. now_is clean opened ∙ (kept_last clean).committed opened ∙ it.committed_is ∙ sym (settled early it.was_open),
         );
-    damaged = λ clean is entries stands.
+    damaged = λ clean is entries there.
         let early : HasCleanDisk mid = omega (arith, clean, crash.clean) in
         let same_fault : fault ≡ Damaged = cc in
-        found clean same_fault stands.tables (fit early entries stands) (has_then early stands.tables stands.has);
-    crash = survives_then old mid new (λ _. ⊥) (MayWrite {A = Unit {0}} writes mid (Err fault)) (MayAdd key command old (Err (Failed fault))) (λ clean db none. absurd none)
+        found clean same_fault there.0.tables (fit early entries there) (has_then early there.0.tables there.0.has);
+    crash = survives_then old mid new (λ _. ⊥) (MayWrite {A = Unit {0}} writes mid (Err fault)) (MayAdd (StandsWith Kept old) key command (Err (Failed fault))) (λ clean db none. absurd none)
         (λ clean db written. may_add (omega (arith, clean, crash.clean)) fault db written) looked crash;
   }
 
   pub refused : HasCleanDisk mid → ((tables : Tables) → AreFit writes tables → Has mid tables → DiskFailed mid new ⊎ Stops writes tables new)
-      → RefusedByDevice key command old new
-  refused clean cause entries stands = by_cause (cause stands.tables (fit clean entries stands) (has_then clean stands.tables stands.has))
+      → RefusedByDeviceWith Kept key command old new
+  refused clean cause entries stands is_kept =
+      by_cause (cause stands.tables (fit clean entries (stands, is_kept)) (has_then clean stands.tables stands.has))
     where
       open_shut : (s : State) → IsTrue s.is_open → s.is_open ≡ false → ⊥
       open_shut s opened shut = cc
@@ -232,21 +237,50 @@ module _ (law : KeepsBook) (key : Key) (command : Command) (known : Facts) (chan
       by_cause (inr stops) = inr (record {
         known = known;
         change = change;
-        agrees = agrees clean stands.tables stands.has entries stands.book stands.stand;
-        accepted = (decides, lists);
+        agrees = (told clean entries (stands, is_kept)).1;
+        accepted = comes;
         lacks = inr (subst (λ w. Stops w stands.tables new) are stops);
       })
 
 -- ---- no row is written
 
 -- a number of what is accepted doesn't fit its column
-pub refused_number : (key : Key) (command : Command) (known : Facts) (change : Change) (old mid : State) → Comes known command (decided.Accept change)
-    → ((tables : Tables) → Has old tables → (entries : List Entry) → IsBook entries → StandFor tables entries → Agrees known (facts_of entries key) command)
-    → ¬ AreNumbered change → RefusedByDevice key command old mid
-refused_number key command known change old mid comes agrees numbers entries stands = inr (record {
+pub refused_number : (Kept Looked : List Entry → Type 0) (key : Key) (command : Command) (known : Facts) (change : Change) (old mid : State) → Comes known command (decided.Accept change)
+    → LooksOn Kept Looked known key command old → ¬ AreNumbered change
+    → RefusedByDeviceWith Kept key command old mid
+refused_number Kept Looked key command known change old mid comes looks numbers entries stands is_kept = inr (record {
   known = known;
   change = change;
-  agrees = agrees stands.tables stands.has entries stands.book stands.stand;
+  agrees = (looks stands.tables stands.has entries stands.book stands.stand is_kept).1;
   accepted = comes;
   lacks = inl numbers;
 })
+
+-- ---- with nothing kept
+
+-- the same of each book that the tables stand for
+pub with_nothing : (key : Key) (command : Command) (old new : State) (result : Result Ack ApplyFault) (Kept KeptThen : List Entry → Type 0) → ((entries : List Entry) → Kept entries)
+    → AppliesWith Kept KeptThen key command old new result → Applies key command old new result
+with_nothing key command old new result Kept KeptThen all applies = record {
+  judged = λ clean entries stands. judged_alone (verdict_of result) entries (applies.judged clean entries (stands, all entries));
+  settled = applies.settled;
+  rest = applies.rest;
+  damaged = λ clean is entries stands. applies.damaged clean is entries (stands, all entries);
+  crash = survives_weaker old new (MayAdd (StandsWith Kept old) key command result) (MayAdd (Stands old) key command result) (λ _ db add. add_alone result db add) applies.crash;
+}
+  where
+    judged_alone : (told : Option Verdict) (entries : List Entry)
+        → IfSome told (λ verdict. (after : List Entry) × Judges entries key command verdict after × StandsWith KeptThen new after)
+        → IfSome told (λ verdict. (after : List Entry) × Judges entries key command verdict after × Stands new after)
+    judged_alone None entries it = tt
+    judged_alone (Some verdict) entries it = (it.0, it.1, it.2.0)
+
+    add_alone : (answer : Result Ack ApplyFault) (db : Trees) → MayAdd (StandsWith Kept old) key command answer db → MayAdd (Stands old) key command answer db
+    add_alone (Ok ack.Accepted) db add = λ entries stands. add entries (stands, all entries)
+    add_alone (Ok ack.Repeat) db none = none
+    add_alone (Err (Refused refusal)) db none = none
+    add_alone (Err (Failed InDoubt)) db add = λ entries stands. add entries (stands, all entries)
+    add_alone (Err (Failed Memory)) db add = λ entries stands. add entries (stands, all entries)
+    add_alone (Err (Failed Device)) db none = none
+    add_alone (Err (Failed NeedsReopen)) db none = none
+    add_alone (Err (Failed Damaged)) db none = none

@@ -11,6 +11,7 @@ pub mod HoldingLemmas
 pub mod HoldingRowLemmas
 pub mod HoldingStepLemmas
 pub mod JournalLemmas
+pub mod KeptLemmas
 pub mod LastLemmas
 pub mod LawLemmas
 pub mod LookLemmas

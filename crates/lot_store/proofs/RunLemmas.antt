@@ -20,7 +20,7 @@ use Rattle.lot_report.specs.declared.line.PrintFault.{PrintFault}
 use Rattle.lot_report.specs.declared.line.PrintFault.TheVariants.{Write, Memory as Unwritten}
 use Rattle.lot_rows.specs.Tables.{layout}
 use Rattle.lot_table.specs.Book.{Holds}
-use Rattle.lot_store.specs.Apply.{Applies, MayAdd, condition_after, ready_of, verdict_of}
+use Rattle.lot_store.specs.Apply.{AppliesWith, MayAdd, StandsWith, condition_after, ready_of, verdict_of}
 use Rattle.lot_store.specs.Run.{AppendsSome, FlushesLine, IsConditionAfter, LeavesAfter, RepliesTo, Runs, StandsNext, StopsWith, WritesOut, answer_line, count_refused, fault_line, told}
 use Rattle.lot_store.specs.Session.{JudgesKeyed, LeavesEntry, LeavesFirst, LeavesJudged, LeavesNext, Session}
 use Rattle.lot_store.specs.declared.book.Ack.{Ack}
@@ -59,14 +59,15 @@ told_fault (Ok ack.Repeat) fault is = absurd cc
 told_fault (Err (apply.Refused refusal)) fault is = absurd cc
 told_fault (Err (apply.Failed other)) fault is = let same : other ≡ fault = cc in ap (λ (f : StoreFault). Err (apply.Failed f)) same
 
-module _ (key : Key) (command : Command) (number : ℕ) (old new : State) (before written : Option (List ℕ)) (answer : Result Ack ApplyFault) (applies : Applies key command old new answer) (ending : Ending) where
+module _ (Kept KeptThen : List Entry → Type 0) (key : Key) (command : Command) (number : ℕ) (old new : State) (before written : Option (List ℕ)) (answer : Result Ack ApplyFault)
+    (applies : AppliesWith Kept KeptThen key command old new answer) (ending : Ending) where
   -- the reply isn't written out
-  pub reply_cut : (verdict : Verdict) → told answer ≡ Ok verdict → WritesOut before written (reply number verdict) (Err ending) → RepliesTo key command number old new before written (Err ending)
+  pub reply_cut : (verdict : Verdict) → told answer ≡ Ok verdict → WritesOut before written (reply number verdict) (Err ending) → RepliesTo Kept KeptThen key command number old new before written (Err ending)
   reply_cut verdict is (cut, part) = (answer, applies, inl (cut, subst (AppendsSome before written) (sym (told_line number answer verdict is)) part))
 
   -- it stops at a fault
   pub reply_stops : (fault : StoreFault) → told answer ≡ Err fault → (answer ≢ Err (apply.Failed NeedsReopen)) → StopsWith number fault before written ending
-      → RepliesTo key command number old new before written (Err ending)
+      → RepliesTo Kept KeptThen key command number old new before written (Err ending)
   reply_stops fault is usable (inl (stopped, printed)) =
       let same = told_fault answer fault is in (
         answer,
@@ -109,10 +110,10 @@ pub condition_spent : (number : ℕ) (before written : Option (List ℕ)) (endin
 condition_spent number before written ending condition = condition_stopped number NeedsReopen before written ending condition
 
 -- a book that could be used doesn't stop for want of reopening
-pub reply_usable : (key : Key) (command : Command) (number : ℕ) (old new : State) (before written : Option (List ℕ)) (ending : Ending)
-    → RepliesTo key command number old new before written (Err ending) → ending ≢ Stopped NeedsReopen
-reply_usable key command number old new before written ending (answer, applies, inl (cut, part)) is = let both : Output ≡ Stopped NeedsReopen = sym cut ∙ is in absurd cc
-reply_usable key command number old new before written ending (answer, applies, inr (fault, same, usable, stopped, printed)) is =
+pub reply_usable : (Kept KeptThen : List Entry → Type 0) (key : Key) (command : Command) (number : ℕ) (old new : State) (before written : Option (List ℕ)) (ending : Ending)
+    → RepliesTo Kept KeptThen key command number old new before written (Err ending) → ending ≢ Stopped NeedsReopen
+reply_usable Kept KeptThen key command number old new before written ending (answer, applies, inl (cut, part)) is = let both : Output ≡ Stopped NeedsReopen = sym cut ∙ is in absurd cc
+reply_usable Kept KeptThen key command number old new before written ending (answer, applies, inr (fault, same, usable, stopped, printed)) is =
     let both : Stopped fault ≡ Stopped NeedsReopen = sym stopped ∙ is in
     let equal : fault ≡ NeedsReopen = cc in
     usable equal
@@ -151,23 +152,25 @@ few_refused (Refused refusal ∷ verdicts) = omega (arith, few_refused verdicts)
 
 -- ---- a run so far
 
--- the first commands, so many, were applied and replied to
-pub record SoFar (commands : List (Key × Command)) (from index refused : ℕ) (old now : State) (before written : Option (List ℕ)) : Type 0 where
+-- The first commands, so many, were applied and replied to. `Kept` tells of which books is what is kept.
+pub record SoFar (Kept : List Entry → Type 0) (commands : List (Key × Command)) (from index refused : ℕ) (old now : State) (before written : Option (List ℕ)) : Type 0 where
   pub verdicts : List Verdict
   pub counted : index ≡ length verdicts
   pub refusals : refused ≡ count_refused verdicts
   pub lines : Appends before written (replies from verdicts)
   pub judged : HasCleanDisk now → (entries : List Entry) → Stands old entries
-      → (book : List Entry) × JudgesKeyed entries (take index commands) verdicts book × Stands now book × ((trees : Trees) → now.may_leave trees → LeavesJudged old.may_leave verdicts book trees)
+      → (book : List Entry) × JudgesKeyed entries (take index commands) verdicts book × StandsWith Kept now book × ((trees : Trees) → now.may_leave trees → LeavesJudged old.may_leave verdicts book trees)
   pub crash : Survives old now (λ trees. (entries : List Entry) → Stands old entries → LeavesFirst entries commands trees)
 
-pub so_far_none : (commands : List (Key × Command)) (from : ℕ) (old : State) (before : Option (List ℕ)) → SoFar commands from 0 0 old old before before
-so_far_none commands from old before = record {
+-- what is kept before the first is of any book
+pub so_far_none : (Kept : List Entry → Type 0) → ((entries : List Entry) → Kept entries) → (commands : List (Key × Command)) (from : ℕ) (old : State) (before : Option (List ℕ))
+    → SoFar Kept commands from 0 0 old old before before
+so_far_none Kept all commands from old before = record {
   verdicts = [];
   counted = refl;
   refusals = refl;
   lines = Appends-nil _;
-  judged = λ clean entries stands. (entries, refl, stands, λ trees may. inr (tt, may));
+  judged = λ clean entries stands. (entries, refl, (stands, all entries), λ trees may. inr (tt, may));
   crash = survives_same old _;
 }
 
@@ -188,19 +191,20 @@ left_of s book trees stands settled is = record {
 }
 
 -- what a command may add is the book with its entry
-adds : (key : Key) (command : Command) (now : State) (answer : Result Ack ApplyFault) (trees : Trees) (book : List Entry) → Stands now book → MayAdd key command now answer trees
+adds : (Before : List Entry → Type 0) (key : Key) (command : Command) (answer : Result Ack ApplyFault) (trees : Trees) (book : List Entry) → Before book → MayAdd Before key command answer trees
     → LeavesEntry book key command trees
-adds key command now (Ok ack.Accepted) trees book stands add = add book stands
-adds key command now (Ok ack.Repeat) trees book stands none = absurd none
-adds key command now (Err (apply.Refused refusal)) trees book stands none = absurd none
-adds key command now (Err (apply.Failed InDoubt)) trees book stands add = add book stands
-adds key command now (Err (apply.Failed Memory)) trees book stands add = add book stands
-adds key command now (Err (apply.Failed Device)) trees book stands none = absurd none
-adds key command now (Err (apply.Failed NeedsReopen)) trees book stands none = absurd none
-adds key command now (Err (apply.Failed Damaged)) trees book stands none = absurd none
+adds Before key command (Ok ack.Accepted) trees book there add = add book there
+adds Before key command (Ok ack.Repeat) trees book there none = absurd none
+adds Before key command (Err (apply.Refused refusal)) trees book there none = absurd none
+adds Before key command (Err (apply.Failed InDoubt)) trees book there add = add book there
+adds Before key command (Err (apply.Failed Memory)) trees book there add = add book there
+adds Before key command (Err (apply.Failed Device)) trees book there none = absurd none
+adds Before key command (Err (apply.Failed NeedsReopen)) trees book there none = absurd none
+adds Before key command (Err (apply.Failed Damaged)) trees book there none = absurd none
 
-module _ (commands : List (Key × Command)) (from index refused number : ℕ) (old now new : State) (before mid written : Option (List ℕ)) (so : SoFar commands from index refused old now before mid)
-    (next other : Key × Command) (is_next : next ≡ get_or commands index other) (within : index < length commands) (numbered : number ≡ from + index) where
+module _ (Kept KeptThen : List Entry → Type 0) (commands : List (Key × Command)) (from index refused number : ℕ) (old now new : State) (before mid written : Option (List ℕ))
+    (so : SoFar Kept commands from index refused old now before mid) (next other : Key × Command) (is_next : next ≡ get_or commands index other) (within : index < length commands)
+    (numbered : number ≡ from + index) where
   taken : take (index + 1) commands ≡ take index commands ++ next ∷ []
   taken = rw add-one (take-suc commands index other within) ∙ ap (λ (k : Key × Command). take index commands ++ k ∷ []) (sym is_next)
 
@@ -213,13 +217,13 @@ module _ (commands : List (Key × Command)) (from index refused number : ℕ) (o
   count = omega (arith, numbered, so.counted)
 
   -- a crash may leave the first commands, with the next one too
-  first : (answer : Result Ack ApplyFault) → Applies next.0 next.1 now new answer → Survives old new (λ trees. (entries : List Entry) → Stands old entries → LeavesFirst entries commands trees)
+  first : (answer : Result Ack ApplyFault) → AppliesWith Kept KeptThen next.0 next.1 now new answer → Survives old new (λ trees. (entries : List Entry) → Stands old entries → LeavesFirst entries commands trees)
   first answer applies =
-      survives_then old now new (λ trees. (entries : List Entry) → Stands old entries → LeavesFirst entries commands trees) (MayAdd next.0 next.1 now answer)
+      survives_then old now new (λ trees. (entries : List Entry) → Stands old entries → LeavesFirst entries commands trees) (MayAdd (StandsWith Kept now) next.0 next.1 answer)
       (λ trees. (entries : List Entry) → Stands old entries → LeavesFirst entries commands trees) (λ clean db leaves. leaves)
       (λ clean db add entries stands.
       let was = so.judged (omega (arith, clean, applies.crash.clean)) entries stands in
-      let more = adds next.0 next.1 now answer db was.0 was.2 add in (
+      let more = adds (StandsWith Kept now) next.0 next.1 answer db was.0 was.2 add in (
         so.verdicts ++ Accepted ∷ [],
         more.0,
         drop (index + 1) commands,
@@ -231,9 +235,9 @@ module _ (commands : List (Key × Command)) (from index refused number : ℕ) (o
         more.2,
       )) so.crash applies.crash
 
-  pub so_far_next : (verdict : Verdict) → RepliesTo next.0 next.1 number now new mid written (Ok verdict)
+  pub so_far_next : (verdict : Verdict) → RepliesTo Kept KeptThen next.0 next.1 number now new mid written (Ok verdict)
       → (IsTrue new.is_open → (trees : Trees) → new.may_leave trees → trees ≡ new.committed.trees)
-      → SoFar commands from (index + 1) (refused + count_refused (verdict ∷ [])) old new before written
+      → SoFar KeptThen commands from (index + 1) (refused + count_refused (verdict ∷ [])) old new before written
   so_far_next verdict (answer, applies, is, printed) safe = record {
     verdicts = so.verdicts ++ verdict ∷ [];
     counted = ap (λ n. n + 1) so.counted ∙ sym (length-append so.verdicts (verdict ∷ []));
@@ -243,12 +247,12 @@ module _ (commands : List (Key × Command)) (from index refused number : ℕ) (o
     judged = λ clean entries stands.
         let was = so.judged (omega (arith, clean, applies.crash.clean)) entries stands in
         let told_so = verdict_told answer verdict is in
-        let one = subst (λ o. IfSome o (λ v. (after : List Entry) × Judges was.0 next.0 next.1 v after × Stands new after)) told_so (applies.judged clean was.0 was.2) in
+        let one = subst (λ o. IfSome o (λ v. (after : List Entry) × Judges was.0 next.0 next.1 v after × StandsWith KeptThen new after)) told_so (applies.judged clean was.0 was.2) in
         let set = subst (λ o. IfSome o (λ v. IsTrue new.is_open × (new.committed ≡ new.now))) told_so (applies.settled clean) in (
           one.0,
           subst (λ done. JudgesKeyed entries done (so.verdicts ++ verdict ∷ []) one.0) (sym taken) (judges_more entries (take index commands) so.verdicts was.0 one.0 next verdict was.1 one.1),
           one.2,
-          λ trees may. inl (left_of new one.0 trees one.2 set.1 (safe set.0 trees may)),
+          λ trees may. inl (left_of new one.0 trees one.2.0 set.1 (safe set.0 trees may)),
         );
     crash = first answer applies;
   }
@@ -260,46 +264,46 @@ module _ (commands : List (Key × Command)) (from index refused number : ℕ) (o
   session entries book keyed = record { done = take index commands; split = split; judged = keyed }
 
   -- where nothing is added
-  kept_only : (answer : Result Ack ApplyFault) (applies : Applies next.0 next.1 now new answer) → ((trees : Trees) → ¬ MayAdd next.0 next.1 now answer trees) → HasCleanDisk new
+  kept_only : (answer : Result Ack ApplyFault) (applies : AppliesWith Kept KeptThen next.0 next.1 now new answer) → ((trees : Trees) → ¬ MayAdd (StandsWith Kept now) next.0 next.1 answer trees) → HasCleanDisk new
       → (could : Trees → Type 0) (book : List Entry) → ((trees : Trees) → now.may_leave trees → LeavesJudged could so.verdicts book trees)
       → (trees : Trees) → new.may_leave trees → LeavesJudged could so.verdicts book trees
   kept_only answer applies none clean could book was trees may = elim (applies.crash.crash clean trees may) [ inl earlier ↦ was trees earlier | inr add ↦ absurd (none trees add) ]
 
-  leaves_next : (answer : Result Ack ApplyFault) (applies : Applies next.0 next.1 now new answer) → HasCleanDisk new → (could : Trees → Type 0) (book : List Entry) → Stands now book
+  leaves_next : (answer : Result Ack ApplyFault) (applies : AppliesWith Kept KeptThen next.0 next.1 now new answer) → HasCleanDisk new → (could : Trees → Type 0) (book : List Entry) → StandsWith Kept now book
       → ((trees : Trees) → now.may_leave trees → LeavesJudged could so.verdicts book trees)
       → (trees : Trees) → new.may_leave trees → LeavesNext could so.verdicts book (next ∷ drop (index + 1) commands) trees
-  leaves_next answer applies clean could book stands was trees may = elim (applies.crash.crash clean trees may) [
+  leaves_next answer applies clean could book there was trees may = elim (applies.crash.crash clean trees may) [
     | inl earlier ↦ inl (was trees earlier)
-    | inr add ↦ inr (adds next.0 next.1 now answer trees book stands add)
+    | inr add ↦ inr (adds (StandsWith Kept now) next.0 next.1 answer trees book there add)
   ]
 
   -- the tables after an answer
-  stands_after : (answer : Result Ack ApplyFault) → Applies next.0 next.1 now new answer → HasCleanDisk new → (book : List Entry) → Stands now book
+  stands_after : (answer : Result Ack ApplyFault) → AppliesWith Kept KeptThen next.0 next.1 now new answer → HasCleanDisk new → (book : List Entry) → StandsWith Kept now book
       → IsTrue new.is_open → Stands new book ⊎ StandsNext book (next ∷ drop (index + 1) commands) new
-  stands_after (Ok ack.Accepted) applies clean book stands opened = let it = applies.judged clean book stands in inr (Accepted, it.0, it.1, it.2)
-  stands_after (Ok ack.Repeat) applies clean book stands opened = let it = applies.judged clean book stands in inr (Repeated, it.0, it.1, it.2)
-  stands_after (Err (apply.Refused refusal)) applies clean book stands opened = let it = applies.judged clean book stands in inr (Refused refusal, it.0, it.1, it.2)
-  stands_after (Err (apply.Failed fault)) applies clean book stands opened = inl (stands_along now new book ((applies.rest clean).1 opened) stands)
+  stands_after (Ok ack.Accepted) applies clean book there opened = let it = applies.judged clean book there in inr (Accepted, it.0, it.1, it.2.0)
+  stands_after (Ok ack.Repeat) applies clean book there opened = let it = applies.judged clean book there in inr (Repeated, it.0, it.1, it.2.0)
+  stands_after (Err (apply.Refused refusal)) applies clean book there opened = let it = applies.judged clean book there in inr (Refused refusal, it.0, it.1, it.2.0)
+  stands_after (Err (apply.Failed fault)) applies clean book there opened = inl (stands_along now new book ((applies.rest clean).1 opened) there.0)
 
-  after_fault : (fault : StoreFault) → fault ≢ NeedsReopen → Applies next.0 next.1 now new (Err (apply.Failed fault)) → HasCleanDisk new → (book : List Entry) → Stands now book
+  after_fault : (fault : StoreFault) → fault ≢ NeedsReopen → AppliesWith Kept KeptThen next.0 next.1 now new (Err (apply.Failed fault)) → HasCleanDisk new → (book : List Entry) → StandsWith Kept now book
       → ((trees : Trees) → now.may_leave trees → LeavesJudged old.may_leave so.verdicts book trees)
       → LeavesAfter so.verdicts book (next ∷ drop (index + 1) commands) old new (Stopped fault)
-  after_fault Device usable applies clean book stands was = (
-    λ opened. stands_along now new book ((applies.rest clean).1 opened) stands,
+  after_fault Device usable applies clean book there was = (
+    λ opened. stands_along now new book ((applies.rest clean).1 opened) there.0,
     kept_only (Err (apply.Failed Device)) applies (λ trees none. none) clean old.may_leave book was,
   )
-  after_fault InDoubt usable applies clean book stands was = (
-    λ opened. stands_along now new book ((applies.rest clean).1 opened) stands,
-    leaves_next (Err (apply.Failed InDoubt)) applies clean old.may_leave book stands was,
+  after_fault InDoubt usable applies clean book there was = (
+    λ opened. stands_along now new book ((applies.rest clean).1 opened) there.0,
+    leaves_next (Err (apply.Failed InDoubt)) applies clean old.may_leave book there was,
   )
-  after_fault Memory usable applies clean book stands was = (
-    λ opened. stands_along now new book ((applies.rest clean).1 opened) stands,
-    leaves_next (Err (apply.Failed Memory)) applies clean old.may_leave book stands was,
+  after_fault Memory usable applies clean book there was = (
+    λ opened. stands_along now new book ((applies.rest clean).1 opened) there.0,
+    leaves_next (Err (apply.Failed Memory)) applies clean old.may_leave book there was,
   )
-  after_fault NeedsReopen usable applies clean book stands was = absurd (usable refl)
-  after_fault Damaged usable applies clean book stands was = applies.damaged clean refl book stands
+  after_fault NeedsReopen usable applies clean book there was = absurd (usable refl)
+  after_fault Damaged usable applies clean book there was = applies.damaged clean refl book there
 
-  pub run_ends : (ending : Ending) → RepliesTo next.0 next.1 number now new mid written (Err ending)
+  pub run_ends : (ending : Ending) → RepliesTo Kept KeptThen next.0 next.1 number now new mid written (Err ending)
       → Runs commands from old new before written (record { replied = index; refused = refused; ending = ending })
   run_ends ending (answer, applies, inl (cut, part)) = record {
     verdicts = so.verdicts;
@@ -334,7 +338,7 @@ module _ (commands : List (Key × Command)) (from index refused number : ℕ) (o
           was.0,
           next ∷ drop (index + 1) commands,
           session entries was.0 was.1,
-          rw stopped (after_fault fault usable (subst (Applies next.0 next.1 now new) is applies) clean was.0 was.2 was.3),
+          rw stopped (after_fault fault usable (subst (AppliesWith Kept KeptThen next.0 next.1 now new) is applies) clean was.0 was.2 was.3),
         );
     crash = first answer applies;
   }
@@ -345,9 +349,9 @@ take_all : {X : Type 0} (xs : List X) → take (length xs) xs ≡ xs
 take_all [] = refl
 take_all (x ∷ xs) = ap (λ ys. x ∷ ys) (take_all xs)
 
-pub run_completes : (commands : List (Key × Command)) (from refused : ℕ) (old new : State) (before written : Option (List ℕ)) → SoFar commands from (length commands) refused old new before written
+pub run_completes : (Kept : List Entry → Type 0) (commands : List (Key × Command)) (from refused : ℕ) (old new : State) (before written : Option (List ℕ)) → SoFar Kept commands from (length commands) refused old new before written
     → Runs commands from old new before written (record { replied = length commands; refused = refused; ending = Complete })
-run_completes commands from refused old new before written so = record {
+run_completes Kept commands from refused old new before written so = record {
   verdicts = so.verdicts;
   writes = record { replied = so.counted; refused = so.refusals; lines = so.lines };
   session = λ clean entries stands.
@@ -355,7 +359,7 @@ run_completes commands from refused old new before written so = record {
         was.0,
         [],
         record { done = commands; split = sym (append-nil commands); judged = subst (λ cs. JudgesKeyed entries cs so.verdicts was.0) (take_all commands) was.1 },
-        (refl, was.2, was.3),
+        (refl, was.2.0, was.3),
       );
   crash = so.crash;
 }

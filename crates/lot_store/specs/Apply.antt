@@ -21,8 +21,6 @@ use Rattle.lot_rows.specs.Tables.{Has, Tables, layout}
 use Rattle.lot_table.specs.Book.{Holds}
 use Rattle.lot_table.specs.Statement.{DiskFailed}
 use Rattle.lot_table.specs.declared.fault.Fault as table
-use Rattle.lot_book.specs.declared.refusal.Stop.{Stop}
-use Rattle.lot_book.specs.declared.refusal.Stop.TheVariants as stop
 use Rattle.sqlite.specs.declared.error.Error.{Error}
 use Rattle.sqlite.specs.declared.error.Error.TheVariants.{SqliteFailure}
 use Rattle.sqlite.specs.declared.error.ErrorCode.TheVariants as code
@@ -43,11 +41,6 @@ abbrev pub store_fault_of : table.Fault → StoreFault
 store_fault_of table.TheVariants.Device = Device
 store_fault_of table.TheVariants.Damaged = Damaged
 store_fault_of table.TheVariants.Memory = Memory
-
--- of a decision
-abbrev pub apply_fault_of : Stop → ApplyFault
-apply_fault_of (stop.Refused refusal) = Refused refusal
-apply_fault_of stop.Memory = Failed Memory
 
 -- of a commit: but for memory nobody knows whether it was made
 abbrev pub commit_fault_of : Error → StoreFault
@@ -101,17 +94,17 @@ verdict_of (Ok ack.Repeat) = Some verdict.Repeated
 verdict_of (Err (Refused refusal)) = Some (verdict.Refused refusal)
 verdict_of (Err (Failed fault)) = None
 
--- what a crash may leave anew, by the answer: the book with the entry of the command, where it is committed, and where
--- nobody knows or memory refused the commit
-abbrev pub MayAdd : Key → Command → State → Result Ack ApplyFault → Trees → Type 0
-MayAdd key command old (Ok ack.Accepted) trees = (entries : List Entry) → Stands old entries → LeavesEntry entries key command trees
-MayAdd key command old (Err (Failed InDoubt)) trees = (entries : List Entry) → Stands old entries → LeavesEntry entries key command trees
-MayAdd key command old (Err (Failed Memory)) trees = (entries : List Entry) → Stands old entries → LeavesEntry entries key command trees
-MayAdd key command old (Ok ack.Repeat) trees = ⊥
-MayAdd key command old (Err (Refused refusal)) trees = ⊥
-MayAdd key command old (Err (Failed Device)) trees = ⊥
-MayAdd key command old (Err (Failed NeedsReopen)) trees = ⊥
-MayAdd key command old (Err (Failed Damaged)) trees = ⊥
+-- What a crash may leave anew, by the answer: the book with the entry of the command, where it is committed, and where
+-- nobody knows or memory refused the commit. `Before` tells which book is there before the command.
+abbrev pub MayAdd : (List Entry → Type 0) → Key → Command → Result Ack ApplyFault → Trees → Type 0
+MayAdd Before key command (Ok ack.Accepted) trees = (entries : List Entry) → Before entries → LeavesEntry entries key command trees
+MayAdd Before key command (Err (Failed InDoubt)) trees = (entries : List Entry) → Before entries → LeavesEntry entries key command trees
+MayAdd Before key command (Err (Failed Memory)) trees = (entries : List Entry) → Before entries → LeavesEntry entries key command trees
+MayAdd Before key command (Ok ack.Repeat) trees = ⊥
+MayAdd Before key command (Err (Refused refusal)) trees = ⊥
+MayAdd Before key command (Err (Failed Device)) trees = ⊥
+MayAdd Before key command (Err (Failed NeedsReopen)) trees = ⊥
+MayAdd Before key command (Err (Failed Damaged)) trees = ⊥
 
 -- a repeated command and a refused one change nothing
 abbrev pub LeavesAlone : Option Verdict → State → State → Type 0
@@ -120,18 +113,30 @@ LeavesAlone (Some verdict.Repeated) old new = IsUnchanged old new
 LeavesAlone (Some (verdict.Refused refusal)) old new = IsUnchanged old new
 LeavesAlone None old new = KeepsCommit old new × (IsTrue new.is_open → new.now ≡ old.now)
 
--- what applying a command comes to
-pub record Applies (key : Key) (command : Command) (old new : State) (result : Result Ack ApplyFault) : Type 0 where
-  -- where the tables stand for a book, the verdict is that of a step on it, and they stand for the book after it
-  pub judged : HasCleanDisk new → (entries : List Entry) → Stands old entries
-      → IfSome (verdict_of result) (λ verdict. (after : List Entry) × Judges entries key command verdict after × Stands new after)
+-- what applying a command comes to, where `Before` tells which book is there before it, and `After` which one after it
+pub record AppliesOn (Before After : List Entry → Type 0) (key : Key) (command : Command) (old new : State) (result : Result Ack ApplyFault) : Type 0 where
+  -- where a book is there, the verdict is that of a step on it, and the book after the step is there then
+  pub judged : HasCleanDisk new → (entries : List Entry) → Before entries
+      → IfSome (verdict_of result) (λ verdict. (after : List Entry) × Judges entries key command verdict after × After after)
   -- with the verdict all is committed
   pub settled : HasCleanDisk new → IfSome (verdict_of result) (λ verdict. IsTrue new.is_open × (new.committed ≡ new.now))
   -- without one the last commit stands, and while the connection is open its tables are as they were
   pub rest : HasCleanDisk new → LeavesAlone (verdict_of result) old new
-  -- damage is found only in tables that stand for no book
-  pub damaged : HasCleanDisk new → result ≡ Err (Failed Damaged) → (entries : List Entry) → ¬ Stands old entries
-  pub crash : Survives old new (MayAdd key command old result)
+  -- damage is found only where no book is there
+  pub damaged : HasCleanDisk new → result ≡ Err (Failed Damaged) → (entries : List Entry) → ¬ Before entries
+  pub crash : Survives old new (MayAdd Before key command result)
+
+-- the same of each book that the tables stand for
+abbrev pub Applies : Key → Command → State → State → Result Ack ApplyFault → Type 0
+Applies key command old new = AppliesOn (Stands old) (Stands new) key command old new
+
+-- the tables stand for a book, and what is kept is of it
+abbrev pub StandsWith : (List Entry → Type 0) → State → List Entry → Type 0
+StandsWith Kept s entries = Stands s entries × Kept entries
+
+-- the same as `Applies` of the books that what is kept before it is of; what is kept then is of the book after it
+abbrev pub AppliesWith : (Kept KeptThen : List Entry → Type 0) → Key → Command → State → State → Result Ack ApplyFault → Type 0
+AppliesWith Kept KeptThen key command old new = AppliesOn (StandsWith Kept old) (StandsWith KeptThen new) key command old new
 
 -- ---- a device that refuses
 
@@ -148,3 +153,8 @@ pub record HasNoRoomFor (key : Key) (command : Command) (entries : List Entry) (
 abbrev pub RefusedByDevice : Key → Command → State → State → Type 0
 RefusedByDevice key command old new =
     (entries : List Entry) (stands : Stands old entries) → DiskFailed old new ⊎ HasNoRoomFor key command entries stands.tables new
+
+-- the same of the books that what is kept is of
+abbrev pub RefusedByDeviceWith : (List Entry → Type 0) → Key → Command → State → State → Type 0
+RefusedByDeviceWith Kept key command old new =
+    (entries : List Entry) (stands : Stands old entries) → Kept entries → DiskFailed old new ⊎ HasNoRoomFor key command entries stands.tables new

@@ -14,7 +14,7 @@ use Rattle.std.specs.declared.io.Error.{Error}
 use Rattle.lot_report.specs.declared.line.PrintFault.{PrintFault}
 use Rattle.lot_report.specs.Printed.{line, replies, reply}
 use Rattle.lot_report.specs.Written.{IsPrefixOf}
-use Rattle.lot_store.specs.Apply.{Applies, condition_after}
+use Rattle.lot_store.specs.Apply.{AppliesWith, condition_after}
 use Rattle.lot_store.specs.Session.{LeavesFirst, LeavesJudged, LeavesNext, Session}
 use Rattle.lot_store.specs.declared.book.Ack.{Ack}
 use Rattle.lot_store.specs.declared.book.Ack.TheVariants as ack
@@ -79,12 +79,13 @@ told (Ok ack.Repeat) = Ok Repeated
 told (Err (apply.Refused refusal)) = Ok (Refused refusal)
 told (Err (apply.Failed fault)) = Err fault
 
--- a command of that number is applied, and its reply is written, or the run ends at it
-abbrev pub RepliesTo : Key → Command → ℕ → State → State → Option (List ℕ) → Option (List ℕ) → Result Verdict Ending → Type 0
-RepliesTo key command number old new before written (Ok verdict) =
-    (answer : Result Ack ApplyFault) × Applies key command old new answer × (told answer ≡ Ok verdict) × Appends before written (reply number verdict)
-RepliesTo key command number old new before written (Err ending) =
-    (answer : Result Ack ApplyFault) × Applies key command old new answer
+-- A command of that number is applied, and its reply is written, or the run ends at it. `Kept` tells of which books is what
+-- is kept before it, and `KeptThen` of which is what is kept then.
+abbrev pub RepliesTo : (Kept KeptThen : List Entry → Type 0) → Key → Command → ℕ → State → State → Option (List ℕ) → Option (List ℕ) → Result Verdict Ending → Type 0
+RepliesTo Kept KeptThen key command number old new before written (Ok verdict) =
+    (answer : Result Ack ApplyFault) × AppliesWith Kept KeptThen key command old new answer × (told answer ≡ Ok verdict) × Appends before written (reply number verdict)
+RepliesTo Kept KeptThen key command number old new before written (Err ending) =
+    (answer : Result Ack ApplyFault) × AppliesWith Kept KeptThen key command old new answer
     × (((ending ≡ Output) × AppendsSome before written (answer_line number answer))
     ⊎ ((fault : StoreFault) × (answer ≡ Err (apply.Failed fault)) × (fault ≢ NeedsReopen) × (ending ≡ Stopped fault) × Appends before written (fault_line number fault)))
 

@@ -1,5 +1,6 @@
 ghost use Rattle.std.specs.Prelude.{◌≡◌, ◌≢◌, ◌↔◌, false, Err, IsTrue, None, OnErr};
-ghost use Rattle.lot_store.specs.Apply.{Applies, RefusedByDevice, condition_after, ready_of};
+ghost use Rattle.lot_look.specs.Kept.{IsOf};
+ghost use Rattle.lot_store.specs.Apply.{Applies, AppliesWith, RefusedByDevice, RefusedByDeviceWith, condition_after, ready_of, verdict_of};
 ghost use Rattle.lot_store.specs.Step.{LeavesTables, Steps, StepsOverRows, condition_from};
 ghost use Rattle.lot_store.specs.declared.fault.ApplyFault.TheVariants.{Failed};
 ghost use Rattle.lot_table.specs.Statement.{DiskFailed};
@@ -11,8 +12,8 @@ use crate::commit::commit;
 use crate::fault::{ApplyFault, StoreFault};
 use crate::walk::Place;
 use lot_command::{Command, Key};
-use lot_ledger::{Outcome, decide};
-use lot_look::look;
+use lot_ledger::{Outcome, Stop, decide};
+use lot_look::{Kept, look_on};
 use lot_print::is_sayable;
 use lot_record::laws::what_is_written_stands_for_the_book;
 use lot_record::writes;
@@ -65,7 +66,29 @@ impl<S: Alter> Book<S> {
         ensures condition { self.new.condition ≡ condition_after result }
     {
         self.ready()?;
-        let applied = apply_to(self.alloc, &mut self.conn, key, command);
+        self.apply_with(&mut None, key, command)
+    }
+
+    /// Applies a command as `apply` does, on what is kept of the book, and keeps what is known of it then.
+    pub(crate) fn apply_with(
+        &mut self,
+        kept: &mut Option<Kept>,
+        key: &Key,
+        command: &Command,
+    ) -> Result<Ack, ApplyFault>
+        requires { self.old.condition ≡ Condition.Ready }
+        ensures applies { AppliesWith (IsOf kept.old) (IsOf kept.new) key.now command.now (state S.Store self.old.conn) (state S.Store self.new.conn) result }
+        ensures forgets { verdict_of result ≡ None → kept.new ≡ None }
+        ensures safe { IsTrue (state S.Store self.new.conn).is_open → (trees : Trees) → (state S.Store self.new.conn).may_leave trees
+            → trees ≡ (state S.Store self.new.conn).committed.trees }
+        ensures device { HasCleanDisk (state S.Store self.new.conn) → result ≡ Err (Failed StoreFault.Device)
+            → RefusedByDeviceWith (IsOf kept.old) key.now command.now (state S.Store self.old.conn) (state S.Store self.new.conn) }
+        ensures in_doubt { HasCleanDisk (state S.Store self.new.conn) → result ≡ Err (Failed StoreFault.InDoubt)
+            → DiskFailed (state S.Store self.old.conn) (state S.Store self.new.conn) }
+        ensures usable { result ≢ Err (Failed StoreFault.NeedsReopen) }
+        ensures condition { self.new.condition ≡ condition_after result }
+    {
+        let applied = apply_to(self.alloc, &mut self.conn, kept, key, command);
         self.condition = condition_after(&applied);
         applied
     }
@@ -139,19 +162,24 @@ impl<S: Alter> Book<S> {
     }
 }
 
-/// Applies a command to a book that doesn't need reopening.
+/// Applies a command to a book that doesn't need reopening, on what is kept of the book.
+///
+/// With a verdict it keeps what the command was judged on, and what it changed, as far as memory goes. Without one nothing is
+/// kept.
 fn apply_to<S: Alter>(
     alloc: Global,
     conn: &mut Connection<S>,
+    kept: &mut Option<Kept>,
     key: &Key,
     command: &Command,
 ) -> Result<Ack, ApplyFault>
     requires outside { HasCleanDisk (state S.Store conn.old) → conn.old.in_transaction ≡ false }
     requires unlimited { conn.old.step_limit ≡ None }
     ensures outside { HasCleanDisk (state S.Store conn.new) → conn.new.in_transaction ≡ false }
-    ensures applies { Applies key.now command.now (state S.Store conn.old) (state S.Store conn.new) result }
+    ensures applies { AppliesWith (IsOf kept.old) (IsOf kept.new) key.now command.now (state S.Store conn.old) (state S.Store conn.new) result }
+    ensures forgets { verdict_of result ≡ None → kept.new ≡ None }
     ensures device { HasCleanDisk (state S.Store conn.new) → result ≡ Err (Failed StoreFault.Device)
-        → RefusedByDevice key.now command.now (state S.Store conn.old) (state S.Store conn.new) }
+        → RefusedByDeviceWith (IsOf kept.old) key.now command.now (state S.Store conn.old) (state S.Store conn.new) }
     ensures in_doubt { HasCleanDisk (state S.Store conn.new) → result ≡ Err (Failed StoreFault.InDoubt) → DiskFailed (state S.Store conn.old) (state S.Store conn.new) }
     ensures usable { result ≢ Err (Failed StoreFault.NeedsReopen) }
 {
@@ -159,14 +187,23 @@ fn apply_to<S: Alter>(
     what_is_written_stands_for_the_book();
     // Outside a transaction the tables are those of the last commit.
     let _settled = conn.is_autocommit();
-    let view = look(alloc, conn, key, command)?;
-    match decide(alloc, &view, command)? {
-        Outcome::Repeat => Ok(Ack::Repeat),
-        Outcome::Accept(change) => {
-            let writes = writes(alloc, &view, key, command, &change)?;
+    let looked = look_on(alloc, conn, kept.take(), key, command)?;
+    match decide(alloc, looked.view(), command) {
+        Ok(Outcome::Accept(change)) => {
+            let writes = writes(alloc, looked.view(), key, command, &change)?;
             commit(conn, &writes)?;
+            *kept = looked.record(command, &change).ok();
             Ok(Ack::Accepted)
         }
+        Ok(Outcome::Repeat) => {
+            *kept = Some(looked);
+            Ok(Ack::Repeat)
+        }
+        Err(Stop::Refused(refusal)) => {
+            *kept = Some(looked);
+            Err(ApplyFault::Refused(refusal))
+        }
+        Err(Stop::Memory) => Err(ApplyFault::Failed(StoreFault::Memory)),
     }
 }
 

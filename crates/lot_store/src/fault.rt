@@ -1,4 +1,4 @@
-use lot_ledger::{Refusal, Stop};
+use lot_ledger::Refusal;
 use lot_table::{Fault, MakeFault};
 use sqlite::{Alter, Connection};
 use std::alloc::AllocError;
@@ -88,20 +88,6 @@ impl From<Fault> for ApplyFault {
 
     fn from(fault: Fault) -> ApplyFault {
         ApplyFault::Failed(StoreFault::from(fault))
-    }
-}
-
-impl From<Stop> for ApplyFault {
-    ghost use Rattle.std.specs.Prelude.{◌≡◌};
-    ghost use Rattle.lot_store.specs.Apply.{apply_fault_of};
-
-    ghost from_gives = { λ stop e. e ≡ apply_fault_of stop };
-
-    fn from(stop: Stop) -> ApplyFault {
-        match stop {
-            Stop::Refused(refusal) => ApplyFault::Refused(refusal),
-            Stop::Memory => ApplyFault::Failed(StoreFault::Memory),
-        }
     }
 }
 

@@ -1,4 +1,5 @@
 ghost use Rattle.std.specs.Prelude.{◌≡◌, ◌≢◌, ◌+◌, ◌<◌, ◌^◌, [], ◌∷◌, length, IfErr, IsOk, IsTrue};
+ghost use Rattle.lot_look.specs.Kept.{IsOf};
 ghost use Rattle.lot_report.specs.Printed.{reply};
 ghost use Rattle.lot_store.specs.Run.{FlushesLine, IsConditionAfter, RepliesTo, Runs, StopsAtOnce, StopsWith, WritesOut, count_refused, flush_outcome, told};
 ghost use Rattle.lot_store.specs.declared.run.Ending.TheVariants.{Stopped};
@@ -9,6 +10,7 @@ use crate::book::{Ack, Book, Condition};
 use crate::fault::{ApplyFault, StoreFault};
 use lot_command::{Command, Key};
 use lot_ledger::Verdict;
+use lot_look::Kept;
 use lot_report::{PrintFault, print_line, print_reply};
 use sqlite::Alter;
 use std::io::{self, Write};
@@ -38,6 +40,7 @@ impl<S: Alter> Book<S> {
     /// Applies commands in their order, each in one commit, and writes a reply to each before it begins the next one. The
     /// first has the number `from`.
     ///
+    /// Each command is judged on what is known of the book from those before it and on the rows that it touches beside these.
     /// It stops at the first fault, whose line it writes with the number of the command, or where the writer fails. A book
     /// that needs reopening is such a fault at the number `from`, where there are no commands too.
     pub fn run<W: Write>(
@@ -61,9 +64,10 @@ impl<S: Alter> Book<S> {
                 ending: stop(writer, from, fault),
             };
         }
+        let mut kept = None;
         let mut refused = 0;
         'commands: for (index, (key, command)) in commands.iter().enumerate() {
-            match self.reply(from + index, key, command, writer) {
+            match self.reply(&mut kept, from + index, key, command, writer) {
                 Ok(verdict) => refused += refusals(&verdict),
                 Err(ending) => {
                     return RunEnd {
@@ -81,23 +85,24 @@ impl<S: Alter> Book<S> {
         }
     }
 
-    /// Applies the command of that number, and writes the reply, or the line of the fault.
+    /// Applies the command of that number, on what is kept of the book, and writes the reply, or the line of the fault.
     fn reply<W: Write>(
         &mut self,
+        kept: &mut Option<Kept>,
         number: usize,
         key: &Key,
         command: &Command,
         writer: &mut W,
     ) -> Result<Verdict, Ending>
         requires { self.old.condition ≡ Condition.Ready }
-        ensures replies { RepliesTo key.now command.now number (state S.Store self.old.conn) (state S.Store self.new.conn)
+        ensures replies { RepliesTo (IsOf kept.old) (IsOf kept.new) key.now command.now number (state S.Store self.old.conn) (state S.Store self.new.conn)
             (W.contents writer.old) (W.contents writer.new) result }
         ensures safe { IsTrue (state S.Store self.new.conn).is_open → (trees : Trees) → (state S.Store self.new.conn).may_leave trees
             → trees ≡ (state S.Store self.new.conn).committed.trees }
         ensures ready { IsOk result → self.new.condition ≡ Condition.Ready }
         ensures condition { IfErr result (λ ending. IsConditionAfter ending self.new.condition) }
     {
-        match told(self.apply(key, command)) {
+        match told(self.apply_with(kept, key, command)) {
             Ok(verdict) => {
                 write_reply(writer, number, &verdict)?;
                 Ok(verdict)

@@ -1,92 +1,131 @@
 use Rattle.std.proofs.Common.{◌≡◌, ◌∙◌, Err, ap, arith, not, sym}
 use Rattle.std.proofs.lemmas.Result.{err_from_is_err_and}
+use Rattle.std.specs.Result.{result_ok}
 use Rattle.sqlite.specs.Held.{state}
+use Rattle.sqlite.specs.State.{HasCleanDisk}
+use Rattle.lot_book.specs.declared.refusal.Stop.TheVariants.{Refused}
 use Rattle.lot_laws.proofs.RecordedBook.{room_where_decided}
-use Rattle.lot_view.specs.View.{known}
+use Rattle.lot_ledger.specs.Decide.{Comes}
+use Rattle.lot_ledger.specs.declared.decision.Outcome.TheVariants.{Accept, Repeat}
+use Rattle.lot_look.specs.Kept.{IsOf, Keeps, seen}
+use Rattle.lot_record.specs.Writes.{writes_of}
 use Rattle.lot_store.specs.Apply.{store_fault_of}
 use Rattle.lot_store.specs.declared.fault.StoreFault.TheVariants.{Device}
-use Rattle.lot_store.proofs.ApplyLemmas.{accepts, fails, refused, refused_number, repeats, stops}
+use Rattle.lot_store.proofs.ApplyLemmas.{LooksOn, accepts, fails, refused, refused_number, refuses, repeats}
 use Rattle.lot_store.proofs.CommitLemmas.{of_device}
+use Rattle.lot_store.proofs.KeptLemmas.{comes_on, kept_then, stops_on, writes_on}
 use Rattle.lot_store.proofs.book.apply_to.Goals as goal
-
-pub returns-in_err-decide-clause-applies : goal.returns-in_err-decide-clause-applies
-returns-in_err-decide-clause-applies g c =
-    let old = state g.S.Store c.args.conn.now in
-    let new = state g.S.Store c.look.new.conn in
-    let looks = c.in_ok-view.ensures.looks in
-    let fault = err_from_is_err_and c.from_residual-in_err-decide.result c.from_residual-in_err-decide.ensures.1 in
-    rw (fault.1, fault.2)
-    (stops c.args.key.now c.args.command.now (known c.in_ok-view.view) old new looks.same (λ clean tables has entries. looks.says clean tables has entries)
-    (λ clean opened. c.is_autocommit-settled.ensures.settled (rw c.is_autocommit-settled.ensures.value (ap not (c.requires.outside (omega (arith, clean, looks.crash.clean))))) opened)
-    looks.crash _ c.in_err-decide.ensures.stops)
-
-pub returns-in-Repeat-clause-applies : goal.returns-in-Repeat-clause-applies
-returns-in-Repeat-clause-applies g c =
-    let old = state g.S.Store c.args.conn.now in
-    let new = state g.S.Store c.look.new.conn in
-    let looks = c.in_ok-view.ensures.looks in
-    repeats c.args.key.now c.args.command.now (known c.in_ok-view.view) old new looks.same (λ clean tables has entries. looks.says clean tables has entries)
-    (λ clean opened. c.is_autocommit-settled.ensures.settled (rw c.is_autocommit-settled.ensures.value (ap not (c.requires.outside (omega (arith, clean, looks.crash.clean))))) opened)
-    looks.crash (rw c.in-Repeat.is at c.in_ok-decide.ensures.decided)
 
 pub writes-requires : goal.writes-requires
 writes-requires g c =
-    let comes = rw c.in-Accept.is at c.in_ok-decide.ensures.decided in
-    room_where_decided (known c.in_ok-view.view) c.args.command.now c.in-Accept.change.legs comes.0
+    let looked = c.in_ok-looked.looked in
+    let comes : Comes (seen looked) c.args.command.now (Accept c.in-Ok-Accept.change) = comes_on looked c.view.result.now c.view.ensures c.args.command.now _ _ c.in-Ok-Accept.field-0-is c.in-Ok-Accept.ensures.decided in
+    rw c.view-in-Ok-Accept.ensures (room_where_decided (seen looked) c.args.command.now c.in-Ok-Accept.change.legs comes.0)
 
-pub returns-in_err-commit-in-Accept-clause-applies : goal.returns-in_err-commit-in-Accept-clause-applies
-returns-in_err-commit-in-Accept-clause-applies g c =
+pub record-requires : goal.record-requires
+record-requires g c =
+    let looked = c.in_ok-looked.looked in
+    let comes : Comes (seen looked) c.args.command.now (Accept c.in-Ok-Accept.change) = comes_on looked c.view.result.now c.view.ensures c.args.command.now _ _ c.in-Ok-Accept.field-0-is c.in-Ok-Accept.ensures.decided in
+    room_where_decided (seen looked) c.args.command.now c.in-Ok-Accept.change.legs comes.0
+
+pub returns-in-Ok-Repeat-clause-applies : goal.returns-in-Ok-Repeat-clause-applies
+returns-in-Ok-Repeat-clause-applies g c =
     let old = state g.S.Store c.args.conn.now in
-    let mid = state g.S.Store c.look.new.conn in
+    let mid = state g.S.Store c.look_on.new.conn in
+    let looked = c.in_ok-looked.looked in
+    let read = c.in_ok-looked.ensures.looks in
+    let looks : HasCleanDisk mid → LooksOn (IsOf c.args.kept.now) (Keeps looked) (seen looked) c.args.key.now c.args.command.now old =
+    λ clean tables has entries book stand is_kept. read.says clean tables has entries book stand (rw c.take.ensures.value is_kept) in
+    repeats (IsOf c.args.kept.now) (Keeps looked) c.args.key.now c.args.command.now (seen looked) old mid read.same looks
+    (λ clean opened. c.is_autocommit-settled.ensures.settled (rw c.is_autocommit-settled.ensures.value (ap not (c.requires.outside (omega (arith, clean, read.crash.clean))))) opened)
+    read.crash (comes_on looked c.view.result.now c.view.ensures c.args.command.now _ Repeat c.in-Ok-Repeat.field-0-is c.in-Ok-Repeat.ensures.decided)
+
+pub returns-in-Err-Refused-clause-applies : goal.returns-in-Err-Refused-clause-applies
+returns-in-Err-Refused-clause-applies g c =
+    let old = state g.S.Store c.args.conn.now in
+    let mid = state g.S.Store c.look_on.new.conn in
+    let looked = c.in_ok-looked.looked in
+    let read = c.in_ok-looked.ensures.looks in
+    let looks : HasCleanDisk mid → LooksOn (IsOf c.args.kept.now) (Keeps looked) (seen looked) c.args.key.now c.args.command.now old =
+    λ clean tables has entries book stand is_kept. read.says clean tables has entries book stand (rw c.take.ensures.value is_kept) in
+    rw c.in-Err-Refused.refusal-is
+    (refuses (IsOf c.args.kept.now) (Keeps looked) c.args.key.now c.args.command.now (seen looked) old mid read.same looks
+    (λ clean opened. c.is_autocommit-settled.ensures.settled (rw c.is_autocommit-settled.ensures.value (ap not (c.requires.outside (omega (arith, clean, read.crash.clean))))) opened)
+    read.crash c.in-Err-Refused.refusal (stops_on looked c.view.result.now c.view.ensures c.args.command.now _ (Refused c.in-Err-Refused.refusal) c.in-Err-Refused.field-0-is c.in-Err-Refused.ensures.stops))
+
+pub returns-in_err-commit-in-Ok-Accept-clause-applies : goal.returns-in_err-commit-in-Ok-Accept-clause-applies
+returns-in_err-commit-in-Ok-Accept-clause-applies g c =
+    let old = state g.S.Store c.args.conn.now in
+    let mid = state g.S.Store c.look_on.new.conn in
     let new = state g.S.Store c.commit.new.conn in
-    let looks = c.in_ok-view.ensures.looks in
-    let comes = rw c.in-Accept.is at c.in_ok-decide.ensures.decided in
-    let made = c.in_ok-writes-in-Accept.ensures in
-    let fault = err_from_is_err_and c.from_residual-in_err-commit-in-Accept.result c.from_residual-in_err-commit-in-Accept.ensures.1 in
+    let looked = c.in_ok-looked.looked in
+    let comes : Comes (seen looked) c.args.command.now (Accept c.in-Ok-Accept.change) = comes_on looked c.view.result.now c.view.ensures c.args.command.now _ _ c.in-Ok-Accept.field-0-is c.in-Ok-Accept.ensures.decided in
+    let read = c.in_ok-looked.ensures.looks in
+    let looks : HasCleanDisk mid → LooksOn (IsOf c.args.kept.now) (Keeps looked) (seen looked) c.args.key.now c.args.command.now old =
+    λ clean tables has entries book stand is_kept. read.says clean tables has entries book stand (rw c.take.ensures.value is_kept) in
+    let made = c.in_ok-writes-in-Ok-Accept.ensures in
+    let are : c.deref.result.now ≡ writes_of (seen looked) c.args.key.now c.args.command.now c.in-Ok-Accept.change = writes_on looked c.view-in-Ok-Accept.result.now c.view-in-Ok-Accept.ensures c.args.command.now c.args.key.now c.in-Ok-Accept.change c.deref.result.now (c.deref.ensures.value ∙ made.writes) in
+    let fault = err_from_is_err_and c.from_residual-in_err-commit-in-Ok-Accept.result c.from_residual-in_err-commit-in-Ok-Accept.ensures.1 in
     rw (fault.1, fault.2)
-    (fails c.what_is_written_stands_for_the_book.ensures c.args.key.now c.args.command.now (known c.in_ok-view.view) c.in-Accept.change c.deref.result.now (c.deref.ensures.value ∙ made.writes) comes.0 comes.1 made.ordered c.is_sayable.ensures (rw c.deref.ensures.value made.good) old mid new
-    looks.same (λ clean tables has entries. looks.says clean tables has entries)
-    (λ clean opened. c.is_autocommit-settled.ensures.settled (rw c.is_autocommit-settled.ensures.value (ap not (c.requires.outside (omega (arith, clean, looks.crash.clean))))) opened)
-    looks.crash _ c.in_err-commit-in-Accept.ensures.kept c.in_err-commit-in-Accept.ensures.settled
-    (λ clean is. c.in_err-commit-in-Accept.ensures.damaged clean (ap Err is) (looks.crash.limit ∙ c.requires.unlimited)) c.in_err-commit-in-Accept.ensures.crash)
+    (fails c.what_is_written_stands_for_the_book.ensures (IsOf c.args.kept.now) (Keeps looked) c.args.key.now c.args.command.now (seen looked) c.in-Ok-Accept.change c.deref.result.now are comes made.ordered
+    c.is_sayable.ensures (rw c.deref.ensures.value made.good) old mid new read.same looks
+    (λ clean opened. c.is_autocommit-settled.ensures.settled (rw c.is_autocommit-settled.ensures.value (ap not (c.requires.outside (omega (arith, clean, read.crash.clean))))) opened)
+    read.crash (IsOf c.take.new.self) _ c.in_err-commit-in-Ok-Accept.ensures.kept c.in_err-commit-in-Ok-Accept.ensures.settled
+    (λ clean is. c.in_err-commit-in-Ok-Accept.ensures.damaged clean (ap Err is) (read.crash.limit ∙ c.requires.unlimited)) c.in_err-commit-in-Ok-Accept.ensures.crash)
 
-pub returns-clause-applies : goal.returns-clause-applies
-returns-clause-applies g c =
+pub returns-in_ok-commit-in-Ok-Accept-clause-applies : goal.returns-in_ok-commit-in-Ok-Accept-clause-applies
+returns-in_ok-commit-in-Ok-Accept-clause-applies g c =
     let old = state g.S.Store c.args.conn.now in
-    let mid = state g.S.Store c.look.new.conn in
+    let mid = state g.S.Store c.look_on.new.conn in
     let new = state g.S.Store c.commit.new.conn in
-    let looks = c.in_ok-view.ensures.looks in
-    let comes = rw c.in-Accept.is at c.in_ok-decide.ensures.decided in
-    let made = c.in_ok-writes-in-Accept.ensures in
-    accepts c.what_is_written_stands_for_the_book.ensures c.args.key.now c.args.command.now (known c.in_ok-view.view) c.in-Accept.change c.deref.result.now (c.deref.ensures.value ∙ made.writes) comes.0 comes.1 made.ordered c.is_sayable.ensures (rw c.deref.ensures.value made.good) old mid new
-    looks.same (λ clean tables has entries. looks.says clean tables has entries)
-    (λ clean opened. c.is_autocommit-settled.ensures.settled (rw c.is_autocommit-settled.ensures.value (ap not (c.requires.outside (omega (arith, clean, looks.crash.clean))))) opened)
-    looks.crash c.in_ok-commit-in-Accept.ensures.done c.in_ok-commit-in-Accept.ensures.crash
+    let looked = c.in_ok-looked.looked in
+    let comes : Comes (seen looked) c.args.command.now (Accept c.in-Ok-Accept.change) = comes_on looked c.view.result.now c.view.ensures c.args.command.now _ _ c.in-Ok-Accept.field-0-is c.in-Ok-Accept.ensures.decided in
+    let read = c.in_ok-looked.ensures.looks in
+    let looks : HasCleanDisk mid → LooksOn (IsOf c.args.kept.now) (Keeps looked) (seen looked) c.args.key.now c.args.command.now old =
+    λ clean tables has entries book stand is_kept. read.says clean tables has entries book stand (rw c.take.ensures.value is_kept) in
+    let made = c.in_ok-writes-in-Ok-Accept.ensures in
+    let are : c.deref.result.now ≡ writes_of (seen looked) c.args.key.now c.args.command.now c.in-Ok-Accept.change = writes_on looked c.view-in-Ok-Accept.result.now c.view-in-Ok-Accept.ensures c.args.command.now c.args.key.now c.in-Ok-Accept.change c.deref.result.now (c.deref.ensures.value ∙ made.writes) in
+    rw c.ok.ensures.value
+    (accepts c.what_is_written_stands_for_the_book.ensures (IsOf c.args.kept.now) (Keeps looked) c.args.key.now c.args.command.now (seen looked) c.in-Ok-Accept.change c.deref.result.now are comes made.ordered
+    c.is_sayable.ensures (rw c.deref.ensures.value made.good) old mid new read.same looks
+    (λ clean opened. c.is_autocommit-settled.ensures.settled (rw c.is_autocommit-settled.ensures.value (ap not (c.requires.outside (omega (arith, clean, read.crash.clean))))) opened)
+    read.crash
+    (IsOf (result_ok c.record.result)) (kept_then looked c.args.key.now c.args.command.now c.in-Ok-Accept.change c.record.result c.record.ensures comes)
+    c.in_ok-commit-in-Ok-Accept.ensures.done c.in_ok-commit-in-Ok-Accept.ensures.crash)
 
-pub returns-in_err-writes-in-Accept-clause-device : goal.returns-in_err-writes-in-Accept-clause-device
-returns-in_err-writes-in-Accept-clause-device g c clean is =
-    let looks = c.in_ok-view.ensures.looks in
-    let fault = err_from_is_err_and c.from_residual-in_err-writes-in-Accept.result c.from_residual-in_err-writes-in-Accept.ensures.1 in
+pub returns-in_err-writes-in-Ok-Accept-clause-device : goal.returns-in_err-writes-in-Ok-Accept-clause-device
+returns-in_err-writes-in-Ok-Accept-clause-device g c clean is =
+    let old = state g.S.Store c.args.conn.now in
+    let mid = state g.S.Store c.look_on.new.conn in
+    let looked = c.in_ok-looked.looked in
+    let comes : Comes (seen looked) c.args.command.now (Accept c.in-Ok-Accept.change) = comes_on looked c.view.result.now c.view.ensures c.args.command.now _ _ c.in-Ok-Accept.field-0-is c.in-Ok-Accept.ensures.decided in
+    let read = c.in_ok-looked.ensures.looks in
+    let looks : HasCleanDisk mid → LooksOn (IsOf c.args.kept.now) (Keeps looked) (seen looked) c.args.key.now c.args.command.now old =
+    λ clean tables has entries book stand is_kept. read.says clean tables has entries book stand (rw c.take.ensures.value is_kept) in
+    let fault = err_from_is_err_and c.from_residual-in_err-writes-in-Ok-Accept.result c.from_residual-in_err-writes-in-Ok-Accept.ensures.1 in
     let both = sym fault.1 ∙ is in
     let said = fault.2 in
-    let told : store_fault_of c.in_err-writes-in-Accept.field-0.0 ≡ Device = cc in
-    refused_number c.args.key.now c.args.command.now (known c.in_ok-view.view) c.in-Accept.change (state g.S.Store c.args.conn.now) (state g.S.Store c.look.new.conn)
-    (rw c.in-Accept.is at c.in_ok-decide.ensures.decided) (λ tables has entries. looks.says clean tables has entries)
-    (c.in_err-writes-in-Accept.ensures.device (ap Err (of_device c.in_err-writes-in-Accept.field-0.0 told)))
+    let told : store_fault_of c.in_err-writes-in-Ok-Accept.field-0.0 ≡ Device = cc in
+    refused_number (IsOf c.args.kept.now) (Keeps looked) c.args.key.now c.args.command.now (seen looked) c.in-Ok-Accept.change old mid comes (looks clean)
+    (c.in_err-writes-in-Ok-Accept.ensures.device (ap Err (of_device c.in_err-writes-in-Ok-Accept.field-0.0 told)))
 
-pub returns-in_err-commit-in-Accept-clause-device : goal.returns-in_err-commit-in-Accept-clause-device
-returns-in_err-commit-in-Accept-clause-device g c clean is =
+pub returns-in_err-commit-in-Ok-Accept-clause-device : goal.returns-in_err-commit-in-Ok-Accept-clause-device
+returns-in_err-commit-in-Ok-Accept-clause-device g c clean is =
     let old = state g.S.Store c.args.conn.now in
-    let mid = state g.S.Store c.look.new.conn in
+    let mid = state g.S.Store c.look_on.new.conn in
     let new = state g.S.Store c.commit.new.conn in
-    let looks = c.in_ok-view.ensures.looks in
-    let comes = rw c.in-Accept.is at c.in_ok-decide.ensures.decided in
-    let made = c.in_ok-writes-in-Accept.ensures in
-    let fault = err_from_is_err_and c.from_residual-in_err-commit-in-Accept.result c.from_residual-in_err-commit-in-Accept.ensures.1 in
+    let looked = c.in_ok-looked.looked in
+    let comes : Comes (seen looked) c.args.command.now (Accept c.in-Ok-Accept.change) = comes_on looked c.view.result.now c.view.ensures c.args.command.now _ _ c.in-Ok-Accept.field-0-is c.in-Ok-Accept.ensures.decided in
+    let read = c.in_ok-looked.ensures.looks in
+    let looks : HasCleanDisk mid → LooksOn (IsOf c.args.kept.now) (Keeps looked) (seen looked) c.args.key.now c.args.command.now old =
+    λ clean tables has entries book stand is_kept. read.says clean tables has entries book stand (rw c.take.ensures.value is_kept) in
+    let made = c.in_ok-writes-in-Ok-Accept.ensures in
+    let are : c.deref.result.now ≡ writes_of (seen looked) c.args.key.now c.args.command.now c.in-Ok-Accept.change = writes_on looked c.view-in-Ok-Accept.result.now c.view-in-Ok-Accept.ensures c.args.command.now c.args.key.now c.in-Ok-Accept.change c.deref.result.now (c.deref.ensures.value ∙ made.writes) in
+    let fault = err_from_is_err_and c.from_residual-in_err-commit-in-Ok-Accept.result c.from_residual-in_err-commit-in-Ok-Accept.ensures.1 in
     let both = sym fault.1 ∙ is in
     let said = fault.2 in
-    let told : c.in_err-commit-in-Accept.field-0.0 ≡ Device = cc in
-    refused c.what_is_written_stands_for_the_book.ensures c.args.key.now c.args.command.now (known c.in_ok-view.view) c.in-Accept.change c.deref.result.now (c.deref.ensures.value ∙ made.writes) comes.0 comes.1 made.ordered c.is_sayable.ensures (rw c.deref.ensures.value made.good) old mid new
-    looks.same (λ clean tables has entries. looks.says clean tables has entries)
-    (λ clean opened. c.is_autocommit-settled.ensures.settled (rw c.is_autocommit-settled.ensures.value (ap not (c.requires.outside (omega (arith, clean, looks.crash.clean))))) opened)
-    looks.crash (omega (arith, clean, c.in_err-commit-in-Accept.ensures.crash.clean)) (c.in_err-commit-in-Accept.ensures.device clean (ap Err told))
+    let told : c.in_err-commit-in-Ok-Accept.field-0.0 ≡ Device = cc in
+    refused c.what_is_written_stands_for_the_book.ensures (IsOf c.args.kept.now) (Keeps looked) c.args.key.now c.args.command.now (seen looked) c.in-Ok-Accept.change c.deref.result.now are comes made.ordered
+    c.is_sayable.ensures (rw c.deref.ensures.value made.good) old mid new read.same looks
+    (λ clean opened. c.is_autocommit-settled.ensures.settled (rw c.is_autocommit-settled.ensures.value (ap not (c.requires.outside (omega (arith, clean, read.crash.clean))))) opened)
+    read.crash (omega (arith, clean, c.in_err-commit-in-Ok-Accept.ensures.crash.clean)) (c.in_err-commit-in-Ok-Accept.ensures.device clean (ap Err told))

@@ -1,12 +1,13 @@
-use Rattle.std.proofs.Common.{◌≡◌, ◌∙◌, ◌+◌, ◌∷◌, [], arith, length, refl, subst, sym}
+use Rattle.std.proofs.Common.{◌≡◌, ◌∙◌, ◌+◌, ◌∷◌, [], None, arith, length, refl, subst, sym}
 use Rattle.sqlite.specs.Held.{state}
+use Rattle.lot_look.specs.Kept.{IsOf}
 use Rattle.lot_store.specs.Run.{StopsWith}
 use Rattle.lot_store.proofs.RunLemmas.{SoFar, condition_spent, few_refused, ready_fault, ready_ok, reply_usable, run_completes, run_ends, run_needs_reopening, so_far_next, so_far_none, spent_if}
 use Rattle.lot_store.proofs.book.Book.run.Goals as goal
 
 pub commands-init : goal.commands-init
 commands-init g c =
-    (so_far_none c.args.commands.now c.args.from (state g.S.Store c.args.self.now.conn) _, ready_ok c.args.self.now.condition (sym c.ready.ensures ∙ c.in_default.is))
+    (so_far_none (IsOf None) (λ entries. tt) c.args.commands.now c.args.from (state g.S.Store c.args.self.now.conn) _, ready_ok c.args.self.now.condition (sym c.ready.ensures ∙ c.in_default.is))
 
 pub overflow_add-refused : goal.overflow_add-refused
 overflow_add-refused g c =
@@ -28,9 +29,9 @@ returns-in-Err g c =
 pub returns-in-Err-reply : goal.returns-in-Err-reply
 returns-in-Err-reply g c = record {
   spent = λ is. let both = sym is ∙ ready_ok c.args.self.now.condition (sym c.ready.ensures ∙ c.in_default.is) in absurd cc;
-  usable = λ ready. reply_usable _ _ (c.args.from + c.commands.index) (state g.S.Store c.commands.self.conn) (state g.S.Store c.reply.new.self.conn) _ _ c.in-Err-reply.ending c.in-Err-reply.ensures.replies;
+  usable = λ ready. reply_usable (IsOf c.commands.kept) (IsOf c.reply.new.kept) _ _ (c.args.from + c.commands.index) (state g.S.Store c.commands.self.conn) (state g.S.Store c.reply.new.self.conn) _ _ c.in-Err-reply.ending c.in-Err-reply.ensures.replies;
   condition = c.in-Err-reply.ensures.condition;
-  runs = run_ends c.args.commands.now c.args.from c.commands.index c.commands.refused (c.args.from + c.commands.index) (state g.S.Store c.args.self.now.conn) (state g.S.Store c.commands.self.conn)
+  runs = run_ends (IsOf c.commands.kept) (IsOf c.reply.new.kept) c.args.commands.now c.args.from c.commands.index c.commands.refused (c.args.from + c.commands.index) (state g.S.Store c.args.self.now.conn) (state g.S.Store c.commands.self.conn)
       (state g.S.Store c.reply.new.self.conn) _ _ _ c.commands.invariant.0 c.index-commands-index.result _ c.index-commands-index.is c.commands-test.true refl c.in-Err-reply.ending
       c.in-Err-reply.ensures.replies;
 }
@@ -38,7 +39,7 @@ returns-in-Err-reply g c = record {
 pub commands-preserved : goal.commands-preserved
 commands-preserved g c = (
   rw c.refusals-refused.ensures
-      (so_far_next c.args.commands.now c.args.from c.commands.index c.commands.refused (c.args.from + c.commands.index) (state g.S.Store c.args.self.now.conn) (state g.S.Store c.commands.self.conn)
+      (so_far_next (IsOf c.commands.kept) (IsOf c.reply.new.kept) c.args.commands.now c.args.from c.commands.index c.commands.refused (c.args.from + c.commands.index) (state g.S.Store c.args.self.now.conn) (state g.S.Store c.commands.self.conn)
       (state g.S.Store c.reply.new.self.conn) _ _ _ c.commands.invariant.0 c.index-commands-index.result _ c.index-commands-index.is c.commands-test.true refl c.in-Ok.verdict
       c.in-Ok.ensures.replies c.reply.ensures.safe),
   c.in-Ok.ensures.ready refl,
@@ -51,6 +52,6 @@ returns g c =
       spent = λ is. let both = sym is ∙ ready_ok c.args.self.now.condition (sym c.ready.ensures ∙ c.in_default.is) in absurd cc;
       usable = λ ready complete. absurd cc;
       condition = c.commands.invariant.1;
-      runs = run_completes c.args.commands.now c.args.from c.commands.refused (state g.S.Store c.args.self.now.conn) (state g.S.Store c.commands.self.conn) _ _
-          (subst (λ n. SoFar c.args.commands.now c.args.from n c.commands.refused (state g.S.Store c.args.self.now.conn) (state g.S.Store c.commands.self.conn) (g.W.Write.contents c.args.writer.now) (g.W.Write.contents c.commands.writer)) all c.commands.invariant.0);
+      runs = run_completes (IsOf c.commands.kept) c.args.commands.now c.args.from c.commands.refused (state g.S.Store c.args.self.now.conn) (state g.S.Store c.commands.self.conn) _ _
+          (subst (λ n. SoFar (IsOf c.commands.kept) c.args.commands.now c.args.from n c.commands.refused (state g.S.Store c.args.self.now.conn) (state g.S.Store c.commands.self.conn) (g.W.Write.contents c.args.writer.now) (g.W.Write.contents c.commands.writer)) all c.commands.invariant.0);
     }
