@@ -1,12 +1,11 @@
 -- A row that comes again, and another one with its reference.
-use Rattle.std.proofs.Common.{◌≡◌, ◌≢◌, ◌∙◌, ap, refl, subst, sym, ℕ, Bool, true, false, cond, List, [], ◌∷◌, ◌++◌, Option, Some}
+use Rattle.std.proofs.Common.{◌≡◌, ◌≢◌, ◌∙◌, ap, refl, subst, sym, ℕ, cond, List, Option, Some}
 use Rattle.lot_base.proofs.TextLemmas.{one_text}
 use Rattle.lot_base.specs.Text.{same_text}
 use Rattle.lot_book.proofs.CaseLemmas.{by_bool}
 use Rattle.lot_book.specs.Facts.{Entry, facts_of, text_under}
 use Rattle.lot_book.specs.Judged.{Judges}
 use Rattle.lot_book.specs.Step.{Accept, DecidesBy, Outcome, Refuse, Repeat, Step}
-use Rattle.lot_book.specs.declared.refusal.Refusal.{Refusal}
 use Rattle.lot_book.specs.declared.refusal.Refusal.TheVariants.{KeyReused}
 use Rattle.lot_book.specs.declared.verdict.Verdict.{Verdict}
 use Rattle.lot_book.specs.declared.verdict.Verdict.TheVariants.{Accepted, Refused, Repeated}
@@ -15,7 +14,7 @@ use Rattle.lot_command.specs.declared.command.Command.{Command}
 use Rattle.lot_command.specs.declared.key.Key.{Key}
 use Rattle.lot_import.proofs.DealLaws.{one_command, one_row_of}
 use Rattle.lot_import.specs.Deal.{IsCommandOf}
-use Rattle.lot_import.specs.Keyed.{IsKeyed, key_of}
+use Rattle.lot_import.specs.Keyed.{IsKeyed}
 use Rattle.lot_import.specs.declared.accounts.Accounts.{Accounts}
 use Rattle.lot_import.specs.declared.row.Row.{Row}
 use Rattle.lot_laws.proofs.LawKeys.{only_repeats, stands}

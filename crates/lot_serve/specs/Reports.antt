@@ -9,15 +9,16 @@ use Rattle.lot_filed.specs.Rows.{entry_rows}
 use Rattle.lot_filed.specs.StandFor.{Stands}
 use Rattle.lot_page.specs.Cursor.{Stays}
 use Rattle.lot_report.specs.Printed.{line}
+use Rattle.lot_rows.specs.Tables.{Has, Tables}
 use Rattle.lot_serve.specs.Runs.{IsLeft, IsTaken}
 use Rattle.lot_serve.specs.Says.{Halts, Says}
 use Rattle.lot_serve.specs.declared.halt.Halt.TheVariants as halt
 use Rattle.lot_serve.specs.declared.report.Report.{Report}
 use Rattle.lot_serve.specs.declared.report.Report.TheVariants.{Holdings, Gains, Journal}
 use Rattle.lot_show.specs.Fault.{fault_name, is_of_writer}
-use Rattle.lot_show.specs.Gains.{ShowsGains, ShowsSomeGains}
-use Rattle.lot_show.specs.Holdings.{ShowsHoldings, ShowsSomeHoldings}
-use Rattle.lot_show.specs.Journal.{ShowsJournal, ShowsSomeJournal}
+use Rattle.lot_show.specs.Gains.{ShowsAllSales, ShowsGains, ShowsSomeGains}
+use Rattle.lot_show.specs.Holdings.{ShowsAllHoldings, ShowsHoldings, ShowsSomeHoldings}
+use Rattle.lot_show.specs.Journal.{ShowsAllEntries, ShowsJournal, ShowsSomeJournal}
 use Rattle.lot_show.specs.Show.{UnlessStopped}
 use Rattle.lot_show.specs.declared.fault.ShowFault.{ShowFault}
 use Rattle.lot_show.specs.declared.fault.ShowFault.TheVariants.{Row as AtRow, Walk as AtWalk}
@@ -75,10 +76,19 @@ ShowsSome (Holdings day) = ShowsSomeHoldings
 ShowsSome (Gains first last) = ShowsSomeGains
 ShowsSome Journal = ShowsSomeJournal
 
+-- Where no fault ends it, the report is that of all rows of its tables, whatever those stand for: of plain units and of lots,
+-- of the sales on the days of the range, or of the entries.
+abbrev pub ShowsAllRows : Report → Tables → Option (List ℕ) → Option (List ℕ) → Result (Unit {0}) ShowFault → Type 0
+ShowsAllRows (Holdings day) tables = ShowsAllHoldings tables day
+ShowsAllRows (Gains first last) tables = ShowsAllSales tables (first, last)
+ShowsAllRows Journal tables = ShowsAllEntries tables
+
 -- a report of the book that is there is written, as far as its fault lets it, and concluded; or the database isn't taken up
 abbrev pub Reports : Report → State → State → Option (List ℕ) → Option (List ℕ) → ℕ → Type 0
 Reports report old new before written status =
     ((shown : Result (Unit {0}) ShowFault) × (mid : Option (List ℕ)) × IsTaken old new × IsRead old new shown
     × (HasCleanDisk new → (entries : List Entry) → Stands old entries → Shows report entries before mid shown)
-    × ShowsSome report before mid shown × Concludes shown mid written status)
+    × ShowsSome report before mid shown
+    × (HasCleanDisk new → (tables : Tables) → Has old tables → ShowsAllRows report tables before mid shown)
+    × Concludes shown mid written status)
     ⊎ ((fault : AdoptFault) × IsLeft old new fault × Halts (halt.Adopt fault) before written status)

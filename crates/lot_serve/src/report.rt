@@ -2,9 +2,9 @@
 ghost use Rattle.std.specs.Prelude.{◌≡◌, None, false};
 ghost use Rattle.lot_cli.specs.Status.{IsStatus};
 ghost use Rattle.lot_cli.specs.declared.batch.status.Status.TheVariants.{Stopped};
-ghost use Rattle.lot_serve.specs.Reports.{Concludes, Reports, Shows, ShowsSome, report_line};
+ghost use Rattle.lot_serve.specs.Reports.{Concludes, Reports, Shows, ShowsAllRows, ShowsSome, report_line};
 ghost use Rattle.lot_serve.specs.Says.{Says};
-ghost use Rattle.lot_show.specs.Show.{HoldsOfBook, ReadsBook};
+ghost use Rattle.lot_show.specs.Show.{HoldsOfBook, HoldsOfTables, ReadsBook};
 ghost use Rattle.sqlite.specs.Held.{state};
 
 use crate::action::Served;
@@ -70,6 +70,8 @@ fn show<W: Write, S: Alter>(
     ensures shows { HoldsOfBook S.Store book.old book.new
         (λ entries. Shows report entries (W.contents writer.old) (W.contents writer.new) result) }
     ensures some { ShowsSome report (W.contents writer.old) (W.contents writer.new) result }
+    ensures rows { HoldsOfTables S.Store book.old book.new
+        (λ tables. ShowsAllRows report tables (W.contents writer.old) (W.contents writer.new) result) }
     ensures reads { ReadsBook S.Store book.old book.new result }
 {
     match report {

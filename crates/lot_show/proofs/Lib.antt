@@ -1,7 +1,7 @@
 pub mod FeedLemmas
 pub mod GainLemmas
+pub mod GivenLemmas
 pub mod HoldingLemmas
 pub mod JournalLemmas
-pub mod LineLemmas
 pub mod PriceLemmas
 pub mod ReadLemmas

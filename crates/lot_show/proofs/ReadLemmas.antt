@@ -1,6 +1,5 @@
 -- A book that a walk reads: what its calls leave of it, and what a fault tells.
 use Rattle.std.proofs.Common.{◌≡◌, ◌≢◌, ◌∙◌, Bool, false, true, List, Option, Some, None, Result, Ok, Err, IsFalse, IsTrue, refl, sym, ap, subst}
-use Rattle.sqlite.specs.Effect.{Database}
 use Rattle.sqlite.specs.Held.{state}
 use Rattle.sqlite.specs.State.{HasCleanDisk, State, Survives}
 use Rattle.sqlite.specs.Store.{Ghosts}
@@ -9,11 +8,11 @@ use Rattle.lot_filed.specs.StandFor.{Stands}
 use Rattle.lot_page.specs.Cursor.{Stays}
 use Rattle.lot_report.specs.declared.fault.RowFault.{RowFault}
 use Rattle.lot_report.specs.declared.fault.RowFault.TheVariants.{Spent}
-use Rattle.lot_rows.specs.Tables.{Tables, layout}
-use Rattle.lot_table.specs.Book.{Holds}
+use Rattle.lot_rows.specs.Tables.{Tables}
 use Rattle.lot_show.specs.Show.{HoldsOfBook, HoldsOfTables, ReadsBook, UnlessStopped, condition_after}
 use Rattle.lot_show.specs.declared.fault.ShowFault.{ShowFault}
 use Rattle.lot_show.specs.declared.fault.ShowFault.TheVariants.{Row as AtRow, Walk as AtWalk}
+use Rattle.lot_store.proofs.ApplyLemmas.{stands_along}
 use Rattle.lot_store.proofs.PlaceLemmas.{early, failed_after, stays_itself, stays_then, survives_both, survives_itself}
 use Rattle.lot_store.specs.Step.{LeavesTables}
 use Rattle.lot_store.specs.Walk.{HasGiven, Walks, condition_of, is_at_end, is_at_fault}
@@ -30,12 +29,7 @@ use Rattle.lot_store.specs.declared.walk.WalkFault.TheVariants.{Ended, Failed}
 
 -- tables are those of a state's database alone
 pub stands_still : (old new : State) (entries : List Entry) → Stays old new → Stands old entries → Stands new entries
-stands_still old new entries same stands = record {
-  book = stands.book;
-  tables = stands.tables;
-  has = subst (λ (db : Database). (db.schema ≡ layout.schema) × Holds layout db.trees stands.tables) (sym same.now) stands.has;
-  stand = stands.stand;
-}
+stands_still old new entries same stands = stands_along old new entries same.now stands
 
 stays_left : (old new : State) → Stays old new → LeavesTables old new
 stays_left old new same opened = (same.now, same.committed)

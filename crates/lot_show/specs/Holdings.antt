@@ -1,5 +1,5 @@
 -- The report of what a book holds, with the values of its lots at a day (docs/FORMATS.md, Holdings).
-use Rattle.std.specs.Prelude.{◌≡◌, ℕ, ℤ, List, map, Option, None, Some, option_and_then, Result, ⊤}
+use Rattle.std.specs.Prelude.{◌≡◌, ℕ, ℤ, List, map, Option, None, Some, option_and_then, option_map, OnOk, Result, ⊤}
 use Rattle.std.specs.BTreeMap.{BTreeMap, get}
 use Rattle.lot_base.specs.Text.{text_cmp}
 use Rattle.lot_inv.specs.declared.lot_key.LotKey.{LotKey}
@@ -9,11 +9,12 @@ use Rattle.lot_report.specs.Holdings.{IsEnd, fits, row_lines}
 use Rattle.lot_report.specs.declared.holdings.ValuedHolding.{ValuedHolding}
 use Rattle.lot_report.specs.declared.lot.Valuation.{Valuation}
 use Rattle.lot_report.specs.declared.lot.Valuation.TheVariants.{At, Missing, Unasked}
-use Rattle.lot_show.specs.Show.{Shows, ShowsSome}
+use Rattle.lot_rows.specs.Tables.{Tables}
+use Rattle.lot_show.specs.Show.{Shows, ShowsSome, WritesWhole}
 use Rattle.lot_show.specs.declared.fault.ShowFault.{ShowFault}
 use Rattle.lot_show.specs.declared.prices.DayPrices.{DayPrices}
-use Rattle.lot_store.specs.Holdings.{IsHoldings}
-use Rattle.lot_store.specs.Prices.{ArePrices, price_in}
+use Rattle.lot_store.specs.Holdings.{AreAllHoldingRows, IsHoldings}
+use Rattle.lot_store.specs.Prices.{ArePrices, price_in, prices_by}
 use Rattle.lot_store.specs.declared.price.PairPrice.{PairPrice}
 
 -- ---- values
@@ -60,6 +61,19 @@ ShowsHoldings entries day start now result =
 abbrev pub ShowsSomeHoldings : Option (List ℕ) → Option (List ℕ) → Result (Unit {0}) ShowFault → Type 0
 ShowsSomeHoldings start now result = ShowsSome row_lines fits IsEnd start now result
 
+-- ---- the rows of the tables, whatever those stand for
+
+-- the prices that the rows of the table give at the day, where one is asked for
+abbrev pub row_prices : Tables → Option ℤ → Option (List PairPrice)
+row_prices tables asked = option_map (λ (day : ℤ). prices_by day tables.price) asked
+
+-- Where no fault ends it, the report is that of all rows of plain units and of lots, each lot at the price that the rows of
+-- prices give, with the totals of just these rows.
+abbrev pub ShowsAllHoldings : Tables → Option ℤ → Option (List ℕ) → Option (List ℕ) → Result (Unit {0}) ShowFault → Type 0
+ShowsAllHoldings tables day start now result =
+    OnOk result ((holdings : List Holding) × AreAllHoldingRows tt tables holdings
+    × WritesWhole row_lines fits IsEnd (map (valued_by (row_prices tables day)) holdings) start now)
+
 -- ---- the prices that are kept
 
 -- the rate that is kept for a base and a quote
@@ -85,3 +99,14 @@ KeepsPrices entries day prices =
 abbrev pub ShowsWith : List Entry → Option DayPrices → Option (List ℕ) → Option (List ℕ) → Result (Unit {0}) ShowFault → Type 0
 ShowsWith entries prices start now result =
     (holdings : List Holding) × IsHoldings entries holdings × Shows row_lines fits IsEnd (map (valued_with prices) holdings) start now result
+
+-- ---- the same of the rows of the tables
+
+-- the prices that the rows of the table give at the day are kept, and no other
+abbrev pub KeepsRowPrices : Tables → ℤ → DayPrices → Type 0
+KeepsRowPrices tables day prices = (base quote : List ℕ) → kept prices base quote ≡ listed (prices_by day tables.price) base quote
+
+abbrev pub ShowsAllWith : Tables → Option DayPrices → Option (List ℕ) → Option (List ℕ) → Result (Unit {0}) ShowFault → Type 0
+ShowsAllWith tables prices start now result =
+    OnOk result ((holdings : List Holding) × AreAllHoldingRows tt tables holdings
+    × WritesWhole row_lines fits IsEnd (map (valued_with prices) holdings) start now)

@@ -37,5 +37,5 @@ abbrev pub ShowsSomeJournal : Option (List ℕ) → Option (List ℕ) → Result
 ShowsSomeJournal start now result = (rows : List EntryRow) × ShowsJournal rows start now result
 
 -- where no fault ends it, the journal is that of all rows of the table
-abbrev pub ShowsAllRows : Tables → Option (List ℕ) → Option (List ℕ) → Result (Unit {0}) ShowFault → Type 0
-ShowsAllRows tables start now result = OnOk result (Appends start now (journal_text tables.entry))
+abbrev pub ShowsAllEntries : Tables → Option (List ℕ) → Option (List ℕ) → Result (Unit {0}) ShowFault → Type 0
+ShowsAllEntries tables start now result = OnOk result (Appends start now (journal_text tables.entry))

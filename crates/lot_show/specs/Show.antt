@@ -38,11 +38,16 @@ abbrev pub EndsAtEnd : {Row : Type 0} → (Row → List (List ℕ)) → (List Ro
     → List Row → Option (List ℕ) → Option (List ℕ) → ReportFault → Type 0
 EndsAtEnd lines fits IsEnd all start now fault = EachFits fits [] all × EndsReport lines fits IsEnd all start now (Err (Report fault))
 
+-- the whole report of rows is written
+abbrev pub WritesWhole : {Row : Type 0} → (Row → List (List ℕ)) → (List Row → Row → Bool) → (List Row → List (List ℕ) → Type 0)
+    → List Row → Option (List ℕ) → Option (List ℕ) → Type 0
+WritesWhole lines fits IsEnd all start now = (text : List ℕ) × IsWhole lines fits IsEnd all text × Appends start now text
+
 -- All rows are written, with what stands behind them. Where the book stops, those before that row are, and nothing else.
 -- Where the report does, it ends at a row, or behind the last one.
 abbrev pub Shows : {Row : Type 0} → (Row → List (List ℕ)) → (List Row → Row → Bool) → (List Row → List (List ℕ) → Type 0)
     → List Row → Option (List ℕ) → Option (List ℕ) → Result (Unit {0}) ShowFault → Type 0
-Shows lines fits IsEnd all start now (Ok done) = (text : List ℕ) × IsWhole lines fits IsEnd all text × Appends start now text
+Shows lines fits IsEnd all start now (Ok done) = WritesWhole lines fits IsEnd all start now
 Shows lines fits IsEnd all start now (Err (AtWalk (Failed fault))) =
     (given : List _) × (rest : List _) × (all ≡ given ++ rest) × EachFits fits [] given × Appends start now (text_of lines given)
 Shows lines fits IsEnd all start now (Err (AtWalk Ended)) = ⊥

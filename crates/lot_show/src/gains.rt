@@ -1,5 +1,5 @@
-ghost use Rattle.lot_show.specs.Gains.{ShowsGains, ShowsSomeGains};
-ghost use Rattle.lot_show.specs.Show.{HoldsOfBook, ReadsBook};
+ghost use Rattle.lot_show.specs.Gains.{ShowsAllSales, ShowsGains, ShowsSomeGains};
+ghost use Rattle.lot_show.specs.Show.{HoldsOfBook, HoldsOfTables, ReadsBook};
 
 use crate::fault::ShowFault;
 use lot_base::Day;
@@ -13,7 +13,8 @@ use std::io::Write;
 /// day that end of the range is open. Nothing is flushed.
 ///
 /// Where the book stops, the sales before are written, and nothing behind them, no totals. Where the report does, what
-/// `Gains` of `lot_report` writes at such a fault is; the book can be used on then.
+/// `Gains` of `lot_report` writes at such a fault is; the book can be used on then. Where it ends well all rows of sales on
+/// those days are written, whatever the tables stand for.
 pub fn show_gains<S: Alter, W: Write>(
     alloc: Global,
     book: &mut Book<S>,
@@ -24,6 +25,8 @@ pub fn show_gains<S: Alter, W: Write>(
     ensures shows { HoldsOfBook S.Store book.old book.new
         (λ entries. ShowsGains entries (first, last) (W.contents writer.old) (W.contents writer.new) result) }
     ensures lines { ShowsSomeGains (W.contents writer.old) (W.contents writer.new) result }
+    ensures rows { HoldsOfTables S.Store book.old book.new
+        (λ tables. ShowsAllSales tables (first, last) (W.contents writer.old) (W.contents writer.new) result) }
     ensures reads { ReadsBook S.Store book.old book.new result }
 {
     let mut report = Gains::new(alloc);

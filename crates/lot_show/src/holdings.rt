@@ -1,6 +1,6 @@
 ghost use Rattle.std.specs.Prelude.{◌≡◌};
-ghost use Rattle.lot_show.specs.Holdings.{ShowsHoldings, ShowsSomeHoldings, ShowsWith, valued_with};
-ghost use Rattle.lot_show.specs.Show.{HoldsOfBook, ReadsBook};
+ghost use Rattle.lot_show.specs.Holdings.{ShowsAllHoldings, ShowsAllWith, ShowsHoldings, ShowsSomeHoldings, ShowsWith, valued_with};
+ghost use Rattle.lot_show.specs.Show.{HoldsOfBook, HoldsOfTables, ReadsBook};
 
 use crate::fault::ShowFault;
 use crate::prices::DayPrices;
@@ -17,7 +17,8 @@ use std::io::Write;
 ///
 /// Where the book stops, the rows before are written, and nothing behind them, no totals; at a fault of reading the prices,
 /// nothing is. Where the report stops, what `Holdings` of `lot_report` writes at such a fault is; the book can be used on
-/// then.
+/// then. Where it ends well all rows of plain units and of lots are written, at the prices that the rows of prices give,
+/// whatever the tables stand for.
 pub fn show_holdings<S: Alter, W: Write>(
     alloc: Global,
     book: &mut Book<S>,
@@ -27,6 +28,8 @@ pub fn show_holdings<S: Alter, W: Write>(
     ensures shows { HoldsOfBook S.Store book.old book.new
         (λ entries. ShowsHoldings entries day (W.contents writer.old) (W.contents writer.new) result) }
     ensures lines { ShowsSomeHoldings (W.contents writer.old) (W.contents writer.new) result }
+    ensures rows { HoldsOfTables S.Store book.old book.new
+        (λ tables. ShowsAllHoldings tables day (W.contents writer.old) (W.contents writer.new) result) }
     ensures reads { ReadsBook S.Store book.old book.new result }
 {
     match day {
@@ -48,6 +51,8 @@ fn write_holdings<S: Alter, W: Write>(
     ensures shows { HoldsOfBook S.Store book.old book.new
         (λ entries. ShowsWith entries prices.now (W.contents writer.old) (W.contents writer.new) result) }
     ensures lines { ShowsSomeHoldings (W.contents writer.old) (W.contents writer.new) result }
+    ensures rows { HoldsOfTables S.Store book.old book.new
+        (λ tables. ShowsAllWith tables prices.now (W.contents writer.old) (W.contents writer.new) result) }
     ensures reads { ReadsBook S.Store book.old book.new result }
 {
     let mut report = Holdings::new(alloc);

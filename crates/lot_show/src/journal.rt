@@ -1,5 +1,5 @@
 ghost use Rattle.lot_filed.specs.Rows.{entry_rows};
-ghost use Rattle.lot_show.specs.Journal.{ShowsAllRows, ShowsJournal, ShowsSomeJournal};
+ghost use Rattle.lot_show.specs.Journal.{ShowsAllEntries, ShowsJournal, ShowsSomeJournal};
 ghost use Rattle.lot_show.specs.Show.{HoldsOfBook, HoldsOfTables, ReadsBook};
 
 use crate::fault::ShowFault;
@@ -18,7 +18,7 @@ pub fn show_journal<S: Alter, W: Write>(book: &mut Book<S>, writer: &mut W) -> R
         (λ entries. ShowsJournal (entry_rows 1 entries) (W.contents writer.old) (W.contents writer.new) result) }
     ensures lines { ShowsSomeJournal (W.contents writer.old) (W.contents writer.new) result }
     ensures rows { HoldsOfTables S.Store book.old book.new
-        (λ tables. ShowsAllRows tables (W.contents writer.old) (W.contents writer.new) result) }
+        (λ tables. ShowsAllEntries tables (W.contents writer.old) (W.contents writer.new) result) }
     ensures reads { ReadsBook S.Store book.old book.new result }
 {
     let mut journal = Journal::new();

@@ -1,7 +1,7 @@
 ghost use Rattle.std.specs.Prelude.{◌≡◌, ◌&&◌, if◌then◌else◌, ℕ, IfErr, IfOk, List, OnOk, Some};
 ghost use Rattle.lot_base.specs.Text.{same_text};
-ghost use Rattle.lot_show.specs.Holdings.{KeepsPrices, kept, rate_in, valuation_at};
-ghost use Rattle.lot_show.specs.Show.{HoldsOfBook, IsOfBook, ReadsBook};
+ghost use Rattle.lot_show.specs.Holdings.{KeepsPrices, KeepsRowPrices, kept, rate_in, valuation_at};
+ghost use Rattle.lot_show.specs.Show.{HoldsOfBook, HoldsOfTables, IsOfBook, ReadsBook};
 
 use crate::fault::ShowFault;
 use lot_base::{Commodity, Day};
@@ -28,6 +28,7 @@ impl DayPrices {
         day: Day,
     ) -> Result<DayPrices, ShowFault>
         ensures prices { IfOk result (λ prices. HoldsOfBook S.Store book.old book.new (λ entries. KeepsPrices entries day prices)) }
+        ensures rows { IfOk result (λ prices. HoldsOfTables S.Store book.old book.new (λ tables. KeepsRowPrices tables day prices)) }
         ensures fault { IfErr result IsOfBook }
         ensures reads { ReadsBook S.Store book.old book.new result }
     {

@@ -17,3 +17,12 @@ returns-in-Gains-clause-some g c = rw c.in-Gains.is c.show_gains.ensures.lines
 
 pub returns-in-Journal-clause-some : goal.returns-in-Journal-clause-some
 returns-in-Journal-clause-some g c = rw c.in-Journal.is c.show_journal.ensures.lines
+
+pub returns-in-Holdings-clause-rows : goal.returns-in-Holdings-clause-rows
+returns-in-Holdings-clause-rows g c = rw c.in-Holdings.is c.show_holdings.ensures.rows
+
+pub returns-in-Gains-clause-rows : goal.returns-in-Gains-clause-rows
+returns-in-Gains-clause-rows g c = rw c.in-Gains.is c.show_gains.ensures.rows
+
+pub returns-in-Journal-clause-rows : goal.returns-in-Journal-clause-rows
+returns-in-Journal-clause-rows g c = rw c.in-Journal.is c.show_journal.ensures.rows

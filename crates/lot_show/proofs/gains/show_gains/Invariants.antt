@@ -1,15 +1,10 @@
 -- The sales that the walk has given are fed to the report, and the book was read without a fault.
-use Rattle.std.proofs.Common.{◌≡◌, ◌≢◌, ◌<◌, List, IsFalse}
-use Rattle.sqlite.specs.Held.{state}
-use Rattle.sqlite.specs.State.{HasCleanDisk}
-use Rattle.lot_book.specs.Facts.{Entry}
+use Rattle.std.proofs.Common.{◌≡◌, ◌≢◌, ◌<◌, IsFalse}
 use Rattle.lot_book.specs.Sale.{SaleParts}
-use Rattle.lot_filed.specs.StandFor.{Stands}
 use Rattle.lot_report.specs.Gains.{HasTaken, IsEnd, fits, is_spent, sale_lines}
-use Rattle.lot_show.proofs.FeedLemmas.{HasFed}
-use Rattle.lot_show.proofs.LineLemmas.{HasLines}
+use Rattle.lot_show.proofs.FeedLemmas.{Feeds}
 use Rattle.lot_show.proofs.ReadLemmas.{IsReading}
-use Rattle.lot_store.specs.Gains.{AreSalesWithin, IsBehindSales}
+use Rattle.lot_store.specs.Gains.{AreAllSaleRows, AreSalesWithin, HasLegs, IsBehindSaleRows, IsBehindSales}
 use Rattle.lot_store.specs.declared.book.Condition.TheVariants.{NeedsReopen}
 use Rattle.lot_show.proofs.gains.show_gains.Given as goal
 
@@ -19,8 +14,6 @@ invariant-sales g l = record {
   reading : IsReading g.S.Store l.fn.book l.walk;
   usable : 0 < l.counter → l.fn.book.condition ≢ NeedsReopen;
   fresh : IsFalse (is_spent l.report);
-  lines : HasLines sale_lines fits HasTaken IsEnd (g.W.Write.contents l.fn.writer) (g.W.Write.contents l.writer) l.report.progress;
-  fed : HasCleanDisk (state g.S.Store l.walk.book.now.conn) → (entries : List Entry) → Stands (state g.S.Store l.fn.book.conn) entries
-      → HasFed g.S.Store AreSalesWithin IsBehindSales (λ (sale : SaleParts). sale) sale_lines fits HasTaken IsEnd l.walk (l.fn.first, l.fn.last) entries
-      (g.W.Write.contents l.fn.writer) (g.W.Write.contents l.writer) l.report.progress;
+  feeds : Feeds g.S.Store HasLegs AreSalesWithin IsBehindSales AreAllSaleRows IsBehindSaleRows (λ (sale : SaleParts). sale) sale_lines fits HasTaken IsEnd
+      l.fn.book (l.fn.first, l.fn.last) (g.W.Write.contents l.fn.writer) l.walk (g.W.Write.contents l.writer) l.report.progress;
 }

@@ -1,7 +1,8 @@
 use Rattle.std.proofs.Common.{◌∙◌, Err, Ok, None, Some, arith, refl, rules}
 use Rattle.std.proofs.lemmas.Result.{err_from_is_err_and}
-use Rattle.lot_show.proofs.PriceLemmas.{kept_more, kept_none}
-use Rattle.lot_show.proofs.ReadLemmas.{handed, handed_holds, reads_from, reads_short, reads_whole, stops, usable, walked_out, walks_on, was_clean}
+use Rattle.lot_show.proofs.GivenLemmas.{gave_more}
+use Rattle.lot_show.proofs.PriceLemmas.{kept_more, kept_none, of_rows, rows_kept}
+use Rattle.lot_show.proofs.ReadLemmas.{handed, handed_holds, handed_tables, reads_from, reads_short, reads_whole, stops, usable, walked_out, walks_on}
 use Rattle.lot_store.specs.Prices.{ArePricesAt, IsAnyPrice, IsBehindPrices, shown_price}
 use Rattle.lot_show.proofs.prices.DayPrices.read.Goals as goal
 
@@ -10,7 +11,8 @@ prices-init g c = record {
   same_book = refl;
   reading = reads_from g.S.Store c.args.book.now c.prices-walk.result c.prices-walk.ensures.going c.prices-walk.ensures.same;
   usable = λ below. absurd (omega arith);
-  kept = λ clean entries stands. kept_none g.S.Store c.args.day entries c.prices-walk.result c.new-rates.result c.new-rates.ensures.empty (c.prices-walk.ensures.begun entries stands);
+  kept = kept_none g.S.Store c.args.book.now c.args.day c.prices-walk.result c.new-rates.result c.new-rates.ensures.empty
+      (record { of_book = λ clean. c.prices-walk.ensures.begun; of_rows = λ clean. c.prices-walk.ensures.rows });
 }
 
 pub returns-in_err-price-clause-reads : goal.returns-in_err-price-clause-reads
@@ -20,21 +22,27 @@ returns-in_err-price-clause-reads g c =
     rw (fault.1, fault.2)
     (handed g.S.Store c.args.book.now c.next.new.self.book.now _ (Err _) (search rules)
     (stops g.S.Store shown_price IsAnyPrice ArePricesAt IsBehindPrices c.args.book.now c.prices.walk c.next.new.self loop.reading c.in_err-price.field-0.0
-    (λ clean entries stands. let has = loop.kept clean entries stands in (c.args.day, has.given, has.has))
+    (λ clean entries stands. (c.args.day, loop.kept.given, loop.kept.gave.of_book clean entries stands))
     c.in_err-price.ensures.walks))
+
+pub returns-in_default-clause-rows : goal.returns-in_default-clause-rows
+returns-in_default-clause-rows g c =
+    let has = c.prices.invariant.kept in
+    let after = c.next.new.self in
+    let walks = rw c.in_default.is at c.in_ok-price.ensures.walks in
+    let rows = rw c.in_default.is at c.in_ok-price.ensures.rows in
+    handed_tables g.S.Store c.args.book.now after.book.now _ _ (search rules)
+    (rows_kept g.S.Store c.args.book.now c.args.day c.prices.walk after (record { rates = c.prices.rates }) has walks rows)
 
 pub returns-in_default-clause-prices : goal.returns-in_default-clause-prices
 returns-in_default-clause-prices g c =
-    let loop = c.prices.invariant in
-    let before = c.prices.walk in
+    let has = c.prices.invariant.kept in
     let after = c.next.new.self in
     let walks = rw c.in_default.is at c.in_ok-price.ensures.walks in
-    handed_holds g.S.Store c.args.book.now after.book.now _ _ (search rules) (record {
-      holds = λ clean entries stands.
-          let was = was_clean g.S.Store shown_price IsAnyPrice ArePricesAt IsBehindPrices c.args.book.now before after loop.reading (Ok None) walks clean in
-          let has = loop.kept was entries stands in
-          (has.given, walks.gives clean c.args.day entries has.given has.has, has.same);
-    })
+    let rows = rw c.in_default.is at c.in_ok-price.ensures.rows in
+    handed_holds g.S.Store c.args.book.now after.book.now _ _ (search rules)
+    (of_rows g.S.Store c.args.book.now after.book.now c.args.day (record { rates = c.prices.rates })
+    (rows_kept g.S.Store c.args.book.now c.args.day c.prices.walk after (record { rates = c.prices.rates }) has walks rows))
 
 pub returns-in_default-clause-reads : goal.returns-in_default-clause-reads
 returns-in_default-clause-reads g c =
@@ -66,15 +74,13 @@ prices-preserved g c =
     let before = c.prices.walk in
     let after = c.next.new.self in
     let walks = rw c.in-Some.is at c.in_ok-price.ensures.walks in
+    let rows = rw c.in-Some.is at c.in_ok-price.ensures.rows in
     record {
       same_book = c.in_ok-price.ensures.same_reference ∙ loop.same_book;
       reading = walks_on g.S.Store shown_price IsAnyPrice ArePricesAt IsBehindPrices c.args.book.now before after loop.reading c.in-Some.price walks;
       usable = λ below. usable g.S.Store shown_price IsAnyPrice ArePricesAt IsBehindPrices c.args.book.now before after loop.reading (Some c.in-Some.price) walks;
-      kept = λ clean entries stands.
-          let was = was_clean g.S.Store shown_price IsAnyPrice ArePricesAt IsBehindPrices c.args.book.now before after loop.reading (Ok (Some c.in-Some.price)) walks clean in
-          let has = loop.kept was entries stands in
-          kept_more g.S.Store c.args.day entries before after c.prices.rates c.keep.new.rates c.in-Some.price has
-          (walks.gives clean c.args.day entries has.given has.has) c.in_ok-keep.ensures;
+      kept = kept_more g.S.Store c.args.book.now c.args.day before after c.prices.rates c.keep.new.rates c.in-Some.price loop.kept
+          (gave_more loop.kept.gave c.in-Some.price walks rows) c.in_ok-keep.ensures;
     }
 
 pub returns-clause-reads : goal.returns-clause-reads

@@ -1,9 +1,5 @@
 -- The prices that the walk has given are kept, and the book was read without a fault.
-use Rattle.std.proofs.Common.{◌≡◌, ◌≢◌, ◌<◌, List}
-use Rattle.sqlite.specs.Held.{state}
-use Rattle.sqlite.specs.State.{HasCleanDisk}
-use Rattle.lot_book.specs.Facts.{Entry}
-use Rattle.lot_filed.specs.StandFor.{Stands}
+use Rattle.std.proofs.Common.{◌≡◌, ◌≢◌, ◌<◌}
 use Rattle.lot_show.proofs.PriceLemmas.{HasKept}
 use Rattle.lot_show.proofs.ReadLemmas.{IsReading}
 use Rattle.lot_store.specs.declared.book.Condition.TheVariants.{NeedsReopen}
@@ -14,6 +10,5 @@ invariant-prices g l = record {
   same_book : l.walk.book.ghost_name ≡ l.initial.walk.book.ghost_name;
   reading : IsReading g.S.Store l.fn.book l.walk;
   usable : 0 < l.counter → l.fn.book.condition ≢ NeedsReopen;
-  kept : HasCleanDisk (state g.S.Store l.walk.book.now.conn) → (entries : List Entry) → Stands (state g.S.Store l.fn.book.conn) entries
-      → HasKept g.S.Store l.walk l.fn.day entries l.rates;
+  kept : HasKept g.S.Store l.fn.book l.fn.day l.walk l.rates;
 }
