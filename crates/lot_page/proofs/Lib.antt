@@ -1,9 +1,12 @@
 pub mod BehindLemmas
+pub mod CallLemmas
 pub mod EntryLemmas
-pub mod FirstLemmas
+pub mod LevelLemmas
 pub mod LotLemmas
+pub mod NextLemmas
 pub mod PageLemmas
 pub mod PlaceLemmas
 pub mod PriceLemmas
 pub mod SaleLemmas
 pub mod StepLemmas
+pub mod WalkLemmas

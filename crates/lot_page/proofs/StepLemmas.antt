@@ -1,5 +1,5 @@
 -- The steps of a cursor.
-use Rattle.std.proofs.Common.{◌≡◌, ◌≢◌, ◌⊎◌, inl, inr, ◌<◌, ◌≤◌, ◌+◌, ℕ, zero, suc, drop, length, get_or, ap₂, Err, Ok, None, OnOk, Result, Some, Vec, List, [], ◌∷◌, ◌++◌, map, refl, sym, ap, subst, ◌∙◌, arith}
+use Rattle.std.proofs.Common.{◌≡◌, ◌≢◌, ◌⊎◌, inl, inr, ◌<◌, ◌≤◌, ◌+◌, ℕ, zero, suc, drop, length, get_or, ap₂, Err, Ok, None, OnOk, Option, Result, Some, Vec, List, [], ◌∷◌, ◌++◌, map, refl, sym, ap, subst, ◌∙◌, arith}
 use Rattle.std.proofs.Math.Numerals.{add-one}
 use Rattle.std.proofs.Math.Seq.{drop-cons}
 use Rattle.std.proofs.lemmas.List.Elements.{recursion_from_All}
@@ -9,8 +9,8 @@ use Rattle.std.specs.declared.alloc.Global.{Global}
 use Rattle.sqlite.specs.Order.{Row}
 use Rattle.sqlite.specs.State.{IsRolledBack, IsUnchanged, State}
 use Rattle.sqlite.specs.Tree.{Trees}
-use Rattle.lot_page.specs.Cursor.{Follows, IsBehind, Place, Refills, Rises, Stays, Steps, count_with}
-use Rattle.lot_page.specs.Page.{Pages, first_column}
+use Rattle.lot_page.specs.Cursor.{Follows, IsBehind, Place, Refills, Rises, Stays, Steps}
+use Rattle.lot_page.specs.Page.{IsPageOf, Pages, behind as rows_behind}
 use Rattle.lot_page.proofs.PlaceLemmas.{drop_none, page_ends, page_follows, row_follows}
 use Rattle.lot_rows.specs.Tables.{Tables, layout}
 use Rattle.lot_table.specs.Book.{Holds, IsUndone}
@@ -41,8 +41,8 @@ named encode IsGood (g ∷ given) others row (x ∷ xs) all is = named encode Is
 -- ---- a place in a page
 
 -- before the first row
-pub begins : (rows items : List Row) → items ≡ [] → Follows [] rows (record { last = None; count = 0; ahead = drop 0 items })
-begins rows items none = record { others = rows; whole = refl; unread = rows; read = ap (λ l. l ++ rows) (drop_none items ∙ none); last = (refl, refl) }
+pub begins : (width : ℕ) (rows items : List Row) → items ≡ [] → Follows [] rows (record { width = width; ahead = drop 0 items; last = None })
+begins width rows items none = record { others = rows; whole = refl; unread = rows; read = ap (λ l. l ++ rows) (drop_none items ∙ none); last = λ _. refl }
 
 pub some_left : {X : Type 0} (xs : List X) (i : ℕ) → i < length xs → drop i xs ≢ []
 some_left [] i low none = absurd (omega (arith, low))
@@ -73,14 +73,14 @@ module _ {X : Type 0} (encode : X → Row) (rows : Tables → List X) where
     crash = record { clean = omega arith; shield = λ holds. holds; counts = omega arith; limit = refl; closes = λ clean is. inl is; crash = λ clean db may. inl may };
   }
 
-  module _ (place : Place) (n : ℕ) (old new : State) where
-    pub refilled : (page : Vec Row Global) → 1 ≤ n → Pages encode rows n place.last place.count old new (Ok page)
-        → Refills encode rows place (record { last = place.last; count = place.count; ahead = drop 0 page.items }) old new (Ok tt)
-    refilled page some p = record {
+  module _ (place : Place) (most : ℕ) (old new : State) where
+    pub refilled : (page : Vec Row Global) → place.ahead ≡ [] → Pages encode rows place.width most place.last old new (Ok page)
+        → Refills encode rows place (record { width = place.width; ahead = drop 0 page.items; last = place.last }) old new (Ok tt)
+    refilled page none p = record {
       filled = λ clean tables has given behind.
-          let is = drop_none page.items ∙ p.says clean tables has in (
-            page_follows (map encode given) (map encode (rows tables)) (drop 0 page.items) place n is behind,
-            page_ends (map encode given) (map encode (rows tables)) (drop 0 page.items) place n some is behind,
+          let is = subst (IsPageOf most (rows_behind place.width place.last (map encode (rows tables)))) (sym (drop_none page.items)) (p.says clean tables has) in (
+            page_follows (map encode given) (map encode (rows tables)) (drop 0 page.items) place most behind none is,
+            page_ends (map encode given) (map encode (rows tables)) (drop 0 page.items) place most behind none is,
           );
       left = tt;
       same = λ clean. stays old new (p.same clean);
@@ -90,7 +90,7 @@ module _ {X : Type 0} (encode : X → Row) (rows : Tables → List X) where
       crash = p.crash;
     }
 
-    pub unread : (fault : Fault) → Pages encode rows n place.last place.count old new (Err fault) → Refills encode rows place place old new (Err fault)
+    pub unread : (fault : Fault) → Pages encode rows place.width most place.last old new (Err fault) → Refills encode rows place place old new (Err fault)
     unread fault p = record {
       filled = λ clean. tt;
       left = refl;
@@ -155,12 +155,13 @@ module _ {X : Type 0} (encode : X → Row) (rows : Tables → List X) where
       }
 
       -- the row is given
-      pub stepped : (x : X) (ahead : List Row) → mid.ahead ≡ encode x ∷ ahead → IsGood x → ((trees : Trees) (tables : Tables) → Holds layout trees tables → Rises (map encode (rows tables)))
-          → Steps encode IsGood rows before (record { last = Some (first_column (encode x)); count = count_with mid.last mid.count (first_column (encode x)); ahead = ahead }) old new (Ok (Some x))
-      stepped x ahead is good rises = record {
+      pub stepped : (x : X) (ahead : List Row) (last : Option Row) → mid.ahead ≡ encode x ∷ ahead → (ahead ≡ [] → last ≡ Some (encode x)) → IsGood x
+          → ((trees : Trees) (tables : Tables) → Holds layout trees tables → Rises mid.width (map encode (rows tables)))
+          → Steps encode IsGood rows before (record { width = mid.width; ahead = ahead; last = last }) old new (Ok (Some x))
+      stepped x ahead last is kept good rises = record {
         gives = λ clean tables has given behind.
-            let f = row_follows (map encode given) (map encode (rows tables)) ahead (encode x) mid is (rises old.now.trees tables has.1) (r.filled clean tables has given behind).0 in
-            subst (λ l. Follows l (map encode (rows tables)) (record { last = Some (first_column (encode x)); count = count_with mid.last mid.count (first_column (encode x)); ahead = ahead })) (sym (map-append encode given (x ∷ []))) f;
+            let f = row_follows (map encode given) (map encode (rows tables)) ahead (encode x) last mid is (rises old.now.trees tables has.1) kept (r.filled clean tables has given behind).0 in
+            subst (λ l. Follows l (map encode (rows tables)) (record { width = mid.width; ahead = ahead; last = last })) (sym (map-append encode given (x ∷ []))) f;
         good = good;
         kept = λ clean. tt;
         same = r.same;

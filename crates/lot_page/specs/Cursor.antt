@@ -1,46 +1,29 @@
 -- A cursor over the rows of one table of a book, in the order of their key.
-use Rattle.std.specs.Prelude.{◌≡◌, ◌⊎◌, ℕ, suc, Bool, false, if◌then◌else◌, [], ◌∷◌, ◌++◌, All, IfOk, IfSome, List, filter, length, map, None, Some, OnErr, OnOk, Option, Result, Err}
-use Rattle.std.specs.List.{AllByRecursion}
-use Rattle.std.specs.Ordering.{is_eq, is_gt}
+use Rattle.std.specs.Prelude.{◌≡◌, ◌⊎◌, ℕ, [], ◌∷◌, ◌++◌, All, IfOk, IfSome, List, map, None, Some, OnErr, OnOk, Option, Result, Err}
+use Rattle.std.specs.declared.cmp.Ordering.TheVariants.{Less}
 use Rattle.sqlite.specs.Order.{Row}
 use Rattle.sqlite.specs.State.{HasCleanDisk, IsRolledBack, State, Survives}
 use Rattle.sqlite.specs.Tree.{IsAscending}
-use Rattle.sqlite.specs.declared.types.Value.{Value}
-use Rattle.sqlite_value.specs.Order.{value_cmp}
 use Rattle.lot_rows.specs.Tables.{Has, Tables}
+use Rattle.lot_table.specs.Rows.{key_order}
 use Rattle.lot_table.specs.Statement.{DiskFailed}
 use Rattle.lot_table.specs.declared.fault.Fault.{Fault}
 use Rattle.lot_table.specs.declared.fault.Fault.TheVariants.{Damaged, Device}
-use Rattle.lot_page.specs.Page.{first_column, is_before}
-
--- ---- rows by the first column of their key
-
--- the first column of the row is that value
-abbrev pub is_at : Value → Row → Bool
-is_at first row = is_eq (value_cmp (first_column row) first)
-
--- it comes after that value
-abbrev pub is_past : Value → Row → Bool
-is_past first row = is_gt (value_cmp (first_column row) first)
-
--- the first columns rise, some of them the same
-abbrev pub Rises : List Row → Type 0
-Rises = IsAscending (λ a b. is_past (first_column b) a ≡ false)
+use Rattle.lot_page.specs.Page.{behind}
 
 -- ---- where a cursor stands
 
+-- the rows rise by so many columns, no two the same
+abbrev pub Rises : ℕ → List Row → Type 0
+Rises width = IsAscending (λ a b. key_order width a b ≡ Less)
+
 pub record Place : Type 0 where
-  -- the first column of the last row given, and how many rows given have it
-  pub last : Option Value
-  pub count : ℕ
+  -- how many columns the key has
+  pub width : ℕ
   -- the next rows, as far as they are read
   pub ahead : List Row
-
--- the last row given has this first column, with so many of those given, and none of the others comes before it
-abbrev pub IsLast : Option Value → ℕ → List Row → List Row → Type 0
-IsLast None count given others = (given ≡ []) × (count ≡ 0)
-IsLast (Some first) count given others =
-    (length (filter (is_at first) given) ≡ count) × AllByRecursion (λ row. is_past first row ≡ false) given × AllByRecursion (λ row. is_before first row ≡ false) others
+  -- the last row given, where none is read ahead
+  pub last : Option Row
 
 -- the rows given begin the rows of the table, and the others come next; rows are told by their columns
 pub record Follows (given rows : List Row) (place : Place) : Type 0 where
@@ -48,7 +31,7 @@ pub record Follows (given rows : List Row) (place : Place) : Type 0 where
   pub whole : given ++ others ≡ rows
   pub unread : List Row
   pub read : place.ahead ++ unread ≡ others
-  pub last : IsLast place.last place.count given others
+  pub last : place.ahead ≡ [] → others ≡ behind place.width place.last rows
 
 module _ {X : Type 0} (encode : X → Row) where
   -- the cursor has given these rows, which begin the rows of the table, and goes on behind them
@@ -59,11 +42,6 @@ module _ {X : Type 0} (encode : X → Row) where
   abbrev pub Gives : List X → List X → Place → Option X → Type 0
   Gives given rows place (Some row) = IsBehind (given ++ row ∷ []) rows place
   Gives given rows place None = map encode given ≡ map encode rows
-
--- how many rows given have this first column, once one more is given
-abbrev pub count_with : Option Value → ℕ → Value → ℕ
-count_with None count first = 1
-count_with (Some last) count first = if is_eq (value_cmp first last) then suc count else 1
 
 -- ---- a step
 

@@ -1,3 +1,4 @@
 pub mod Cursor
+pub mod Lots
 pub mod Page
 pub mod Rise

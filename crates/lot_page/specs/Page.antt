@@ -1,6 +1,6 @@
--- A page of one table of a book: some of its rows, in the order of their key, from a value of the key's first column on.
-use Rattle.std.specs.Prelude.{◌≡◌, ℕ, Bool, not, List, drop, filter, map, take, Option, None, Some, Result, Vec}
-use Rattle.std.specs.Ordering.{is_lt}
+-- A page of one table of a book: some of its rows, in the order of their key, behind the last one that was given.
+use Rattle.std.specs.Prelude.{◌≡◌, ◌≤◌, ℕ, Bool, not, [], ◌++◌, List, filter, length, map, Option, None, Some, Result, Vec}
+use Rattle.std.specs.Ordering.{is_gt, is_lt}
 use Rattle.std.specs.declared.alloc.Global.{Global}
 use Rattle.sqlite.specs.Order.{Row}
 use Rattle.sqlite.specs.State.{State}
@@ -9,6 +9,7 @@ use Rattle.sqlite_value.specs.Order.{column, value_cmp}
 use Rattle.lot_rows.specs.Tables.{Tables, layout}
 use Rattle.lot_table.specs.Book.{always}
 use Rattle.lot_table.specs.Call.{Answers}
+use Rattle.lot_table.specs.Rows.{key_order}
 use Rattle.lot_table.specs.declared.fault.Fault.{Fault}
 
 -- ---- how many rows a page has at most
@@ -20,24 +21,34 @@ page_rows = 5000
 abbrev pub entry_page_rows : ℕ
 entry_page_rows = 100
 
+-- ---- the rows behind one
+
+-- by so many first columns of the key the row comes after that one
+abbrev pub is_past : ℕ → Row → Row → Bool
+is_past width start row = is_gt (key_order width row start)
+
+-- its first column is that value, or comes after it
+abbrev pub is_from : Value → Row → Bool
+is_from first row = not (is_lt (value_cmp (column row 0) first))
+
+-- those behind the last one, or all of them
+abbrev pub behind : ℕ → Option Row → List Row → List Row
+behind width None rows = rows
+behind width (Some last) rows = filter (is_past width last) rows
+
 -- ---- the rows of a page
 
-abbrev pub first_column : Row → Value
-first_column columns = column columns 0
+-- the first of these rows: so many at most, and none only where there are none
+pub record IsPageOf (most : ℕ) (rows page : List Row) : Type 0 where
+  pub unread : List Row
+  pub read : page ++ unread ≡ rows
+  pub few : length page ≤ most
+  pub some : page ≡ [] → rows ≡ []
 
--- the first column of the row comes before that value
-abbrev pub is_before : Value → Row → Bool
-is_before first row = is_lt (value_cmp (first_column row) first)
+-- The call answers a page of those rows of the table. Without a limit on steps it finds no damage in a book.
+abbrev pub PagesOf : {X : Type 0} → (X → Row) → (Tables → List X) → ℕ → (List Row → List Row) → State → State → Result (Vec Row Global) Fault → Type 0
+PagesOf encode rows most those = Answers layout (λ found book. IsPageOf most (those (map encode (rows book))) found.items) always always
 
--- the rows from that value on, or all
-abbrev pub from : Option Value → List Row → List Row
-from None rows = rows
-from (Some first) rows = filter (λ row. not (is_before first row)) rows
-
--- so many of them at most, after so many others
-abbrev pub page_of : ℕ → Option Value → ℕ → List Row → List Row
-page_of length first skipped rows = take length (drop skipped (from first rows))
-
--- The call answers that page of the rows of a table. Without a limit on steps it finds no damage in a book.
-abbrev pub Pages : {X : Type 0} → (X → Row) → (Tables → List X) → ℕ → Option Value → ℕ → State → State → Result (Vec Row Global) Fault → Type 0
-Pages encode rows length first skipped = Answers layout (λ found book. found.items ≡ page_of length first skipped (map encode (rows book))) always always
+-- of those behind the last one, by so many columns
+abbrev pub Pages : {X : Type 0} → (X → Row) → (Tables → List X) → ℕ → ℕ → Option Row → State → State → Result (Vec Row Global) Fault → Type 0
+Pages encode rows width most last = PagesOf encode rows most (behind width last)

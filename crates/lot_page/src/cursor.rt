@@ -1,13 +1,11 @@
-ghost use Rattle.std.specs.Prelude.{◌≡◌, [], IfErr, IfOk, List};
-ghost use Rattle.lot_page.specs.Cursor.{IsBehind, Refills, Steps, count_with};
+ghost use Rattle.std.specs.Prelude.{[], List};
+ghost use Rattle.lot_page.specs.Cursor.{IsBehind, Refills, Steps};
 ghost use Rattle.sqlite.specs.Held.{state};
 
 use crate::paged::PagedRow;
-use lot_table::{Cell, Fault};
+use lot_table::Fault;
 use sqlite::{Alter, Connection, Row};
-use sqlite_value::order::compare;
 use std::alloc::Global;
-use std::cmp::Ordering;
 use std::marker::Model;
 
 /// A place in a table: behind the rows that were given.
@@ -15,8 +13,8 @@ use std::marker::Model;
 /// It borrows nothing. Between two steps the table must stay as it is.
 #[derive(Drop)]
 pub struct Cursor<R: PagedRow> {
-    last: Option<R::First>,
-    count: u32,
+    /// The last row of the page, once it is given.
+    last: Option<R>,
     page: Vec<Row>,
     at: usize,
     alloc: Global,
@@ -28,7 +26,7 @@ impl<R: PagedRow> Model for Cursor<R> {
 
     ghost Value = { Place };
 
-    ghost view = { λ c. record { last = option_map R.First.cell c.last; count = c.count; ahead = drop c.at c.page.items } };
+    ghost view = { λ c. record { width = R.width; ahead = drop c.at c.page.items; last = option_map R.TableRow.encode c.last } };
 }
 
 impl<R: PagedRow> Cursor<R> {
@@ -38,7 +36,6 @@ impl<R: PagedRow> Cursor<R> {
     {
         Cursor {
             last: None,
-            count: 0,
             page: Vec::new(alloc),
             at: 0,
             alloc,
@@ -48,19 +45,19 @@ impl<R: PagedRow> Cursor<R> {
     /// Returns the next row in the order of the key, or `None` past the last.
     ///
     /// It changes nothing in the book. After an error the cursor is behind the same rows; the error is `Damaged` where the
-    /// next row is one that no book has, and `Memory` also where more rows than a `u32` counts have the same first column.
+    /// next row is one that no book has.
     pub fn next<S: Alter>(&mut self, conn: &mut Connection<S>) -> Result<Option<R>, Fault>
         ensures steps { Steps R.TableRow.encode R.TableRow.IsGood R.PagedRow.rows self.old self.new
             (state S.Store conn.old) (state S.Store conn.new) result }
     {
         self.refill(conn)?;
-        let Some(row) = self.page.get(self.at) else {
+        let Some(columns) = self.page.get(self.at) else {
             return Ok(None);
         };
-        let row = R::read(self.alloc, row)?;
-        let first = row.first()?;
-        self.count = self.count_with(&first)?;
-        self.last = Some(first);
+        let row = R::read(self.alloc, columns)?;
+        if self.at + 1 == self.page.len() {
+            self.last = Some(R::read(self.alloc, columns)?);
+        }
         self.at += 1;
         Ok(Some(row))
     }
@@ -73,21 +70,8 @@ impl<R: PagedRow> Cursor<R> {
         if self.at < self.page.len() {
             return Ok(());
         }
-        self.page = R::page(conn, &self.last, self.count)?;
+        self.page = R::page(self.alloc, conn, &self.last)?;
         self.at = 0;
         Ok(())
-    }
-
-    /// Returns how many rows given have that first column, once one more is given. The error is `Memory`.
-    fn count_with(&self, first: &R::First) -> Result<u32, Fault>
-        ensures ok { IfOk result (λ count. count ≡ count_with self.now.last self.now.count (R.First.cell first.now)) }
-        ensures err { IfErr result (λ fault. fault ≡ Fault.Memory) }
-    {
-        match &self.last {
-            Some(last) if compare(first.to_cell(), last.to_cell()) == Ordering::Equal => {
-                self.count.checked_add(1).ok_or(Fault::Memory)
-            }
-            _ => Ok(1),
-        }
     }
 }

@@ -1,45 +1,51 @@
+ghost use Rattle.std.specs.Prelude.{◌≡◌, ℤ, filter};
+ghost use Rattle.lot_page.specs.Page.{PagesOf, entry_page_rows, is_from};
 ghost use Rattle.lot_page.specs.Rise.{entries_rise};
-ghost use Rattle.lot_page.specs.Page.{entry_page_rows};
-ghost use Rattle.std.proofs.Common.{rules};
+ghost use Rattle.lot_rows.specs.Entry.{entry_cells};
+ghost use Rattle.sqlite.specs.Held.{state};
+ghost use Rattle.sqlite.specs.declared.types.Value.TheVariants.{Int};
+ghost use Rattle.sqlite_value.specs.Value.{owned};
 
 use crate::cursor::Cursor;
-use crate::paged::{ENTRY_PAGE_ROWS, PagedRow, first_or};
+use crate::paged::{ENTRY_PAGE_ROWS, PagedRow, number_behind};
 use lot_rows::entry::EntryRow;
-use lot_table::{Cell, Fault, Ordinal, ask};
+use lot_table::{Cell, Fault, ask};
 use sqlite::types::ValueRef;
 use sqlite::{Alter, Connection, Row};
+use std::alloc::Global;
 
 /// A cursor over all entries, by their numbers.
 pub type EntryCursor = Cursor<EntryRow>;
 
 impl PagedRow for EntryRow {
-    type First = Ordinal;
-
     ghost rows = { λ b. b.entry };
 
-    ghost length = { entry_page_rows };
+    ghost width = { 1 };
 
-    fn first(&self) -> Result<Ordinal, Fault> {
-        Ok(self.number)
-    }
+    ghost most = { entry_page_rows };
 
     fn page<S: Alter>(
+        _alloc: Global,
         conn: &mut Connection<S>,
-        last: &Option<Ordinal>,
-        count: u32,
+        last: &Option<EntryRow>,
     ) -> Result<Vec<Row>, Fault> {
-        ask(
-            conn,
-            "SELECT number, source, name, body FROM entry WHERE number >= ?1 ORDER BY number LIMIT ?2 OFFSET ?3",
-            &[
-                first_or(last, ValueRef::Int(0)),
-                ENTRY_PAGE_ROWS.to_cell(),
-                count.to_cell(),
-            ],
-        )
+        match last {
+            Some(row) => entries_from(conn, number_behind(row.number)),
+            None => entries_from(conn, ValueRef::Int(0)),
+        }
     }
 
-    ghost some = { Prim.search rules };
-
     ghost rises = { entries_rise };
+}
+
+/// Returns the next entries from a number on.
+fn entries_from<S: Alter>(conn: &mut Connection<S>, first: ValueRef<'_>) -> Result<Vec<Row>, Fault>
+    ensures pages { (n : ℤ) → owned first.entry ≡ Int n → PagesOf entry_cells (λ b. b.entry) entry_page_rows (filter (is_from (Int n)))
+        (state S.Store conn.old) (state S.Store conn.new) result }
+{
+    ask(
+        conn,
+        "SELECT number, source, name, body FROM entry WHERE number >= ?2 ORDER BY number LIMIT ?1",
+        &[ENTRY_PAGE_ROWS.to_cell(), first],
+    )
 }

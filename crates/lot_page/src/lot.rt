@@ -1,47 +1,210 @@
+ghost use Rattle.std.specs.Prelude.{◌≡◌, [], ◌∷◌, ◌++◌, ◌+ℤ◌, pos, IfOk, filter};
+ghost use Rattle.lot_page.specs.Page.{PagesOf, is_from, is_past, page_rows};
 ghost use Rattle.lot_page.specs.Rise.{lots_rise};
-ghost use Rattle.lot_page.specs.Page.{page_rows};
-ghost use Rattle.std.proofs.Common.{rules};
+ghost use Rattle.lot_page.specs.Lots.{AreBehind};
+ghost use Rattle.lot_rows.specs.Lot.{lot_cells};
+ghost use Rattle.sqlite.specs.Held.{state};
+ghost use Rattle.sqlite.specs.declared.types.Value.TheVariants.{Int, Text};
+ghost use Rattle.sqlite_value.specs.Value.{owned};
 
 use crate::cursor::Cursor;
-use crate::paged::{PAGE_ROWS, PagedRow, first_or};
-use lot_base::Account;
+use crate::paged::{PAGE_ROWS, PagedRow, text_behind};
+use lot_base::Day;
+use lot_num::Rate;
 use lot_rows::lot::LotRow;
 use lot_table::{Cell, Fault, ask};
 use sqlite::types::ValueRef;
 use sqlite::{Alter, Connection, Row};
+use std::alloc::{AllocError, Global};
 
 /// A cursor over all lots, by account, commodity and lot.
 pub type LotCursor = Cursor<LotRow>;
 
 impl PagedRow for LotRow {
-    type First = Account;
-
     ghost rows = { λ b. b.lot };
 
-    ghost length = { page_rows };
+    ghost width = { 6 };
 
-    fn first(&self) -> Result<Account, Fault> {
-        let account = self.account.copy()?;
-        Ok(account)
-    }
+    ghost most = { page_rows };
 
     fn page<S: Alter>(
+        alloc: Global,
         conn: &mut Connection<S>,
-        last: &Option<Account>,
-        count: u32,
+        last: &Option<LotRow>,
     ) -> Result<Vec<Row>, Fault> {
-        ask(
+        let Some(row) = last else {
+            return lots_from(conn, &[]);
+        };
+        let rest = ask(
             conn,
-            "SELECT account, commodity, cost_day, cost_currency, cost_number, cost_label, units FROM lot WHERE account >= ?1 ORDER BY account, commodity, cost_day, cost_currency, cost_number, cost_label LIMIT ?2 OFFSET ?3",
+            "SELECT account, commodity, cost_day, cost_currency, cost_number, cost_label, units FROM lot WHERE account = ?2 AND commodity = ?3 AND cost_day = ?4 AND cost_currency = ?5 AND cost_number = ?6 AND cost_label > ?7 ORDER BY account, commodity, cost_day, cost_currency, cost_number, cost_label LIMIT ?1",
             &[
-                first_or(last, ValueRef::Text(&[])),
                 PAGE_ROWS.to_cell(),
-                count.to_cell(),
+                row.account.to_cell(),
+                row.commodity.to_cell(),
+                row.lot.day.to_cell(),
+                row.lot.currency.to_cell(),
+                row.lot.number.to_cell(),
+                row.lot.label.to_cell(),
             ],
-        )
+        )?;
+        if !rest.is_empty() {
+            return Ok(rest);
+        }
+        let texts = texts_behind(alloc, row)?;
+        behind_number(conn, row, &texts)
     }
 
-    ghost some = { Prim.search rules };
-
     ghost rises = { lots_rise };
+}
+
+/// The first texts behind those of a lot.
+#[derive(Drop)]
+struct Texts {
+    account: Vec<u8>,
+    commodity: Vec<u8>,
+    currency: Vec<u8>,
+}
+
+/// Returns the texts behind those of the lot.
+fn texts_behind(alloc: Global, row: &LotRow) -> Result<Texts, AllocError>
+    ensures ok { IfOk result (λ texts. AreBehind texts row.now) }
+{
+    Ok(Texts {
+        account: text_behind(alloc, row.account.as_str())?,
+        commodity: text_behind(alloc, row.commodity.as_str())?,
+        currency: text_behind(alloc, row.lot.currency.as_str())?,
+    })
+}
+
+/// Returns the next lots behind all of the same account, commodity, day, currency and number.
+fn behind_number<S: Alter>(
+    conn: &mut Connection<S>,
+    row: &LotRow,
+    texts: &Texts,
+) -> Result<Vec<Row>, Fault>
+    requires texts { AreBehind texts.now row.now }
+    ensures pages { PagesOf lot_cells (λ b. b.lot) page_rows (filter (is_past 5 (lot_cells row.now)))
+        (state S.Store conn.old) (state S.Store conn.new) result }
+{
+    let rest = ask(
+        conn,
+        "SELECT account, commodity, cost_day, cost_currency, cost_number, cost_label, units FROM lot WHERE account = ?2 AND commodity = ?3 AND cost_day = ?4 AND cost_currency = ?5 AND cost_number >= ?6 ORDER BY account, commodity, cost_day, cost_currency, cost_number, cost_label LIMIT ?1",
+        &[
+            PAGE_ROWS.to_cell(),
+            row.account.to_cell(),
+            row.commodity.to_cell(),
+            row.lot.day.to_cell(),
+            row.lot.currency.to_cell(),
+            rate_behind(row.lot.number),
+        ],
+    )?;
+    if !rest.is_empty() {
+        return Ok(rest);
+    }
+    behind_currency(conn, row, texts)
+}
+
+/// Returns the next lots behind all of the same account, commodity, day and currency.
+fn behind_currency<S: Alter>(
+    conn: &mut Connection<S>,
+    row: &LotRow,
+    texts: &Texts,
+) -> Result<Vec<Row>, Fault>
+    requires texts { AreBehind texts.now row.now }
+    ensures pages { PagesOf lot_cells (λ b. b.lot) page_rows (filter (is_past 4 (lot_cells row.now)))
+        (state S.Store conn.old) (state S.Store conn.new) result }
+{
+    let rest = ask(
+        conn,
+        "SELECT account, commodity, cost_day, cost_currency, cost_number, cost_label, units FROM lot WHERE account = ?2 AND commodity = ?3 AND cost_day = ?4 AND cost_currency >= ?5 ORDER BY account, commodity, cost_day, cost_currency, cost_number, cost_label LIMIT ?1",
+        &[
+            PAGE_ROWS.to_cell(),
+            row.account.to_cell(),
+            row.commodity.to_cell(),
+            row.lot.day.to_cell(),
+            ValueRef::Text(texts.currency.as_slice()),
+        ],
+    )?;
+    if !rest.is_empty() {
+        return Ok(rest);
+    }
+    behind_day(conn, row, texts)
+}
+
+/// Returns the next lots behind all of the same account, commodity and day.
+fn behind_day<S: Alter>(
+    conn: &mut Connection<S>,
+    row: &LotRow,
+    texts: &Texts,
+) -> Result<Vec<Row>, Fault>
+    requires texts { AreBehind texts.now row.now }
+    ensures pages { PagesOf lot_cells (λ b. b.lot) page_rows (filter (is_past 3 (lot_cells row.now)))
+        (state S.Store conn.old) (state S.Store conn.new) result }
+{
+    let rest = ask(
+        conn,
+        "SELECT account, commodity, cost_day, cost_currency, cost_number, cost_label, units FROM lot WHERE account = ?2 AND commodity = ?3 AND cost_day >= ?4 ORDER BY account, commodity, cost_day, cost_currency, cost_number, cost_label LIMIT ?1",
+        &[
+            PAGE_ROWS.to_cell(),
+            row.account.to_cell(),
+            row.commodity.to_cell(),
+            day_behind(row.lot.day),
+        ],
+    )?;
+    if !rest.is_empty() {
+        return Ok(rest);
+    }
+    behind_commodity(conn, row, texts)
+}
+
+/// Returns the next lots behind all of the same account and commodity.
+fn behind_commodity<S: Alter>(
+    conn: &mut Connection<S>,
+    row: &LotRow,
+    texts: &Texts,
+) -> Result<Vec<Row>, Fault>
+    requires texts { AreBehind texts.now row.now }
+    ensures pages { PagesOf lot_cells (λ b. b.lot) page_rows (filter (is_past 2 (lot_cells row.now)))
+        (state S.Store conn.old) (state S.Store conn.new) result }
+{
+    let rest = ask(
+        conn,
+        "SELECT account, commodity, cost_day, cost_currency, cost_number, cost_label, units FROM lot WHERE account = ?2 AND commodity >= ?3 ORDER BY account, commodity, cost_day, cost_currency, cost_number, cost_label LIMIT ?1",
+        &[
+            PAGE_ROWS.to_cell(),
+            row.account.to_cell(),
+            ValueRef::Text(texts.commodity.as_slice()),
+        ],
+    )?;
+    if !rest.is_empty() {
+        return Ok(rest);
+    }
+    lots_from(conn, texts.account.as_slice())
+}
+
+/// Returns the next lots of the accounts from a text on.
+fn lots_from<S: Alter>(conn: &mut Connection<S>, text: &[u8]) -> Result<Vec<Row>, Fault>
+    ensures pages { PagesOf lot_cells (λ b. b.lot) page_rows (filter (is_from (Text text.now)))
+        (state S.Store conn.old) (state S.Store conn.new) result }
+{
+    ask(
+        conn,
+        "SELECT account, commodity, cost_day, cost_currency, cost_number, cost_label, units FROM lot WHERE account >= ?2 ORDER BY account, commodity, cost_day, cost_currency, cost_number, cost_label LIMIT ?1",
+        &[PAGE_ROWS.to_cell(), ValueRef::Text(text)],
+    )
+}
+
+/// Returns what a column holds for the next day.
+fn day_behind(day: Day) -> ValueRef<'static>
+    ensures { owned result ≡ Int (day +ℤ pos 1) }
+{
+    ValueRef::Int(i64::from(day.number()) + 1)
+}
+
+/// Returns what a column holds for the next rate.
+fn rate_behind(rate: Rate) -> ValueRef<'static>
+    ensures { owned result ≡ Int (pos rate +ℤ pos 1) }
+{
+    ValueRef::Int(rate.mantissa() as i64 + 1)
 }

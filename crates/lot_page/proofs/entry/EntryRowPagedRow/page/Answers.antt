@@ -1,18 +1,14 @@
+use Rattle.std.proofs.Common.{pos, refl, ◌+ℤ◌}
 use Rattle.sqlite.specs.Held.{state}
-use Rattle.lot_page.specs.Page.{entry_page_rows}
-use Rattle.lot_page.proofs.EntryLemmas.{is_page, names, order, shows, text}
-use Rattle.lot_page.proofs.FirstLemmas.{asked, number}
-use Rattle.lot_page.proofs.PageLemmas.{pages}
-use Rattle.lot_rows.specs.Tables.{entry_table}
+use Rattle.lot_page.proofs.EntryLemmas.{all_entries, past_first}
 use Rattle.lot_page.proofs.entry.EntryRowPagedRow.page.Goals as goal
 
-pub ask-requires : goal.ask-requires
-ask-requires g c = is_page.selects
+pub returns-in-None : goal.returns-in-None
+returns-in-None g c =
+    let first = c.entries_from-in-None in
+    record { pages = rw (c.in-None.is) (all_entries (state g.S.Store c.args.conn.now) (state g.S.Store first.new.conn) first.result (first.ensures.pages (pos 0) refl)) }
 
-pub returns : goal.returns
-returns g c =
-    let told = c.ask.ensures in
-    record {
-      pages = pages entry_table number 0 entry_page_rows shows order names text is_page (state g.S.Store c.args.conn.now) (state g.S.Store c.ask.new.conn) c.args.last.now c.args.count c.ask.result
-          (rw (c.first_or.ensures, asked number 0 c.args.last.now, c.to_cell.ensures, c.to_cell-2.ensures) at told.shown) told.same (rw (c.first_or.ensures, asked number 0 c.args.last.now, c.to_cell.ensures, c.to_cell-2.ensures) at told.refused) told.device told.err told.crash;
-    }
+pub returns-in-Some : goal.returns-in-Some
+returns-in-Some g c =
+    let row = c.in-Some.row in
+    record { pages = rw (c.in-Some.is) (past_first row (state g.S.Store c.args.conn.now) (state g.S.Store c.entries_from.new.conn) c.entries_from.result (c.entries_from.ensures.pages (pos row.number +ℤ pos 1) c.number_behind.ensures)) }
