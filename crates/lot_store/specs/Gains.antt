@@ -1,4 +1,4 @@
--- The walk over the sales of a book on the days of a range, each with its legs (docs/RULES.md, Gains).
+-- The walk over the sales of a book on the days of a range, each with its legs (docs/RULES.md, Gain).
 use Rattle.std.specs.Prelude.{◌≡◌, ℕ, ℤ, ◌&&◌, Bool, true, not, int_lt, filter, List, [], ◌++◌, map, Option, None, Some}
 use Rattle.lot_inv.specs.declared.lot_key.LotKey.{LotKey}
 use Rattle.lot_book.specs.Facts.{Entry}

@@ -1,5 +1,5 @@
--- One line of ledger text, without its line end: what it says, and what is wrong with it (docs/FORMATS.md, Forms and Order of
--- faults).
+-- One line of ledger text, without its line end: what it says (docs/FORMATS.md, Forms), and what is wrong with it
+-- (docs/FORMATS.md, Order of faults).
 use Rattle.std.specs.Prelude.{◌≡◌, ◌≢◌, ◌⊎◌, ◌≤◌, ◌<◌, ℕ, Bool, IsTrue, IsFalse, List, [], length, Option, Some, None}
 use Rattle.std.specs.Str.{IsUtf8}
 use Rattle.lot_command.specs.declared.command.Command.{Command}

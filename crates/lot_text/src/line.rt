@@ -20,8 +20,8 @@ pub(crate) enum Place {
 /// The most bytes of a line (`longest_line` of the definitions).
 const LONGEST_LINE: usize = 4_096;
 
-/// Returns what a line says, given without its line end, or nothing where it is skipped (docs/FORMATS.md, Forms and Order of
-/// faults).
+/// Returns what a line says, given without its line end, or nothing where it is skipped (docs/FORMATS.md, Forms). The error is
+/// out of memory, or what is wrong with the line (docs/FORMATS.md, Order of faults).
 pub(crate) fn statement(
     alloc: Global,
     line: &[u8],
