@@ -1,6 +1,6 @@
 #!/usr/bin/env bash
-# The pages: their links lead somewhere, the README's example is the stored one, and the names that PROVED.md and the map of
-# RULES.md cite are those of the crates and of tests/.
+# The pages: their links lead somewhere, the README is short and its example is the stored one, no cell of a table is long, the names
+# that PROVED.md and the map of RULES.md cite are those of the crates and of tests/, and a section that code names is one of the page.
 source "$(dirname "$(readlink -f "${BASH_SOURCE[0]}")")/lib/cases.sh"
 cd "$root" || exit 1
 
@@ -33,6 +33,18 @@ example() {
 }
 example '`examples/first-purchase.ledger`:' "$examples/first-purchase.ledger"
 example 'The output:' "$examples/first-purchase.expected"
+
+words=$(wc -w <README.md)
+if ((words <= 900)); then pass "the README is short"; else fail "the README is short" "$words words"; fi
+
+# A cell of two lines has some 250 bytes.
+awk -F ' [|] ' '/^\|/ { for (at = 1; at <= NF; at++) if (length($at) > 250) print FILENAME ":" FNR }' README.md docs/*.md | none "long cells of tables"
+
+find crates -path '*/out' -prune -o \( -name '*.rt' -o -name '*.antt' \) -exec grep -hoE 'docs/[A-Z]+\.md, [A-Z][A-Za-z ]*[);]' {} + | sort -u |
+    while IFS=, read -r page section; do
+        section=${section# } section=${section%[);]}
+        grep -qxE "#+ $section" "$page" || echo "$page, $section"
+    done | none "sections that code names"
 
 # Words of the code and of the definitions, of names of their modules, and of tests/.
 {
