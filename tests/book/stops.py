@@ -106,12 +106,23 @@ def stopped_posts(program, scratch, path, rng, kills, count, took):
     return ""
 
 
+def init_took(program, scratch):
+    """How long making a book takes here."""
+    begun = time.monotonic()
+    subprocess.run([program, "init", "--book", os.path.join(scratch, "timed.book")], check=True, stdout=subprocess.DEVNULL)
+    return time.monotonic() - begun
+
+
 def stopped_inits(program, scratch, rng, kills):
     """A stop while a book is made leaves a file that can be made into a book, or one that is a book."""
+    took = init_took(program, scratch)
+    unready = 0
     for number in range(kills):
         book = os.path.join(scratch, f"init-{number}.book")
         run = subprocess.Popen([program, "init", "--book", book], stdout=subprocess.PIPE)
-        kill_at(rng, run, 0.03)
+        output = kill_at(rng, run, took)
+        # Those count that had begun with the file and hadn't said yet that the book is made.
+        unready += run.returncode < 0 and not output and os.path.exists(book)
         again = subprocess.run([program, "init", "--book", book], capture_output=True, timeout=60)
         used = subprocess.run(
             [program, "post", "--book", book, "--batch", "a"], input=CASES[1].encode(), capture_output=True, timeout=60
@@ -120,7 +131,7 @@ def stopped_inits(program, scratch, rng, kills):
             return f"init again: {again.stdout}, and no message"
         if not again.stderr and used.stdout != b"1 accepted\n":
             return f"post after it: {used.stdout}"
-    return ""
+    return "" if unready >= kills / 10 else f"only {unready} of {kills} stops hit the making, within {took:.3f} s"
 
 
 def main():
