@@ -128,10 +128,21 @@ helps "lotbook < " --help
 helps "lotbook < " -h
 helps "lotbook init --book" init --help
 helps "lotbook post --book" post --help
-helps "--from 120" post -h
 helps "lotbook import --book" import --help
 helps "the oldest first" import --help
+for word in holdings gains journal; do helps "lotbook $word --book" "$word" --help; done
+for word in init post import holdings gains journal; do helps "--book family.book" "$word" -h; done
+helps "--batch 2024" post -h
+helps "--from 120" post -h
+helps "--batch broker" import -h
 helps "--invest Assets:Broker" import -h
+helps "--cash Assets:Cash" import -h
+helps "--fees Expenses:Fees" import -h
+helps "--gains Income:Gains" import -h
+helps "--from 120" import -h
+helps "--day 2024-12-31" holdings -h
+helps "--first 2024-01-01" gains -h
+helps "--last 2024-12-31" gains -h
 "$program" --help </dev/null 2>"$scratch/err" >/dev/full && status=0 || status=$?
 stops "help on a full disk"
 
