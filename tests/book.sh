@@ -102,12 +102,18 @@ on "post on an empty database" "$scratch/empty.book" 4 "fault S1 NotABook" post 
 on "a faulty text on an empty database" "$scratch/empty.book" 3 "fault line 1 X6 BadDay" \
     post --book "$scratch/empty.book" --batch a <"$scratch/faulty"
 prints "init on an empty database" 0 "book ready" init --book "$scratch/empty.book" </dev/null
+: >"$scratch/zero.book"
+prints "a faulty text on an empty file" 3 "fault line 1 X6 BadDay" post --book "$scratch/zero.book" --batch a <"$scratch/faulty"
+shows "an empty database after a faulty text" 0 rows "$scratch/zero.book" "SELECT count(*) FROM sqlite_master"
+prints "init on it" 0 "book ready" init --book "$scratch/zero.book" </dev/null
 
 tables foreign "$scratch/taken.db" account
 refused "a database with a table of that name" "$scratch/taken.db" "fault S1 NotABook" "fault S1 NotABook"
 tables foreign "$scratch/other.db" notes
 on "post on a database of another program" "$scratch/other.db" 4 "fault S1 NotABook" \
     post --book "$scratch/other.db" --batch a <"$scratch/good"
+on "a faulty text on a database of another program" "$scratch/other.db" 3 "fault line 1 X6 BadDay" \
+    post --book "$scratch/other.db" --batch a <"$scratch/faulty"
 prints "a book beside other tables" 0 "book ready" init --book "$scratch/other.db" </dev/null
 prints "a batch beside other tables" 0 "1 accepted" post --book "$scratch/other.db" --batch a <"$scratch/good"
 shows "the other table" kept rows "$scratch/other.db" "SELECT content FROM notes"
@@ -197,6 +203,21 @@ else
     fail "sent on with room" "status $status, $(head -n 1 "$scratch/out")"
 fi
 shows "all entries stand" 2000 rows "$scratch/full.book" "SELECT count(*) FROM entry"
+
+# Without room for the log a new file can't even be opened. What is left of it is made into a book once there is room. What the
+# program says goes through a pipe, since the limit is one of each file.
+for room in {0..200..20}; do
+    rm -f "$scratch/roomless.book"*
+    said=$( (trap '' XFSZ && ulimit -f "$room" && exec "$program" init --book "$scratch/roomless.book") </dev/null 2>&1)
+    status=$? size=$(stat -c %s "$scratch/roomless.book" 2>/dev/null || echo none)
+    if ((status == 4)) && [[ $said == *"fault open"* && $said == *"lotbook: $scratch/roomless.book: "* && $size =~ ^(none|0|4096)$ ]]; then
+        pass "init with room for $room KiB"
+    else
+        fail "init with room for $room KiB" "status $status, a file of $size bytes, $(tr '\n' '|' <<<"$said")"
+    fi
+    prints "init with room again, after $room KiB" 0 "book ready" init --book "$scratch/roomless.book" </dev/null
+    prints "a batch after $room KiB" 0 "1 accepted" post --book "$scratch/roomless.book" --batch a <"$scratch/good"
+done
 
 # ---- output that can't be written
 
