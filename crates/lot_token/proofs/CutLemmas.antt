@@ -10,6 +10,7 @@ use Rattle.lot_token.specs.declared.token.Mark.{Mark}
 use Rattle.lot_token.specs.declared.token.Mark.TheVariants as Marks
 use Rattle.lot_token.specs.Token.{Lexeme, word, number, date, text, mark, is_blank, begins, IsWhole, IsNumber, IsDate, mark_bytes, spelled, Stands, HasNoToken, Cuts}
 use Rattle.lot_token.specs.Cutting.{token_at, next_in, next_of, cut_on, cut_within, cut_of, given}
+use Rattle.lot_token.proofs.OptionLemmas.{mapped}
 use Rattle.lot_token.proofs.RunLemmas.{run_found, HasRun, has_run, drop_front}
 use Rattle.lot_token.proofs.TokenLemmas.{token_stands}
 use Rattle.lot_token.proofs.FoundLemmas.{token_found}
@@ -208,10 +209,6 @@ zero_on : (line : List ℕ) (tokens : List Lexeme) (found : Lexeme × List ℕ) 
     → cut_within zero line ≡ Some tokens → ⊥
 unfolding cut_within
 zero_on line tokens found e f = none-some tokens (sym (ap (cut_on (λ rest. None)) e) ∙ f)
-
-mapped : {A B : Type 0} (f : A → B) (o : Option A) (y : B) → option_map f o ≡ Some y → (x : A) × (o ≡ Some x) × (f x ≡ y)
-mapped f None y e = absurd (none-some y e)
-mapped f (Some x) y e = (x, refl, same_Some (f x) y e)
 
 next_cuts : (line : List ℕ) (found : Lexeme × List ℕ) (tokens : List Lexeme) → NextAt line found → Cuts tokens found.1
     → Cuts (found.0 ∷ tokens) line

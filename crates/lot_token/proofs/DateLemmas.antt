@@ -1,5 +1,5 @@
 -- A date is found where it stands, and what is found is a date.
-use Rattle.std.proofs.Common.{◌≡◌, ◌⊎◌, inl, inr, ℕ, suc, ◌+◌, Bool, true, false, cond, List, [], ◌∷◌, ◌++◌, length, Option, Some, None, refl, ap, ◌∙◌, sym, arith, append_assoc, length-append}
+use Rattle.std.proofs.Common.{◌≡◌, ◌⊎◌, inl, inr, ℕ, suc, ◌+◌, Bool, true, false, cond, List, [], ◌∷◌, ◌++◌, length, Some, None, refl, ap, ◌∙◌, sym, arith, append_assoc, length-append}
 use Rattle.std.specs.Prelude.{option_map, IsFalse, ◌&&◌}
 use Rattle.std.specs.Char.{is_ascii_digit}
 use Rattle.std.proofs.lemmas.Bool.{and_parts, and_from}
@@ -8,6 +8,7 @@ use Rattle.std.proofs.lemmas.Option.{same_Some, none-some}
 use Rattle.lot_base.specs.Day.{is_separator}
 use Rattle.lot_token.specs.Token.{AreDigits, IsDate, HasDate, begins}
 use Rattle.lot_token.specs.Cutting.{day_len, month_len, date_len}
+use Rattle.lot_token.proofs.OptionLemmas.{guarded, mapped}
 
 -- ---- Digits, one by one.
 
@@ -134,14 +135,6 @@ date_some bytes (found, rest, d, whole) none =
     none-some _ (sym none ∙ ap date_len whole ∙ date_by found rest d day.0 day.1)
 
 -- ---- What is found stands there.
-
-guarded : {A : Type 0} (b : Bool) (o : Option A) (x : A) → cond b o None ≡ Some x → (b ≡ true) × (o ≡ Some x)
-guarded true o x e = (refl, e)
-guarded false o x e = absurd (none-some x e)
-
-mapped : {A B : Type 0} (f : A → B) (o : Option A) (y : B) → option_map f o ≡ Some y → (x : A) × (o ≡ Some x) × (f x ≡ y)
-mapped f None y e = absurd (none-some y e)
-mapped f (Some x) y e = (x, refl, same_Some (f x) y e)
 
 record HasDay (bytes : List ℕ) (n : ℕ) : Type 0 where
   day : List ℕ

@@ -1,3 +1,4 @@
+pub mod OptionLemmas
 pub mod RunLemmas
 pub mod WithinLemmas
 pub mod DateLemmas

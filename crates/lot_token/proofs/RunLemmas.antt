@@ -68,7 +68,8 @@ unfolding whole_len
 whole_ends [] e = refl
 whole_ends (x ∷ xs) e = rw e refl
 
-rest_of : (n : ℕ) (xs : List ℕ) → n ≤ length xs → take (length xs - n) (drop n xs) ≡ drop n xs
+-- what is left from a place to the end is all that is behind it
+pub rest_of : (n : ℕ) (xs : List ℕ) → n ≤ length xs → take (length xs - n) (drop n xs) ≡ drop n xs
 rest_of n xs le = take_all _ _ (omega (arith, length-drop n xs))
 
 pub whole_step : (n : ℕ) (xs : List ℕ) (total : ℕ) → n ≤ length xs → goes_on (take (length xs - n) (drop n xs)) ≡ true

@@ -5,11 +5,13 @@ use Rattle.std.specs.List.{list_all}
 use Rattle.std.proofs.lemmas.Bool.{and_parts, and_from, or_from, or_parts, eqb-true}
 use Rattle.lot_command.specs.Canonical.{escaped}
 use Rattle.std.proofs.lemmas.Bool.Decides.{nat_tests}
-use Rattle.std.proofs.lemmas.List.{drop-drop, length-drop, take_all}
+use Rattle.std.proofs.lemmas.List.{drop-drop, length-drop}
 use Rattle.std.proofs.lemmas.Option.{same_Some, none-some}
 use Rattle.lot_base.specs.Name.{is_note_byte}
 use Rattle.lot_token.specs.Token.{begins_with}
 use Rattle.lot_token.specs.Cutting.{is_escape, unit_len, within_len}
+use Rattle.lot_token.proofs.OptionLemmas.{guarded, mapped}
+use Rattle.lot_token.proofs.RunLemmas.{rest_of}
 
 -- ---- Step by step.
 
@@ -68,9 +70,6 @@ after_unit (b ∷ c ∷ rest) e = after_by b c rest (eqb b 92) refl e
 
 -- ---- The loop over the units.
 
-rest_of : (n : ℕ) (xs : List ℕ) → n ≤ length xs → take (length xs - n) (drop n xs) ≡ drop n xs
-rest_of n xs le = take_all _ _ (omega (arith, length-drop n xs))
-
 further : (n k : ℕ) (o : Option ℕ) → option_map (λ m. n + m) (option_map (λ m. k + m) o) ≡ option_map (λ m. (n + k) + m) o
 further n k None = refl
 further n k (Some m) = ap Some (omega arith)
@@ -114,14 +113,6 @@ pub record WithinAt (bytes : List ℕ) (n : ℕ) : Type 0 where
   pub whole : bytes ≡ escaped content ++ 34 ∷ rest
   pub all : list_all is_note_byte content ≡ true
   pub len : n ≡ length (escaped content)
-
-guarded : {A : Type 0} (b : Bool) (o : Option A) (x : A) → cond b o None ≡ Some x → (b ≡ true) × (o ≡ Some x)
-guarded true o x e = (refl, e)
-guarded false o x e = absurd (none-some x e)
-
-mapped : {A B : Type 0} (f : A → B) (o : Option A) (y : B) → option_map f o ≡ Some y → (x : A) × (o ≡ Some x) × (f x ≡ y)
-mapped f None y e = absurd (none-some y e)
-mapped f (Some x) y e = (x, refl, same_Some (f x) y e)
 
 escape_is_note : (c : ℕ) → is_escape c ≡ true → is_note_byte c ≡ true
 escape_is_note c e = grind (arith, nat_tests)
