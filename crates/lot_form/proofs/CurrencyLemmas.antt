@@ -1,9 +1,9 @@
 -- Words with commas between them, one after another.
-use Rattle.std.proofs.Common.{◌≡◌, ℕ, suc, ◌<◌, ◌≤◌, Bool, true, false, cond, List, [], ◌∷◌, ◌++◌, map, length, Option, Some, None, refl, ap, ◌∙◌, sym, subst, arith, append_assoc, length-append}
+use Rattle.std.proofs.Common.{◌≡◌, ℕ, suc, ◌<◌, ◌≤◌, cond, List, [], ◌∷◌, ◌++◌, map, length, Option, Some, None, refl, ap, ◌∙◌, sym, subst, arith, append_assoc, length-append}
 use Rattle.std.specs.Prelude.{option_map, nat_le, flat_map}
 use Rattle.std.proofs.lemmas.Bool.{le-leb, lt-leb, leb-true}
 use Rattle.std.proofs.lemmas.List.{append-nil, map_push}
-use Rattle.std.proofs.lemmas.Option.{same_Some, none-some}
+use Rattle.std.proofs.lemmas.Option.{cond_some, same_Some}
 use Rattle.lot_command.specs.Currencies.{most_currencies}
 use Rattle.lot_token.specs.declared.token.Mark.TheVariants as Marks
 use Rattle.lot_token.specs.Token.{Lexeme, word, number, date, text, mark}
@@ -181,10 +181,6 @@ more_are (mark Marks.OpenOpen ∷ rest) found e = nothing_more (mark Marks.OpenO
 more_are (mark Marks.Close ∷ rest) found e = nothing_more (mark Marks.Close ∷ rest) found e
 more_are (mark Marks.CloseClose ∷ rest) found e = nothing_more (mark Marks.CloseClose ∷ rest) found e
 
-kept_limit : (b : Bool) (x y : Words) → cond b (Some x) None ≡ Some y → (b ≡ true) × (x ≡ y)
-kept_limit true x y e = (refl, same_Some x y e)
-kept_limit false x y e = absurd (none-some y e)
-
 abbrev pub HasCurrencies : List Lexeme → Words → Type 0
 HasCurrencies tokens found = (length found.0 ≤ most_currencies) × (tokens ≡ currency_tokens found.0 ++ found.1)
 
@@ -194,7 +190,7 @@ currencies_is_by tokens found None w e =
     subst (HasCurrencies tokens) (same_Some ([], tokens) found e) (omega arith, refl)
 currencies_is_by tokens found (Some first) w e =
     let t = bound (λ (more : Words). within_limit (first.0 ∷ more.0, more.1)) (more_words first.1) found e in
-    let k = kept_limit (nat_le (length (first.0 ∷ t.0.0)) most_currencies) (first.0 ∷ t.0.0, t.0.1) found t.2 in
+    let k = cond_some (nat_le (length (first.0 ∷ t.0.0)) most_currencies) (first.0 ∷ t.0.0, t.0.1) found t.2 in
     subst (HasCurrencies tokens) k.1
     (leb-true (length (first.0 ∷ t.0.0)) most_currencies k.0, word_is tokens first w ∙ ap (λ x. word first.0 ∷ x) (more_are first.1 t.0 t.1))
 

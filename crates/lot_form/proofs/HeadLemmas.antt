@@ -2,7 +2,7 @@
 use Rattle.std.proofs.Common.{◌≡◌, inl, inr, ℕ, ◌≤◌, Bool, true, false, cond, List, [], ◌∷◌, ◌++◌, length, Option, Some, None, refl, ap, ◌∙◌, sym, subst}
 use Rattle.std.specs.Prelude.{◌≢◌, ◌⊎◌, MatchResult, IfOk, OnErr, IsErrOf, codes, Result, Ok, Err}
 use Rattle.std.specs.Cmp.Lexicographic.{bytes_decides}
-use Rattle.std.proofs.lemmas.Option.{same_Some, none-some}
+use Rattle.std.proofs.lemmas.Option.{cond_some, same_Some}
 use Rattle.lot_command.specs.Currencies.{most_currencies}
 use Rattle.lot_command.specs.declared.transaction.Flag.{Flag}
 use Rattle.lot_command.specs.declared.transaction.Flag.TheVariants.{Complete, Incomplete}
@@ -14,7 +14,7 @@ use Rattle.lot_form.specs.Form.{Directive, opening, closing, declaring, quoting,
 use Rattle.lot_form.specs.Shape.{◌>>=◌, is_empty, as_word, as_number}
 use Rattle.lot_form.specs.declared.form.HeadForm.{HeadForm}
 use Rattle.lot_form.specs.Head.{head_seen, directive_seen, as_text, last_word, currencies_at, last_text, opening_of, closing_of, declaring_of, quoting_of, notes_by, notes_of, transaction_of, fitting, same, named, directive_of, with_day, head_of}
-use Rattle.lot_form.proofs.PartLemmas.{bound, then_is, word_is, number_is}
+use Rattle.lot_form.proofs.PartLemmas.{bound, nothing, then_is, word_is, number_is}
 use Rattle.lot_form.proofs.CurrencyLemmas.{Words, currencies_stand, currencies_found}
 
 -- ---- Texts and words at the end of a line.
@@ -27,18 +27,10 @@ text_is (date d ∷ rest) found e = cc
 text_is (text t ∷ rest) found e = ap (λ (x : List ℕ × List Lexeme). text x.0 ∷ x.1) (same_Some (t, rest) found e)
 text_is (mark m ∷ rest) found e = cc
 
-nothing : (rest : List Lexeme) → is_empty rest ≡ true → rest ≡ []
-nothing [] e = refl
-nothing (token ∷ rest) e = cc
-
-kept : {A : Type 0} (b : Bool) (x y : A) → cond b (Some x) None ≡ Some y → (b ≡ true) × (x ≡ y)
-kept true x y e = (refl, same_Some x y e)
-kept false x y e = absurd (none-some y e)
-
 last_word_is : (tokens : List Lexeme) (w : List ℕ) → last_word tokens ≡ Some w → tokens ≡ word w ∷ []
 last_word_is tokens w e =
     let t = bound (λ (x : List ℕ × List Lexeme). cond (is_empty x.1) (Some x.0) None) (as_word tokens) w e in
-    let k = kept (is_empty t.0.1) t.0.0 w t.2 in
+    let k = cond_some (is_empty t.0.1) t.0.0 w t.2 in
     word_is tokens t.0 t.1 ∙ ap (λ x. word t.0.0 ∷ x) (nothing t.0.1 k.0) ∙ ap (λ x. word x ∷ []) k.1
 
 last_text_is : (tokens : List Lexeme) (found : Option (List ℕ)) → last_text tokens ≡ Some found
@@ -46,7 +38,7 @@ last_text_is : (tokens : List Lexeme) (found : Option (List ℕ)) → last_text 
 last_text_is [] found e = ap (perhaps (λ (t : List ℕ). text t ∷ [])) (same_Some None found e)
 last_text_is (token ∷ rest) found e =
     let t = bound (λ (x : List ℕ × List Lexeme). cond (is_empty x.1) (Some (Some x.0)) None) (as_text (token ∷ rest)) found e in
-    let k = kept (is_empty t.0.1) (Some t.0.0) found t.2 in
+    let k = cond_some (is_empty t.0.1) (Some t.0.0) found t.2 in
     text_is (token ∷ rest) t.0 t.1 ∙ ap (λ x. text t.0.0 ∷ x) (nothing t.0.1 k.0) ∙ ap (perhaps (λ (x : List ℕ). text x ∷ [])) k.1
 
 abbrev Notes : Type 0
@@ -57,7 +49,7 @@ notes_by_is : (first : List ℕ) (tokens : List Lexeme) (found : Option Notes) �
 notes_by_is first [] found e = ap (perhaps note_tokens) (same_Some (Some (None, first)) found e)
 notes_by_is first (token ∷ rest) found e =
     let t = bound (λ (x : List ℕ × List Lexeme). cond (is_empty x.1) (Some (Some (Some first, x.0))) None) (as_text (token ∷ rest)) found e in
-    let k = kept (is_empty t.0.1) (Some (Some first, t.0.0)) found t.2 in
+    let k = cond_some (is_empty t.0.1) (Some (Some first, t.0.0)) found t.2 in
     ap (λ x. text first ∷ x) (text_is (token ∷ rest) t.0 t.1 ∙ ap (λ x. text t.0.0 ∷ x) (nothing t.0.1 k.0)) ∙ ap (perhaps note_tokens) k.1
 
 notes_are : (tokens : List Lexeme) (found : Option Notes) → notes_of tokens ≡ Some found → tokens ≡ perhaps note_tokens found

@@ -4,12 +4,12 @@ use Rattle.std.specs.Prelude.{◌||◌}
 use Rattle.std.specs.List.{list_any}
 use Rattle.std.proofs.lemmas.Bool.{and_parts, and_from, or_parts, or_from, not-true, not_from_false}
 use Rattle.std.proofs.lemmas.List.{append-nil}
-use Rattle.std.proofs.lemmas.Option.{same_Some, none-some}
+use Rattle.std.proofs.lemmas.Option.{cond_some, none-some, same_Some}
 use Rattle.lot_token.specs.declared.token.Mark.{Mark}
 use Rattle.lot_token.specs.declared.token.Mark.TheVariants as Marks
 use Rattle.lot_token.specs.Token.{Lexeme, word, number, date, text, mark}
 use Rattle.lot_form.specs.Form.{CostPart, money, amount, currency, day, label, part_tokens, parts_tokens, is_money, is_day, is_label, how_many, AtMostOneEach}
-use Rattle.lot_form.specs.Shape.{◌>>=◌, as_word, as_number, after_comma, number_part, part_at, first_by, second_by, third_by, parts_at, clash, are_distinct, distinct_at}
+use Rattle.lot_form.specs.Shape.{◌>>=◌, is_empty, as_word, as_number, after_comma, number_part, part_at, first_by, second_by, third_by, parts_at, clash, are_distinct, distinct_at}
 
 -- ---- Steps.
 
@@ -23,6 +23,10 @@ bound f (Some x) y e = (x, refl, e)
 
 pub then_is : {A B : Type 0} (f : A → Option B) (o : Option A) (x : A) → o ≡ Some x → (o >>= f) ≡ f x
 then_is f o x e = rw e refl
+
+pub nothing : (rest : List Lexeme) → is_empty rest ≡ true → rest ≡ []
+nothing [] e = refl
+nothing (token ∷ rest) e = cc
 
 pub word_is : (tokens : List Lexeme) (found : List ℕ × List Lexeme) → as_word tokens ≡ Some found → tokens ≡ word found.0 ∷ found.1
 word_is [] found e = cc
@@ -295,16 +299,12 @@ parts_found (a ∷ b ∷ c ∷ d ∷ parts) m rest h stop =
 
 -- ---- Both together.
 
-kept : {A : Type 0} (b : Bool) (x y : A) → cond b (Some x) None ≡ Some y → (b ≡ true) × (x ≡ y)
-kept true x y e = (refl, same_Some x y e)
-kept false x y e = absurd (none-some y e)
-
 pub distinct_are : (tokens : List Lexeme) (found : List CostPart × List Lexeme) → distinct_at tokens ≡ Some found
     → AtMostOneEach found.0 × (tokens ≡ parts_tokens found.0 ++ found.1)
 unfolding distinct_at
 distinct_are tokens found e =
     let t = bound (λ (x : List CostPart × List Lexeme). cond (are_distinct x.0) (Some x) None) (parts_at tokens) found e in
-    let k = kept (are_distinct t.0.0) t.0 found t.2 in
+    let k = cond_some (are_distinct t.0.0) t.0 found t.2 in
     subst (λ (x : List CostPart × List Lexeme). AtMostOneEach x.0 × (tokens ≡ parts_tokens x.0 ++ x.1)) k.1
     (distinct_at_most t.0.0 k.0, parts_are tokens t.0 t.1)
 

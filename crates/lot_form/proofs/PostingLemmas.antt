@@ -1,14 +1,15 @@
 -- The posting of a line is the one whose form its tokens have.
 use Rattle.std.specs.Prelude.{option_map, IfSome, IfNone}
-use Rattle.std.proofs.Common.{◌≡◌, ℕ, Bool, true, false, cond, List, [], ◌∷◌, ◌++◌, Option, Some, None, refl, ap, ◌∙◌, sym, subst, append_assoc}
+use Rattle.std.proofs.Common.{◌≡◌, ℕ, cond, List, [], ◌∷◌, ◌++◌, Option, Some, None, refl, ap, ◌∙◌, sym, subst, append_assoc}
 use Rattle.std.specs.List.{list_any}
 use Rattle.std.proofs.lemmas.Option.{same_Some, none-some}
 use Rattle.lot_token.specs.declared.token.Mark.TheVariants as Marks
 use Rattle.lot_token.specs.Token.{Lexeme, word, number, date, text, mark}
+use Rattle.lot_token.proofs.OptionLemmas.{guarded}
 use Rattle.lot_form.specs.Form.{CostPart, parts_tokens, has_number, WrittenCost, each, whole, FitsCost, cost_tokens, WrittenPrice, each_unit, all_units, price_tokens, WrittenAmount, amount_tokens, WrittenPosting, perhaps, FitsPerhaps, IsPosting}
 use Rattle.lot_form.specs.declared.form.PostingForm.{PostingForm}
 use Rattle.lot_form.specs.Shape.{posting_seen, ◌>>=◌, is_empty, as_word, as_number, after_close, after_close_close, distinct_at, each_at, whole_at, cost_at, money_of, price_of, amount_of, posting_by, posting_of}
-use Rattle.lot_form.proofs.PartLemmas.{bound, then_is, word_is, number_is, distinct_are, distinct_found}
+use Rattle.lot_form.proofs.PartLemmas.{bound, nothing, then_is, word_is, number_is, distinct_are, distinct_found}
 
 -- ---- Closing braces.
 
@@ -61,15 +62,11 @@ each_is tokens found e =
           ∙ sym (append_assoc (parts_tokens t.0.0) (mark Marks.Close ∷ []) u.0)),
     )
 
-kept : {A : Type 0} (b : Bool) (o : Option A) (y : A) → cond b o None ≡ Some y → (b ≡ true) × (o ≡ Some y)
-kept true o y e = (refl, e)
-kept false o y e = absurd (none-some y e)
-
 whole_is : (tokens : List Lexeme) (found : Option WrittenCost × List Lexeme) → whole_at tokens ≡ Some found
     → HasCost (mark Marks.OpenOpen ∷ tokens) found
 whole_is tokens found e =
     let t = bound (λ (x : List CostPart × List Lexeme). cond (list_any has_number x.0) (after_close_close x.1 >>= λ rest. Some (Some (whole x.0), rest)) None) (distinct_at tokens) found e in
-    let k = kept (list_any has_number t.0.0) (after_close_close t.0.1 >>= λ rest. Some (Some (whole t.0.0), rest)) found t.2 in
+    let k = guarded (list_any has_number t.0.0) (after_close_close t.0.1 >>= λ rest. Some (Some (whole t.0.0), rest)) found t.2 in
     let u = bound (λ (rest : List Lexeme). Some (Some (whole t.0.0), rest)) (after_close_close t.0.1) found k.1 in
     let d = distinct_are tokens t.0 t.1 in
     subst (HasCost (mark Marks.OpenOpen ∷ tokens)) (same_Some (Some (whole t.0.0), u.0) found u.2) (
@@ -100,15 +97,11 @@ cost_is (mark Marks.CloseClose ∷ rest) found e = no_cost (mark Marks.CloseClos
 
 -- ---- Prices.
 
-nothing : (rest : List Lexeme) → is_empty rest ≡ true → rest ≡ []
-nothing [] e = refl
-nothing (token ∷ rest) e = cc
-
 money_is : (tokens : List Lexeme) (found : List ℕ × List ℕ) → money_of tokens ≡ Some found → tokens ≡ number found.0 ∷ word found.1 ∷ []
 money_is tokens found e =
     let t = bound (λ (n : List ℕ × List Lexeme). as_word n.1 >>= λ c. cond (is_empty c.1) (Some (n.0, c.0)) None) (as_number tokens) found e in
     let u = bound (λ (c : List ℕ × List Lexeme). cond (is_empty c.1) (Some (t.0.0, c.0)) None) (as_word t.0.1) found t.2 in
-    let k = kept (is_empty u.0.1) (Some (t.0.0, u.0.0)) found u.2 in
+    let k = guarded (is_empty u.0.1) (Some (t.0.0, u.0.0)) found u.2 in
     subst (λ (x : List ℕ × List ℕ). tokens ≡ number x.0 ∷ word x.1 ∷ []) (same_Some (t.0.0, u.0.0) found k.1)
     (number_is tokens t.0 t.1 ∙ ap (λ x. number t.0.0 ∷ x) (word_is t.0.1 u.0 u.1 ∙ ap (λ x. word u.0.0 ∷ x) (nothing u.0.1 k.0)))
 
@@ -169,7 +162,7 @@ cost_found (Some (whole parts)) price fits = whole_found parts (perhaps price_to
 
 -- ---- Amounts and postings.
 
-abbrev FitsAmount : WrittenAmount → Type 0
+abbrev pub FitsAmount : WrittenAmount → Type 0
 FitsAmount a = FitsPerhaps FitsCost a.cost
 
 abbrev amount_with : List ℕ → List ℕ → Option WrittenCost → Option WrittenPrice → WrittenAmount
