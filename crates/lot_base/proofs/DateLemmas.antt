@@ -2,29 +2,22 @@
 use Rattle.std.proofs.Common.{◌≡◌, Some, ℕ, ◌≤◌, true, arith, ℤ, pos, neg_ℤ, ◌≤ℤ◌}
 use Rattle.std.specs.Prelude.{nat_le, ◌&&◌, OkIff, Result, Ok, Err}
 use Rattle.std.specs.Result.{result_ok}
-use Rattle.std.proofs.lemmas.Bool.{and_parts, false_from_ne_true}
-use Rattle.std.proofs.lemmas.Bool.Decides.{nat_tests}
+use Rattle.std.proofs.lemmas.Bool.{and_parts, false_from_ne_true, le-leb, leb-true}
 use Rattle.jiff_core.specs.Calendar.{days_from_civil, days_in_month, IsCivilDate}
 use Rattle.jiff_core.proofs.SignedLemmas.{signed_arith}
 use Rattle.lot_base.specs.Day.{IsDay, day_number, last_year, has_date, date_number}
-
-le_yes : (a b : ℕ) → a ≤ b → nat_le a b ≡ true
-le_yes a b h = grind (arith, nat_tests)
 
 has_date-yes : (y m d : ℕ) → IsDay (pos y) (pos m) (pos d) → has_date y m d ≡ true
 has_date-yes y m d h =
     let year : (1 ≤ y) × (y ≤ last_year) = (omega (arith, signed_arith, h.0), omega (arith, signed_arith, h.1.0.1)) in
     let month : (1 ≤ m) × (m ≤ 12) = (omega (arith, signed_arith, h.1.1.0), omega (arith, signed_arith, h.1.1.1)) in
     let day : (1 ≤ d) × (d ≤ days_in_month (pos y) m) = (omega (arith, signed_arith, h.1.2.0), omega (arith, signed_arith, h.1.2.1)) in
-    rw (le_yes 1 y year.0, le_yes y last_year year.1, le_yes 1 m month.0, le_yes m 12 month.1, le_yes 1 d day.0, le_yes d (days_in_month (pos y) m) day.1)
-
-le_from_test : (a b : ℕ) → nat_le a b ≡ true → a ≤ b
-le_from_test a b h = grind (arith, nat_tests)
+    rw (le-leb 1 y year.0, le-leb y last_year year.1, le-leb 1 m month.0, le-leb m 12 month.1, le-leb 1 d day.0, le-leb d (days_in_month (pos y) m) day.1)
 
 between : (low n high : ℕ) → (nat_le low n && nat_le n high) ≡ true → (low ≤ n) × (n ≤ high)
 between low n high h =
     let parts = and_parts (nat_le low n) (nat_le n high) h in
-    (le_from_test low n parts.0, le_from_test n high parts.1)
+    (leb-true low n parts.0, leb-true n high parts.1)
 
 -- its year, month and day lie where they may
 date_parts : (y m d : ℕ) → has_date y m d ≡ true

@@ -2,6 +2,7 @@ pub mod DateLemmas
 pub mod DateOfLemmas
 pub mod DayLemmas
 pub mod DayTextLemmas
+pub mod DecisionLemmas
 pub mod MapLemmas
 pub mod NameLemmas
 pub mod OrderLemmas

@@ -166,7 +166,7 @@ directive_is (mark Marks.OpenOpen ∷ rest) directive e = cc
 directive_is (mark Marks.Close ∷ rest) directive e = cc
 directive_is (mark Marks.CloseClose ∷ rest) directive e = cc
 
-abbrev Head : Type 0
+abbrev pub Head : Type 0
 Head = List ℕ × Directive
 
 abbrev IsHeadOf : List Lexeme → Head → Type 0

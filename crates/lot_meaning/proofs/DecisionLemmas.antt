@@ -1,13 +1,10 @@
 -- Each part is within its rule or it isn't, so there is a first that isn't or all are.
-use Rattle.std.proofs.Common.{◌≡◌, ◌≢◌, ◌⊎◌, inl, inr, ℕ, Bool, true, false, List, [], ◌∷◌, ◌++◌, Option, Some, None, refl, sym, ap, ◌∙◌, subst}
-use Rattle.std.specs.Prelude.{Result, Ok, Err}
-use Rattle.std.specs.Cmp.Lexicographic.{bytes_decides}
-use Rattle.std.proofs.lemmas.Bool.{false≢true}
+use Rattle.std.proofs.Common.{◌≡◌, ◌≢◌, ◌⊎◌, inl, inr, ℕ, Bool, true, List, [], ◌∷◌, ◌++◌, refl, sym, ap, ◌∙◌, subst}
 use Rattle.std.proofs.lemmas.List.{append-nil}
-use Rattle.std.proofs.lemmas.Option.{none-some}
 use Rattle.lot_num.specs.NumberText.{units_of, rate_of, total_of}
 use Rattle.lot_base.specs.Name.{is_account, is_commodity, is_label, is_note}
 use Rattle.lot_base.specs.Day.{named_day}
+use Rattle.lot_base.proofs.DecisionLemmas.{Decided, decided_by, ok_or_not, same_or_not, some_or_not, true_or_not}
 use Rattle.lot_booking.specs.Method.{word_of}
 use Rattle.lot_booking.specs.declared.method.Method.{Method}
 use Rattle.lot_booking.specs.declared.method.Method.TheVariants.{Strict, Fifo, Lifo, Hifo, Unmatched}
@@ -18,28 +15,7 @@ use Rattle.lot_meaning.proofs.EscapeLemmas.{Written, behind, plain, written, fir
 use Rattle.lot_meaning.proofs.ItemLemmas.{outside_first, outside_later}
 use Rattle.lot_meaning.proofs.PartLemmas.{label_is_quoted, quoted_is_label}
 
-abbrev Decided : Type 0 → Type 0
-Decided P = P ⊎ (P → ⊥)
-
-decided_by : (P Q : Type 0) → (P → Q) → (Q → P) → Decided P → Decided Q
-decided_by P Q to from (inl p) = inl (to p)
-decided_by P Q to from (inr none) = inr (λ q. none (from q))
-
--- ---- Numbers and days.
-
-ok_or_not : {X E : Type 0} (r : Result X E) → Decided ((x : X) × (r ≡ Ok x))
-ok_or_not (Ok x) = inl (x, refl)
-ok_or_not (Err e) = inr (λ (x, same). cc)
-
-some_or_not : {X : Type 0} (o : Option X) → Decided ((x : X) × (o ≡ Some x))
-some_or_not None = inr (λ (x, same). none-some x same)
-some_or_not (Some x) = inl (x, refl)
-
 -- ---- Names.
-
-true_or_not : (b : Bool) → Decided (b ≡ true)
-true_or_not true = inl refl
-true_or_not false = inr false≢true
 
 name_or_not : (is_name : List ℕ → Bool) (bytes : List ℕ) → Decided ((name : List ℕ) × Names is_name bytes name)
 name_or_not is_name bytes =
@@ -52,9 +28,6 @@ label_or_not bytes =
     (λ good. (bytes, label_is_quoted bytes good)) (λ (name, q). quoted_is_label bytes name q) (true_or_not (is_label bytes))
 
 -- ---- Methods.
-
-same_or_not : (a b : List ℕ) → Decided (a ≡ b)
-same_or_not a b = decided_by _ (a ≡ b) (bytes_decides a b).0 (bytes_decides a b).1 (true_or_not _)
 
 none_of_them : (bytes : List ℕ) → bytes ≢ word_of Strict → bytes ≢ word_of Fifo → bytes ≢ word_of Lifo → bytes ≢ word_of Hifo
     → bytes ≢ word_of Unmatched → (method : Method) → bytes ≡ word_of method → ⊥

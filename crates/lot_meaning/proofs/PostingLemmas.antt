@@ -8,6 +8,7 @@ use Rattle.lot_command.specs.declared.price.Price.TheVariants as Prices
 use Rattle.lot_command.specs.declared.transaction.Amount.{Amount}
 use Rattle.lot_command.specs.declared.transaction.Posting.{Posting}
 use Rattle.lot_form.specs.Form.{CostPart, each, whole, FitsCost, FitsPerhaps, WrittenPrice, each_unit, all_units, WrittenAmount, WrittenPosting}
+use Rattle.lot_form.proofs.PostingLemmas.{FitsAmount}
 use Rattle.lot_meaning.specs.Meaning.{Item, AreInside, listed_by, cost_items, price_items, amount_items, posting_items, MeansPerhaps, MeansRate, MeansTotal, MeansDay, Names, Quotes, MeansRest, MeansCost, MeansPrice, MeansAmount, MeansPosting, number_in, currency_in, day_in, label_in}
 use Rattle.lot_meaning.proofs.ItemLemmas.{both_inside, inside_parts}
 use Rattle.lot_meaning.proofs.OneLemmas.{MeansOne, one_perhaps, one_units, one_rate, one_total, one_day, one_name, one_label}
@@ -85,9 +86,6 @@ fits_price (Some price) = tt
 some_price : (price : WrittenPrice) → FitsPrice price → AreInside (price_items price) → (meant : Price) × MeansPrice price meant
 some_price (each_unit n c) fits h = (Prices.Each (record { rate = h.0.0; currency = h.1.0.0 }), (h.0.1, h.1.0.1))
 some_price (all_units n c) fits h = (Prices.Whole (h.0.0, h.1.0.0), (h.0.1, h.1.0.1))
-
-abbrev FitsAmount : WrittenAmount → Type 0
-FitsAmount a = FitsPerhaps FitsCost a.cost
 
 some_amount : (a : WrittenAmount) → FitsAmount a → AreInside (amount_items a) → (meant : Amount) × MeansAmount a meant
 some_amount a fits h =

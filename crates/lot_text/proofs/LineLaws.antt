@@ -16,7 +16,7 @@ use Rattle.lot_form.specs.Shape.{posting_of}
 use Rattle.lot_form.specs.Head.{head_of}
 use Rattle.lot_form.specs.declared.fault.FormFault.{FormFault}
 use Rattle.lot_form.specs.declared.fault.FormFault.TheVariants.{Syntax, UnknownDirective}
-use Rattle.lot_form.proofs.HeadLemmas.{head_found, head_is, known_is, no_head, unknown_is}
+use Rattle.lot_form.proofs.HeadLemmas.{Head, head_found, head_is, known_is, no_head, unknown_is}
 use Rattle.lot_form.proofs.PostingLemmas.{no_posting, posting_found, posting_is}
 use Rattle.lot_meaning.specs.Meaning.{AreInside, FirstOutside, Item, MeansHead, MeansPosting, head_items, posting_items}
 use Rattle.lot_meaning.specs.declared.fault.ValueFault.{ValueFault}
@@ -33,9 +33,6 @@ use Rattle.lot_text.proofs.FaultLemmas.{bad_cut, bad_directive, bad_head, bad_he
 use Rattle.lot_text.proofs.StatementLemmas.{some_says_command, some_says_posting}
 
 -- ---- Tokens have one form.
-
-abbrev Head : Type 0
-Head = List ℕ × Directive
 
 one_head : (tokens : List Lexeme) (a b : Head) → IsHead tokens a.0 a.1 → IsHead tokens b.0 b.1 → a ≡ b
 one_head tokens a b h k =
