@@ -10,7 +10,7 @@ use Rattle.lot_command.specs.Canonical.{cost_text, part, parts_text, price_text,
 use Rattle.lot_command.specs.declared.price.Price.{Price}
 use Rattle.lot_command.specs.declared.price.Price.TheVariants as Prices
 use Rattle.lot_token.specs.declared.token.Mark.TheVariants as Marks
-use Rattle.lot_token.specs.Token.{Lexeme, begins, begins_with, is_word_byte, mark, number}
+use Rattle.lot_token.specs.Token.{Lexeme, begins, begins_with, is_word_byte, mark}
 use Rattle.lot_form.specs.Form.{FitsCost, FitsPerhaps, WrittenCost, WrittenPrice, all_units, cost_tokens, each, each_unit, parts_tokens, perhaps, price_tokens, whole}
 use Rattle.lot_meaning.specs.Meaning.{MeansCost, MeansPerhaps, MeansPrice, MeansRate, MeansTotal, number_in}
 use Rattle.lot_print.specs.Sayable.{IsCost, IsPrice, IsSpec, IsTotal}

@@ -6,7 +6,7 @@ use Rattle.std.specs.Char.{is_ascii_digit}
 use Rattle.std.proofs.lemmas.Bool.Decides.{nat_tests}
 use Rattle.std.proofs.lemmas.List.{append-nil}
 use Rattle.lot_base.specs.Day.{day_text}
-use Rattle.lot_base.specs.Name.{is_account, is_commodity, is_note}
+use Rattle.lot_base.specs.Name.{is_account, is_commodity, is_note, longest_account, longest_commodity}
 use Rattle.lot_booking.specs.Method.{word_of}
 use Rattle.lot_booking.specs.declared.method.Method.{Method}
 use Rattle.lot_booking.specs.declared.method.Method.TheVariants.{Strict, Fifo, Lifo, Hifo, Unmatched}
@@ -63,14 +63,14 @@ says n rest tokens directive command cut form means = record {
 
 pub closing_says : (c : Closing) → IsClosing c → IsCommand (closing_line c) (Commands.Closing c)
 closing_says c h =
-    let account = word_last 128 c.account (account_word c.account h.of_account.good) in
+    let account = word_last longest_account c.account (account_word c.account h.of_account.good) in
     let cut = space_first (token_first (word (codes "close")) (refl, refl, refl) (space_first account)) in
     says c.day _ _ (closing c.account) (Commands.Closing c) cut refl
     (day_means c.day h.on_day, name_means is_account c.account h.of_account)
 
 pub declaring_says : (d : Declaring) → IsDeclaring d → IsCommand (declaring_line d) (Commands.Declaring d)
 declaring_says d h =
-    let commodity = word_last 24 d.commodity (commodity_word d.commodity h.of_commodity.good) in
+    let commodity = word_last longest_commodity d.commodity (commodity_word d.commodity h.of_commodity.good) in
     let cut = space_first (token_first (word (codes "commodity")) (refl, refl, refl) (space_first commodity)) in
     says d.day _ _ (declaring d.commodity) (Commands.Declaring d) cut refl
     (day_means d.day h.on_day, name_means is_commodity d.commodity h.of_commodity)
@@ -78,7 +78,7 @@ declaring_says d h =
 pub quoting_says : (q : Quoting) → IsQuoting q → IsCommand (quoting_line q) (Commands.Quoting q)
 quoting_says q h =
     let money = money_last (rate_text q.rate) q.quote (rate_numeral q.rate h.at_rate) h.in_quote in
-    let base = word_first 24 q.base _ _ (commodity_word q.base h.of_base.good) refl (space_first money) in
+    let base = word_first longest_commodity q.base _ _ (commodity_word q.base h.of_base.good) refl (space_first money) in
     let cut = space_first (token_first (word (codes "price")) (refl, refl, refl) (space_first base)) in
     says q.day _ _ (quoting q.base (rate_text q.rate) q.quote) (Commands.Quoting q) cut refl (
       day_means q.day h.on_day,
@@ -127,7 +127,7 @@ currencies_stand : (currencies : List (List ℕ)) → AllByRecursion (IsName is_
     → AllZip (λ bytes c. PartStands AfterWord bytes (word c ∷ [])) currencies currencies
 currencies_stand currencies all =
     zip_itself (IsName is_commodity) (λ bytes c. PartStands AfterWord bytes (word c ∷ []))
-    (λ c h rest tokens ends cut. word_first 24 c rest tokens (commodity_word c h.good) ends cut) currencies all
+    (λ c h rest tokens ends cut. word_first longest_commodity c rest tokens (commodity_word c h.good) ends cut) currencies all
 
 currencies_cut : (currencies : List (List ℕ)) (rest : List ℕ) (tokens : List Lexeme)
     → AllByRecursion (IsName is_commodity) currencies
@@ -147,7 +147,7 @@ opening_says o h =
     let names = h.in_currencies.names in
     let ends = method_apart o.method in
     let behind = currencies_cut o.currencies (method_part o.method) (method_tokens o.method) names ends (method_cut o.method) in
-    let account = word_first 128 o.account _ _ (account_word o.account h.of_account.good)
+    let account = word_first longest_account o.account _ _ (account_word o.account h.of_account.good)
     (account_apart o.currencies (method_part o.method) ends) behind in
     let cut = space_first (token_first (word (codes "open")) (refl, refl, refl) (space_first account)) in
     says o.day _ _ (opening o.account o.currencies (written_method o.method)) (Commands.Opening o) cut

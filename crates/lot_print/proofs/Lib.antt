@@ -1,3 +1,4 @@
+pub mod Lengths
 pub mod ListLemmas
 pub mod PieceLemmas
 pub mod NameLemmas

@@ -6,7 +6,7 @@ use Rattle.std.proofs.lemmas.Bool.{and_from, le-leb}
 use Rattle.std.proofs.lemmas.Int.{ints}
 use Rattle.std.proofs.lemmas.List.{length-replicate}
 use Rattle.lot_base.specs.Day.{day_text}
-use Rattle.lot_base.specs.Name.{is_note, is_note_byte}
+use Rattle.lot_base.specs.Name.{is_note, is_note_byte, longest_note}
 use Rattle.lot_command.specs.Canonical.{canonical, escaped, note_part}
 use Rattle.lot_command.specs.declared.command.Command.{Command}
 use Rattle.lot_command.specs.declared.command.Command.TheVariants.{Transaction}
@@ -33,11 +33,11 @@ escaped_quotes : (n : ℕ) → length (escaped (quotes n)) ≡ 2 * n
 escaped_quotes zero = refl
 escaped_quotes (suc n) = omega (arith, escaped_quotes n)
 
-quotes_note : (n : ℕ) → n ≤ 1000 → is_note (quotes n) ≡ true
+quotes_note : (n : ℕ) → n ≤ longest_note → is_note (quotes n) ≡ true
 unfolding is_note
-quotes_note n le = and_from _ _ (le-leb _ 1000 (omega (arith, length-replicate {A = ℕ} n 34))) (quotes_pass is_note_byte n refl)
+quotes_note n le = and_from _ _ (le-leb _ longest_note (omega (arith, length-replicate {A = ℕ} n 34))) (quotes_pass is_note_byte n refl)
 
-quotes_name : (n : ℕ) → n ≤ 1000 → IsName is_note (quotes n)
+quotes_name : (n : ℕ) → n ≤ longest_note → IsName is_note (quotes n)
 quotes_name n le = record {
   good = quotes_note n le;
   utf8 = (printed n (quotes n) (quotes_pass is_printed n refl) (omega (arith, length-replicate {A = ℕ} n 34))).utf8;
@@ -53,7 +53,7 @@ quoting_much n = record {
   postings = [];
 }
 
-sayable : (n : ℕ) → n ≤ 1000 → IsSayable (Transaction (quoting_much n))
+sayable : (n : ℕ) → n ≤ longest_note → IsSayable (Transaction (quoting_much n))
 sayable n le = record {
   on_day = (omega (arith, ints), omega (arith, ints));
   of_narration = record { of_payee = quotes_name n le; of_text = quotes_name n le };
@@ -79,9 +79,9 @@ Longest =
     (command : Command) × (line : List ℕ) × IsSayable command × AreLines (line ∷ []) (canonical command)
     × (length line ≡ longest_printed)
 
-of_quotes : (n : ℕ) → n ≡ 1000 → Longest
+of_quotes : (n : ℕ) → n ≡ longest_note → Longest
 of_quotes n e =
-    let le : n ≤ 1000 = omega arith in (
+    let le : n ≤ longest_note = omega arith in (
       Transaction (quoting_much n),
       transaction_line (quoting_much n),
       sayable n le,
@@ -90,4 +90,4 @@ of_quotes n e =
     )
 
 pub longest_reached : Longest
-longest_reached = of_quotes 1000 refl
+longest_reached = of_quotes longest_note refl

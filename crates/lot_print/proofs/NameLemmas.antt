@@ -7,7 +7,7 @@ use Rattle.std.specs.Cmp.Lexicographic.{pointwise, same_text}
 use Rattle.std.proofs.lemmas.Bool.{and_parts, and_from, or_cases, leb-true}
 use Rattle.std.proofs.lemmas.Bool.Decides.{nat_tests}
 use Rattle.std.proofs.lemmas.List.Splits.{slice_split-cons_yes, slice_split-cons_no}
-use Rattle.lot_base.specs.Name.{is_account, is_account_path, is_root, is_component, is_component_byte, is_commodity, is_commodity_byte, components}
+use Rattle.lot_base.specs.Name.{is_account, is_account_path, is_root, is_component, is_component_byte, is_commodity, is_commodity_byte, components, longest_account, longest_commodity}
 use Rattle.lot_token.specs.Token.{is_word_start, is_word_byte, begins}
 use Rattle.lot_print.proofs.ListLemmas.{all_pass}
 use Rattle.lot_print.proofs.PieceLemmas.{IsPiece, is_printed, printed}
@@ -128,13 +128,13 @@ path_named (root ∷ first ∷ more) h =
 colon_named : (b : ℕ) → eqb b 58 ≡ true → is_name_byte b ≡ true
 colon_named b e = grind (arith, nat_tests)
 
-pub account_word : (account : List ℕ) → is_account account ≡ true → IsWord 128 account
+pub account_word : (account : List ℕ) → is_account account ≡ true → IsWord longest_account account
 unfolding is_account
 account_word account h =
     let parts = and_parts _ _ h in
     let path = path_named (components account) parts.1 in
-    named 128 account (split_starts (λ b. eqb b 58) account path.1) (split_named (λ b. eqb b 58) colon_named account path.0)
-    (leb-true (length account) 128 parts.0)
+    named longest_account account (split_starts (λ b. eqb b 58) account path.1) (split_named (λ b. eqb b 58) colon_named account path.0)
+    (leb-true (length account) longest_account parts.0)
 
 -- ---- Commodities.
 
@@ -148,12 +148,12 @@ capital_starts : (bytes : List ℕ) → is_ascii_uppercase (slice_index bytes 0)
 capital_starts [] h = cc
 capital_starts (b ∷ bytes) h = upper_starts b h
 
-pub commodity_word : (commodity : List ℕ) → is_commodity commodity ≡ true → IsWord 24 commodity
+pub commodity_word : (commodity : List ℕ) → is_commodity commodity ≡ true → IsWord longest_commodity commodity
 unfolding is_commodity
 commodity_word commodity h =
     let a = and_parts _ _ h in
     let b = and_parts _ _ a.0 in
     let c = and_parts _ _ b.0 in
     let d = and_parts _ _ c.0 in
-    named 24 commodity (capital_starts commodity b.1) (all_pass is_commodity_byte is_name_byte commodity_byte_named commodity c.1)
-    (leb-true (length commodity) 24 d.1)
+    named longest_commodity commodity (capital_starts commodity b.1)
+    (all_pass is_commodity_byte is_name_byte commodity_byte_named commodity c.1) (leb-true (length commodity) longest_commodity d.1)

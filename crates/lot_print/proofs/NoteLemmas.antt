@@ -9,7 +9,7 @@ use Rattle.std.proofs.lemmas.Bool.Decides.{nat_tests}
 use Rattle.std.proofs.lemmas.Grind.{flat_map-append}
 use Rattle.std.proofs.lemmas.List.{append-nil}
 use Rattle.std.proofs.lemmas.Str.{IsUtf8-append, IsUtf8-nil}
-use Rattle.lot_base.specs.Name.{is_label, is_label_byte, is_note, is_note_byte}
+use Rattle.lot_base.specs.Name.{is_label, is_label_byte, is_note, is_note_byte, longest_label, longest_note}
 use Rattle.lot_booking.specs.Method.{word_of}
 use Rattle.lot_booking.specs.declared.method.Method.{Method}
 use Rattle.lot_booking.specs.declared.method.Method.TheVariants.{Strict, Fifo, Lifo, Hifo, Unmatched}
@@ -37,17 +37,17 @@ label_bytes : (label : List ℕ) → is_label label ≡ true → list_all is_lab
 unfolding is_label
 label_bytes label h = (and_parts _ _ h).1
 
-label_length : (label : List ℕ) → is_label label ≡ true → length label ≤ 64
+label_length : (label : List ℕ) → is_label label ≡ true → length label ≤ longest_label
 unfolding is_label
-label_length label h = leb-true (length label) 64 (and_parts _ _ (and_parts _ _ h).0).1
+label_length label h = leb-true (length label) longest_label (and_parts _ _ (and_parts _ _ h).0).1
 
 note_bytes : (note : List ℕ) → is_note note ≡ true → list_all is_note_byte note ≡ true
 unfolding is_note
 note_bytes note h = (and_parts _ _ h).1
 
-note_length : (note : List ℕ) → is_note note ≡ true → length note ≤ 1000
+note_length : (note : List ℕ) → is_note note ≡ true → length note ≤ longest_note
 unfolding is_note
-note_length note h = leb-true (length note) 1000 (and_parts _ _ h).0
+note_length note h = leb-true (length note) longest_note (and_parts _ _ h).0
 
 method_bytes : (method : Method) → list_all is_label_byte (word_of method) ≡ true
 method_bytes Strict = refl
@@ -132,7 +132,7 @@ chars_utf8 (c ∷ cs) good =
 escaped_utf8 : (note : List ℕ) → IsUtf8 note → IsUtf8 (escaped note)
 escaped_utf8 note (cs, (good, whole)) = subst (λ (xs : List ℕ). IsUtf8 (escaped xs)) whole (chars_utf8 cs good)
 
-escaped_piece : (note : List ℕ) → is_note note ≡ true → IsUtf8 note → IsPiece 2000 (escaped note)
+escaped_piece : (note : List ℕ) → is_note note ≡ true → IsUtf8 note → IsPiece (2 * longest_note) (escaped note)
 escaped_piece note h u = record {
   plain = escaped_note note (note_bytes note h);
   utf8 = escaped_utf8 note u;
@@ -146,18 +146,18 @@ between_quotes : (most : ℕ) (within : List ℕ) → IsPiece most within → Is
 between_quotes most within piece =
     both_pieces quote_piece (both_pieces piece quote_piece)
 
-pub note_piece : (note : List ℕ) → is_note note ≡ true → IsUtf8 note → IsPiece 2002 (quoted note)
-note_piece note h u = between_quotes 2000 (escaped note) (escaped_piece note h u)
+pub note_piece : (note : List ℕ) → is_note note ≡ true → IsUtf8 note → IsPiece (2 * longest_note + 2) (quoted note)
+note_piece note h u = between_quotes (2 * longest_note) (escaped note) (escaped_piece note h u)
 
-label_within : (label : List ℕ) → is_label label ≡ true → IsUtf8 label → IsPiece 64 label
+label_within : (label : List ℕ) → is_label label ≡ true → IsUtf8 label → IsPiece longest_label label
 label_within label h u = record {
   plain = all_pass is_label_byte is_note_byte label_byte_note label (label_bytes label h);
   utf8 = u;
   short = label_length label h;
 }
 
-pub label_piece : (label : List ℕ) → is_label label ≡ true → IsUtf8 label → IsPiece 66 (in_quotes label)
-label_piece label h u = between_quotes 64 label (label_within label h u)
+pub label_piece : (label : List ℕ) → is_label label ≡ true → IsUtf8 label → IsPiece (longest_label + 2) (in_quotes label)
+label_piece label h u = between_quotes longest_label label (label_within label h u)
 
 pub method_piece : (method : Method) → IsPiece 8 (in_quotes (word_of method))
 method_piece Strict = printed 8 (in_quotes (word_of Strict)) refl (omega arith)

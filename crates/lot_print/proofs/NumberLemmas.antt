@@ -1,4 +1,4 @@
--- The text of units, of a rate or of a total is a number, at most twenty bytes long.
+-- The text of units, of a rate or of a total is a number, no longer than `longest_number`.
 use Rattle.std.proofs.Common.{◌≡◌, inl, ℕ, suc, ◌+◌, ◌/◌, ◌%◌, ◌^◌, ◌<◌, ◌≤◌, Bool, true, false, ◌||◌, List, [], ◌∷◌, ◌++◌, length, refl, ap, ◌∙◌, arith, eqb, length-append, ℤ, pos, negsuc}
 use Rattle.std.specs.List.{list_all}
 use Rattle.std.specs.Char.{is_ascii_digit}
@@ -15,6 +15,7 @@ use Rattle.lot_base.specs.Day.{is_separator}
 use Rattle.lot_command.specs.Canonical.{units_text, rate_text}
 use Rattle.lot_token.specs.Token.{HasDate, IsFraction, IsNumber, IsSignPart, IsWhole, EndsNumber, Stands, begins, begins_comma_digit, begins_with, is_word_byte, number}
 use Rattle.lot_token.proofs.DateLemmas.{Four, four}
+use Rattle.lot_print.proofs.Lengths.{longest_number}
 use Rattle.lot_print.proofs.ListLemmas.{all_pass, both_pass, first_passes}
 use Rattle.lot_print.proofs.PieceLemmas.{IsPiece, is_printed, printed}
 
@@ -220,17 +221,17 @@ unfolding amount_text
 units_stand (pos n) rest below apart = unsigned_stands (magnitude_text 0 8 n) rest (magnitude n below) apart
 units_stand (negsuc n) rest below apart = minus_stands (magnitude_text 0 8 (suc n)) rest (magnitude (suc n) below) apart
 
-pub units_piece : (units : ℤ) → IsUnits units → IsPiece 20 (units_text units)
+pub units_piece : (units : ℤ) → IsUnits units → IsPiece longest_number (units_text units)
 unfolding amount_text
 units_piece (pos n) below =
     let m = magnitude n below in
-    printed 20 (magnitude_text 0 8 n) (all_printed _ m) (omega (arith, length_magnitude _ m))
+    printed longest_number (magnitude_text 0 8 n) (all_printed _ m) (omega (arith, length_magnitude _ m))
 units_piece (negsuc n) below =
     let m = magnitude (suc n) below in
-    printed 20 (45 ∷ magnitude_text 0 8 (suc n)) (and_from _ _ refl (all_printed _ m)) (omega (arith, length_magnitude _ m))
+    printed longest_number (45 ∷ magnitude_text 0 8 (suc n)) (and_from _ _ refl (all_printed _ m)) (omega (arith, length_magnitude _ m))
 
 pub rate_stands : (rate : ℕ) (rest : List ℕ) → IsRate rate → IsApart rest → Stands (number (rate_text rate)) rest
 rate_stands rate rest below apart = units_stand (pos rate) rest (omega arith) apart
 
-pub rate_piece : (rate : ℕ) → IsRate rate → IsPiece 20 (rate_text rate)
+pub rate_piece : (rate : ℕ) → IsRate rate → IsPiece longest_number (rate_text rate)
 rate_piece rate below = units_piece (pos rate) (omega arith)

@@ -1,7 +1,7 @@
 -- The line of a posting: its tokens, its form, and what it means.
 use Rattle.std.proofs.Common.{◌≡◌, ℕ, false, List, ◌∷◌, ◌++◌, refl}
 use Rattle.std.specs.Prelude.{option_map, Option, Some, None, IfSome}
-use Rattle.lot_base.specs.Name.{is_account, is_commodity}
+use Rattle.lot_base.specs.Name.{is_account, is_commodity, longest_account, longest_commodity}
 use Rattle.lot_command.specs.Canonical.{amount_part, cost_text, part, price_text, units_text}
 use Rattle.lot_command.specs.declared.transaction.Amount.{Amount}
 use Rattle.lot_command.specs.declared.transaction.Posting.{Posting}
@@ -39,7 +39,8 @@ amount_cut (Some a) h =
     cost_cut a.cost (part price_text a.price) price_behind h.at_cost
     (price_no_brace a.price) (price_cut a.price h.at_price) in
     let apart : begins is_word_byte behind ≡ false = cost_apart a.cost (part price_text a.price) (price_apart a.price) in
-    let commodity = word_first 24 a.commodity behind tokens (commodity_word a.commodity h.in_commodity.good) apart cost in
+    let is_word = commodity_word a.commodity h.in_commodity.good in
+    let commodity = word_first longest_commodity a.commodity behind tokens is_word apart cost in
     let units = (units_numeral a.units h.of_units).stands (32 ∷ (a.commodity ++ behind)) (before_space (a.commodity ++ behind)) in
     space_first (token_first (number (units_text a.units)) units (space_first commodity))
 
@@ -69,7 +70,7 @@ written posting = record { account = posting.account; amount = option_map writte
 
 pub posting_says : (posting : Posting) → IsPosting posting → IsPostingLine (posting_line posting) posting
 posting_says posting h =
-    let account = word_first 128 posting.account (part amount_part posting.amount) _
+    let account = word_first longest_account posting.account (part amount_part posting.amount) _
     (account_word posting.account h.of_account.good)
     (amount_apart posting.amount) (amount_cut posting.amount h.of_amount) in
     record {
