@@ -1,43 +1,21 @@
 -- Each column says one thing, or nothing.
-use Rattle.std.proofs.Common.{◌≡◌, ◌⊎◌, ℕ, Bool, true, false, List, [], ◌∷◌, Option, Some, None, ℤ, refl, sym, ◌∙◌, ap, inl, inr}
-use Rattle.std.specs.Prelude.{Result, Ok, Err, codes}
-use Rattle.std.specs.Cmp.Lexicographic.{bytes_decides}
+use Rattle.std.proofs.Common.{◌≡◌, ℕ, Bool, true, false, List, [], ◌∷◌, Option, Some, None, ℤ, refl, sym, ◌∙◌, ap, inl, inr}
+use Rattle.std.specs.Prelude.{Ok, codes}
 use Rattle.std.specs.Str.{IsUtf8, is_utf8}
 use Rattle.std.proofs.lemmas.Bool.{false≢true}
-use Rattle.std.proofs.lemmas.Option.{none-some, same_Some}
+use Rattle.std.proofs.lemmas.Option.{same_Some}
 use Rattle.std.proofs.lemmas.Str.{IsUtf8-from_is_utf8, is_utf8-from_IsUtf8}
 use Rattle.lot_num.specs.NumberText.{rate_of, total_of}
 use Rattle.lot_base.specs.Name.{is_commodity, is_label}
 use Rattle.lot_base.specs.Day.{named_day}
+use Rattle.lot_base.proofs.DecisionLemmas.{Decided, decided_by, ok_or_not, same_or_not, some_or_not, true_or_not}
 use Rattle.lot_import.specs.Row.{HasLot, NamesLot, SaysAction, SaysCommodity, SaysDay, SaysFee, SaysLabel, SaysLot, SaysRate, SaysUnits, at_column}
 use Rattle.lot_import.specs.declared.row.Action.{Action}
 use Rattle.lot_import.specs.declared.row.Action.TheVariants.{Buy, Sell}
 use Rattle.lot_import.specs.declared.version.Version.{Version}
 use Rattle.lot_import.specs.declared.version.Version.TheVariants.{First, Second}
 
-abbrev pub Decided : Type 0 → Type 0
-Decided P = P ⊎ (P → ⊥)
-
-pub decided_by : (P Q : Type 0) → (P → Q) → (Q → P) → Decided P → Decided Q
-decided_by P Q to from (inl p) = inl (to p)
-decided_by P Q to from (inr none) = inr (λ q. none (from q))
-
 -- ---- Whether there is a value.
-
-ok_or_not : {X E : Type 0} (r : Result X E) → Decided ((x : X) × (r ≡ Ok x))
-ok_or_not (Ok x) = inl (x, refl)
-ok_or_not (Err e) = inr (λ (x, same). cc)
-
-some_or_not : {X : Type 0} (o : Option X) → Decided ((x : X) × (o ≡ Some x))
-some_or_not None = inr (λ (x, same). none-some x same)
-some_or_not (Some x) = inl (x, refl)
-
-pub true_or_not : (b : Bool) → Decided (b ≡ true)
-true_or_not true = inl refl
-true_or_not false = inr false≢true
-
-pub same_or_not : (a b : List ℕ) → Decided (a ≡ b)
-same_or_not a b = decided_by _ (a ≡ b) (bytes_decides a b).0 (bytes_decides a b).1 (true_or_not _)
 
 utf8_or_not : (field : List ℕ) → Decided (IsUtf8 field)
 utf8_or_not field = decided_by (is_utf8 field ≡ true) (IsUtf8 field) (IsUtf8-from_is_utf8 field) (is_utf8-from_IsUtf8 field) (true_or_not (is_utf8 field))

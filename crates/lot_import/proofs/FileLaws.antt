@@ -12,7 +12,7 @@ use Rattle.lot_import.specs.declared.fault.RowsFault.TheVariants as Faults
 use Rattle.lot_import.specs.declared.row.Row.{Row}
 use Rattle.lot_import.specs.declared.version.Version.{Version}
 use Rattle.lot_import.specs.declared.version.Version.TheVariants.{First, Second}
-use Rattle.lot_import.proofs.ColumnLaws.{Decided, same_or_not}
+use Rattle.lot_base.proofs.DecisionLemmas.{Decided, same_or_not}
 use Rattle.lot_import.proofs.FileLemmas.{bad_record, extra_record, file_fault, more_rows, no_records, other_header}
 use Rattle.lot_import.proofs.RecordLaws.{one_cause, one_row, record_known, row_or_fault}
 

@@ -3,7 +3,7 @@ use Rattle.std.proofs.Common.{◌≡◌, ℕ, Bool, true, false, List, [], ◌�
 use Rattle.std.specs.Prelude.{nat_le, not, ◌&&◌, ◌||◌, ◌==◌}
 use Rattle.std.specs.Char.{is_ascii_control}
 use Rattle.std.specs.List.{list_all}
-use Rattle.std.proofs.lemmas.Bool.{and_parts}
+use Rattle.std.proofs.lemmas.Bool.{and_from, and_parts}
 use Rattle.std.proofs.lemmas.Bool.Decides.{nat_tests}
 use Rattle.lot_base.specs.Name.{is_label, is_label_byte, is_note, is_note_byte, longest_label, longest_note}
 
@@ -12,14 +12,11 @@ note_byte true quoted tab h = cc
 note_byte false quoted true h = refl
 note_byte false quoted false h = refl
 
-both : (a b : Bool) → a ≡ true → b ≡ true → (a && b) ≡ true
-both a b p q = rw (p, q) refl
-
 note_bytes : (text : List ℕ) → list_all is_label_byte text ≡ true → list_all is_note_byte text ≡ true
 note_bytes [] h = refl
 note_bytes (b ∷ bs) h =
     let parts = and_parts (is_label_byte b) (list_all is_label_byte bs) h in
-    both (is_note_byte b) (list_all is_note_byte bs)
+    and_from (is_note_byte b) (list_all is_note_byte bs)
     (note_byte (is_ascii_control b) ((b == 34) || (b == 92)) (b == 9) parts.0)
     (note_bytes bs parts.1)
 
@@ -31,4 +28,4 @@ unfolding is_label is_note
 label_is_note text h =
     let parts = and_parts (nat_le 1 (length text) && nat_le (length text) longest_label) (list_all is_label_byte text) h in
     let lengths = and_parts (nat_le 1 (length text)) (nat_le (length text) longest_label) parts.0 in
-    both (nat_le (length text) longest_note) (list_all is_note_byte text) (short (length text) lengths.1) (note_bytes text parts.1)
+    and_from (nat_le (length text) longest_note) (list_all is_note_byte text) (short (length text) lengths.1) (note_bytes text parts.1)

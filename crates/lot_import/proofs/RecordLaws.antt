@@ -7,7 +7,8 @@ use Rattle.lot_import.specs.declared.fault.Cause.TheVariants as Causes
 use Rattle.lot_import.specs.declared.row.Action.{Action}
 use Rattle.lot_import.specs.declared.row.Row.{Row}
 use Rattle.lot_import.specs.declared.version.Version.{Version}
-use Rattle.lot_import.proofs.ColumnLaws.{Decided, action_known, commodity_known, day_known, fee_known, label_known, lot_known, one_commodity, one_day, one_fee, one_label, one_lot, one_rate, one_units, rate_known, units_known}
+use Rattle.lot_base.proofs.DecisionLemmas.{Decided}
+use Rattle.lot_import.proofs.ColumnLaws.{action_known, commodity_known, day_known, fee_known, label_known, lot_known, one_commodity, one_day, one_fee, one_label, one_lot, one_rate, one_units, rate_known, units_known}
 use Rattle.lot_import.proofs.RowLemmas.{one_action}
 
 -- ---- Each cause passes or fails.
