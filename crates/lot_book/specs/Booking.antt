@@ -127,7 +127,7 @@ Continue Others before outcome (Fails refused) = outcome ≡ Stopped refused
 Continue Others before outcome (Books booked) =
     (others : Bookings) × Others (before ++ booked.legs) others × (outcome ≡ follow booked others)
 
--- a posting and those behind it; one without an amount has no legs here
+-- a posting and those behind it; an elided one has no legs here
 abbrev pub BooksWith : (List Leg → Bookings → Type 0) → Facts → ℤ → List Leg → ℕ → List ℕ → Option Amount → Bookings → Type 0
 BooksWith Others facts day before place account None outcome = Others before outcome
 BooksWith Others facts day before place account (Some amount) outcome =

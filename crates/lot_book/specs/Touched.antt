@@ -13,7 +13,7 @@ abbrev pub pair_of : List ℕ → Option Amount → List Pair
 pair_of account None = []
 pair_of account (Some amount) = record { account = account; commodity = amount.commodity } ∷ []
 
--- the account of a posting without an amount
+-- the account of an elided posting
 abbrev pub if_elided : List ℕ → Option Amount → List (List ℕ)
 if_elided account None = account ∷ []
 if_elided account (Some amount) = []

@@ -30,7 +30,7 @@ pub enum Refusal {
     #[error("the transaction has too many postings")]
     TooManyPostings,
     /// Two postings are elided.
-    #[error("only one posting may have no amount")]
+    #[error("only one posting may be elided")]
     TwoElided,
     /// The day is before the latest on which the account and the commodity of the posting were posted to with braces.
     #[error("posting {posting} is before the latest one at cost")]
@@ -50,8 +50,8 @@ pub enum Refusal {
     /// The total by the units isn't exactly a rate.
     #[error("the total cost in posting {posting} by its units is not exact")]
     InexactCost { posting: usize },
-    /// The posting has braces and no units.
-    #[error("posting {posting} has braces, but no units")]
+    /// The posting has braces and zero units.
+    #[error("posting {posting} has braces and zero units")]
     ZeroUnits { posting: usize },
     /// After the posting the units of a position are out of range.
     #[error("posting {posting} leaves the range of units")]
@@ -60,7 +60,7 @@ pub enum Refusal {
     #[error("what is left over in {currency} has too many decimals or is too large")]
     InexactFill { currency: Commodity },
     /// The account of the elided posting was opened with other currencies.
-    #[error("the account of the posting without amount was not opened with {currency}")]
+    #[error("the account of the elided posting was not opened with {currency}")]
     FillNotAllowed { currency: Commodity },
     /// The weights in the currency don't sum to zero, and every posting has an amount.
     #[error("the transaction does not balance in {currency}")]

@@ -36,7 +36,7 @@ abbrev pub plain : List ℕ → ℤ → List ℕ → Posting
 plain account units commodity =
     record { account = account; amount = Some (record { units = units; commodity = commodity; cost = None; price = None }) }
 
--- without an amount
+-- the elided posting to an account
 abbrev pub elided : List ℕ → Posting
 elided account = record { account = account; amount = None }
 

@@ -174,7 +174,7 @@ fn plain(account: &Account, units: Units, commodity: &Commodity) -> Result<Posti
     })
 }
 
-/// Returns a posting without an amount.
+/// Returns an elided posting to the account.
 fn elided(account: &Account) -> Result<Posting, AllocError>
     ensures { IfOk result (λ posting. posting ≡ elided account.now) }
 {
