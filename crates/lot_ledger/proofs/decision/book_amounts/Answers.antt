@@ -1,5 +1,5 @@
 -- Each posting is booked on the draft of those before it, and what the others come to decides.
-use Rattle.std.proofs.Common.{◌≡◌, ◌<◌, ◌+◌, ◌∷◌, [], ℕ, suc, List, length, drop, refl, sym, ap, subst, ◌∙◌, arith, add-one, ℤ, append-nil, slice_index_or}
+use Rattle.std.proofs.Common.{◌≡◌, ◌<◌, ◌+◌, ◌-◌, ◌∷◌, [], ℕ, suc, List, length, drop, refl, sym, ap, subst, ◌∙◌, arith, add-one, ℤ, append-nil, slice_index_or}
 use Rattle.lot_command.specs.declared.transaction.Posting.{Posting}
 use Rattle.lot_posting.specs.declared.draft.Draft.{Draft}
 use Rattle.lot_book.specs.declared.refusal.Stop.{Stop}
@@ -10,6 +10,7 @@ use Rattle.lot_command.specs.declared.transaction.Transaction.{Transaction as Tr
 use Rattle.lot_book.specs.Change.{ListsSums}
 use Rattle.lot_ledger.specs.Decide.{StopsBooking, StopsNext}
 use Rattle.lot_book.specs.Facts.{Facts}
+use Rattle.lot_book.specs.Refusals.{most_postings}
 use Rattle.lot_view.specs.View.{known}
 use Rattle.lot_posting.proofs.BalanceResiduals.{AreWithin-more}
 use Rattle.lot_ledger.proofs.DecideLemmas.{Booking, booking-more, booking-stops, follow_all-all, left_with, no_left}
@@ -34,7 +35,7 @@ loop-index-init c =
 pub book_next-requires-clause-room : goal.book_next-requires-clause-room
 book_next-requires-clause-room c =
     let below : c.loop-index.index < length c.args.transaction.now.postings = rw c.as_slice-posting-items.ensures at c.loop-index-test.true in
-    AreWithin-more c.loop-index.index 63 c.loop-index.draft.residuals (omega arith) c.loop-index.invariant.within
+    AreWithin-more c.loop-index.index (most_postings - 1) c.loop-index.draft.residuals (omega arith) c.loop-index.invariant.within
 
 -- the postings that are left begin with this one
 left_now : (facts : Facts) (day : ℤ) (all items : List Posting) (draft : Draft) (index : ℕ) (posting : Posting) → items ≡ all → index < length items

@@ -1,9 +1,10 @@
 -- One more leg adds its weight, and no more than its units can weigh; all of them weigh no more than the limit of units can.
-use Rattle.std.proofs.Common.{◌+◌, ◌*◌, suc, List, ℕ, ℤ, take, sym, ap, ◌∙◌, append-nil, arith}
+use Rattle.std.proofs.Common.{◌+◌, ◌-◌, ◌*◌, suc, List, ℕ, ℤ, take, sym, ap, ◌∙◌, append-nil, arith}
 use Rattle.std.specs.Prelude.{unsigned_abs}
 use Rattle.lot_num.specs.Amount.{units_limit}
 use Rattle.lot_book.specs.Balance.{residuals}
 use Rattle.lot_book.specs.Leg.{units_moved}
+use Rattle.lot_book.specs.Refusals.{most_postings}
 use Rattle.lot_posting.proofs.BalanceResiduals.{AreSmall-add_weight, AreSmall-more, residual_in-fits, residuals-more, units_moved-more, units_moved-take}
 use Rattle.lot_posting.proofs.balance.Residuals.add_legs.Goals as goal
 
@@ -21,9 +22,9 @@ add-requires c =
     let weight = c.weight-weight.result.1 in
     let moved = units_moved-more legs i leg c.loop-leg-test.true c.leg-item.is in
     let few = units_moved-take legs (i + 1) in
-    let so_far = 63 * units_limit + units_moved (take i legs) in
+    let so_far = (most_postings - 1) * units_limit + units_moved (take i legs) in
     residual_in-fits so_far (unsigned_abs leg.units) c.loop-leg.self c.weight-weight.result.0.now weight
-    (c.loop-leg.invariant.within 63 c.requires.room) c.weight-weight.ensures.bound (omega (arith, c.requires.moved))
+    (c.loop-leg.invariant.within (most_postings - 1) c.requires.room) c.weight-weight.ensures.bound (omega (arith, c.requires.moved))
 
 pub loop-leg-preserved : goal.loop-leg-preserved
 loop-leg-preserved c =

@@ -1,15 +1,16 @@
 -- A posting without braces adds one weight.
-use Rattle.std.proofs.Common.{◌*◌, List, ℕ, ℤ, sym, ◌∙◌, arith}
+use Rattle.std.proofs.Common.{◌-◌, ◌*◌, List, ℕ, ℤ, sym, ◌∙◌, arith}
 use Rattle.std.proofs.lemmas.Result.{on_ok_weaker}
 use Rattle.lot_num.specs.Amount.{units_limit}
 use Rattle.lot_book.specs.Balance.{add_weight}
+use Rattle.lot_book.specs.Refusals.{most_postings}
 use Rattle.lot_posting.proofs.BalanceResiduals.{AreWithin-add_weight, residual_in-fits, residuals-push}
 use Rattle.lot_posting.proofs.balance.Residuals.weigh.Goals as goal
 
 pub add-requires : goal.add-requires
 add-requires c =
     let weight = c.weight_at_price-weight.result in
-    residual_in-fits (63 * units_limit) units_limit c.args.self.now weight.0.now weight.1 c.requires.room
+    residual_in-fits ((most_postings - 1) * units_limit) units_limit c.args.self.now weight.0.now weight.1 c.requires.room
     c.weight_at_price-weight.ensures.bound (omega arith)
 
 pub returns-in-None-clause-sum : goal.returns-in-None-clause-sum
