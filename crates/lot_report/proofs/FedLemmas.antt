@@ -1,17 +1,17 @@
 -- Reports that are fed row by row.
 use Rattle.std.proofs.Common.{◌≡◌, ℕ, List, [], ◌∷◌, ◌++◌, refl, sym, ap, ◌∙◌, subst, append_assoc, append-nil, map}
-use Rattle.std.specs.Prelude.{Bool, not, IsTrue, IsErrAnd, IfSome, Option, Some, Result, Ok, Err, flat_map}
+use Rattle.std.specs.Prelude.{Bool, IsTrue, IsErrAnd, IfSome, Option, Some, Result, Ok, Err, flat_map}
 use Rattle.std.specs.Io.KnownBytes.{Appends}
 use Rattle.std.proofs.KnownBytes.{Appends-nil, Appends-trans}
 use Rattle.std.proofs.lemmas.Grind.{flat_map-append}
 use Rattle.lot_report.specs.declared.fault.RowFault.{RowFault}
-use Rattle.lot_report.specs.declared.fault.RowFault.TheVariants.{Report, Spent}
+use Rattle.lot_report.specs.declared.fault.RowFault.TheVariants.{Report}
 use Rattle.lot_report.specs.declared.fault.ReportFault.{ReportFault}
 use Rattle.lot_report.specs.declared.fault.ReportFault.TheVariants.{Range, Write, Memory}
 use Rattle.lot_report.specs.declared.line.PrintFault.{PrintFault}
 use Rattle.lot_report.specs.Fed.{CountsRow, EndsReport, GrowsByRow, IsFed, TakesRow, joined, text_of}
 use Rattle.lot_report.specs.Report.{EachFits, report_fault}
-use Rattle.lot_report.specs.Written.{AppendsPrefix, IsProperPrefixOf, WritesEach, WritesLine}
+use Rattle.lot_report.specs.Written.{AppendsPrefix, WritesEach, WritesLine}
 use Rattle.lot_report.proofs.EachLemmas.{text_more}
 use Rattle.lot_report.proofs.PrintLemmas.{prefix_behind}
 

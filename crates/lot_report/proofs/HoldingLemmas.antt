@@ -13,7 +13,6 @@ use Rattle.lot_report.specs.declared.line.PrintFault.{PrintFault}
 use Rattle.lot_report.specs.declared.lot.Valuation.{Valuation}
 use Rattle.lot_report.specs.declared.lot.Valuation.TheVariants.{Unasked, Missing, At}
 use Rattle.lot_report.specs.declared.totals.Totals.{Totals}
-use Rattle.lot_report.specs.Fed.{CountsRow}
 use Rattle.lot_report.specs.Holdings.{CountsBoth, CountsHolding, HasTaken, IsEnd, cost_of, costs_of, end_lines, fits, total_lines, value_at, value_of, values_of}
 use Rattle.lot_report.specs.Printed.{line, lot_row, price_of, row_with, total_of}
 use Rattle.lot_report.specs.Report.{AreSums, stay_wide}

@@ -1,5 +1,5 @@
 -- The lines that are printed (docs/FORMATS.md, Printed texts), each as a function of what it reports.
-use Rattle.std.specs.Prelude.{ℕ, suc, List, [], ◌∷◌, ◌++◌, ℤ, pos, ◌*ℤ◌, codes, decimal, Bool, true, false, Option, Some, None}
+use Rattle.std.specs.Prelude.{ℕ, suc, List, [], ◌∷◌, ◌++◌, ℤ, pos, ◌*ℤ◌, codes, decimal, Option, Some, None}
 use Rattle.lot_num.specs.AmountText.{amount_text}
 use Rattle.lot_base.specs.Day.{day_text}
 use Rattle.lot_inv.specs.declared.lot_key.LotKey.{LotKey}

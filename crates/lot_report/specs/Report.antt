@@ -1,12 +1,12 @@
 -- What reports have in common: sums of amounts in each currency, and totals that stay in range (docs/FORMATS.md, Printed texts).
-use Rattle.std.specs.Prelude.{◌≡◌, ◌⊎◌, Result, Ok, Err, ℕ, Bool, true, false, not, IsTrue, nat_le, if◌then◌else◌, List, [], ◌∷◌, ◌++◌, flat_map, Option, None, Some, ℤ, pos, ◌*ℤ◌, unsigned_abs, ⊤}
+use Rattle.std.specs.Prelude.{◌≡◌, ℕ, Bool, true, false, IsTrue, nat_le, if◌then◌else◌, List, [], ◌∷◌, ◌++◌, None, Some, ℤ, unsigned_abs, ⊤}
 use Rattle.std.specs.Ordering.{is_eq}
 use Rattle.std.specs.List.{list_all, list_any}
 use Rattle.std.specs.List.Sorted.{IsStrictlySortedBy}
 use Rattle.std.specs.Map.{keys_of, lookup}
 use Rattle.lot_report.specs.declared.line.PrintFault.{PrintFault}
 use Rattle.lot_report.specs.declared.fault.ReportFault.{ReportFault}
-use Rattle.lot_report.specs.declared.fault.ReportFault.TheVariants.{Range, Write, Memory}
+use Rattle.lot_report.specs.declared.fault.ReportFault.TheVariants.{Write, Memory}
 use Rattle.lot_num.specs.Amount.{greatest_wide}
 use Rattle.lot_base.specs.Text.{same_text, text_cmp}
 use Rattle.lot_book.specs.Currencies.{sum_in}

@@ -7,9 +7,9 @@ use Rattle.std.specs.declared.io.ErrorKind.{ErrorKind}
 use Rattle.lot_report.specs.declared.line.PrintFault.{PrintFault}
 use Rattle.lot_report.specs.declared.line.PrintFault.TheVariants.{Write, Memory}
 
--- the most bytes that a line may have, its line end included
-abbrev pub longest_line : ℕ
-longest_line = 512
+-- the most bytes that a written line may have, its line end included
+abbrev pub longest_written : ℕ
+longest_written = 512
 
 -- ---- Prefixes.
 

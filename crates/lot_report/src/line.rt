@@ -1,6 +1,6 @@
 ghost use Rattle.std.specs.Prelude.{◌≡◌, ◌≤◌, length, flat_map, IfOk, IfErr, IsErrOf, IfSome};
 ghost use Rattle.std.specs.Fmt.{with_newline};
-ghost use Rattle.lot_report.specs.Written.{IsTaken, WritesLine, longest_line};
+ghost use Rattle.lot_report.specs.Written.{IsTaken, WritesLine, longest_written};
 
 use arrayvec::ArrayString;
 use std::alloc::AllocError;
@@ -30,8 +30,8 @@ impl From<AllocError> for PrintFault {
     }
 }
 
-/// The most bytes that a line may have, its line end included. The longest line there is, a valued lot with the
-/// longest names, numbers and label, has 368.
+/// The most bytes that a line may have, its line end included (`longest_written` of the definitions). The longest line there
+/// is, a valued lot with the longest names, numbers and label, has 368.
 const LONGEST: usize = 512;
 
 /// Writes a text and a line end. It takes no memory.
@@ -46,7 +46,7 @@ pub fn print_line<W: Write, T: Display + Drop>(writer: &mut W, text: T) -> Resul
     ensures memory { IsErrOf result PrintFault.Memory → writer.new ≡ writer.old }
     // A fault of the writer comes only with a line that there was room for.
     ensures write { IsErrOf result PrintFault.Write
-        → IfSome (with_newline (T.output text)) (λ line. length line ≤ longest_line) }
+        → IfSome (with_newline (T.output text)) (λ line. length line ≤ longest_written) }
 {
     let line = line_of(text)?;
     put(writer, line.as_str().as_bytes())
@@ -55,7 +55,7 @@ pub fn print_line<W: Write, T: Display + Drop>(writer: &mut W, text: T) -> Resul
 /// Returns a text and a line end, or `Memory` where there is no room for them.
 fn line_of<T: Display + Drop>(text: T) -> Result<ArrayString<LONGEST>, PrintFault>
     ensures bytes { IfSome (with_newline (T.output text)) (λ bytes. IfOk result (λ line. line.bytes ≡ bytes)) }
-    ensures room { LONGEST ≡ longest_line }
+    ensures room { LONGEST ≡ longest_written }
     ensures fault { IfErr result (λ fault. fault ≡ PrintFault.Memory) }
 {
     let mut line = ArrayString::new();

@@ -1,6 +1,6 @@
 ghost use Rattle.std.specs.Prelude.{◌≡◌, ◌≤◌, length, IsErrOf};
 ghost use Rattle.lot_report.specs.Printed.{argument_text, name_text, reply};
-ghost use Rattle.lot_report.specs.Written.{WritesLine, longest_line};
+ghost use Rattle.lot_report.specs.Written.{WritesLine, longest_written};
 
 #[cfg(test)]
 mod tests;
@@ -21,7 +21,7 @@ pub fn print_reply<W: Write>(
 ) -> Result<(), PrintFault>
     ensures bytes { WritesLine (W.contents writer.old) (W.contents writer.new) result (reply number verdict.now) }
     ensures memory { IsErrOf result PrintFault.Memory → writer.new ≡ writer.old }
-    ensures write { IsErrOf result PrintFault.Write → length (reply number verdict.now) ≤ longest_line }
+    ensures write { IsErrOf result PrintFault.Write → length (reply number verdict.now) ≤ longest_written }
 {
     match verdict {
         Verdict::Accepted => print_line(writer, format_args!("{number} accepted")),
