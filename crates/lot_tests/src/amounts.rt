@@ -235,10 +235,10 @@ fn sums_are_exact(rt: HostRuntime) {
 
 #[test]
 fn zeros(rt: HostRuntime) {
-    assert_is(&rt, &Units::ZERO.mantissa(), &0, "no units");
-    assert_is(&rt, &Wide::ZERO.mantissa(), &0, "no weight");
-    assert_is(&rt, &Units::ZERO.wide(), &Wide::ZERO, "no weight");
-    assert_wide(&rt, Units::ZERO, "no units");
+    assert_is(&rt, &Units::ZERO.mantissa(), &0, "zero units");
+    assert_is(&rt, &Wide::ZERO.mantissa(), &0, "zero weight");
+    assert_is(&rt, &Units::ZERO.wide(), &Wide::ZERO, "zero weight");
+    assert_wide(&rt, Units::ZERO, "zero units");
 }
 
 /// Mantissas, with whether each is that of units, of a rate and of a weight.
