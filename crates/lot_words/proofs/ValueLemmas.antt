@@ -1,8 +1,8 @@
 -- What the values of options say, and which of them is outside its rule.
-use Rattle.std.proofs.Common.{◌≡◌, ◌≤◌, ℕ, Bool, true, false, Option, Some, None, IfOk, refl, subst, arith}
-use Rattle.std.specs.Prelude.{Result, SomeIff, is_some, option_and_then, unwrap_or, nat_le, ℤ}
+use Rattle.std.proofs.Common.{◌≡◌, ℕ, Bool, true, false, Option, Some, None, IfOk, refl, subst}
+use Rattle.std.specs.Prelude.{Result, SomeIff, is_some, option_and_then, unwrap_or, ℤ}
 use Rattle.std.specs.Option.{option_map_or}
-use Rattle.std.proofs.lemmas.Bool.Decides.{nat_tests}
+use Rattle.std.proofs.lemmas.Bool.{le-leb, leb-true}
 use Rattle.clap.specs.Words.{Text}
 use Rattle.clap.proofs.WalkLemmas.{both}
 use Rattle.lot_base.specs.Day.{named_day}
@@ -13,21 +13,15 @@ use Rattle.lot_words.specs.declared.fault.WordsFault.{WordsFault}
 
 -- ---- the start
 
-le_yes : (a b : ℕ) → a ≤ b → nat_le a b ≡ true
-le_yes a b h = grind (arith, nat_tests)
-
-le_from_test : (a b : ℕ) → nat_le a b ≡ true → a ≤ b
-le_from_test a b h = grind (arith, nat_tests)
-
 pub start_from : (o : Option ℕ) (number first : ℕ) → SomeIff o (IsStart number) number → first ≡ 1 → unwrap_or o first ≡ start_at number
-start_from (Some start) number first h one = rw (le_yes 1 number h.0.0, le_yes number greatest_start h.0.1) h.1
+start_from (Some start) number first h one = rw (le-leb 1 number h.0.0, le-leb number greatest_start h.0.1) h.1
 start_from None number first h one = go (is_start number) refl
   where
     go : (b : Bool) → is_start number ≡ b → first ≡ start_at number
     go false e = rw e one
     go true e =
         let tests = both _ _ e in
-        absurd (h (le_from_test 1 number tests.0, le_from_test number greatest_start tests.1))
+        absurd (h (leb-true 1 number tests.0, leb-true number greatest_start tests.1))
 
 -- ---- days
 

@@ -4,12 +4,10 @@ ghost use Rattle.clap.specs.Words.{rule_of};
 ghost use Rattle.lot_words.specs.Program.{from_rule, option_rule, required_rule};
 ghost use Rattle.lot_words.specs.Start.{greatest_start};
 
+use crate::start::GREATEST_START;
 use clap::builder::ValueParser;
 use clap::{Arg, ArgAction};
 use std::alloc::Global;
-
-/// The greatest number at which a run may start.
-const GREATEST_START: i64 = 10_000_000;
 
 pub(crate) fn book<'a>(alloc: Global) -> Arg<'a>
     ensures rule { rule_of result ≡ required_rule (codes "book") }
@@ -46,7 +44,7 @@ pub(crate) fn from<'a>(alloc: Global, help: &'a str) -> Arg<'a>
     ensures local { result.global ≡ false }
 {
     option(alloc, "from", "N")
-        .value_parser(ValueParser::signed(1, GREATEST_START))
+        .value_parser(ValueParser::signed(1, i64::from(GREATEST_START)))
         .default_value("1")
         .help(help)
 }

@@ -3,8 +3,8 @@ ghost use Rattle.lot_words.specs.Start.{IsStart, greatest_start};
 
 use std::marker::Model;
 
-/// The greatest number at which a run may start.
-const GREATEST_START: u32 = 10_000_000;
+/// The greatest number at which a run may start (`greatest_start` of the definitions).
+pub(crate) const GREATEST_START: u32 = 10_000_000;
 
 /// The number of the first command or row of an input that is run, from 1 to 10,000,000: those before it are skipped.
 ///
