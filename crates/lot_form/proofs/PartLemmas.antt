@@ -2,6 +2,7 @@
 use Rattle.std.proofs.Common.{◌≡◌, ℕ, ◌+◌, Bool, true, false, cond, not, List, [], ◌∷◌, ◌++◌, length, Option, Some, None, refl, ap, ◌∙◌, sym, subst, arith, append_assoc}
 use Rattle.std.specs.Prelude.{◌||◌}
 use Rattle.std.specs.List.{list_any}
+use Rattle.std.proofs.Math.Bool.{or-false}
 use Rattle.std.proofs.lemmas.Bool.{and_parts, and_from, or_parts, or_from, not-true, not_from_false}
 use Rattle.std.proofs.lemmas.List.{append-nil}
 use Rattle.std.proofs.lemmas.Option.{cond_some, none-some, same_Some}
@@ -140,15 +141,11 @@ or_false : (x : Bool) → (x || (false || false)) ≡ x
 or_false true = refl
 or_false false = refl
 
-or_none : (x : Bool) → (x || false) ≡ x
-or_none true = refl
-or_none false = refl
-
 clash_is_money : (p q : CostPart) → is_money p ≡ true → is_day p ≡ false → is_label p ≡ false → clash p q ≡ is_money q
 clash_is_money p q m d l = rw (m, d, l) (or_false (is_money q))
 
 clash_is_day : (p q : CostPart) → is_money p ≡ false → is_day p ≡ true → is_label p ≡ false → clash p q ≡ is_day q
-clash_is_day p q m d l = rw (m, d, l) (or_none (is_day q))
+clash_is_day p q m d l = rw (m, d, l) (or-false (is_day q))
 
 clash_is_label : (p q : CostPart) → is_money p ≡ false → is_day p ≡ false → is_label p ≡ true → clash p q ≡ is_label q
 clash_is_label p q m d l = rw (m, d, l) refl

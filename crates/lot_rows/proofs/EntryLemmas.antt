@@ -1,5 +1,6 @@
 -- The statements on the table `entry`.
-use Rattle.std.proofs.Common.{Option, Result, Vec, slice_get, IfSome, true, ◌≡◌, ◌⊎◌, ◌++◌, inl, inr, ◌&&◌, ◌||◌, Ordering, Less, Equal, Greater, is_eq, option_map, reverse, take, ap₂, ℕ, pos, false, None, All, List, [], ◌∷◌, map, codes, refl, sym, ap, subst, ◌∙◌, arith}
+use Rattle.std.proofs.Common.{Option, Result, Vec, slice_get, IfSome, true, ◌≡◌, ◌⊎◌, inl, inr, ◌&&◌, ◌||◌, Ordering, Less, Equal, Greater, is_eq, option_map, reverse, take, ap₂, ℕ, pos, false, None, All, List, [], ◌∷◌, map, codes, refl, sym, ap, subst, ◌∙◌, arith}
+use Rattle.std.proofs.Math.Bool.{or-false}
 use Rattle.sqlite.specs.Collation.TheVariants.{Binary}
 use Rattle.sqlite.specs.Listing.{understood}
 use Rattle.sqlite.specs.Order.{Row}
@@ -20,7 +21,8 @@ use Rattle.lot_rows.specs.declared.entry.NumberRow.{NumberRow}
 use Rattle.lot_table.proofs.GreatestLemmas.{greatest, greatest_shown, order as greatest_order, shows as greatest_shows}
 use Rattle.lot_table.proofs.ReadLemmas.{agree_is, compared, plain_overlay}
 use Rattle.lot_table.proofs.RefusalLemmas.{IsWhole, not_damaged, steady_query}
-use Rattle.lot_table.proofs.TableLemmas.{clash, or_false}
+use Rattle.lot_table.proofs.MakeLemmas.{all_push}
+use Rattle.lot_table.proofs.TableLemmas.{clash}
 use Rattle.sqlite.specs.Command.TheVariants.{Select}
 use Rattle.sqlite.specs.Listing.{reads_listing}
 use Rattle.sqlite.specs.Query.{IsAnswer}
@@ -86,7 +88,7 @@ put_is x = record { count = 5; terms = put_terms; means = refl; bare = (refl, re
 apart : (x : EntryRow) (es : List EntryRow) → IsUnnamed x es → (v : Value) (y : EntryRow) → Has es y → (agree plain (2 ∷ 3 ∷ []) (v ∷ entry_cells y) (2 ∷ 3 ∷ []) (Int (pos 0) ∷ entry_cells x) || false) ≡ false
 unfolding first_key
 apart x es unnamed v y has =
-    or_false _ ∙ agree_is 2 1 v (Int (pos 0)) (entry_cells y) (entry_cells x) (refl, (refl, tt)) (refl, (refl, tt)) ∙ all_has (λ e. is_named x.source x.name (entry_cells e) ≡ false) es y unnamed has
+    or-false _ ∙ agree_is 2 1 v (Int (pos 0)) (entry_cells y) (entry_cells x) (refl, (refl, tt)) (refl, (refl, tt)) ∙ all_has (λ e. is_named x.source x.name (entry_cells e) ≡ false) es y unnamed has
 
 pub puts_row : (old new : State) (x : EntryRow) {A : Type 0} (result : Result A Fault) → Runs put_text (entry_cells x) old new result → PutsWhere layout entry_table (λ b. IsUnnamed x b.entry) x old new result
 unfolding first_key
@@ -178,10 +180,6 @@ greatest_is = (refl, refl, (refl, refl), (omega arith, refl))
 pub greatest_selects : IsSelect greatest_text
 unfolding everything
 greatest_selects = (_, refl, refl)
-
-all_push : {X : Type 0} (P : X → Type 0) (xs : List X) (x : X) → AllByRecursion P xs → P x → AllByRecursion P (xs ++ x ∷ [])
-all_push P [] x all last = (last, tt)
-all_push P (y ∷ ys) x all last = (all.0, all_push P ys x all.1 last)
 
 all_back : {X : Type 0} (P : X → Type 0) (xs : List X) → AllByRecursion P xs → AllByRecursion P (reverse xs)
 all_back P [] all = tt

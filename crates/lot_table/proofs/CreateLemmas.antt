@@ -1,5 +1,6 @@
 -- CREATE TABLE in any database: it is refused where its name is taken, and else it makes the table or finds no room.
 use Rattle.std.proofs.Common.{◌≡◌, ◌≢◌, ◌⊎◌, inl, inr, ℕ, ◌+◌, ◌≤◌, Bool, true, false, not, ◌&&◌, ◌||◌, ◌==◌, if◌then◌else◌, Option, Some, None, is_some, Result, Ok, Err, List, [], ◌∷◌, ◌++◌, length, map, take, codes, refl, sym, ap, subst, ◌∙◌, true≢false, slice_range}
+use Rattle.std.proofs.Math.Bool.{or-false}
 use Rattle.std.proofs.lemmas.Bool.{and_parts, cases_Bool, or_parts}
 use Rattle.std.proofs.lemmas.List.Folds.{list_any-append}
 use Rattle.std.specs.List.{position_from, list_all, list_any}
@@ -48,12 +49,8 @@ some_from : {X : Type 0} (p : X → Bool) (from : ℕ) (xs : List X) → is_some
 some_from p from [] = refl
 some_from p from (x ∷ xs) = elim (cases_Bool (p x)) [ inl here ↦ rw here refl | inr other ↦ rw other (some_from p (from + 1) xs) ]
 
-or_false : (b : Bool) → (b || false) ≡ b
-or_false true = refl
-or_false false = refl
-
 more_named : {X : Type 0} (p : X → Bool) (xs ys : List X) → list_any p ys ≡ false → is_some (position_from p 0 (xs ++ ys)) ≡ is_some (position_from p 0 xs)
-more_named p xs ys none = some_from p 0 (xs ++ ys) ∙ list_any-append p xs ys ∙ ap (λ b. list_any p xs || b) none ∙ or_false (list_any p xs) ∙ sym (some_from p 0 xs)
+more_named p xs ys none = some_from p 0 (xs ++ ys) ∙ list_any-append p xs ys ∙ ap (λ b. list_any p xs || b) none ∙ or-false (list_any p xs) ∙ sym (some_from p 0 xs)
 
 -- whether an index that the table has for its keys has the name
 abbrev pub adds_index : Table → List ℕ → ℕ → ℕ → List (List ℕ) → Bool

@@ -24,6 +24,7 @@ use Rattle.sqlite_sql.proofs.QueryLemmas.{key_cmp_total}
 use Rattle.sqlite_value.specs.Keys.{rising}
 use Rattle.sqlite_keyed.specs.Lists.{insert_sorted}
 use Rattle.sqlite_keyed.proofs.ListLemmas.{filter_all, filter-map, all_weaker, ascending-filter, IsPermutation-filter}
+use Rattle.lot_inv.proofs.InventoryLemmas.{is_equal}
 use Rattle.lot_table.specs.Rows.{columns, key_order, has_key, HasRows, without_row, with_row}
 
 -- ---- a list in the order of a key
@@ -88,11 +89,6 @@ pub record AreNamed (tree : List Row) (p : Row → Bool) (found : List Row) : Ty
   pub sound : (x : Row) → Has found x → (r : Row) × Has tree r × (p r ≡ true) × (x ≡ rowid r ∷ [])
   pub complete : (r : Row) → Has tree r → p r ≡ true → Has found (rowid r ∷ [])
 
-is_tied : (o : Ordering) → is_eq o ≡ true → o ≡ Equal
-is_tied Less h = absurd (true≢false (sym h))
-is_tied Equal h = refl
-is_tied Greater h = absurd (true≢false (sym h))
-
 named_as : (tree : List Row) (p : Row → Bool) (found : List Row) → IsShaped Table tree → AreNamed tree p found → (r : Row) → Has tree r → is_named (ids_of found) r ≡ p r
 named_as tree p found shaped named r h =
     let own = int_is (rowid r) (all_has (λ x. IsTrue (is_int (rowid x))) tree r shaped.1 h) in
@@ -108,7 +104,7 @@ named_as tree p found shaped named r h =
             let t = named.sound m.0 m.1 in
             let there = int_is (rowid t.0) (all_has (λ x. IsTrue (is_int (rowid x))) tree t.0 shaped.1 t.1) in
             let id : s.0 ≡ id_in (rowid t.0) = m.2 ∙ ap (λ x. id_in (rowid x)) t.3 in
-            let tie : value_cmp (rowid r) (rowid t.0) ≡ Equal = ap (value_cmp (rowid r)) there ∙ ap (λ n. value_cmp (rowid r) (Int n)) (sym id) ∙ is_tied _ s.2 in
+            let tie : value_cmp (rowid r) (rowid t.0) ≡ Equal = ap (value_cmp (rowid r)) there ∙ ap (λ n. value_cmp (rowid r) (Int n)) (sym id) ∙ is_equal _ s.2 in
             passes ∙ sym t.2 ∙ ap p (sym (tied_same tree r t.0 shaped.0 h t.1 tie))
         | inr none ↦ none ∙ sym fails
       ]

@@ -56,7 +56,7 @@ ran_then g (t ∷ done) text a b c changed ran last = (ran.0, ran.1, ran.2, ran_
 
 -- ---- one more table
 
-all_push : {X : Type 0} (P : X → Type 0) (xs : List X) (x : X) → AllByRecursion P xs → P x → AllByRecursion P (xs ++ x ∷ [])
+pub all_push : {X : Type 0} (P : X → Type 0) (xs : List X) (x : X) → AllByRecursion P xs → P x → AllByRecursion P (xs ++ x ∷ [])
 all_push P [] x all last = (last, tt)
 all_push P (y ∷ ys) x all last = (all.0, all_push P ys x all.1 last)
 

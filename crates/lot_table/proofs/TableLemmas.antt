@@ -1,5 +1,6 @@
 -- What a put and a delete by key make of a table whose key is its first columns.
-use Rattle.std.proofs.Common.{◌≡◌, ℕ, ◌/◌, ℤ, Bool, true, false, not, ◌||◌, ◌&&◌, IsTrue, true≢false, subst₂, None, Ok, List, [], ◌∷◌, length, map, refl, sym, ap, ap₂, subst, ◌∙◌, is_eq}
+use Rattle.std.proofs.Common.{◌≡◌, ℕ, ◌/◌, ℤ, Bool, false, not, ◌||◌, IsTrue, true≢false, subst₂, None, Ok, List, [], ◌∷◌, length, map, refl, sym, ap, ap₂, subst, ◌∙◌, is_eq}
+use Rattle.std.proofs.Math.Bool.{and-true, or-false}
 use Rattle.sqlite.specs.Order.{Row}
 use Rattle.sqlite.specs.Table.{Table}
 use Rattle.sqlite_schema.specs.declared.schema.Index.{Index}
@@ -38,14 +39,6 @@ use Rattle.lot_table.proofs.DeleteLemmas.{deletes, has_permuted, insert_sorted-m
 
 -- ---- the rows of a table whose key is its first columns
 
-and_true : (b : Bool) → (b && true) ≡ b
-and_true true = refl
-and_true false = refl
-
-pub or_false : (b : Bool) → (b || false) ≡ b
-or_false true = refl
-or_false false = refl
-
 stored_as : (r : Row) (row : Row) → IsTrue (is_int (rowid r)) → columns r ≡ row → r ≡ rowid r ∷ row
 stored_as [] row keyed e = absurd (true≢false (sym keyed))
 stored_as (v ∷ c) row keyed e = ap (λ l. v ∷ l) e
@@ -76,8 +69,8 @@ module _ {X : Type 0} (encode : X → Row) (width : ℕ) (present : (x : X) → 
         let k = value_of_row stored xs kept r h in
         let keyed = ap is_null (int_is (rowid r) (all_has (λ y. IsTrue (is_int (rowid y))) stored r kept.shaped.1 h)) in
         subst (λ y. conflicts None indexes table (Int id ∷ encode x) y ≡ (is_eq (value_cmp (rowid y) (Int id)) || has_key width (encode x) (columns y))) (sym k.2)
-        (shape (rowid r) (encode k.0) id ∙ ap₂ ◌||◌ (and_true _ ∙ compared (rowid r) (Int id) keyed refl)
-        (ap₂ ◌||◌ (agree_is width 0 (rowid r) (Int id) (encode k.0) (encode x) (present k.0) (present x)) (apart (rowid r) k.0 k.1) ∙ or_false _))
+        (shape (rowid r) (encode k.0) id ∙ ap₂ ◌||◌ (and-true _ ∙ compared (rowid r) (Int id) keyed refl)
+        (ap₂ ◌||◌ (agree_is width 0 (rowid r) (Int id) (encode k.0) (encode x) (present k.0) (present x)) (apart (rowid r) k.0 k.1) ∙ or-false _))
 
   module _ (task : Task) (unreferred : (olds news : List Row) → works task.schema task.keys 0 task.table.tree olds news ≡ []) (db : Trees) (xs : List X) (kept : HasRows width (db task.table.tree) (map encode xs)) where
     abbrev at : ℕ
