@@ -5,6 +5,7 @@ pub mod DayTextLemmas
 pub mod DecisionLemmas
 pub mod MapLemmas
 pub mod NameLemmas
+pub mod OptionLemmas
 pub mod OrderLemmas
 pub mod ReadBackLemmas
 pub mod SplitLemmas

@@ -15,6 +15,7 @@ use Rattle.std.proofs.lemmas.Cmp.{nat_list_cmp_total}
 use Rattle.std.proofs.lemmas.Map.Lookups.{exact_bytes}
 use Rattle.lot_base.specs.Text.{text_cmp}
 use Rattle.lot_base.proofs.MapLemmas.{found_by_order, keys_sorted, none_below}
+use Rattle.lot_base.proofs.OptionLemmas.{or_none}
 use Rattle.lot_inv.specs.Inventory.{Held, Position as Place, position_cmp as place_cmp, non_zero, units_at}
 use Rattle.lot_inv.specs.Zeros.{HasNoZeros}
 use Rattle.lot_inv.proofs.InventoryLemmas.{eq_then, is_equal}
@@ -106,10 +107,6 @@ found_in-account account other place (entry ∷ held) rest =
 -- what the inventory of an account has at a place, where there is one
 abbrev found_at : Place → Option Held → Option ℤ
 found_at place held = option_and_then (λ (h : Held). get h place) held
-
-or_none : {X : Type 0} (o : Option X) → option_or o None ≡ o
-or_none None = refl
-or_none (Some x) = refl
 
 found_in-accounts : (kept : List (List ℕ × Held)) (account : List ℕ) (place : Place) → IsStrictlySortedBy text_cmp (keys_of kept)
     → lookup (same_position (at account place)) (entries_of kept) ≡ found_at place (lookup (is_at (text_cmp account)) kept)

@@ -1,5 +1,5 @@
 -- What a view knows once one of its maps has changed.
-use Rattle.std.specs.Prelude.{◌≡◌, ℕ, Bool, true, false, cond, ◌&&◌, ◌||◌, List, [], ◌∷◌, Option, None, Some, ℤ, option_and_then, IsSome, is_some, ◌+ℤ◌, Result, Ok, Err, OnErr}
+use Rattle.std.specs.Prelude.{◌≡◌, ℕ, Bool, true, false, cond, ◌&&◌, ◌||◌, List, [], ◌∷◌, Option, None, Some, ℤ, option_and_then, IsSome, is_some, ◌+ℤ◌}
 use Rattle.std.specs.BTreeMap.{BTreeMap, get, is_at}
 use Rattle.std.specs.Map.{keys_of, lookup}
 use Rattle.std.specs.BTreeSet.{BTreeSet, contains}
@@ -22,10 +22,6 @@ use Rattle.lot_book.specs.Facts.{standing_by}
 use Rattle.lot_view.specs.View.{day_in, held_in}
 use Rattle.lot_book.specs.Recorded.{closed_on}
 use Rattle.lot_book.specs.Change.{pair_cmp}
-
-pub on_err : {X Y : Type 0} {P : Type 0} (r : Result X Y) → P → OnErr r P
-on_err (Ok x) p = tt
-on_err (Err y) p = p
 
 pub found-some : {X : Type 0} (o : Option X) (x : X) → Some x ≡ o → IsSome o
 found-some o x e = ap is_some (sym e)

@@ -3,7 +3,8 @@ use Rattle.std.proofs.Common.{◌≡◌, Some, None, refl, sym, ap, ◌∙◌, r
 use Rattle.std.specs.BTreeMap.{get}
 use Rattle.std.specs.Option.{option_copied_mut}
 use Rattle.lot_base.specs.Text.{text_cmp}
-use Rattle.lot_view.proofs.ViewLemmas.{day_kept, day_set, days_kept, days_new, days_set, found-some, on_err, sets-inserted}
+use Rattle.lot_inv.proofs.SetLemmas.{on_err}
+use Rattle.lot_view.proofs.ViewLemmas.{day_kept, day_set, days_kept, days_new, days_set, found-some, sets-inserted}
 use Rattle.lot_view.proofs.view.set_day.Goals as goal
 
 pub returns-in_err-copy-in-Some-clause-err : goal.returns-in_err-copy-in-Some-clause-err

@@ -4,7 +4,8 @@ use Rattle.std.specs.BTreeMap.{get}
 use Rattle.std.specs.Option.{option_copied_mut}
 use Rattle.lot_base.specs.Text.{text_cmp}
 use Rattle.lot_inv.specs.Inventory.{Position, with_units}
-use Rattle.lot_view.proofs.ViewLemmas.{found-some, held_kept, held_set, on_err, sets-inserted}
+use Rattle.lot_inv.proofs.SetLemmas.{on_err}
+use Rattle.lot_view.proofs.ViewLemmas.{found-some, held_kept, held_set, sets-inserted}
 use Rattle.lot_view.proofs.view.set_units.Goals as goal
 
 pub returns-in_err-set-in-Some-clause-err : goal.returns-in_err-set-in-Some-clause-err
