@@ -31,13 +31,14 @@ use Rattle.lot_book.specs.Refusals.{back_dated, closed, currency_not_allowed, no
 use Rattle.lot_book.specs.Step.{Accept, Step, first_conditions, first_of}
 use Rattle.lot_book.proofs.CaseLemmas.{by_bool}
 use Rattle.lot_book.proofs.OrderLemmas.{one_position}
+use Rattle.lot_base.proofs.OptionLemmas.{not_mapped}
 use Rattle.lot_book.proofs.SumLemmas.{sum_where_apart}
 use Rattle.lot_laws.specs.Laws.{BooksCommand, BooksEntries, lot_at, sold_of}
 use Rattle.lot_laws.proofs.LawBooks.{accepted, over_booked}
 use Rattle.lot_laws.proofs.LawLeft.{sum_at-append, sum_if}
 use Rattle.lot_laws.proofs.LawOneSign.{method_by, method_is, opening_then, stays_unmatched}
 use Rattle.lot_laws.proofs.LawSales.{booked_sale}
-use Rattle.lot_laws.proofs.RecordedDays.{none_passes, none_refused, not_mapped}
+use Rattle.lot_laws.proofs.RecordedDays.{none_passes, none_refused}
 
 -- ---- The accounts of an accepted transaction are open.
 

@@ -9,6 +9,7 @@ use Rattle.std.proofs.lemmas.Bool.Decides.{nat_tests}
 use Rattle.std.proofs.lemmas.List.{append-nil}
 use Rattle.std.proofs.lemmas.List.Folds.{list_any-append}
 use Rattle.lot_base.specs.Text.{same_text}
+use Rattle.lot_base.proofs.OptionLemmas.{none_there, not_mapped, or_none, or_or}
 use Rattle.lot_base.proofs.TextLemmas.{one_text}
 use Rattle.lot_inv.specs.Zeros.{HasNoZeros}
 use Rattle.lot_inv.proofs.LotLemmas.{same_held}
@@ -55,10 +56,6 @@ key_was_new facts command legs (Some text) e = absurd (by (same_text text (canon
     by : (b : Bool) → Accept legs ≡ cond b Repeat (Refuse KeyReused) → ⊥
     by true e = cc
     by false e = cc
-
-none_there : {X : Type 0} (o : Option X) → is_some o ≡ false → o ≡ None
-none_there None e = refl
-none_there (Some x) e = cc
 
 -- an account that is opened wasn't open
 pub opening_is_new : (facts : Facts) (o : OpeningOf) (legs : List Leg) → Judges facts (Opening o) (Accept legs)
@@ -130,15 +127,7 @@ room_where_decided facts command legs decides =
 
 -- ---- openings and closings
 
-or_none : {X : Type 0} (o : Option X) → option_or o None ≡ o
-or_none None = refl
-or_none (Some x) = refl
-
-or_or : {X : Type 0} (o p q : Option X) → option_or o (option_or p q) ≡ option_or (option_or o p) q
-or_or None p q = refl
-or_or (Some x) p q = refl
-
-opening_of-append : (entries : List Entry) (entry : Entry) (account : List ℕ)
+pub opening_of-append : (entries : List Entry) (entry : Entry) (account : List ℕ)
     → opening_of (entries ++ entry ∷ []) account ≡ option_or (opening_of entries account) (opening_by account entry.command)
 opening_of-append [] entry account = or_none (opening_by account entry.command)
 opening_of-append (first ∷ entries) entry account =
@@ -215,10 +204,6 @@ standing_kept : (closing : Option ℤ) (opening : Option OpeningOf)
     → option_map (standing_by closing) opening ≡ option_map (standing_by (option_or closing None)) (option_or opening None)
 standing_kept closing opening = λ i. option_map (standing_by (sym (or_none closing) i)) (sym (or_none opening) i)
 
-not_mapped : {X Y : Type 0} (f : X → Y) (o : Option X) → option_map f o ≡ None → o ≡ None
-not_mapped f None e = refl
-not_mapped f (Some x) e = cc
-
 pub standing-recorded : (book : List Entry) (key : Key) (command : Command) (legs : List Leg) → ClosesOpened book
     → Judges (facts_of book key) command (Accept legs)
     → (account : List ℕ) → standing_after account command (standing_of book account)
@@ -272,7 +257,7 @@ declared-recorded book entry commodity =
 
 -- ---- inventories
 
-legs_of-append : (book : List Entry) (entry : Entry) → legs_of (book ++ entry ∷ []) ≡ legs_of book ++ entry.legs
+pub legs_of-append : (book : List Entry) (entry : Entry) → legs_of (book ++ entry ∷ []) ≡ legs_of book ++ entry.legs
 legs_of-append book entry =
     flat_map-append (λ (e : Entry). e.legs) book (entry ∷ [])
     ∙ ap (λ legs. legs_of book ++ legs) (append-nil entry.legs)

@@ -2,7 +2,7 @@
 use Rattle.std.specs.Prelude.{◌≡◌, ℕ, suc, ◌<◌, Bool, true, false, cond, ◌&&◌, List, [], ◌∷◌, ◌++◌, length, Option, None, Some, is_some, ℤ, int_lt, nat_lt, position}
 use Rattle.std.specs.Cmp.{int_ranked}
 use Rattle.std.specs.List.{Any, list_any, position_or_len}
-use Rattle.std.specs.Option.{option_map, option_or}
+use Rattle.std.specs.Option.{option_or}
 use Rattle.std.specs.Ordering.{int_cmp}
 use Rattle.std.specs.declared.cmp.Ordering.TheVariants.{Less, Equal, Greater}
 use Rattle.std.proofs.Common.{refl, sym, ap, ◌∙◌, arith, inl, inr, get_or}
@@ -12,6 +12,7 @@ use Rattle.std.proofs.lemmas.Int.{ints}
 use Rattle.std.proofs.lemmas.List.Folds.{Any-from_list_any}
 use Rattle.std.proofs.lemmas.List.Sums.{fails_before_first}
 use Rattle.lot_base.specs.Text.{same_text}
+use Rattle.lot_base.proofs.OptionLemmas.{not_mapped}
 use Rattle.lot_base.proofs.TextLemmas.{one_text}
 use Rattle.lot_command.specs.declared.command.Command.{Command}
 use Rattle.lot_command.specs.declared.command.Command.TheVariants.{Opening, Closing, Declaring, Quoting, Transaction}
@@ -76,10 +77,6 @@ last_none [] None e = refl
 last_none [] (Some refusal) e = cc
 last_none (None ∷ conditions) condition e = last_none conditions condition e
 last_none (Some refusal ∷ conditions) condition e = cc
-
-pub not_mapped : {X Y : Type 0} (f : X → Y) (o : Option X) → option_map f o ≡ None → o ≡ None
-not_mapped f None e = refl
-not_mapped f (Some x) e = cc
 
 pub none_passes : {X : Type 0} (p : X → Bool) (xs : List X) (k : ℕ) (x : X) → position p xs ≡ None → k < length xs
     → p (get_or xs k x) ≡ false
