@@ -141,6 +141,10 @@ fn a_stop_at_each_call(rt: HostRuntime) -> Result<(), Fail> {
                 assert_eq!(rt; kept.saturating_add(count(&again, b" accepted")), COMMANDS);
             }
         }
+        // With as many calls nothing stops, so the loop has met each of them.
+        let (is_made, accepted, _left) = stopped(rt.alloc(), &post, side, CALLS)?;
+        assert!(rt; is_made);
+        assert_eq!(rt; accepted, COMMANDS);
     }
     Ok(())
 }
