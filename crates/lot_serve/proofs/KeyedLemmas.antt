@@ -1,6 +1,6 @@
 -- The keys of a batch: their texts are labels, and each command more has the key of its number.
-use Rattle.std.proofs.Common.{◌≡◌, ◌≢◌, ◌⊎◌, inl, inr, ◌∙◌, ◌+◌, ◌-◌, ◌%◌, ◌^◌, ◌<◌, ◌≤◌, ◌&&◌, ℕ, suc, Bool, true, false, IsTrue, List, [], ◌∷◌, ◌++◌, length, drop, codes, decimal, nat_le, refl, sym, ap, append_assoc, append-nil, length-append, arith}
-use Rattle.std.proofs.lemmas.Bool.{and_parts}
+use Rattle.std.proofs.Common.{◌≡◌, ◌≢◌, inl, inr, ◌∙◌, ◌+◌, ◌-◌, ◌%◌, ◌^◌, ◌<◌, ◌≤◌, ◌&&◌, ℕ, suc, true, IsTrue, List, [], ◌∷◌, ◌++◌, length, drop, codes, decimal, nat_le, refl, sym, ap, append_assoc, append-nil, length-append, arith}
+use Rattle.std.proofs.lemmas.Bool.{and_from, and_parts, le-leb, leb-true, or_cases}
 use Rattle.std.proofs.lemmas.Bool.Decides.{nat_tests}
 use Rattle.std.proofs.lemmas.Fmt.{decimal_by_steps, decimal_nonempty, length-decimal-le}
 use Rattle.std.proofs.lemmas.List.{drop-append-le, drop_all, length-drop}
@@ -17,24 +17,11 @@ use Rattle.lot_words.specs.Batch.{is_batch, is_batch_byte, longest_batch}
 
 -- ---- labels
 
-yes : (m n : ℕ) → m ≤ n → nat_le m n ≡ true
-yes m n h = grind (arith, nat_tests)
-
-from_test : (m n : ℕ) → nat_le m n ≡ true → m ≤ n
-from_test m n h = grind (arith, nat_tests)
-
-both : (a b : Bool) → a ≡ true → b ≡ true → (a && b) ≡ true
-both a b p q = rw (p, q) refl
-
-one_of : (a b : Bool) → (a || b) ≡ true → (a ≡ true) ⊎ (b ≡ true)
-one_of true b p = inl refl
-one_of false b p = inr p
-
 label_from : (text : List ℕ) → 1 ≤ length text → length text ≤ longest_label → list_all is_label_byte text ≡ true → IsTrue (is_label text)
 unfolding is_label
 label_from text some short bytes =
-    both (nat_le 1 (length text) && nat_le (length text) longest_label) (list_all is_label_byte text)
-    (both (nat_le 1 (length text)) (nat_le (length text) longest_label) (yes 1 (length text) some) (yes (length text) longest_label short)) bytes
+    and_from (nat_le 1 (length text) && nat_le (length text) longest_label) (list_all is_label_byte text)
+    (and_from (nat_le 1 (length text)) (nat_le (length text) longest_label) (le-leb 1 (length text) some) (le-leb (length text) longest_label short)) bytes
 
 -- a label is what it is by its tests
 label_parts : (text : List ℕ) → IsTrue (is_label text)
@@ -68,16 +55,16 @@ printable : (b : ℕ) → 45 ≤ b → b ≤ 122 → b ≢ 92 → is_label_byte 
 printable b low high other = grind (arith, nat_tests)
 
 in_range : (low high b : ℕ) → is_in_range low high b ≡ true → (low ≤ b) × (b ≤ high)
-in_range low high b is = let parts = and_parts (nat_le low b) (nat_le b high) is in (from_test low b parts.0, from_test b high parts.1)
+in_range low high b is = let parts = and_parts (nat_le low b) (nat_le b high) is in (leb-true low b parts.0, leb-true b high parts.1)
 
 -- each byte of a batch may stand in a label
 batch_byte : (b : ℕ) → is_batch_byte b ≡ true → is_label_byte b ≡ true
 batch_byte b is =
-    elim (one_of (is_ascii_alphanumeric b) ((b == 46) || (b == 95) || (b == 45)) is) [
+    elim (or_cases (is_ascii_alphanumeric b) ((b == 46) || (b == 95) || (b == 45)) is) [
       | inl named ↦
-          elim (one_of (is_in_range 48 57 b || is_in_range 65 90 b) (is_in_range 97 122 b) named) [
+          elim (or_cases (is_in_range 48 57 b || is_in_range 65 90 b) (is_in_range 97 122 b) named) [
             | inl first ↦
-                elim (one_of (is_in_range 48 57 b) (is_in_range 65 90 b) first) [
+                elim (or_cases (is_in_range 48 57 b) (is_in_range 65 90 b) first) [
                   | inl digit ↦ let between = in_range 48 57 b digit in printable b (omega (arith, between)) (omega (arith, between)) (omega (arith, between))
                   | inr capital ↦ let between = in_range 65 90 b capital in printable b (omega (arith, between)) (omega (arith, between)) (omega (arith, between))
                 ]
@@ -90,19 +77,19 @@ batch_bytes : (batch : List ℕ) → list_all is_batch_byte batch ≡ true → l
 batch_bytes [] all = refl
 batch_bytes (b ∷ batch) all =
     let parts = and_parts (is_batch_byte b) (list_all is_batch_byte batch) all in
-    both (is_label_byte b) (list_all is_label_byte batch) (batch_byte b parts.0) (batch_bytes batch parts.1)
+    and_from (is_label_byte b) (list_all is_label_byte batch) (batch_byte b parts.0) (batch_bytes batch parts.1)
 
 -- where the commands of a batch come from is a label
 pub source_is_label : (word batch : List ℕ) → IsTrue (is_label word) → length word ≤ 16 → IsTrue (is_batch batch) → IsTrue (is_label (source_of word batch))
 source_is_label word batch label few good =
     let named = and_parts (nat_le 1 (length word) && nat_le (length word) longest_label) (list_all is_label_byte word) (label_parts word label) in
     let parts = and_parts (nat_le 1 (length batch) && nat_le (length batch) longest_batch) (list_all is_batch_byte batch) good in
-    let short = from_test (length batch) longest_batch (and_parts (nat_le 1 (length batch)) (nat_le (length batch) longest_batch) parts.0).1 in
-    let some = from_test 1 (length word) (and_parts (nat_le 1 (length word)) (nat_le (length word) longest_label) named.0).0 in
+    let short = leb-true (length batch) longest_batch (and_parts (nat_le 1 (length batch)) (nat_le (length batch) longest_batch) parts.0).1 in
+    let some = leb-true 1 (length word) (and_parts (nat_le 1 (length word)) (nat_le (length word) longest_label) named.0).0 in
     let counted : length (source_of word batch) ≡ length word + suc (length batch) = length-append word (codes ":" ++ batch) in
     label_from (source_of word batch) (omega (arith, counted, some)) (omega (arith, counted, short, few))
     (list_all-append is_label_byte word (codes ":" ++ batch)
-    ∙ both (list_all is_label_byte word) (list_all is_label_byte (codes ":" ++ batch)) named.1 (batch_bytes batch parts.1))
+    ∙ and_from (list_all is_label_byte word) (list_all is_label_byte (codes ":" ++ batch)) named.1 (batch_bytes batch parts.1))
 
 -- ---- commands in their order
 
