@@ -5,42 +5,27 @@ use Rattle.std.specs.Option.{option_map, option_or}
 use Rattle.std.specs.Ordering.{is_eq, ordering_then}
 use Rattle.std.specs.declared.cmp.Ordering.TheVariants.{Less, Equal}
 use Rattle.std.proofs.Common.{refl, sym, ap, ◌∙◌, arith}
+use Rattle.std.proofs.Math.Bool.{and-true}
 use Rattle.std.proofs.lemmas.Bool.{true≢false}
 use Rattle.sqlite.specs.Order.{Row}
 use Rattle.sqlite.specs.declared.types.Value.TheVariants.{Int, Text}
 use Rattle.sqlite_value.specs.Order.{value_cmp}
 use Rattle.lot_base.specs.Text.{same_text}
+use Rattle.lot_base.proofs.OptionLemmas.{none_there, or_none, or_or}
 use Rattle.lot_command.specs.Canonical.{canonical}
 use Rattle.lot_command.specs.declared.command.Command.{Command}
 use Rattle.lot_command.specs.declared.command.Command.TheVariants.{Opening, Closing, Declaring, Quoting, Transaction}
 use Rattle.lot_command.specs.declared.key.Key.{Key}
 use Rattle.lot_inv.proofs.InventoryLemmas.{eq_then}
-use Rattle.lot_book.specs.Facts.{Entry, declares, is_declared, opening_by, opening_of, same_key, text_under}
+use Rattle.lot_book.specs.Facts.{Entry, declares, is_declared, same_key, text_under}
 use Rattle.lot_rows.specs.Entry.{IsUnnamed, entry_cells, is_named}
 use Rattle.lot_rows.specs.declared.entry.EntryRow.{EntryRow}
 use Rattle.lot_filed.specs.Kept.{declared_on, declaring_by, rate_by, rate_on}
 use Rattle.lot_filed.specs.Rows.{entry_row, entry_rows}
-use Rattle.lot_filed.proofs.KeyLemmas.{and_true, number_below, text_tie}
+use Rattle.lot_filed.proofs.KeyLemmas.{number_below, text_tie}
 use Rattle.lot_filed.proofs.OrderLemmas.{row_order}
 
--- ---- one after another
-
-pub or_none : {X : Type 0} (o : Option X) → option_or o None ≡ o
-or_none None = refl
-or_none (Some x) = refl
-
-pub or_or : {X : Type 0} (o p q : Option X) → option_or o (option_or p q) ≡ option_or (option_or o p) q
-or_or None p q = refl
-or_or (Some x) p q = refl
-
--- ---- openings, declarings and prices
-
-pub opening_of-append : (entries : List Entry) (entry : Entry) (account : List ℕ)
-    → opening_of (entries ++ entry ∷ []) account ≡ option_or (opening_of entries account) (opening_by account entry.command)
-opening_of-append [] entry account = or_none (opening_by account entry.command)
-opening_of-append (first ∷ entries) entry account =
-    ap (option_or (opening_by account first.command)) (opening_of-append entries entry account)
-    ∙ or_or (opening_by account first.command) (opening_of entries account) (opening_by account entry.command)
+-- ---- declarings and prices
 
 pub declared_on-append : (entries : List Entry) (entry : Entry) (commodity : List ℕ)
     → declared_on (entries ++ entry ∷ []) commodity ≡ option_or (declared_on entries commodity) (declaring_by commodity entry.command)
@@ -70,16 +55,12 @@ some_or : {X : Type 0} (o p : Option X) → is_some (option_or o p) ≡ (is_some
 some_or None p = refl
 some_or (Some x) p = refl
 
-declared_as : (entries : List Entry) (commodity : List ℕ) → is_some (declared_on entries commodity) ≡ is_declared entries commodity
+pub declared_as : (entries : List Entry) (commodity : List ℕ) → is_some (declared_on entries commodity) ≡ is_declared entries commodity
 declared_as [] commodity = refl
 declared_as (entry ∷ entries) commodity =
     some_or (declaring_by commodity entry.command) (declared_on entries commodity)
     ∙ ap (λ b. b || is_some (declared_on entries commodity)) (declares_as commodity entry.command)
     ∙ ap (λ b. declares commodity entry.command || b) (declared_as entries commodity)
-
-none_there : {X : Type 0} (o : Option X) → is_some o ≡ false → o ≡ None
-none_there None e = refl
-none_there (Some x) e = absurd (true≢false e)
 
 pub declared_on-none : (entries : List Entry) (commodity : List ℕ) → is_declared entries commodity ≡ false
     → declared_on entries commodity ≡ None
@@ -126,7 +107,7 @@ named_as source name other what body number =
     eq_then (value_cmp (Text other) (Text source)) (ordering_then (value_cmp (Text what) (Text name)) Equal)
     ∙ ap (λ b. b && is_eq (ordering_then (value_cmp (Text what) (Text name)) Equal)) (text_tie source other)
     ∙ ap (λ b. same_text source other && b)
-    (eq_then (value_cmp (Text what) (Text name)) Equal ∙ and_true (is_eq (value_cmp (Text what) (Text name))) ∙ text_tie name what)
+    (eq_then (value_cmp (Text what) (Text name)) Equal ∙ and-true (is_eq (value_cmp (Text what) (Text name))) ∙ text_tie name what)
 
 -- no row of entries has the source and the name of a key that is new
 pub entry_rows-unnamed : (number : ℕ) (entries : List Entry) (key : Key) (new : EntryRow) → text_under entries key ≡ None

@@ -1,9 +1,10 @@
 -- When a row of a table has a key: exactly where their texts and numbers are the same.
-use Rattle.std.specs.Prelude.{◌≡◌, ℕ, suc, ◌<◌, ◌==◌, Bool, true, false, ◌&&◌, List, [], ◌∷◌, Option, Some, None, ℤ, pos}
+use Rattle.std.specs.Prelude.{◌≡◌, ℕ, suc, ◌<◌, ◌==◌, true, ◌&&◌, List, [], ◌∷◌, Option, Some, None, ℤ, pos}
 use Rattle.std.specs.Cmp.{Equal-is}
 use Rattle.std.specs.Ordering.{int_cmp, int_eq, is_eq, ordering_then}
 use Rattle.std.specs.declared.cmp.Ordering.TheVariants.{Less, Equal}
 use Rattle.std.proofs.Common.{refl, sym, ap, subst, ◌∙◌, arith, IsTrue}
+use Rattle.std.proofs.Math.Bool.{and-true}
 use Rattle.std.proofs.lemmas.Bool.{and_parts, true≢false}
 use Rattle.std.proofs.lemmas.Bool.Decides.{Decides-eqb, Decides-int_eq, same_from_decides}
 use Rattle.std.proofs.lemmas.Cmp.{int_eq_equiv, tied_itself}
@@ -47,15 +48,11 @@ nat_tie key row =
     ((λ e. pos_one row key ((Decides-int_eq (pos row) (pos key)).0 e)), (λ e. (Decides-int_eq (pos row) (pos key)).1 (ap pos e)))
     (Decides-eqb row key)
 
-pub and_true : (b : Bool) → (b && true) ≡ b
-and_true true = refl
-and_true false = refl
-
 -- ---- keys
 
 pub has_name : (name other : List ℕ) (rest : Row) → has_key 1 (name_key name) (Text other ∷ rest) ≡ same_text name other
 has_name name other rest =
-    eq_then (value_cmp (Text other) (Text name)) Equal ∙ and_true (is_eq (value_cmp (Text other) (Text name))) ∙ text_tie name other
+    eq_then (value_cmp (Text other) (Text name)) Equal ∙ and-true (is_eq (value_cmp (Text other) (Text name))) ∙ text_tie name other
 
 pub has_pair : (account commodity other what : List ℕ) (rest : Row)
     → has_key 2 (pair_key account commodity) (Text other ∷ Text what ∷ rest) ≡ (same_text account other && same_text commodity what)
@@ -63,7 +60,7 @@ has_pair account commodity other what rest =
     eq_then (value_cmp (Text other) (Text account)) (ordering_then (value_cmp (Text what) (Text commodity)) Equal)
     ∙ ap (λ b. b && is_eq (ordering_then (value_cmp (Text what) (Text commodity)) Equal)) (text_tie account other)
     ∙ ap (λ b. same_text account other && b)
-    (eq_then (value_cmp (Text what) (Text commodity)) Equal ∙ and_true (is_eq (value_cmp (Text what) (Text commodity))) ∙ text_tie commodity what)
+    (eq_then (value_cmp (Text what) (Text commodity)) Equal ∙ and-true (is_eq (value_cmp (Text what) (Text commodity))) ∙ text_tie commodity what)
 
 pub has_price : (base quote : List ℕ) (day : ℤ) (other against : List ℕ) (on : ℤ) (rest : Row)
     → has_key 3 (price_key base quote day) (Text other ∷ Text against ∷ Int on ∷ rest)
@@ -77,7 +74,7 @@ has_price base quote day other against on rest =
     (eq_then (value_cmp (Text against) (Text quote)) last
     ∙ ap (λ b. b && is_eq last) (text_tie quote against)
     ∙ ap (λ b. same_text quote against && b)
-    (eq_then (value_cmp (Int on) (Int day)) Equal ∙ and_true (is_eq (value_cmp (Int on) (Int day))) ∙ int_tie day on))
+    (eq_then (value_cmp (Int on) (Int day)) Equal ∙ and-true (is_eq (value_cmp (Int on) (Int day))) ∙ int_tie day on))
 
 pub has_posting : (entry posting other place : ℕ) (rest : Row)
     → has_key 2 (posting_key entry posting) (Int (pos other) ∷ Int (pos place) ∷ rest) ≡ ((other == entry) && (place == posting))
@@ -85,7 +82,7 @@ has_posting entry posting other place rest =
     eq_then (value_cmp (Int (pos other)) (Int (pos entry))) (ordering_then (value_cmp (Int (pos place)) (Int (pos posting))) Equal)
     ∙ ap (λ b. b && is_eq (ordering_then (value_cmp (Int (pos place)) (Int (pos posting))) Equal)) (nat_tie entry other)
     ∙ ap (λ b. (other == entry) && b)
-    (eq_then (value_cmp (Int (pos place)) (Int (pos posting))) Equal ∙ and_true (is_eq (value_cmp (Int (pos place)) (Int (pos posting))))
+    (eq_then (value_cmp (Int (pos place)) (Int (pos posting))) Equal ∙ and-true (is_eq (value_cmp (Int (pos place)) (Int (pos posting))))
     ∙ nat_tie posting place)
 
 -- ---- keys of lots

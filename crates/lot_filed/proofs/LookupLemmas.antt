@@ -16,15 +16,11 @@ use Rattle.sqlite_rules.specs.Lists.{Has}
 use Rattle.sqlite_rules.proofs.ListLemmas.{all_from, all_has, has_filtered, has_got}
 use Rattle.sqlite_sql.specs.Query.{key_cmp}
 use Rattle.sqlite_value.specs.Keys.{rising}
+use Rattle.lot_inv.proofs.InventoryLemmas.{is_equal}
 use Rattle.lot_table.specs.Rows.{has_key, key_order, put_in, with_key, without_key}
 use Rattle.lot_filed.proofs.OrderLemmas.{IsRising, inserted-last, key_order-total, rises-without_key, row_order, row_order-total, without_key-none}
 
 -- ---- keys
-
-is_tied : (o : Ordering) → is_eq o ≡ true → o ≡ Equal
-is_tied Less e = absurd (true≢false (sym e))
-is_tied Equal e = refl
-is_tied Greater e = absurd (true≢false (sym e))
 
 then_tied : (o p : Ordering) → ordering_then o p ≡ Equal → (o ≡ Equal) × (p ≡ Equal)
 then_tied Less p e = absurd (true≢false (sym (ap is_eq e)))
@@ -45,7 +41,7 @@ prefix_tied at (suc shorter) (suc width) a b within e =
 has_key-tied : (shorter width : ℕ) (key a b : Row) → shorter ≤ width → has_key width b a ≡ true
     → has_key shorter key a ≡ has_key shorter key b
 has_key-tied shorter width key a b within same =
-    ap is_eq ((key_order-total shorter).congr a b key (prefix_tied 0 shorter width a b within (is_tied (key_order width a b) same)))
+    ap is_eq ((key_order-total shorter).congr a b key (prefix_tied 0 shorter width a b within (is_equal (key_order width a b) same)))
 
 -- a row has its own key
 pub has_own_key : (width : ℕ) (row : Row) → has_key width row row ≡ true
@@ -152,7 +148,7 @@ module _ {X : Type 0} (encode : X → Row) where
   same_keys : (width : ℕ) (key other row : Row) → has_key width key other ≡ true → has_key width key row ≡ has_key width other row
   same_keys width key other row same =
       let total = key_order-total width in
-      ap is_eq (alike_right total key other row (tied_back total other key (is_tied (key_order width other key) same)))
+      ap is_eq (alike_right total key other row (tied_back total other key (is_equal (key_order width other key) same)))
 
   inserted-alone : (cmp : X → X → Ordering) (p : X → Bool) (new : X) (xs : List X) → p new ≡ true
       → AllByRecursion (λ x. p x ≡ false) xs → filter p (insert_sorted cmp new xs) ≡ new ∷ []
