@@ -12,7 +12,7 @@ use Rattle.lot_table.specs.Book.{Holds, IsUndone, Turns}
 use Rattle.lot_table.specs.Statement.{DiskFailed}
 use Rattle.lot_table.specs.declared.fault.Fault.{Fault}
 use Rattle.lot_rows.specs.Tables.{Tables, layout}
-use Rattle.lot_record.specs.Call.{Stops, WritesAll, WritesOne}
+use Rattle.lot_record.specs.Call.{WritesAll, WritesOne}
 use Rattle.lot_record.specs.Write.{AreFit, Fits, written, written_all}
 use Rattle.lot_record.specs.declared.write.Write.{Write}
 

@@ -15,6 +15,7 @@ use Rattle.sqlite.specs.declared.types.Value.TheVariants.{Int, Text}
 use Rattle.sqlite_keyed.proofs.ListLemmas.{all-append, all-flat_map, all-map, all_weaker}
 use Rattle.lot_base.specs.Text.{same_text}
 use Rattle.lot_booking.specs.Method.{word_of}
+use Rattle.lot_base.proofs.OptionLemmas.{not_mapped, or_none}
 use Rattle.lot_base.proofs.TextLemmas.{one_text, same_text-itself}
 use Rattle.lot_inv.specs.declared.lot_key.LotKey.{LotKey}
 use Rattle.lot_command.specs.declared.command.Closing.{Closing as ClosingOf}
@@ -36,7 +37,7 @@ use Rattle.lot_book.specs.declared.leg.Position.{Position}
 use Rattle.lot_book.specs.declared.refusal.Refusal.{Refusal}
 use Rattle.lot_book.specs.declared.standing.Standing.{Standing}
 use Rattle.lot_laws.proofs.LawBooks.{accepted, none_holds}
-use Rattle.lot_laws.proofs.RecordedBook.{closes_opened, closing_is_known, opening_is_new, standing-recorded}
+use Rattle.lot_laws.proofs.RecordedBook.{closes_opened, closing_is_known, opening_is_new, opening_of-append, standing-recorded}
 use Rattle.lot_laws.proofs.StepLooks.{same_decision}
 use Rattle.lot_ledger.specs.Decide.{Comes}
 use Rattle.lot_ledger.specs.declared.decision.Outcome.TheVariants as decided
@@ -54,7 +55,7 @@ use Rattle.lot_rows.specs.declared.price.PriceRow.{PriceRow}
 use Rattle.lot_filed.specs.Kept.{currencies_in, currencies_of, declared_on, declaring_by, rate_by, rate_on}
 use Rattle.lot_filed.specs.Rows.{account_row, allowed_rows, commodity_row, entry_row, entry_rows, name_key, price_key, price_row, row_at}
 use Rattle.lot_filed.specs.StandFor.{StandFor}
-use Rattle.lot_filed.proofs.KeptLemmas.{declared_on-append, declared_on-none, entry_rows-append, entry_rows-below, opening_of-append, or_none, rate_on-append}
+use Rattle.lot_filed.proofs.KeptLemmas.{declared_on-append, declared_on-none, entry_rows-append, entry_rows-below, rate_on-append}
 use Rattle.lot_filed.proofs.KeyLemmas.{has_name, has_price, number_below, same_first}
 use Rattle.lot_filed.proofs.LookupLemmas.{first_with_key, put_in-last, row-put, with_key-put_last, with_key-put_other}
 use Rattle.lot_filed.proofs.OrderLemmas.{IsRising, all-put_in, rises-put_in, row_order}
@@ -311,10 +312,6 @@ module _ (tables : Tables) (entries : List Entry) (known : Facts) (key : Key) (c
   first_none : {X : Type 0} (o p : Option X) → option_or o p ≡ None → (o ≡ None) × (p ≡ None)
   first_none None p e = (refl, e)
   first_none (Some x) p e = absurd (true≢false (ap is_some e))
-
-  not_mapped : {X Y : Type 0} (f : X → Y) (o : Option X) → option_map f o ≡ None → o ≡ None
-  not_mapped f None e = refl
-  not_mapped f (Some x) e = absurd (true≢false (ap is_some e))
 
   not_held : (holds : Bool) (refusal : Refusal) → holds_as holds refusal ≡ None → holds ≡ false
   not_held true refusal e = absurd (true≢false (ap is_some e))

@@ -1,8 +1,7 @@
 -- Which entry the legs and the sales of a book are of.
 use Rattle.std.specs.Prelude.{◌≡◌, ℕ, suc, ◌≤◌, List, [], ◌∷◌, ◌++◌, length}
 use Rattle.std.specs.List.{AllByRecursion}
-use Rattle.std.proofs.Common.{sym, ap, subst, ◌∙◌, arith, add-one, append_assoc, length-append}
-use Rattle.std.proofs.lemmas.Grind.{flat_map-append}
+use Rattle.std.proofs.Common.{sym, subst, ◌∙◌, arith, add-one, append_assoc, length-append}
 use Rattle.std.proofs.lemmas.List.{append-nil}
 use Rattle.sqlite.specs.Tree.{IsAscending}
 use Rattle.sqlite_keyed.proofs.ListLemmas.{all-append, all_weaker}
@@ -14,6 +13,7 @@ use Rattle.lot_book.specs.Refusals.{already_declared, already_open, book_full, c
 use Rattle.lot_book.specs.Step.{Accept, Judges, first_conditions, first_of}
 use Rattle.lot_book.specs.declared.leg.Leg.{Leg}
 use Rattle.lot_laws.proofs.LawBooks.{accepted, none_holds}
+use Rattle.lot_laws.proofs.RecordedBook.{legs_of-append}
 use Rattle.lot_record.proofs.BookedLemmas.{Precedes, booked_as, transaction_legs}
 
 -- ---- an accepted command
@@ -54,10 +54,6 @@ own_legs facts (Transaction t) legs judges =
     transaction_legs facts t legs (booked_as facts t (first_of (first_conditions facts t)) legs judges)
 
 -- ---- the legs of a book
-
-pub legs_of-append : (book : List Entry) (entry : Entry) → legs_of (book ++ entry ∷ []) ≡ legs_of book ++ entry.legs
-legs_of-append book entry =
-    flat_map-append (λ (e : Entry). e.legs) book (entry ∷ []) ∙ ap (λ legs. legs_of book ++ legs) (append-nil entry.legs)
 
 pub one_longer : {X : Type 0} (xs : List X) (x : X) → length (xs ++ x ∷ []) ≡ suc (length xs)
 one_longer xs x = length-append xs (x ∷ []) ∙ add-one (length xs)

@@ -7,6 +7,7 @@ use Rattle.std.specs.Option.{option_map, unwrap_or}
 use Rattle.std.specs.Ordering.{int_eq, is_eq, ordering_then}
 use Rattle.std.specs.declared.cmp.Ordering.TheVariants.{Equal}
 use Rattle.std.proofs.Common.{refl, sym, ap, ◌∙◌, inl, inr}
+use Rattle.std.proofs.Math.Bool.{and-true}
 use Rattle.std.proofs.lemmas.Bool.{cases_Bool, true≢false}
 use Rattle.lot_base.specs.Text.{same_text, text_cmp}
 use Rattle.lot_inv.proofs.InventoryLemmas.{eq_then}
@@ -24,7 +25,7 @@ use Rattle.lot_rows.specs.declared.lot.LotRow.{LotRow}
 use Rattle.lot_rows.specs.declared.plain.PlainRow.{PlainRow}
 use Rattle.sqlite.specs.declared.types.Value.TheVariants.{Int}
 use Rattle.lot_filed.specs.Rows.{lot_key, lot_row, pair_key, plain_row, row_at}
-use Rattle.lot_filed.proofs.KeyLemmas.{and_true, at_lot, has_lot, has_pair}
+use Rattle.lot_filed.proofs.KeyLemmas.{at_lot, has_lot, has_pair}
 use Rattle.lot_filed.proofs.LookupLemmas.{row-put, row-without}
 use Rattle.lot_record.proofs.WrittenLemmas.{written_all-append}
 use Rattle.lot_record.specs.Write.{written, written_all}
@@ -188,7 +189,7 @@ same_plain account commodity other what =
     ∙ (λ i. sym (texts_ties account other) i && last i)
   where
     last : is_eq (ordering_then (text_cmp commodity what) Equal) ≡ same_text commodity what
-    last = eq_then (text_cmp commodity what) Equal ∙ and_true (is_eq (text_cmp commodity what)) ∙ sym (texts_ties commodity what)
+    last = eq_then (text_cmp commodity what) Equal ∙ and-true (is_eq (text_cmp commodity what)) ∙ sym (texts_ties commodity what)
 
 module _ (account commodity : List ℕ) where
   abbrev plain_there : Tables → Option PlainRow

@@ -30,7 +30,7 @@ use Rattle.lot_book.specs.declared.leg.Position.{Position}
 use Rattle.lot_book.specs.declared.standing.Standing.{Standing}
 use Rattle.lot_book.proofs.OrderLemmas.{one_position}
 use Rattle.lot_book.proofs.SumLemmas.{sum_where-append, sum_where-none}
-use Rattle.lot_laws.proofs.RecordedBook.{key_was_new}
+use Rattle.lot_laws.proofs.RecordedBook.{key_was_new, legs_of-append}
 use Rattle.lot_laws.proofs.RecordedDays.{latest-recorded}
 use Rattle.lot_laws.proofs.StepAgree.{Alike, alike_all, same_books}
 use Rattle.lot_ledger.specs.Decide.{AreSales}
@@ -62,7 +62,7 @@ use Rattle.lot_record.proofs.KeepLemmas.{Keeps, heads_keep, legs_keep, position_
 use Rattle.lot_record.proofs.KnownLemmas.{IsSameAt, before_sum, listed_sum, same_at_legs}
 use Rattle.lot_record.proofs.LegLemmas.{put_all}
 use Rattle.lot_record.proofs.NamedLemmas.{IsAccepted, judged}
-use Rattle.lot_record.proofs.NumberLemmas.{legs_for, legs_of-append, numbered_legs, own_legs, precede_next}
+use Rattle.lot_record.proofs.NumberLemmas.{legs_for, numbered_legs, own_legs, precede_next}
 use Rattle.lot_record.proofs.PositionLemmas.{lot_step, plain_at, plain_step, positions_stand, settled}
 use Rattle.lot_record.proofs.PutLemmas.{head_of, heads_put, legs_put, put_each, sales_put}
 use Rattle.lot_record.proofs.SaleLemmas.{IsEarlier, numbered, sales_last, sales_rise, sales_with}
