@@ -1,10 +1,11 @@
 -- What the rows of a book say: entries, accounts with their currencies, commodities and heads.
-use Rattle.std.specs.Prelude.{◌≡◌, ℕ, suc, ◌+◌, ◌≤◌, Bool, true, false, cond, ◌||◌, ◌&&◌, List, [], ◌∷◌, ◌++◌, length, map, find, filter, reverse, slice_get, Option, None, Some, is_some, option_map, ℤ, All}
+use Rattle.std.specs.Prelude.{◌≡◌, ℕ, suc, ◌+◌, ◌≤◌, Bool, true, false, cond, ◌&&◌, List, [], ◌∷◌, ◌++◌, length, map, find, filter, reverse, slice_get, Option, None, Some, is_some, option_map, ℤ, All}
 use Rattle.std.specs.List.{AllByRecursion}
 use Rattle.std.specs.Option.{option_or}
 use Rattle.std.specs.Ordering.{is_eq, ordering_then}
 use Rattle.std.specs.declared.cmp.Ordering.TheVariants.{Equal}
 use Rattle.std.proofs.Common.{refl, ap, ◌∙◌, arith}
+use Rattle.std.proofs.Math.Bool.{and-true}
 use Rattle.std.proofs.lemmas.List.{reverse-append}
 use Rattle.std.proofs.lemmas.List.Elements.{All-from_recursion, recursion_from_All}
 use Rattle.sqlite_keyed.proofs.ListLemmas.{all-filter, all_weaker}
@@ -18,7 +19,7 @@ use Rattle.lot_command.specs.declared.command.Command.{Command}
 use Rattle.lot_command.specs.declared.command.Command.TheVariants.{Opening, Closing, Declaring, Quoting, Transaction}
 use Rattle.lot_command.specs.declared.command.Opening.{Opening as OpeningOf}
 use Rattle.lot_command.specs.declared.key.Key.{Key}
-use Rattle.lot_book.specs.Facts.{Entry, Facts, facts_of, declares, is_declared, opening_by, opening_of, same_key, standing_by, text_under}
+use Rattle.lot_book.specs.Facts.{Entry, Facts, facts_of, opening_by, opening_of, same_key, standing_by, text_under}
 use Rattle.lot_book.specs.Recorded.{facts_in}
 use Rattle.lot_look.specs.Known.{KnowsPair, KnowsTouched}
 use Rattle.std.specs.BTreeSet.{IsFromIterResult}
@@ -33,9 +34,9 @@ use Rattle.lot_rows.specs.Entry.{entry_cells, greatest_number, is_named, named}
 use Rattle.lot_rows.specs.declared.account.AccountRow.{AccountRow}
 use Rattle.lot_rows.specs.declared.allowed.AllowedRow.{AllowedRow}
 use Rattle.lot_rows.specs.declared.entry.EntryRow.{EntryRow}
-use Rattle.lot_filed.specs.Kept.{currencies_in, currencies_of, declared_on, declaring_by}
+use Rattle.lot_filed.specs.Kept.{currencies_in, currencies_of}
 use Rattle.lot_filed.specs.Rows.{account_row, allowed_rows, entry_row, entry_rows}
-use Rattle.lot_filed.proofs.KeyLemmas.{and_true, text_tie}
+use Rattle.lot_filed.proofs.KeyLemmas.{text_tie}
 
 -- ---- options
 
@@ -87,7 +88,7 @@ named_as key number entry =
     let name = value_cmp (Text entry.key.name) (Text key.name) in
     eq_then source (ordering_then name Equal)
     ∙ ap (λ b. b && is_eq (ordering_then name Equal)) (text_tie key.source entry.key.source)
-    ∙ ap (λ b. same_text key.source entry.key.source && b) (eq_then name Equal ∙ and_true (is_eq name) ∙ text_tie key.name entry.key.name)
+    ∙ ap (λ b. same_text key.source entry.key.source && b) (eq_then name Equal ∙ and-true (is_eq name) ∙ text_tie key.name entry.key.name)
 
 -- the row of a key has the text that stands under it
 pub named_text : (number : ℕ) (entries : List Entry) (key : Key)
@@ -142,28 +143,6 @@ few_by (entry ∷ entries) account said = few_opening account entry.command (ope
 pub few_currencies : (entries : List Entry) (account : List ℕ) → All (λ (entry : Entry). IsSayable entry.command) entries
     → length (currencies_of entries account) ≤ most_currencies
 few_currencies entries account said = few_by entries account (recursion_from_All (λ (entry : Entry). IsSayable entry.command) entries said)
-
--- ---- commodities
-
-declares_as : (commodity : List ℕ) (command : Command) → is_some (declaring_by commodity command) ≡ declares commodity command
-declares_as commodity (Opening o) = refl
-declares_as commodity (Closing c) = refl
-declares_as commodity (Declaring d) =
-    elim (same_text commodity d.commodity) as (λ b. is_some (cond b (Some d.day) None) ≡ b) [ true ↦ refl | false ↦ refl ]
-declares_as commodity (Quoting q) = refl
-declares_as commodity (Transaction t) = refl
-
-some_or : {X : Type 0} (o p : Option X) → is_some (option_or o p) ≡ (is_some o || is_some p)
-some_or None p = refl
-some_or (Some x) p = refl
-
--- a commodity is declared where there is a day of its declaring
-pub declared_as : (entries : List Entry) (commodity : List ℕ) → is_some (declared_on entries commodity) ≡ is_declared entries commodity
-declared_as [] commodity = refl
-declared_as (entry ∷ entries) commodity =
-    some_or (declaring_by commodity entry.command) (declared_on entries commodity)
-    ∙ ap (λ b. b || is_some (declared_on entries commodity)) (declares_as commodity entry.command)
-    ∙ ap (λ b. declares commodity entry.command || b) (declared_as entries commodity)
 
 pub mapped_is_some : {X Y : Type 0} (f : X → Y) (o : Option X) → is_some (option_map f o) ≡ is_some o
 mapped_is_some f None = refl

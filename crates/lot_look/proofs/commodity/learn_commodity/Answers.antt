@@ -10,7 +10,8 @@ use Rattle.lot_table.specs.Rows.{has_key}
 use Rattle.lot_look.specs.Known.{KnowsDeclared, Learns}
 use Rattle.lot_look.proofs.PutLemmas.{not_declared, put_declared}
 use Rattle.lot_look.proofs.ReadLemmas.{fails_first, passes, reads_first, tells}
-use Rattle.lot_look.proofs.RowLemmas.{declared_as, good_filtered, mapped_is_some}
+use Rattle.lot_filed.proofs.KeptLemmas.{declared_as}
+use Rattle.lot_look.proofs.RowLemmas.{good_filtered, mapped_is_some}
 use Rattle.lot_view.specs.View.{known}
 use Rattle.lot_look.proofs.commodity.learn_commodity.Goals as goal
 
