@@ -29,15 +29,16 @@ fn act(rt: &HostRuntime, action: &Action) -> u8 {
         Action::Init { book } => {
             book::serve_file(rt, action, book.as_str(), &mut io::writer(rt))
         }
-        Action::Post { book, .. } | Action::Import { book, .. } => run(rt, action, book.as_str()),
+        Action::Post { book, .. } => run(rt, action, book.as_str(), "commands"),
+        Action::Import { book, .. } => run(rt, action, book.as_str(), "rows"),
         Action::Holdings { book, .. } | Action::Gains { book, .. } | Action::Journal { book } =>
             report(rt, action, book.as_str()),
     }
 }
 
-/// Runs commands on a book, and shows how far that is.
-fn run(rt: &HostRuntime, action: &Action, path: &str) -> u8 {
-    let mut output = Progress::new(rt, io::writer(rt));
+/// Runs commands on a book, and shows how far that is, in what is counted.
+fn run(rt: &HostRuntime, action: &Action, path: &str, counted: &'static str) -> u8 {
+    let mut output = Progress::new(rt, io::writer(rt), counted);
     let status = book::serve_existing(rt, action, path, &mut output);
     output.end();
     status

@@ -13,6 +13,8 @@ const PAUSE: u64 = 300;
 pub struct Progress<'a, W> {
     rt: &'a HostRuntime,
     output: W,
+    /// What a line is the reply to, in the plural.
+    counted: &'static str,
     /// How many lines were written out.
     lines: u64,
     clock: Clock,
@@ -30,11 +32,12 @@ enum Clock {
 }
 
 impl<'a, W: Write> Progress<'a, W> {
-    /// Returns a writer to that output, which counts from now on.
-    pub fn new(rt: &'a HostRuntime, output: W) -> Progress<'a, W> {
+    /// Returns a writer to that output, which counts from now on, in replies to what is named, in the plural.
+    pub fn new(rt: &'a HostRuntime, output: W, counted: &'static str) -> Progress<'a, W> {
         Progress {
             rt,
             output,
+            counted,
             lines: 0,
             clock: unbegun(rt),
         }
@@ -74,8 +77,8 @@ impl<'a, W: Write> Progress<'a, W> {
         if passed.saturating_sub(shown) < Duration::from_millis(PAUSE) {
             return;
         }
-        let (lines, rate) = (self.lines, rate(self.lines, passed));
-        let _ = eprint!(self.rt; "\r{lines} commands, {rate} a second");
+        let (lines, rate, counted) = (self.lines, rate(self.lines, passed), self.counted);
+        let _ = eprint!(self.rt; "\r{lines} {counted}, {rate} a second");
         self.clock = Clock::Running {
             begun,
             shown: passed,
