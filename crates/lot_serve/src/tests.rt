@@ -1,12 +1,10 @@
-//! Stops: the log, or the database's file, fails at each of its calls while a book is made and a small ledger is posted. And a
-//! walk over damaged rows: what it returns after its fault.
+//! Stops: the log, or the database's file, fails at each of its calls while a book is made and a small ledger is posted.
 
 use crate::{Served, serve};
-use lot_store::{StoreFault, WalkFault, adopt};
 use lot_words::{Action, Batch, Start};
 use sqlite::{Connection, FileStore, Files, Options};
 use sqlite_disk::{Crash, Fuse, Memory};
-use std::alloc::{AllocError, Global};
+use std::alloc::Global;
 use std::test::Fail;
 
 type Disk = Fuse<Memory>;
@@ -113,21 +111,16 @@ fn resent(alloc: Global, post: &Action, left: Files<Disk>) -> Vec<u8> {
     }
 }
 
-/// The action that posts the ledger.
-fn posting(alloc: Global) -> Result<Action, Fail> {
-    let Ok(batch) = Batch::new(alloc, "a") else {
-        return Err(Fail::from(AllocError));
-    };
-    Ok(Action::Post {
-        book: String::new(alloc),
-        batch,
-        from: Start::at_first(),
-    })
-}
-
 #[test]
 fn a_stop_at_each_call(rt: HostRuntime) -> Result<(), Fail> {
-    let post = posting(rt.alloc())?;
+    let Ok(batch) = Batch::new(rt.alloc(), "a") else {
+        return Err(Fail::from(std::alloc::AllocError));
+    };
+    let post = Action::Post {
+        book: String::new(rt.alloc()),
+        batch,
+        from: Start::at_first(),
+    };
     for side in [Side::Log, Side::Database] {
         for calls in 0..CALLS {
             let (is_made, accepted, left) = stopped(rt.alloc(), &post, side, calls)?;
@@ -146,26 +139,5 @@ fn a_stop_at_each_call(rt: HostRuntime) -> Result<(), Fail> {
         assert!(rt; is_made);
         assert_eq!(rt; accepted, COMMANDS);
     }
-    Ok(())
-}
-
-#[test]
-fn a_walk_stays_at_its_fault(rt: HostRuntime) -> Result<(), Fail> {
-    let post = posting(rt.alloc())?;
-    let (_, _, left) = stopped(rt.alloc(), &post, Side::Log, u64::MAX)?;
-    let Ok(mut conn) = open(rt.alloc(), left) else {
-        return Err(Fail::from(AllocError));
-    };
-    let damaged = conn.execute("UPDATE entry SET body = 'none' WHERE number = 1", &[]);
-    assert!(rt; matches!(damaged, Ok(1)));
-    conn.set_step_limit(None);
-    let Ok(mut book) = adopt(rt.alloc(), conn) else {
-        return Err(Fail::from(AllocError));
-    };
-    let mut journal = book.journal();
-    assert!(rt; matches!(journal.next(), Ok(Some(_))));
-    assert!(rt; matches!(journal.next(), Err(WalkFault::Failed(StoreFault::Damaged))));
-    assert!(rt; matches!(journal.next(), Err(WalkFault::Ended)));
-    assert!(rt; matches!(journal.next(), Err(WalkFault::Ended)));
     Ok(())
 }
