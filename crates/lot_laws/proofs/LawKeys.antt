@@ -78,7 +78,7 @@ pub only_repeats : (book : List Entry) (key : Key) (command : Command) (outcome 
 only_repeats book key command outcome e step =
     subst (λ (text : Option (List ℕ)). DecidesBy text (facts_of book key) command outcome) e step ∙ repeats_text (canonical command)
 
-still_stands : (book : List Entry) (key : Key) (text : List ℕ) (other : Key) (command : Command) (outcome : Outcome) → text_under book key ≡ Some text
+pub still_stands : (book : List Entry) (key : Key) (text : List ℕ) (other : Key) (command : Command) (outcome : Outcome) → text_under book key ≡ Some text
     → text_under (after book other command outcome) key ≡ Some text
 still_stands book key text other command (Accept legs) e = one_more book (entry_of other command legs) key text e
 still_stands book key text other command Repeat e = e

@@ -13,6 +13,7 @@ pub mod LawUnits
 pub mod LawSigns
 pub mod LawOneSign
 pub mod LawKeys
+pub mod KeyLaws
 pub mod LawCosts
 pub mod LawSales
 pub mod LawLeft

@@ -10,12 +10,14 @@ ghost use Rattle.lot_inv.specs.declared.lot_key.LotKey.{LotKey};
 ghost use Rattle.lot_inv.specs.Inventory.{lots_of, sum, units_at};
 ghost use Rattle.lot_book.specs.declared.leg.Leg.{Leg};
 ghost use Rattle.lot_book.specs.declared.leg.Position.{Position};
+ghost use Rattle.lot_book.specs.declared.refusal.Refusal.TheVariants.{KeyReused};
 ghost use Rattle.lot_book.specs.declared.verdict.Verdict.{Verdict};
+ghost use Rattle.lot_book.specs.declared.verdict.Verdict.TheVariants.{Accepted, Refused, Repeated};
 ghost use Rattle.lot_book.specs.Book.{IsBook, after, entry_of};
 ghost use Rattle.lot_book.specs.Booking.{Booked, IsBooked, Line, method_of};
 ghost use Rattle.lot_book.specs.Currencies.{sum_in};
 ghost use Rattle.lot_book.specs.Facts.{Entry, facts_of, legs_of, standing_of, text_under};
-ghost use Rattle.lot_book.specs.Judged.{JudgesAll as JudgesNumbered};
+ghost use Rattle.lot_book.specs.Judged.{Judges, JudgesAll as JudgesNumbered};
 ghost use Rattle.lot_laws.specs.Laws.{BooksEntries, HaveOneKeyEach, HaveOneSign, IsBalanced, JudgesAll};
 ghost use Rattle.lot_laws.specs.Laws.{bought, bought_into, cost_in, lot_at, sold, sold_of, weights_at_cost};
 ghost use Rattle.lot_book.specs.Leg.{inventory_of, legs_at_lots, sum_at};
@@ -72,6 +74,23 @@ pub fn an_equal_command_may_be_taken_out()
     ensures put_in { (book result : List Entry) (key : Key) (command : Command) (first more : List (Key × Command))
         → text_under book key ≡ Some (canonical command)
         → JudgesAll book (first ++ more) result → JudgesAll book (first ++ (key, command) ∷ more) result }
+{}
+
+/// A key acts once. The text of an accepted command stands under its key, and it remains there whatever is judged later. A
+/// command under a key that stands is a repeat where its text is the one that stands there, and is refused where it is
+/// another one; both leave the book as it was.
+pub fn a_key_acts_once()
+    ensures stands { (before after : List Entry) (key : Key) (command : Command)
+        → Judges before key command Accepted after → text_under after key ≡ Some (canonical command) }
+    ensures remains { (before after : List Entry) (key other : Key) (text : List ℕ) (command : Command) (verdict : Verdict)
+        → text_under before key ≡ Some text → Judges before other command verdict after
+        → text_under after key ≡ Some text }
+    ensures repeats { (before after : List Entry) (key : Key) (command : Command) (verdict : Verdict)
+        → text_under before key ≡ Some (canonical command) → Judges before key command verdict after
+        → (verdict ≡ Repeated) × (after ≡ before) }
+    ensures refused { (before after : List Entry) (key : Key) (command : Command) (text : List ℕ) (verdict : Verdict)
+        → text_under before key ≡ Some text → text ≢ canonical command → Judges before key command verdict after
+        → (verdict ≡ Refused KeyReused) × (after ≡ before) }
 {}
 
 /// In every book the cost of the lots of a commodity that an account holds, in each currency, is what the postings with

@@ -1,10 +1,11 @@
 -- A run on a database that was only looked at before is a run on the database as it was.
-use Rattle.std.proofs.Common.{◌≡◌, ◌≢◌, inl, inr, ℕ, List, [], ◌∷◌, Ok, Err, Option, arith}
+use Rattle.std.proofs.Common.{◌≡◌, ◌≢◌, inl, inr, ℕ, List, [], ◌∷◌, ◌++◌, Ok, Err, Option, Result, arith}
 use Rattle.sqlite.proofs.StateLemmas.{survives_then}
 use Rattle.sqlite.specs.State.{HasCleanDisk, IsUnchanged, State, Survives}
 use Rattle.sqlite.specs.Tree.{Trees}
 use Rattle.lot_book.specs.Facts.{Entry}
 use Rattle.lot_book.specs.declared.verdict.Verdict.{Verdict}
+use Rattle.lot_book.specs.declared.verdict.Verdict.TheVariants.{Accepted, Refused, Repeated}
 use Rattle.lot_command.specs.declared.command.Command.{Command}
 use Rattle.lot_command.specs.declared.key.Key.{Key}
 use Rattle.lot_cli.specs.Status.{code_of}
@@ -15,10 +16,16 @@ use Rattle.lot_serve.specs.Says.{Halts}
 use Rattle.lot_serve.specs.declared.halt.Halt.TheVariants as halt
 use Rattle.lot_store.proofs.ApplyLemmas.{stands_along}
 use Rattle.lot_store.specs.Create.{IsHandedBack, Tells, TellsOf}
-use Rattle.lot_store.specs.Run.{LeavesAfter, Runs}
+use Rattle.lot_store.specs.Run.{LeavesAfter, LeavesAtAnswer, LeavesAtFault, LeavesAtVerdict, Runs, RunsBook}
 use Rattle.lot_store.specs.Session.{LeavesFirst, LeavesJudged, LeavesNext}
+use Rattle.lot_store.specs.declared.book.Ack.{Ack}
+use Rattle.lot_store.specs.declared.book.Ack.TheVariants as ack
+use Rattle.lot_store.specs.declared.book.Condition.{Condition}
 use Rattle.lot_store.specs.declared.fault.AdoptFault.{AdoptFault}
 use Rattle.lot_store.specs.declared.fault.AdoptFault.TheVariants as adopt
+use Rattle.lot_store.specs.declared.fault.ApplyFault.{ApplyFault}
+use Rattle.lot_store.specs.declared.fault.ApplyFault.TheVariants as apply
+use Rattle.lot_store.specs.declared.fault.StoreFault.{StoreFault}
 use Rattle.lot_store.specs.declared.fault.StoreFault.TheVariants.{Damaged, Device, InDoubt, Memory, NeedsReopen}
 use Rattle.lot_store.specs.declared.run.Ending.{Ending}
 use Rattle.lot_store.specs.declared.run.Ending.TheVariants.{Complete, Output, Stopped}
@@ -36,19 +43,35 @@ module _ (old mid new : State) (verdicts : List Verdict) (book : List Entry) (ma
   next (command ∷ left) trees (inl leaves) = inl (judged trees leaves)
   next (command ∷ left) trees (inr entry) = inr entry
 
-  leaves_after : (left : List (Key × Command)) (ending : Ending) → LeavesAfter verdicts book left mid new ending → LeavesAfter verdicts book left old new ending
-  leaves_after left Complete (all, stands, leaves) = (all, stands, λ trees left_so. judged trees (leaves trees left_so))
-  leaves_after left (Stopped Device) (stands, leaves) = (stands, λ trees left_so. judged trees (leaves trees left_so))
-  leaves_after left (Stopped NeedsReopen) (none, stands, leaves) = (none, stands, λ trees left_so. judged trees (leaves trees left_so))
-  leaves_after left (Stopped Damaged) none = absurd none
-  leaves_after left (Stopped InDoubt) (stands, leaves) = (stands, λ trees left_so. next left trees (leaves trees left_so))
-  leaves_after left (Stopped Memory) (stands, leaves) = (stands, λ trees left_so. next left trees (leaves trees left_so))
-  leaves_after left Output (stands, leaves) = (stands, λ trees left_so. next left trees (leaves trees left_so))
+  at_fault : (left : List (Key × Command)) (fault : StoreFault) → LeavesAtFault fault verdicts book left mid new → LeavesAtFault fault verdicts book left old new
+  at_fault left Device (stands, leaves) = (stands, λ trees left_so. judged trees (leaves trees left_so))
+  at_fault left NeedsReopen (none, stands, leaves) = (none, stands, λ trees left_so. judged trees (leaves trees left_so))
+  at_fault left Damaged none = absurd none
+  at_fault left InDoubt (stands, leaves) = (stands, λ trees left_so. next left trees (leaves trees left_so))
+  at_fault left Memory (stands, leaves) = (stands, λ trees left_so. next left trees (leaves trees left_so))
 
-pub runs_after_look : (commands : List (Key × Command)) (from : ℕ) (old mid new : State) (before written : Option (List ℕ)) (end : RunEnd)
-    → (HasCleanDisk mid → IsUnchanged old mid) → Survives old mid (λ _. ⊥) → Runs commands from mid new before written end
-    → Runs commands from old new before written end
-runs_after_look commands from old mid new before written end same look ran = record {
+module _ (old mid new : State) (verdicts : List Verdict) (book : List Entry) (may : (trees : Trees) → mid.may_leave trees → old.may_leave trees) where
+  at_verdict : (left : List (Key × Command)) (verdict : Verdict) → LeavesAtVerdict verdict verdicts book left mid new → LeavesAtVerdict verdict verdicts book left old new
+  at_verdict [] verdict none = absurd none
+  at_verdict (command ∷ left) verdict (after, judges, stands, leaves) =
+      (after, judges, stands, λ trees left_so. judged old mid new (verdicts ++ verdict ∷ []) after may trees (leaves trees left_so))
+
+  at_answer : (left : List (Key × Command)) (answer : Result Ack ApplyFault) → LeavesAtAnswer answer verdicts book left mid new → LeavesAtAnswer answer verdicts book left old new
+  at_answer left (Ok ack.Accepted) leaves = at_verdict left Accepted leaves
+  at_answer left (Ok ack.Repeat) leaves = at_verdict left Repeated leaves
+  at_answer left (Err (apply.Refused refusal)) leaves = at_verdict left (Refused refusal) leaves
+  at_answer left (Err (apply.Failed fault)) leaves = at_fault old mid new verdicts book may left fault leaves
+
+  leaves_after : (left : List (Key × Command)) (answer : Result Ack ApplyFault) (ending : Ending) → LeavesAfter verdicts book left mid new answer ending
+      → LeavesAfter verdicts book left old new answer ending
+  leaves_after left answer Complete (all, stands, leaves) = (all, stands, λ trees left_so. judged old mid new verdicts book may trees (leaves trees left_so))
+  leaves_after left answer (Stopped fault) leaves = at_fault old mid new verdicts book may left fault leaves
+  leaves_after left answer Output leaves = at_answer left answer leaves
+
+pub runs_after_look : (commands : List (Key × Command)) (from : ℕ) (old mid new : State) (before written : Option (List ℕ)) (answer : Result Ack ApplyFault) (end : RunEnd)
+    → (HasCleanDisk mid → IsUnchanged old mid) → Survives old mid (λ _. ⊥) → Runs commands from mid new before written answer end
+    → Runs commands from old new before written answer end
+runs_after_look commands from old mid new before written answer end same look ran = record {
   verdicts = ran.verdicts;
   writes = ran.writes;
   session = λ clean entries stands.
@@ -57,7 +80,7 @@ runs_after_look commands from old mid new before written end same look ran = rec
         on.0,
         on.1,
         on.2,
-        leaves_after old mid new ran.verdicts on.0 (λ trees may. elim (look.crash calm trees may) [ inl earlier ↦ earlier | inr none ↦ absurd none ]) on.1 end.ending on.3,
+        leaves_after old mid new ran.verdicts on.0 (λ trees may. elim (look.crash calm trees may) [ inl earlier ↦ earlier | inr none ↦ absurd none ]) on.1 answer end.ending on.3,
       );
   crash = survives_then old mid new (λ _. ⊥) (λ trees. (entries : List Entry) → Stands mid entries → LeavesFirst entries commands trees)
       (λ trees. (entries : List Entry) → Stands old entries → LeavesFirst entries commands trees) (λ clean trees none. absurd none)
@@ -67,11 +90,11 @@ runs_after_look commands from old mid new before written end same look ran = rec
 }
 
 -- commands are run on the book that was taken up
-pub runs_on : (commands : List (Key × Command)) (from : ℕ) (old mid new : State) (before written : Option (List ℕ)) (end : RunEnd) (status : ℕ)
+pub runs_on : (commands : List (Key × Command)) (from : ℕ) (old mid new : State) (before written : Option (List ℕ)) (condition : Condition) (end : RunEnd) (status : ℕ)
     → (HasCleanDisk mid → (tables : Tables) → Has old tables → Tells tables.book (Ok tt)) → (HasCleanDisk mid → IsUnchanged old mid) → Survives old mid (λ _. ⊥)
-    → Runs commands from mid new before written end → status ≡ code_of (status_of_run end) → RunsOn commands from old new before written status
-runs_on commands from old mid new before written end status found same look ran is =
-    inl (end, (λ clean. found (omega (arith, clean, ran.crash.clean))), runs_after_look commands from old mid new before written end same look ran, is)
+    → RunsBook commands from mid new before written condition end → status ≡ code_of (status_of_run end) → RunsOn commands from old new before written status
+runs_on commands from old mid new before written condition end status found same look (answer, ran, known) is =
+    inl (answer, end, (λ clean. found (omega (arith, clean, ran.crash.clean))), runs_after_look commands from old mid new before written answer end same look ran, is)
 
 -- the book isn't taken up
 pub left_alone : (commands : List (Key × Command)) (from : ℕ) (old new : State) (before written : Option (List ℕ)) (fault : AdoptFault) (status : ℕ)

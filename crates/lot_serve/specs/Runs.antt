@@ -1,5 +1,5 @@
 -- What is run of an input on the book that is there (docs/RULES.md, The program).
-use Rattle.std.specs.Prelude.{◌≡◌, ◌≢◌, ◌⊎◌, ℕ, zero, suc, List, Option, Err, Ok}
+use Rattle.std.specs.Prelude.{◌≡◌, ◌≢◌, ◌⊎◌, ℕ, zero, suc, List, Option, Result, Err, Ok}
 use Rattle.sqlite.specs.State.{HasCleanDisk, State, Survives}
 use Rattle.lot_cli.specs.Status.{code_of}
 use Rattle.lot_cli.specs.declared.batch.status.Status.{Status}
@@ -13,8 +13,10 @@ use Rattle.lot_serve.specs.declared.fault.InputFault.{InputFault}
 use Rattle.lot_serve.specs.declared.halt.Halt.TheVariants as halt
 use Rattle.lot_store.specs.Create.{IsHandedBack, Tells, TellsOf}
 use Rattle.lot_store.specs.Run.{Runs}
+use Rattle.lot_store.specs.declared.book.Ack.{Ack}
 use Rattle.lot_store.specs.declared.fault.AdoptFault.{AdoptFault}
 use Rattle.lot_store.specs.declared.fault.AdoptFault.TheVariants as adopt
+use Rattle.lot_store.specs.declared.fault.ApplyFault.{ApplyFault}
 use Rattle.lot_store.specs.declared.run.Ending.{Ending}
 use Rattle.lot_store.specs.declared.run.Ending.TheVariants as ending
 use Rattle.lot_store.specs.declared.run.RunEnd.{RunEnd}
@@ -54,10 +56,12 @@ status_ending ending.Output refused = Stopped
 abbrev pub status_of_run : RunEnd → Status
 status_of_run end = status_ending end.ending end.refused
 
--- commands, of which the first has that number, are run on the book that is there; or it isn't taken up
+-- Commands, of which the first has that number, are run on the book that is there; or it isn't taken up. The answer is that to
+-- the command at which the writer failed.
 abbrev pub RunsOn : List (Key × Command) → ℕ → State → State → Option (List ℕ) → Option (List ℕ) → ℕ → Type 0
 RunsOn commands from old new before written status =
-    ((end : RunEnd) × IsTaken old new × Runs commands from old new before written end × (status ≡ code_of (status_of_run end)))
+    ((answer : Result Ack ApplyFault) × (end : RunEnd) × IsTaken old new × Runs commands from old new before written answer end
+    × (status ≡ code_of (status_of_run end)))
     ⊎ ((fault : AdoptFault) × IsLeft old new fault × Halts (halt.Adopt fault) before written status)
 
 -- ---- an input

@@ -21,7 +21,7 @@ use Rattle.lot_report.specs.declared.line.PrintFault.TheVariants.{Write, Memory 
 use Rattle.lot_rows.specs.Tables.{layout}
 use Rattle.lot_table.specs.Book.{Holds}
 use Rattle.lot_store.specs.Apply.{AppliesWith, MayAdd, StandsWith, condition_after, ready_of, verdict_of}
-use Rattle.lot_store.specs.Run.{AppendsSome, FlushesLine, IsConditionAfter, LeavesAfter, RepliesTo, Runs, StandsNext, StopsWith, WritesOut, answer_line, count_refused, fault_line, told}
+use Rattle.lot_store.specs.Run.{AppendsSome, FlushesLine, LeavesAtAnswer, LeavesAtFault, LeavesAtVerdict, RepliesTo, RunsBook, StopsWith, WritesOut, answer_line, count_refused, fault_line, told}
 use Rattle.lot_store.specs.Session.{JudgesKeyed, LeavesEntry, LeavesFirst, LeavesJudged, LeavesNext, Session}
 use Rattle.lot_store.specs.declared.book.Ack.{Ack}
 use Rattle.lot_store.specs.declared.book.Ack.TheVariants as ack
@@ -59,23 +59,23 @@ told_fault (Ok ack.Repeat) fault is = absurd cc
 told_fault (Err (apply.Refused refusal)) fault is = absurd cc
 told_fault (Err (apply.Failed other)) fault is = let same : other ≡ fault = cc in ap (λ (f : StoreFault). Err (apply.Failed f)) same
 
-module _ (Kept KeptThen : List Entry → Type 0) (key : Key) (command : Command) (number : ℕ) (old new : State) (before written : Option (List ℕ)) (answer : Result Ack ApplyFault)
-    (applies : AppliesWith Kept KeptThen key command old new answer) (ending : Ending) where
+told_usable : (answer : Result Ack ApplyFault) (verdict : Verdict) → told answer ≡ Ok verdict → answer ≢ Err (apply.Failed NeedsReopen)
+told_usable answer verdict is spent = let none : Err NeedsReopen ≡ Ok verdict = sym (ap told spent) ∙ is in absurd cc
+
+module _ (Kept KeptThen : List Entry → Type 0) (key : Key) (command : Command) (number : ℕ) (old new : State) (before written : Option (List ℕ)) (condition : Condition)
+    (answer : Result Ack ApplyFault) (applies : AppliesWith Kept KeptThen key command old new answer) (after : condition ≡ condition_after answer) (ending : Ending) where
   -- the reply isn't written out
-  pub reply_cut : (verdict : Verdict) → told answer ≡ Ok verdict → WritesOut before written (reply number verdict) (Err ending) → RepliesTo Kept KeptThen key command number old new before written (Err ending)
-  reply_cut verdict is (cut, part) = (answer, applies, inl (cut, subst (AppendsSome before written) (sym (told_line number answer verdict is)) part))
+  pub reply_cut : (verdict : Verdict) → told answer ≡ Ok verdict → WritesOut before written (reply number verdict) (Err ending)
+      → RepliesTo Kept KeptThen key command number old new before written condition (Err ending)
+  reply_cut verdict is (cut, part) =
+      (answer, applies, told_usable answer verdict is, after, inr (cut, subst (AppendsSome before written) (sym (told_line number answer verdict is)) part))
 
   -- it stops at a fault
   pub reply_stops : (fault : StoreFault) → told answer ≡ Err fault → (answer ≢ Err (apply.Failed NeedsReopen)) → StopsWith number fault before written ending
-      → RepliesTo Kept KeptThen key command number old new before written (Err ending)
-  reply_stops fault is usable (inl (stopped, printed)) =
-      let same = told_fault answer fault is in (
-        answer,
-        applies,
-        inr (fault, same, λ spent. usable (same ∙ ap (λ (f : StoreFault). Err (apply.Failed f)) spent), stopped, printed),
-      )
+      → RepliesTo Kept KeptThen key command number old new before written condition (Err ending)
+  reply_stops fault is usable (inl (stopped, printed)) = (answer, applies, usable, after, inl (fault, told_fault answer fault is, stopped, printed))
   reply_stops fault is usable (inr (cut, part)) =
-      (answer, applies, inl (cut, subst (λ (a : Result Ack ApplyFault). AppendsSome before written (answer_line number a)) (sym (told_fault answer fault is)) part))
+      (answer, applies, usable, after, inr (cut, subst (λ (a : Result Ack ApplyFault). AppendsSome before written (answer_line number a)) (sym (told_fault answer fault is)) part))
 
 pub ready_fault : (condition : Condition) (fault : StoreFault) → ready_of condition ≡ Err fault → fault ≡ NeedsReopen
 ready_fault Ready fault is = absurd cc
@@ -89,34 +89,15 @@ pub ready_ok : {x : Unit {0}} (condition : Condition) → ready_of condition ≡
 ready_ok Ready is = refl
 ready_ok Spent is = absurd cc
 
--- ---- the condition of the book
-
-pub condition_cut : (ending : Ending) (condition : Condition) → ending ≡ Output → IsConditionAfter ending condition
-condition_cut ending condition is = subst (λ (e : Ending). IsConditionAfter e condition) (sym is) tt
-
--- a run stops at a fault after which that is the condition
-condition_stopped : (number : ℕ) (fault : StoreFault) (before written : Option (List ℕ)) (ending : Ending) (condition : Condition) → condition ≡ condition_after (Err (apply.Failed fault))
-    → StopsWith number fault before written ending → IsConditionAfter ending condition
-condition_stopped number fault before written ending condition is (inl (stopped, printed)) = subst (λ (e : Ending). IsConditionAfter e condition) (sym stopped) is
-condition_stopped number fault before written ending condition is (inr (cut, part)) = condition_cut ending condition cut
-
-pub condition_stops : (answer : Result Ack ApplyFault) (fault : StoreFault) (number : ℕ) (before written : Option (List ℕ)) (ending : Ending) (condition : Condition) → told answer ≡ Err fault
-    → condition ≡ condition_after answer → StopsWith number fault before written ending → IsConditionAfter ending condition
-condition_stops answer fault number before written ending condition is after =
-    condition_stopped number fault before written ending condition (after ∙ ap condition_after (told_fault answer fault is))
-
-pub condition_spent : (number : ℕ) (before written : Option (List ℕ)) (ending : Ending) (condition : Condition) → condition ≡ Spent → StopsWith number NeedsReopen before written ending
-    → IsConditionAfter ending condition
-condition_spent number before written ending condition = condition_stopped number NeedsReopen before written ending condition
-
--- a book that could be used doesn't stop for want of reopening
-pub reply_usable : (Kept KeptThen : List Entry → Type 0) (key : Key) (command : Command) (number : ℕ) (old new : State) (before written : Option (List ℕ)) (ending : Ending)
-    → RepliesTo Kept KeptThen key command number old new before written (Err ending) → ending ≢ Stopped NeedsReopen
-reply_usable Kept KeptThen key command number old new before written ending (answer, applies, inl (cut, part)) is = let both : Output ≡ Stopped NeedsReopen = sym cut ∙ is in absurd cc
-reply_usable Kept KeptThen key command number old new before written ending (answer, applies, inr (fault, same, usable, stopped, printed)) is =
+-- a book that could be used doesn't stop since it needs reopening
+pub reply_usable : (Kept KeptThen : List Entry → Type 0) (key : Key) (command : Command) (number : ℕ) (old new : State) (before written : Option (List ℕ)) (condition : Condition) (ending : Ending)
+    → RepliesTo Kept KeptThen key command number old new before written condition (Err ending) → ending ≢ Stopped NeedsReopen
+reply_usable Kept KeptThen key command number old new before written condition ending (answer, applies, usable, after, inl (fault, same, stopped, printed)) is =
     let both : Stopped fault ≡ Stopped NeedsReopen = sym stopped ∙ is in
     let equal : fault ≡ NeedsReopen = cc in
-    usable equal
+    usable (same ∙ ap (λ (f : StoreFault). Err (apply.Failed f)) equal)
+reply_usable Kept KeptThen key command number old new before written condition ending (answer, applies, usable, after, inr (cut, part)) is =
+    let both : Output ≡ Stopped NeedsReopen = sym cut ∙ is in absurd cc
 
 -- ---- one command more
 
@@ -235,10 +216,20 @@ module _ (Kept KeptThen : List Entry → Type 0) (commands : List (Key × Comman
         more.2,
       )) so.crash applies.crash
 
-  pub so_far_next : (verdict : Verdict) → RepliesTo Kept KeptThen next.0 next.1 number now new mid written (Ok verdict)
+  -- the next command is judged, and the book after it is what stands, and what a crash leaves
+  judges_next : (answer : Result Ack ApplyFault) (verdict : Verdict) → told answer ≡ Ok verdict → AppliesWith Kept KeptThen next.0 next.1 now new answer
+      → (IsTrue new.is_open → (trees : Trees) → new.may_leave trees → trees ≡ new.committed.trees) → HasCleanDisk new → (book : List Entry) → StandsWith Kept now book
+      → (after : List Entry) × Judges book next.0 next.1 verdict after × StandsWith KeptThen new after × ((trees : Trees) → new.may_leave trees → Left trees after)
+  judges_next answer verdict is applies safe clean book there =
+      let told_so = verdict_told answer verdict is in
+      let one = subst (λ o. IfSome o (λ v. (after : List Entry) × Judges book next.0 next.1 v after × StandsWith KeptThen new after)) told_so (applies.judged clean book there) in
+      let set = subst (λ o. IfSome o (λ v. IsTrue new.is_open × (new.committed ≡ new.now))) told_so (applies.settled clean) in
+      (one.0, one.1, one.2, λ trees may. left_of new one.0 trees one.2.0 set.1 (safe set.0 trees may))
+
+  pub so_far_next : (verdict : Verdict) (condition : Condition) → RepliesTo Kept KeptThen next.0 next.1 number now new mid written condition (Ok verdict)
       → (IsTrue new.is_open → (trees : Trees) → new.may_leave trees → trees ≡ new.committed.trees)
       → SoFar KeptThen commands from (index + 1) (refused + count_refused (verdict ∷ [])) old new before written
-  so_far_next verdict (answer, applies, is, printed) safe = record {
+  so_far_next verdict condition (answer, applies, is, printed) safe = record {
     verdicts = so.verdicts ++ verdict ∷ [];
     counted = ap (λ n. n + 1) so.counted ∙ sym (length-append so.verdicts (verdict ∷ []));
     refusals = ap (λ n. n + count_refused (verdict ∷ [])) so.refusals ∙ sym (refused_more so.verdicts verdict);
@@ -246,13 +237,11 @@ module _ (Kept KeptThen : List Entry → Type 0) (commands : List (Key × Comman
         (Appends-trans before mid written _ _ so.lines printed);
     judged = λ clean entries stands.
         let was = so.judged (omega (arith, clean, applies.crash.clean)) entries stands in
-        let told_so = verdict_told answer verdict is in
-        let one = subst (λ o. IfSome o (λ v. (after : List Entry) × Judges was.0 next.0 next.1 v after × StandsWith KeptThen new after)) told_so (applies.judged clean was.0 was.2) in
-        let set = subst (λ o. IfSome o (λ v. IsTrue new.is_open × (new.committed ≡ new.now))) told_so (applies.settled clean) in (
+        let one = judges_next answer verdict is applies safe clean was.0 was.2 in (
           one.0,
           subst (λ done. JudgesKeyed entries done (so.verdicts ++ verdict ∷ []) one.0) (sym taken) (judges_more entries (take index commands) so.verdicts was.0 one.0 next verdict was.1 one.1),
           one.2,
-          λ trees may. inl (left_of new one.0 trees one.2.0 set.1 (safe set.0 trees may)),
+          λ trees may. inl (one.3 trees may),
         );
     crash = first answer applies;
   }
@@ -277,71 +266,89 @@ module _ (Kept KeptThen : List Entry → Type 0) (commands : List (Key × Comman
     | inr add ↦ inr (adds (StandsWith Kept now) next.0 next.1 answer trees book there add)
   ]
 
-  -- the tables after an answer
-  stands_after : (answer : Result Ack ApplyFault) → AppliesWith Kept KeptThen next.0 next.1 now new answer → HasCleanDisk new → (book : List Entry) → StandsWith Kept now book
-      → IsTrue new.is_open → Stands new book ⊎ StandsNext book (next ∷ drop (index + 1) commands) new
-  stands_after (Ok ack.Accepted) applies clean book there opened = let it = applies.judged clean book there in inr (Accepted, it.0, it.1, it.2.0)
-  stands_after (Ok ack.Repeat) applies clean book there opened = let it = applies.judged clean book there in inr (Repeated, it.0, it.1, it.2.0)
-  stands_after (Err (apply.Refused refusal)) applies clean book there opened = let it = applies.judged clean book there in inr (Refused refusal, it.0, it.1, it.2.0)
-  stands_after (Err (apply.Failed fault)) applies clean book there opened = inl (stands_along now new book ((applies.rest clean).1 opened) there.0)
-
-  after_fault : (fault : StoreFault) → fault ≢ NeedsReopen → AppliesWith Kept KeptThen next.0 next.1 now new (Err (apply.Failed fault)) → HasCleanDisk new → (book : List Entry) → StandsWith Kept now book
-      → ((trees : Trees) → now.may_leave trees → LeavesJudged old.may_leave so.verdicts book trees)
-      → LeavesAfter so.verdicts book (next ∷ drop (index + 1) commands) old new (Stopped fault)
-  after_fault Device usable applies clean book there was = (
+  -- what stands after a fault of the command
+  at_fault : (fault : StoreFault) → AppliesWith Kept KeptThen next.0 next.1 now new (Err (apply.Failed fault)) → fault ≢ NeedsReopen → HasCleanDisk new
+      → (book : List Entry) → StandsWith Kept now book → ((trees : Trees) → now.may_leave trees → LeavesJudged old.may_leave so.verdicts book trees)
+      → LeavesAtFault fault so.verdicts book (next ∷ drop (index + 1) commands) old new
+  at_fault Device applies usable clean book there was = (
     λ opened. stands_along now new book ((applies.rest clean).1 opened) there.0,
     kept_only (Err (apply.Failed Device)) applies (λ trees none. none) clean old.may_leave book was,
   )
-  after_fault InDoubt usable applies clean book there was = (
+  at_fault InDoubt applies usable clean book there was = (
     λ opened. stands_along now new book ((applies.rest clean).1 opened) there.0,
     leaves_next (Err (apply.Failed InDoubt)) applies clean old.may_leave book there was,
   )
-  after_fault Memory usable applies clean book there was = (
+  at_fault Memory applies usable clean book there was = (
     λ opened. stands_along now new book ((applies.rest clean).1 opened) there.0,
     leaves_next (Err (apply.Failed Memory)) applies clean old.may_leave book there was,
   )
-  after_fault NeedsReopen usable applies clean book there was = absurd (usable refl)
-  after_fault Damaged usable applies clean book there was = applies.damaged clean refl book there
+  at_fault NeedsReopen applies usable clean book there was = absurd (usable refl)
+  at_fault Damaged applies usable clean book there was = applies.damaged clean refl book there
 
-  pub run_ends : (ending : Ending) → RepliesTo Kept KeptThen next.0 next.1 number now new mid written (Err ending)
-      → Runs commands from old new before written (record { replied = index; refused = refused; ending = ending })
-  run_ends ending (answer, applies, inl (cut, part)) = record {
-    verdicts = so.verdicts;
-    writes = record {
-      replied = so.counted;
-      refused = so.refusals;
-      lines = rw cut (
-        answer,
-        part.0,
-        subst (λ n. IsPrefixOf part.0 (answer_line n answer)) count part.1,
-        Appends-trans before mid written _ _ so.lines part.2,
-      );
-    };
-    session = λ clean entries stands.
-        let was = so.judged (omega (arith, clean, applies.crash.clean)) entries stands in (
-          was.0,
-          next ∷ drop (index + 1) commands,
-          session entries was.0 was.1,
-          rw cut (stands_after answer applies clean was.0 was.2, leaves_next answer applies clean old.may_leave was.0 was.2 was.3),
+  -- what stands after a verdict on it, whose reply isn't written out
+  at_verdict : (answer : Result Ack ApplyFault) (verdict : Verdict) → told answer ≡ Ok verdict → AppliesWith Kept KeptThen next.0 next.1 now new answer
+      → (IsTrue new.is_open → (trees : Trees) → new.may_leave trees → trees ≡ new.committed.trees) → HasCleanDisk new → (book : List Entry) → StandsWith Kept now book
+      → LeavesAtVerdict verdict so.verdicts book (next ∷ drop (index + 1) commands) old new
+  at_verdict answer verdict is applies safe clean book there =
+      let one = judges_next answer verdict is applies safe clean book there in (one.0, one.1, one.2.0, λ trees may. inl (one.3 trees may))
+
+  at_answer : (answer : Result Ack ApplyFault) → AppliesWith Kept KeptThen next.0 next.1 now new answer → answer ≢ Err (apply.Failed NeedsReopen)
+      → (IsTrue new.is_open → (trees : Trees) → new.may_leave trees → trees ≡ new.committed.trees) → HasCleanDisk new → (book : List Entry) → StandsWith Kept now book
+      → ((trees : Trees) → now.may_leave trees → LeavesJudged old.may_leave so.verdicts book trees)
+      → LeavesAtAnswer answer so.verdicts book (next ∷ drop (index + 1) commands) old new
+  at_answer (Ok ack.Accepted) applies usable safe clean book there was = at_verdict (Ok ack.Accepted) Accepted refl applies safe clean book there
+  at_answer (Ok ack.Repeat) applies usable safe clean book there was = at_verdict (Ok ack.Repeat) Repeated refl applies safe clean book there
+  at_answer (Err (apply.Refused refusal)) applies usable safe clean book there was =
+      at_verdict (Err (apply.Refused refusal)) (Refused refusal) refl applies safe clean book there
+  at_answer (Err (apply.Failed fault)) applies usable safe clean book there was = at_fault fault applies (λ spent. usable (ap (λ (f : StoreFault). Err (apply.Failed f)) spent)) clean book there was
+
+  pub run_ends : (ending : Ending) (condition : Condition) → RepliesTo Kept KeptThen next.0 next.1 number now new mid written condition (Err ending)
+      → (IsTrue new.is_open → (trees : Trees) → new.may_leave trees → trees ≡ new.committed.trees)
+      → RunsBook commands from old new before written condition (record { replied = index; refused = refused; ending = ending })
+  run_ends ending condition (answer, applies, usable, after, inl (fault, is, stopped, printed)) safe = (
+    answer,
+    record {
+      verdicts = so.verdicts;
+      writes = record {
+        replied = so.counted;
+        refused = so.refusals;
+        lines = rw stopped (subst (λ n. Appends before written (replies from so.verdicts ++ fault_line n fault)) count (Appends-trans before mid written _ _ so.lines printed));
+      };
+      session = λ clean entries stands.
+          let was = so.judged (omega (arith, clean, applies.crash.clean)) entries stands in (
+            was.0,
+            next ∷ drop (index + 1) commands,
+            session entries was.0 was.1,
+            rw stopped (at_fault fault (subst (AppliesWith Kept KeptThen next.0 next.1 now new) is applies) (λ spent. usable (is ∙ ap (λ (f : StoreFault). Err (apply.Failed f)) spent)) clean was.0 was.2 was.3),
+          );
+      crash = first answer applies;
+    },
+    rw stopped (after ∙ ap condition_after is),
+  )
+  run_ends ending condition (answer, applies, usable, after, inr (cut, part)) safe = (
+    answer,
+    record {
+      verdicts = so.verdicts;
+      writes = record {
+        replied = so.counted;
+        refused = so.refusals;
+        lines = rw cut (
+          part.0,
+          subst (λ n. IsPrefixOf part.0 (answer_line n answer)) count part.1,
+          Appends-trans before mid written _ _ so.lines part.2,
         );
-    crash = first answer applies;
-  }
-  run_ends ending (answer, applies, inr (fault, is, usable, stopped, printed)) = record {
-    verdicts = so.verdicts;
-    writes = record {
-      replied = so.counted;
-      refused = so.refusals;
-      lines = rw stopped (subst (λ n. Appends before written (replies from so.verdicts ++ fault_line n fault)) count (Appends-trans before mid written _ _ so.lines printed));
-    };
-    session = λ clean entries stands.
-        let was = so.judged (omega (arith, clean, applies.crash.clean)) entries stands in (
-          was.0,
-          next ∷ drop (index + 1) commands,
-          session entries was.0 was.1,
-          rw stopped (after_fault fault usable (subst (AppliesWith Kept KeptThen next.0 next.1 now new) is applies) clean was.0 was.2 was.3),
-        );
-    crash = first answer applies;
-  }
+      };
+      session = λ clean entries stands.
+          let was = so.judged (omega (arith, clean, applies.crash.clean)) entries stands in (
+            was.0,
+            next ∷ drop (index + 1) commands,
+            session entries was.0 was.1,
+            rw cut (at_answer answer applies usable safe clean was.0 was.2 was.3),
+          );
+      crash = first answer applies;
+    },
+    rw cut after,
+  )
 
 -- ---- the run ends behind all commands, or before any
 
@@ -349,51 +356,56 @@ take_all : {X : Type 0} (xs : List X) → take (length xs) xs ≡ xs
 take_all [] = refl
 take_all (x ∷ xs) = ap (λ ys. x ∷ ys) (take_all xs)
 
-pub run_completes : (Kept : List Entry → Type 0) (commands : List (Key × Command)) (from refused : ℕ) (old new : State) (before written : Option (List ℕ)) → SoFar Kept commands from (length commands) refused old new before written
-    → Runs commands from old new before written (record { replied = length commands; refused = refused; ending = Complete })
-run_completes Kept commands from refused old new before written so = record {
-  verdicts = so.verdicts;
-  writes = record { replied = so.counted; refused = so.refusals; lines = so.lines };
-  session = λ clean entries stands.
-      let was = so.judged clean entries stands in (
-        was.0,
-        [],
-        record { done = commands; split = sym (append-nil commands); judged = subst (λ cs. JudgesKeyed entries cs so.verdicts was.0) (take_all commands) was.1 },
-        (refl, was.2.0, was.3),
-      );
-  crash = so.crash;
-}
+pub run_completes : (Kept : List Entry → Type 0) (commands : List (Key × Command)) (from refused : ℕ) (old new : State) (before written : Option (List ℕ)) (condition : Condition)
+    → SoFar Kept commands from (length commands) refused old new before written → condition ≡ Ready
+    → RunsBook commands from old new before written condition (record { replied = length commands; refused = refused; ending = Complete })
+run_completes Kept commands from refused old new before written condition so ready = (
+  Ok ack.Accepted,
+  record {
+    verdicts = so.verdicts;
+    writes = record { replied = so.counted; refused = so.refusals; lines = so.lines };
+    session = λ clean entries stands.
+        let was = so.judged clean entries stands in (
+          was.0,
+          [],
+          record { done = commands; split = sym (append-nil commands); judged = subst (λ cs. JudgesKeyed entries cs so.verdicts was.0) (take_all commands) was.1 },
+          (refl, was.2.0, was.3),
+        );
+    crash = so.crash;
+  },
+  ready,
+)
 
-unjudged : (could : Trees → Type 0) (book : List Entry) (left : List (Key × Command)) (trees : Trees) → could trees → LeavesNext could [] book left trees
-unjudged could book [] trees may = inr (tt, may)
-unjudged could book (next ∷ left) trees may = inl (inr (tt, may))
-
-pub run_needs_reopening : (commands : List (Key × Command)) (from : ℕ) (old : State) (before written : Option (List ℕ)) (ending : Ending) → StopsWith from NeedsReopen before written ending
-    → Runs commands from old old before written (record { replied = 0; refused = 0; ending = ending })
-run_needs_reopening commands from old before written ending (inl (is, printed)) = record {
-  verdicts = [];
-  writes = record { replied = refl; refused = refl; lines = rw is (subst (λ n. Appends before written ([] ++ fault_line n NeedsReopen)) (zero-on from) printed) };
-  session = λ clean entries stands. (entries, commands, record { done = []; split = refl; judged = refl }, rw is (refl, stands, λ trees may. inr (tt, may)));
-  crash = survives_same old _;
-}
+pub run_needs_reopening : (commands : List (Key × Command)) (from : ℕ) (old : State) (before written : Option (List ℕ)) (ending : Ending) (condition : Condition)
+    → StopsWith from NeedsReopen before written ending → condition ≡ Spent
+    → RunsBook commands from old old before written condition (record { replied = 0; refused = 0; ending = ending })
+run_needs_reopening commands from old before written ending condition (inl (is, printed)) spent = (
+  Err (apply.Failed NeedsReopen),
+  record {
+    verdicts = [];
+    writes = record { replied = refl; refused = refl; lines = rw is (subst (λ n. Appends before written ([] ++ fault_line n NeedsReopen)) (zero-on from) printed) };
+    session = λ clean entries stands. (entries, commands, record { done = []; split = refl; judged = refl }, rw is (refl, stands, λ trees may. inr (tt, may)));
+    crash = survives_same old _;
+  },
+  rw is spent,
+)
   where
     zero-on : (n : ℕ) → n ≡ length {A = Verdict} [] + n
     zero-on n = omega arith
-run_needs_reopening commands from old before written ending (inr (is, part)) = record {
-  verdicts = [];
-  writes = record {
-    replied = refl;
-    refused = refl;
-    lines = rw is (Err (apply.Failed NeedsReopen), part.0, subst (λ n. IsPrefixOf part.0 (fault_line n NeedsReopen)) (zero-on from) part.1, part.2);
-  };
-  session = λ clean entries stands. (
-    entries,
-    commands,
-    record { done = []; split = refl; judged = refl },
-    rw is (λ opened. inl stands, unjudged old.may_leave entries commands),
-  );
-  crash = survives_same old _;
-}
+run_needs_reopening commands from old before written ending condition (inr (is, part)) spent = (
+  Err (apply.Failed NeedsReopen),
+  record {
+    verdicts = [];
+    writes = record {
+      replied = refl;
+      refused = refl;
+      lines = rw is (part.0, subst (λ n. IsPrefixOf part.0 (fault_line n NeedsReopen)) (zero-on from) part.1, part.2);
+    };
+    session = λ clean entries stands. (entries, commands, record { done = []; split = refl; judged = refl }, rw is (refl, stands, λ trees may. inr (tt, may)));
+    crash = survives_same old _;
+  },
+  rw is spent,
+)
   where
     zero-on : (n : ℕ) → n ≡ length {A = Verdict} [] + n
     zero-on n = omega arith

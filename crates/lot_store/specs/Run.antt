@@ -1,6 +1,6 @@
 -- What a run of commands on a book writes, and what it leaves.
 use Rattle.std.specs.Io.KnownBytes.{Appends}
-use Rattle.std.specs.Prelude.{◌≡◌, ◌≢◌, ◌⊎◌, ℕ, ◌+◌, suc, IsTrue, List, [], ◌∷◌, ◌++◌, length, codes, decimal, Option, Result, Ok, Err, ⊤}
+use Rattle.std.specs.Prelude.{◌≡◌, ◌≢◌, ◌⊎◌, ℕ, ◌+◌, suc, IsTrue, List, [], ◌∷◌, ◌++◌, length, codes, decimal, Option, Result, Ok, Err}
 use Rattle.sqlite.specs.State.{HasCleanDisk, State, Survives}
 use Rattle.sqlite.specs.Tree.{Trees}
 use Rattle.lot_command.specs.declared.command.Command.{Command}
@@ -79,15 +79,20 @@ told (Ok ack.Repeat) = Ok Repeated
 told (Err (apply.Refused refusal)) = Ok (Refused refusal)
 told (Err (apply.Failed fault)) = Err fault
 
--- A command of that number is applied, and its reply is written, or the run ends at it. `Kept` tells of which books is what
--- is kept before it, and `KeptThen` of which is what is kept then.
-abbrev pub RepliesTo : (Kept KeptThen : List Entry → Type 0) → Key → Command → ℕ → State → State → Option (List ℕ) → Option (List ℕ) → Result Verdict Ending → Type 0
-RepliesTo Kept KeptThen key command number old new before written (Ok verdict) =
+-- how a run ends at a command with that answer: it stops at the fault, whose line is written, or the writer failed
+abbrev pub EndsAt : ℕ → Result Ack ApplyFault → Option (List ℕ) → Option (List ℕ) → Ending → Type 0
+EndsAt number answer old new ending =
+    ((fault : StoreFault) × (answer ≡ Err (apply.Failed fault)) × (ending ≡ Stopped fault) × Appends old new (fault_line number fault))
+    ⊎ ((ending ≡ Output) × AppendsSome old new (answer_line number answer))
+
+-- A command of that number is applied, and its reply is written, or the run ends at it, and that is the condition of the book
+-- then. `Kept` tells of which books is what is kept before it, and `KeptThen` of which is what is kept then.
+abbrev pub RepliesTo : (Kept KeptThen : List Entry → Type 0) → Key → Command → ℕ → State → State → Option (List ℕ) → Option (List ℕ) → Condition → Result Verdict Ending → Type 0
+RepliesTo Kept KeptThen key command number old new before written condition (Ok verdict) =
     (answer : Result Ack ApplyFault) × AppliesWith Kept KeptThen key command old new answer × (told answer ≡ Ok verdict) × Appends before written (reply number verdict)
-RepliesTo Kept KeptThen key command number old new before written (Err ending) =
-    (answer : Result Ack ApplyFault) × AppliesWith Kept KeptThen key command old new answer
-    × (((ending ≡ Output) × AppendsSome before written (answer_line number answer))
-    ⊎ ((fault : StoreFault) × (answer ≡ Err (apply.Failed fault)) × (fault ≢ NeedsReopen) × (ending ≡ Stopped fault) × Appends before written (fault_line number fault)))
+RepliesTo Kept KeptThen key command number old new before written condition (Err ending) =
+    (answer : Result Ack ApplyFault) × AppliesWith Kept KeptThen key command old new answer × (answer ≢ Err (apply.Failed NeedsReopen))
+    × (condition ≡ condition_after answer) × EndsAt number answer before written ending
 
 -- ---- flushing
 
@@ -104,48 +109,60 @@ flush_outcome (Err error) = Err Output
 
 -- ---- a run
 
--- what is written behind the replies to the verdicts, the first of which has the number `from`: nothing; the line of the
--- fault; or some of the line of the next command
-abbrev pub WritesEnd : ℕ → List Verdict → Ending → Option (List ℕ) → Option (List ℕ) → Type 0
-WritesEnd from verdicts Complete old new = Appends old new (replies from verdicts)
-WritesEnd from verdicts (Stopped fault) old new = Appends old new (replies from verdicts ++ fault_line (length verdicts + from) fault)
-WritesEnd from verdicts Output old new =
-    (answer : Result Ack ApplyFault) × (prefix : List ℕ) × IsPrefixOf prefix (answer_line (length verdicts + from) answer)
-    × Appends old new (replies from verdicts ++ prefix)
+-- What is written behind the replies to the verdicts, the first of which has the number `from`: nothing; the line of the
+-- fault; or, where the writer failed, some of the line of the answer to the next command.
+abbrev pub WritesEnd : ℕ → List Verdict → Result Ack ApplyFault → Ending → Option (List ℕ) → Option (List ℕ) → Type 0
+WritesEnd from verdicts answer Complete old new = Appends old new (replies from verdicts)
+WritesEnd from verdicts answer (Stopped fault) old new = Appends old new (replies from verdicts ++ fault_line (length verdicts + from) fault)
+WritesEnd from verdicts answer Output old new =
+    (prefix : List ℕ) × IsPrefixOf prefix (answer_line (length verdicts + from) answer) × Appends old new (replies from verdicts ++ prefix)
 
 -- the counts are those of the lines
-pub record Writes (from : ℕ) (verdicts : List Verdict) (end : RunEnd) (old new : Option (List ℕ)) : Type 0 where
+pub record Writes (from : ℕ) (verdicts : List Verdict) (answer : Result Ack ApplyFault) (end : RunEnd) (old new : Option (List ℕ)) : Type 0 where
   pub replied : end.replied ≡ length verdicts
   pub refused : end.refused ≡ count_refused verdicts
-  pub lines : WritesEnd from verdicts end.ending old new
+  pub lines : WritesEnd from verdicts answer end.ending old new
 
--- the tables stand for the book after the next command
-abbrev pub StandsNext : List Entry → List (Key × Command) → State → Type 0
-StandsNext book [] new = ⊥
-StandsNext book (next ∷ left) new = (verdict : Verdict) × (after : List Entry) × Judges book next.0 next.1 verdict after × Stands new after
-
--- what stands after a run that ended with these commands left, and what a crash may leave
-abbrev pub LeavesAfter : List Verdict → List Entry → List (Key × Command) → State → State → Ending → Type 0
-LeavesAfter verdicts book left old new Complete =
-    (left ≡ []) × Stands new book × ((trees : Trees) → new.may_leave trees → LeavesJudged old.may_leave verdicts book trees)
-LeavesAfter verdicts book left old new (Stopped Device) =
+-- what stands after a run whose next command came to a fault, and what a crash may leave
+abbrev pub LeavesAtFault : StoreFault → List Verdict → List Entry → List (Key × Command) → State → State → Type 0
+LeavesAtFault Device verdicts book left old new =
     (IsTrue new.is_open → Stands new book) × ((trees : Trees) → new.may_leave trees → LeavesJudged old.may_leave verdicts book trees)
-LeavesAfter verdicts book left old new (Stopped NeedsReopen) =
+LeavesAtFault NeedsReopen verdicts book left old new =
     (verdicts ≡ []) × Stands new book × ((trees : Trees) → new.may_leave trees → LeavesJudged old.may_leave verdicts book trees)
-LeavesAfter verdicts book left old new (Stopped Damaged) = ⊥
-LeavesAfter verdicts book left old new (Stopped InDoubt) =
+LeavesAtFault Damaged verdicts book left old new = ⊥
+LeavesAtFault InDoubt verdicts book left old new =
     (IsTrue new.is_open → Stands new book) × ((trees : Trees) → new.may_leave trees → LeavesNext old.may_leave verdicts book left trees)
-LeavesAfter verdicts book left old new (Stopped Memory) =
+LeavesAtFault Memory verdicts book left old new =
     (IsTrue new.is_open → Stands new book) × ((trees : Trees) → new.may_leave trees → LeavesNext old.may_leave verdicts book left trees)
-LeavesAfter verdicts book left old new Output =
-    (IsTrue new.is_open → Stands new book ⊎ StandsNext book left new) × ((trees : Trees) → new.may_leave trees → LeavesNext old.may_leave verdicts book left trees)
 
--- a run of commands on a book in a file
-pub record Runs (commands : List (Key × Command)) (from : ℕ) (old new : State) (before written : Option (List ℕ)) (end : RunEnd) : Type 0 where
+-- the same where the next command was judged, though its reply isn't written out: the book after it stands
+abbrev pub LeavesAtVerdict : Verdict → List Verdict → List Entry → List (Key × Command) → State → State → Type 0
+LeavesAtVerdict verdict verdicts book [] old new = ⊥
+LeavesAtVerdict verdict verdicts book (next ∷ left) old new =
+    (after : List Entry) × Judges book next.0 next.1 verdict after × Stands new after
+    × ((trees : Trees) → new.may_leave trees → LeavesJudged old.may_leave (verdicts ++ verdict ∷ []) after trees)
+
+abbrev pub LeavesAtAnswer : Result Ack ApplyFault → List Verdict → List Entry → List (Key × Command) → State → State → Type 0
+LeavesAtAnswer (Ok ack.Accepted) verdicts book left old new = LeavesAtVerdict Accepted verdicts book left old new
+LeavesAtAnswer (Ok ack.Repeat) verdicts book left old new = LeavesAtVerdict Repeated verdicts book left old new
+LeavesAtAnswer (Err (apply.Refused refusal)) verdicts book left old new = LeavesAtVerdict (Refused refusal) verdicts book left old new
+LeavesAtAnswer (Err (apply.Failed fault)) verdicts book left old new = LeavesAtFault fault verdicts book left old new
+
+-- What stands after a run that ended with these commands left, and what a crash may leave. The answer to the first of them
+-- matters where the writer failed.
+abbrev pub LeavesAfter : List Verdict → List Entry → List (Key × Command) → State → State → Result Ack ApplyFault → Ending → Type 0
+LeavesAfter verdicts book left old new answer Complete =
+    (left ≡ []) × Stands new book × ((trees : Trees) → new.may_leave trees → LeavesJudged old.may_leave verdicts book trees)
+LeavesAfter verdicts book left old new answer (Stopped fault) = LeavesAtFault fault verdicts book left old new
+LeavesAfter verdicts book left old new answer Output = LeavesAtAnswer answer verdicts book left old new
+
+-- a run of commands on a book in a file; the answer is that to the command at which the writer failed
+pub record Runs (commands : List (Key × Command)) (from : ℕ) (old new : State) (before written : Option (List ℕ)) (answer : Result Ack ApplyFault) (end : RunEnd) : Type 0 where
   pub verdicts : List Verdict
-  pub writes : Writes from verdicts end before written
+  pub writes : Writes from verdicts answer end before written
   pub session : HasCleanDisk new → (entries : List Entry) → Stands old entries
-      → (book : List Entry) × (left : List (Key × Command)) × Session entries commands verdicts book left × LeavesAfter verdicts book left old new end.ending
+      → (book : List Entry) × (left : List (Key × Command)) × Session entries commands verdicts book left
+      × LeavesAfter verdicts book left old new answer end.ending
   pub crash : Survives old new (λ trees. (entries : List Entry) → Stands old entries → LeavesFirst entries commands trees)
 
 -- ---- the condition of the book
@@ -156,8 +173,13 @@ pub record StopsAtOnce (from : ℕ) (end : RunEnd) (old new : Option (List ℕ))
   pub refused : end.refused ≡ 0
   pub line : StopsWith from NeedsReopen old new end.ending
 
--- the condition of a book after a run that ended so; after a failure of the writer it is that after the last command
-abbrev pub IsConditionAfter : Ending → Condition → Type 0
-IsConditionAfter Complete condition = condition ≡ Ready
-IsConditionAfter (Stopped fault) condition = condition ≡ condition_after (Err (apply.Failed fault))
-IsConditionAfter Output condition = ⊤
+-- the condition of a book after a run that ended so; where the writer failed, it is that after the answer
+abbrev pub IsConditionAfter : Result Ack ApplyFault → Ending → Condition → Type 0
+IsConditionAfter answer Complete condition = condition ≡ Ready
+IsConditionAfter answer (Stopped fault) condition = condition ≡ condition_after (Err (apply.Failed fault))
+IsConditionAfter answer Output condition = condition ≡ condition_after answer
+
+-- a run of commands on a book, and the condition of the book then
+abbrev pub RunsBook : List (Key × Command) → ℕ → State → State → Option (List ℕ) → Option (List ℕ) → Condition → RunEnd → Type 0
+RunsBook commands from old new before written condition end =
+    (answer : Result Ack ApplyFault) × Runs commands from old new before written answer end × IsConditionAfter answer end.ending condition

@@ -1,7 +1,7 @@
-ghost use Rattle.std.specs.Prelude.{◌≡◌, ◌≢◌, ◌+◌, ◌<◌, ◌^◌, [], ◌∷◌, length, IfErr, IsOk, IsTrue};
+ghost use Rattle.std.specs.Prelude.{◌≡◌, ◌≢◌, ◌+◌, ◌<◌, ◌^◌, [], ◌∷◌, length, IsOk, IsTrue};
 ghost use Rattle.lot_look.specs.Kept.{IsOf};
 ghost use Rattle.lot_report.specs.Printed.{reply};
-ghost use Rattle.lot_store.specs.Run.{FlushesLine, IsConditionAfter, RepliesTo, Runs, StopsAtOnce, StopsWith, WritesOut, count_refused, flush_outcome, told};
+ghost use Rattle.lot_store.specs.Run.{FlushesLine, RepliesTo, RunsBook, StopsAtOnce, StopsWith, WritesOut, count_refused, flush_outcome, told};
 ghost use Rattle.lot_store.specs.declared.run.Ending.TheVariants.{Stopped};
 ghost use Rattle.sqlite.specs.Held.{state};
 ghost use Rattle.sqlite.specs.Tree.{Trees};
@@ -50,12 +50,11 @@ impl<S: Alter> Book<S> {
         writer: &mut W,
     ) -> RunEnd
         requires { length commands.now + from < 2 ^ 64 }
-        ensures runs { Runs commands.now from (state S.Store self.old.conn) (state S.Store self.new.conn)
-            (W.contents writer.old) (W.contents writer.new) result }
+        ensures runs { RunsBook commands.now from (state S.Store self.old.conn) (state S.Store self.new.conn)
+            (W.contents writer.old) (W.contents writer.new) self.new.condition result }
         ensures spent { self.old.condition ≡ Condition.NeedsReopen
             → StopsAtOnce from result (W.contents writer.old) (W.contents writer.new) × (self.new ≡ self.old) }
         ensures usable { self.old.condition ≡ Condition.Ready → result.ending ≢ Stopped StoreFault.NeedsReopen }
-        ensures condition { IsConditionAfter result.ending self.new.condition }
     {
         if let Err(fault) = self.ready() {
             return RunEnd {
@@ -96,11 +95,10 @@ impl<S: Alter> Book<S> {
     ) -> Result<Verdict, Ending>
         requires { self.old.condition ≡ Condition.Ready }
         ensures replies { RepliesTo (IsOf kept.old) (IsOf kept.new) key.now command.now number (state S.Store self.old.conn) (state S.Store self.new.conn)
-            (W.contents writer.old) (W.contents writer.new) result }
+            (W.contents writer.old) (W.contents writer.new) self.new.condition result }
         ensures safe { IsTrue (state S.Store self.new.conn).is_open → (trees : Trees) → (state S.Store self.new.conn).may_leave trees
             → trees ≡ (state S.Store self.new.conn).committed.trees }
         ensures ready { IsOk result → self.new.condition ≡ Condition.Ready }
-        ensures condition { IfErr result (λ ending. IsConditionAfter ending self.new.condition) }
     {
         match told(self.apply_with(kept, key, command)) {
             Ok(verdict) => {

@@ -2,26 +2,17 @@ use Rattle.std.proofs.Common.{◌∙◌, sym}
 use Rattle.std.proofs.lemmas.Result.{err_from_is_err_and}
 use Rattle.sqlite.specs.Held.{state}
 use Rattle.lot_look.specs.Kept.{IsOf}
-use Rattle.lot_store.proofs.RunLemmas.{condition_cut, condition_stops, reply_cut, reply_stops}
+use Rattle.lot_store.proofs.RunLemmas.{reply_cut, reply_stops}
 use Rattle.lot_store.proofs.book.Book.reply.Goals as goal
 
 pub returns-in_err-write_reply-in-Ok-clause-replies : goal.returns-in_err-write_reply-in-Ok-clause-replies
 returns-in_err-write_reply-in-Ok-clause-replies g c =
     let fault = err_from_is_err_and c.from_residual.result c.from_residual.ensures.1 in
     rw (fault.1, fault.2)
-    (reply_cut (IsOf c.args.kept.now) (IsOf c.apply_with.new.kept) c.args.key.now c.args.command.now c.args.number (state g.S.Store c.args.self.now.conn) (state g.S.Store c.apply_with.new.self.conn) _ _ c.apply_with.result c.apply_with.ensures.applies _
+    (reply_cut (IsOf c.args.kept.now) (IsOf c.apply_with.new.kept) c.args.key.now c.args.command.now c.args.number (state g.S.Store c.args.self.now.conn) (state g.S.Store c.apply_with.new.self.conn) _ _ c.apply_with.new.self.condition c.apply_with.result c.apply_with.ensures.applies c.apply_with.ensures.condition _
     c.in-Ok.verdict (sym c.told.ensures ∙ c.in-Ok.is) c.in_err-write_reply-in-Ok.ensures)
 
 pub returns-in-Err-clause-replies : goal.returns-in-Err-clause-replies
 returns-in-Err-clause-replies g c =
-    reply_stops (IsOf c.args.kept.now) (IsOf c.apply_with.new.kept) c.args.key.now c.args.command.now c.args.number (state g.S.Store c.args.self.now.conn) (state g.S.Store c.apply_with.new.self.conn) _ _ c.apply_with.result c.apply_with.ensures.applies _
+    reply_stops (IsOf c.args.kept.now) (IsOf c.apply_with.new.kept) c.args.key.now c.args.command.now c.args.number (state g.S.Store c.args.self.now.conn) (state g.S.Store c.apply_with.new.self.conn) _ _ c.apply_with.new.self.condition c.apply_with.result c.apply_with.ensures.applies c.apply_with.ensures.condition _
     c.in-Err.fault (sym c.told.ensures ∙ c.in-Err.is) c.apply_with.ensures.usable c.stop.ensures
-
-pub returns-in_err-write_reply-in-Ok-clause-condition : goal.returns-in_err-write_reply-in-Ok-clause-condition
-returns-in_err-write_reply-in-Ok-clause-condition g c =
-    let fault = err_from_is_err_and c.from_residual.result c.from_residual.ensures.1 in
-    rw (fault.1, fault.2) (condition_cut _ c.apply_with.new.self.condition c.in_err-write_reply-in-Ok.ensures.0)
-
-pub returns-in-Err-clause-condition : goal.returns-in-Err-clause-condition
-returns-in-Err-clause-condition g c =
-    condition_stops c.apply_with.result c.in-Err.fault c.args.number _ _ _ c.apply_with.new.self.condition (sym c.told.ensures ∙ c.in-Err.is) c.apply_with.ensures.condition c.stop.ensures

@@ -2,7 +2,7 @@ use Rattle.std.proofs.Common.{◌≡◌, ◌∙◌, ◌+◌, ◌∷◌, [], None
 use Rattle.sqlite.specs.Held.{state}
 use Rattle.lot_look.specs.Kept.{IsOf}
 use Rattle.lot_store.specs.Run.{StopsWith}
-use Rattle.lot_store.proofs.RunLemmas.{SoFar, condition_spent, few_refused, ready_fault, ready_ok, reply_usable, run_completes, run_ends, run_needs_reopening, so_far_next, so_far_none, spent_if}
+use Rattle.lot_store.proofs.RunLemmas.{SoFar, few_refused, ready_fault, ready_ok, reply_usable, run_completes, run_ends, run_needs_reopening, so_far_next, so_far_none, spent_if}
 use Rattle.lot_store.proofs.book.Book.run.Goals as goal
 
 pub commands-init : goal.commands-init
@@ -20,20 +20,18 @@ returns-in-Err g c =
     let line = subst (λ f. StopsWith c.args.from f (g.W.Write.contents c.args.writer.now) (g.W.Write.contents c.stop.new.writer) c.stop.result) spent c.stop.ensures in
     let needs = spent_if c.args.self.now.condition c.in-Err.fault (sym c.ready.ensures ∙ c.in-Err.is) in
     record {
-      runs = run_needs_reopening c.args.commands.now c.args.from (state g.S.Store c.args.self.now.conn) _ _ c.stop.result line;
+      runs = run_needs_reopening c.args.commands.now c.args.from (state g.S.Store c.args.self.now.conn) _ _ c.stop.result c.args.self.now.condition line needs;
       spent = λ is. (record { replied = refl; refused = refl; line = line }, refl);
       usable = λ ready. let both = sym ready ∙ needs in absurd cc;
-      condition = condition_spent c.args.from _ _ c.stop.result c.args.self.now.condition needs line;
     }
 
 pub returns-in-Err-reply : goal.returns-in-Err-reply
 returns-in-Err-reply g c = record {
   spent = λ is. let both = sym is ∙ ready_ok c.args.self.now.condition (sym c.ready.ensures ∙ c.in_default.is) in absurd cc;
-  usable = λ ready. reply_usable (IsOf c.commands.kept) (IsOf c.reply.new.kept) _ _ (c.args.from + c.commands.index) (state g.S.Store c.commands.self.conn) (state g.S.Store c.reply.new.self.conn) _ _ c.in-Err-reply.ending c.in-Err-reply.ensures.replies;
-  condition = c.in-Err-reply.ensures.condition;
+  usable = λ ready. reply_usable (IsOf c.commands.kept) (IsOf c.reply.new.kept) _ _ (c.args.from + c.commands.index) (state g.S.Store c.commands.self.conn) (state g.S.Store c.reply.new.self.conn) _ _ c.reply.new.self.condition c.in-Err-reply.ending c.in-Err-reply.ensures.replies;
   runs = run_ends (IsOf c.commands.kept) (IsOf c.reply.new.kept) c.args.commands.now c.args.from c.commands.index c.commands.refused (c.args.from + c.commands.index) (state g.S.Store c.args.self.now.conn) (state g.S.Store c.commands.self.conn)
       (state g.S.Store c.reply.new.self.conn) _ _ _ c.commands.invariant.0 c.index-commands-index.result _ c.index-commands-index.is c.commands-test.true refl c.in-Err-reply.ending
-      c.in-Err-reply.ensures.replies;
+      c.reply.new.self.condition c.in-Err-reply.ensures.replies c.reply.ensures.safe;
 }
 
 pub commands-preserved : goal.commands-preserved
@@ -41,7 +39,7 @@ commands-preserved g c = (
   rw c.refusals-refused.ensures
       (so_far_next (IsOf c.commands.kept) (IsOf c.reply.new.kept) c.args.commands.now c.args.from c.commands.index c.commands.refused (c.args.from + c.commands.index) (state g.S.Store c.args.self.now.conn) (state g.S.Store c.commands.self.conn)
       (state g.S.Store c.reply.new.self.conn) _ _ _ c.commands.invariant.0 c.index-commands-index.result _ c.index-commands-index.is c.commands-test.true refl c.in-Ok.verdict
-      c.in-Ok.ensures.replies c.reply.ensures.safe),
+      c.reply.new.self.condition c.in-Ok.ensures.replies c.reply.ensures.safe),
   c.in-Ok.ensures.ready refl,
 )
 
@@ -51,7 +49,7 @@ returns g c =
     record {
       spent = λ is. let both = sym is ∙ ready_ok c.args.self.now.condition (sym c.ready.ensures ∙ c.in_default.is) in absurd cc;
       usable = λ ready complete. absurd cc;
-      condition = c.commands.invariant.1;
-      runs = run_completes (IsOf c.commands.kept) c.args.commands.now c.args.from c.commands.refused (state g.S.Store c.args.self.now.conn) (state g.S.Store c.commands.self.conn) _ _
-          (subst (λ n. SoFar (IsOf c.commands.kept) c.args.commands.now c.args.from n c.commands.refused (state g.S.Store c.args.self.now.conn) (state g.S.Store c.commands.self.conn) (g.W.Write.contents c.args.writer.now) (g.W.Write.contents c.commands.writer)) all c.commands.invariant.0);
+      runs = run_completes (IsOf c.commands.kept) c.args.commands.now c.args.from c.commands.refused (state g.S.Store c.args.self.now.conn) (state g.S.Store c.commands.self.conn) _ _ c.commands.self.condition
+          (subst (λ n. SoFar (IsOf c.commands.kept) c.args.commands.now c.args.from n c.commands.refused (state g.S.Store c.args.self.now.conn) (state g.S.Store c.commands.self.conn) (g.W.Write.contents c.args.writer.now) (g.W.Write.contents c.commands.writer)) all c.commands.invariant.0)
+          c.commands.invariant.1;
     }

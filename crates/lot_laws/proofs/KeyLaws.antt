@@ -1,0 +1,54 @@
+-- A key acts once: what stands under it remains, and a command under it is a repeat, or is refused.
+use Rattle.std.proofs.Common.{◌≡◌, ◌≢◌, ◌∙◌, ap, refl, subst, ℕ, cond, List, Option, Some}
+use Rattle.lot_base.proofs.TextLemmas.{one_text}
+use Rattle.lot_base.specs.Text.{same_text}
+use Rattle.lot_book.proofs.CaseLemmas.{by_bool}
+use Rattle.lot_book.specs.Facts.{Entry, facts_of, text_under}
+use Rattle.lot_book.specs.Judged.{Judges}
+use Rattle.lot_book.specs.Step.{Accept, DecidesBy, Outcome, Refuse, Repeat, Step}
+use Rattle.lot_book.specs.declared.refusal.Refusal.TheVariants.{KeyReused}
+use Rattle.lot_book.specs.declared.verdict.Verdict.{Verdict}
+use Rattle.lot_book.specs.declared.verdict.Verdict.TheVariants.{Accepted, Refused, Repeated}
+use Rattle.lot_command.specs.Canonical.{canonical}
+use Rattle.lot_command.specs.declared.command.Command.{Command}
+use Rattle.lot_command.specs.declared.key.Key.{Key}
+use Rattle.lot_laws.proofs.LawKeys.{only_repeats, stands, still_stands}
+
+-- ---- what stands
+
+pub accepted_stands : (book after : List Entry) (key : Key) (command : Command) → Judges book key command Accepted after
+    → text_under after key ≡ Some (canonical command)
+accepted_stands book after key command judged = ap (λ (entries : List Entry). text_under entries key) judged.2 ∙ stands book key command judged.0 judged.1
+
+pub remains : (book after : List Entry) (key other : Key) (text : List ℕ) (command : Command) (verdict : Verdict) → text_under book key ≡ Some text
+    → Judges book other command verdict after → text_under after key ≡ Some text
+remains book after key other text command Accepted known judged =
+    ap (λ (entries : List Entry). text_under entries key) judged.2 ∙ still_stands book key text other command (Accept judged.0) known
+remains book after key other text command Repeated known judged = ap (λ (entries : List Entry). text_under entries key) judged.1 ∙ known
+remains book after key other text command (Refused refusal) known judged = ap (λ (entries : List Entry). text_under entries key) judged.1 ∙ known
+
+-- ---- a command under a key that stands
+
+-- with the text that stands there
+pub is_repeat : (book after : List Entry) (key : Key) (command : Command) (verdict : Verdict) → text_under book key ≡ Some (canonical command)
+    → Judges book key command verdict after → (verdict ≡ Repeated) × (after ≡ book)
+is_repeat book after key command Accepted known judged = let none : Accept judged.0 ≡ Repeat = only_repeats book key command (Accept judged.0) known judged.1 in absurd cc
+is_repeat book after key command Repeated known judged = (refl, judged.1)
+is_repeat book after key command (Refused refusal) known judged = let none : Refuse refusal ≡ Repeat = only_repeats book key command (Refuse refusal) known judged.0 in absurd cc
+
+only_refuses : (book : List Entry) (key : Key) (command : Command) (text : List ℕ) (outcome : Outcome) → text_under book key ≡ Some text
+    → text ≢ canonical command → Step book key command outcome → outcome ≡ Refuse KeyReused
+only_refuses book key command text outcome known other step =
+    subst (λ (found : Option (List ℕ)). DecidesBy found (facts_of book key) command outcome) known step
+    ∙ by_bool (same_text text (canonical command)) (λ same. absurd (other (one_text text (canonical command) same)))
+    (λ apart. ap (λ b. cond b Repeat (Refuse KeyReused)) apart)
+
+-- with another text
+pub is_refused : (book after : List Entry) (key : Key) (command : Command) (text : List ℕ) (verdict : Verdict) → text_under book key ≡ Some text
+    → text ≢ canonical command → Judges book key command verdict after → (verdict ≡ Refused KeyReused) × (after ≡ book)
+is_refused book after key command text Accepted known other judged =
+    let none : Accept judged.0 ≡ Refuse KeyReused = only_refuses book key command text (Accept judged.0) known other judged.1 in absurd cc
+is_refused book after key command text Repeated known other judged =
+    let none : Repeat ≡ Refuse KeyReused = only_refuses book key command text Repeat known other judged.0 in absurd cc
+is_refused book after key command text (Refused refusal) known other judged =
+    let same : Refuse refusal ≡ Refuse KeyReused = only_refuses book key command text (Refuse refusal) known other judged.0 in (cc, judged.1)
