@@ -46,7 +46,7 @@ table() {
         for commands in 1000 10000 100000; do
             ledger "$method" "$1" "$commands" >"$scratch/text"
             time=$(seconds "$scratch/text" $((100000 / commands)))
-            room=$(memory "$scratch/text")
+            room=$(peak "$scratch/text")
             if grep -q -m 1 refused "$scratch/out"; then
                 echo "ledger.sh: a command was refused: $(grep -m 1 refused "$scratch/out")" >&2
                 exit 1

@@ -15,20 +15,6 @@ purchases() {
     }'
 }
 
-# most BOOK: the most memory of a call that posts nothing, in KiB.
-most() {
-    local key value rest peak=0 pid
-    "$program" post --book "$1" --batch none </dev/null &
-    pid=$!
-    while [[ -e /proc/$pid/exe ]]; do
-        while read -r key value rest; do
-            if [[ $key == VmHWM: ]] && ((value > peak)); then peak=$value; fi
-        done 2>/dev/null <"/proc/$pid/status"
-    done
-    wait "$pid"
-    echo "$peak"
-}
-
 printf '%9s %9s %9s %9s %12s %12s\n' entries MiB seconds memory 's a MiB' 'memory a MiB'
 book=$scratch/growing.book
 printf '2020-01-01 open Assets:Broker\n2020-01-01 open Assets:Cash\n' | made "$book"
@@ -41,7 +27,7 @@ for wanted in 0 1 10 100; do # MiB of the file, of some 530 bytes an entry
         entries=$((entries + count))
     done
     taken=$(least 3 "$book" /dev/null)
-    room=$(most "$book")
+    room=$(peak /dev/null post --book "$book" --batch none)
     awk -v e="$entries" -v b="$(stat -c %s "$book")" -v ms="$taken" -v kib="$room" 'BEGIN {
         mib = b / 1048576
         printf "%9d %9.1f %9.3f %9.1f %12.3f %12.1f\n", e, mib, ms / 1000, kib / 1024, ms / 1000 / mib, kib / 1024 / mib

@@ -80,7 +80,7 @@ for transactions in 12500 25000 50000 100000; do
     ledger 0 "$transactions" | faulty >"$scratch/text"
     time=$(seconds "$scratch/text" $((100000 / transactions)))
     answered '^fault line [0-9]* X3'
-    room=$(memory "$scratch/text")
+    room=$(peak "$scratch/text")
     size=$(wc -c <"$scratch/text")
     if ((transactions == 12500)); then first_time=$time first_room=$room first_size=$size; fi
     printf '%12d' "$transactions"
@@ -98,7 +98,7 @@ unusual() {
     cat >"$scratch/text"
     time=$(seconds "$scratch/text" 1)
     answered "$2"
-    room=$(memory "$scratch/text")
+    room=$(peak "$scratch/text")
     size=$(wc -c <"$scratch/text")
     printf '%-44s %8s' "$1" "$(mib "$scratch/text")"
     ratio "$(awk -v t="$time" -v b="$size" 'BEGIN { print t / b }')" "$usual" 10

@@ -49,20 +49,6 @@ clock() {
     done | sort -n | head -n 1
 }
 
-# most BOOK WORDS..: the most memory of a call on the book, in KiB.
-most() {
-    local key value rest peak=0 pid
-    "$program" "${@:2}" --book "$1" </dev/null >/dev/null &
-    pid=$!
-    while [[ -e /proc/$pid/exe ]]; do
-        while read -r key value rest; do
-            if [[ $key == VmHWM: ]] && ((value > peak)); then peak=$value; fi
-        done 2>/dev/null <"/proc/$pid/status"
-    done
-    wait "$pid"
-    echo "$peak"
-}
-
 # rows_of REPORT: the rows that the last call printed: lots, legs of sales, or entries.
 rows_of() {
     case $1 in
@@ -85,7 +71,7 @@ table() {
             opened=$(clock "$runs" "$book" post --batch none)
             taken=$(clock "$runs" "$book" "${words[@]}")
             rows=$(rows_of "$report")
-            room=$(($(most "$book" "${words[@]}") - $(most "$book" post --batch none)))
+            room=$(($(peak /dev/null "${words[@]}" --book "$book") - $(peak /dev/null post --batch none --book "$book")))
             each=$(awk -v taken="$taken" -v opened="$opened" -v rows="$rows" 'BEGIN { print (taken > opened ? taken - opened : 1) / rows }')
             first=${first:-$each}
             awk -v report="$report" -v size="$(basename "$book" .book)" -v rows="$rows" -v each="$each" -v first="$first" -v kib="$room" \

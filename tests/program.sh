@@ -44,17 +44,6 @@ yes | prints "an input without an end" 3 "fault K2 TooLong"
 head -c 16777216 /dev/zero | tr '\0' '\n' | prints "a full input of line ends" 0 "nothing held"
 head -c 16777216 /dev/zero | tr '\0' ';' | prints "a full input of one line" 3 "fault line 1 X7 LineTooLong"
 
-# stops NAME: `run` ended with status 4, and wrote nothing to standard error.
-stops() {
-    if ((status != 4)); then
-        fail "$1" "status $status instead of 4"
-    elif [[ -s $scratch/err ]]; then
-        fail "$1" "standard error isn't empty: $(head -n 1 "$scratch/err")"
-    else
-        pass "$1"
-    fi
-}
-
 # into FILE: the program with the first purchase as input and FILE as output.
 into() { "$program" <"$examples/first-purchase.ledger" 2>"$scratch/err" >"$1" && status=0 || status=$?; }
 

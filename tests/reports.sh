@@ -202,16 +202,6 @@ trades 6000 4 >"$scratch/many"
 
 # ---- output that can't be written
 
-# stops NAME: the call ended with status 4, and wrote nothing to standard error.
-stops() {
-    if ((status != 4)); then
-        fail "$1" "status $status instead of 4"
-    elif [[ -s $scratch/err ]]; then
-        fail "$1" "standard error isn't empty: $(head -n 1 "$scratch/err")"
-    else
-        pass "$1"
-    fi
-}
 for word in holdings "holdings --day 2020-12-31" gains journal; do
     read -ra words <<<"$word"
     "$program" "${words[@]}" --book "$book" </dev/null 2>"$scratch/err" >/dev/full && status=0 || status=$?

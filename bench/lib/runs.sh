@@ -16,10 +16,10 @@ seconds() {
     done | sort -n | awk -v runs="$2" 'NR == 1 { printf "%.5f\n", $1 / runs }'
 }
 
-# The most memory of a run on a file, in KiB.
-memory() {
+# peak FILE WORDS..: the most memory of a run of the program with these words on a file, in KiB.
+peak() {
     local pid key value rest peak=0
-    "$program" <"$1" >/dev/null &
+    "$program" "${@:2}" <"$1" >/dev/null &
     pid=$!
     while [[ -e /proc/$pid/exe ]]; do
         while read -r key value rest; do

@@ -15,6 +15,17 @@ passed=0 failed=0
 pass() { passed=$((passed + 1)) && echo "ok $1"; }
 fail() { failed=$((failed + 1)) && echo "FAILED $1: $2"; }
 
+# stops NAME: the call before ended with status 4, which lies in `status`, and wrote nothing to standard error.
+stops() {
+    if ((status != 4)); then
+        fail "$1" "status $status instead of 4"
+    elif [[ -s $scratch/err ]]; then
+        fail "$1" "standard error isn't empty: $(head -n 1 "$scratch/err")"
+    else
+        pass "$1"
+    fi
+}
+
 # Prints the last line and exits with the status of the script.
 finish() {
     echo "$passed passed, $failed failed"

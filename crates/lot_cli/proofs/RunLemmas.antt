@@ -20,6 +20,7 @@ use Rattle.lot_cli.specs.Key.{key_of}
 use Rattle.lot_cli.specs.Answer.{status_of_replies}
 use Rattle.lot_cli.specs.Way.{JudgesKnown, Replies, Runs}
 use Rattle.lot_report.proofs.PrintLemmas.{prefix_behind}
+use Rattle.lot_report.proofs.ReplyLemmas.{replies_more}
 use Rattle.lot_cli.proofs.KeyLemmas.{Stands, judged_as}
 
 -- a reply that isn't written whole
@@ -47,17 +48,6 @@ judges_more number before (c ∷ done) (v ∷ verdicts) mid after command verdic
       judges_more (suc number) all.0 done verdicts mid after command verdict all.2
           (subst (λ (n : ℕ). Judges mid (key_of n) command verdict after) counted one),
     )
-
-replies_more : (number : ℕ) (verdicts : List Verdict) (verdict : Verdict)
-    → replies number (verdicts ++ verdict ∷ []) ≡ replies number verdicts ++ reply (length verdicts + number) verdict
-replies_more number [] verdict = append-nil (reply number verdict) ∙ ap (λ n. reply n verdict) (counted_on number)
-  where
-    counted_on : (n : ℕ) → n ≡ 0 + n
-    counted_on n = omega arith
-replies_more number (v ∷ verdicts) verdict =
-    ap (λ text. reply number v ++ text) (replies_more (suc number) verdicts verdict)
-    ∙ sym (append_assoc (reply number v) (replies (suc number) verdicts) (reply (length verdicts + suc number) verdict))
-    ∙ ap (λ n. (reply number v ++ replies (suc number) verdicts) ++ reply n verdict) (omega arith)
 
 after_accepted : (verdict : Verdict) → status_after (status_of_verdict verdict) Status.Accepted ≡ status_of_verdict verdict
 after_accepted Verdict.Accepted = refl

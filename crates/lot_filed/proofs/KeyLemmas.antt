@@ -91,7 +91,7 @@ label_is_some : (label : List ℕ) → IsTrue (is_label label) → label ≡ [] 
 unfolding is_label
 label_is_some label good e = true≢false (sym (subst (λ (text : List ℕ). IsTrue (is_label text)) e good))
 
-one_label : (a b : Option (List ℕ)) → IsLabelOrNone a → IsLabelOrNone b → label_text a ≡ label_text b → a ≡ b
+pub one_label : (a b : Option (List ℕ)) → IsLabelOrNone a → IsLabelOrNone b → label_text a ≡ label_text b → a ≡ b
 one_label None None p q e = refl
 one_label None (Some label) p q e = absurd (label_is_some label q.1 (sym e))
 one_label (Some label) None p q e = absurd (label_is_some label p.1 e)

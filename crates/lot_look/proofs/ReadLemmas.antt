@@ -1,19 +1,17 @@
 -- Calls one after another, each of which leaves the connection as it was, tell together what each of them told.
 use Rattle.std.specs.Prelude.{◌≡◌, List, Ok, Err, Result, IfErr, IsTrue, OnOk}
 use Rattle.std.specs.Result.{IsErrAnd}
-use Rattle.std.proofs.Common.{refl, sym, ap, subst, ◌∙◌, arith, inl, inr}
-use Rattle.std.proofs.lemmas.Bool.{true≢false}
-use Rattle.sqlite.specs.Effect.{Database}
+use Rattle.std.proofs.Common.{sym, ap, subst, ◌∙◌, inl}
 use Rattle.sqlite.specs.State.{HasCleanDisk, IsUnchanged, State, Survives}
-use Rattle.sqlite.proofs.StateLemmas.{survives_then}
+use Rattle.sqlite.proofs.StateLemmas.{unchanged}
 use Rattle.lot_book.specs.Book.{IsBook}
 use Rattle.lot_book.specs.Facts.{Entry}
 use Rattle.lot_filed.specs.StandFor.{AreOfBook, StandFor}
 use Rattle.lot_look.specs.Tells.{OfBook, Tells}
+use Rattle.lot_rows.proofs.StateLemmas.{early, failed_then, has_still, same_then, survives_both, survives_same, undone_then}
 use Rattle.lot_rows.specs.Tables.{Tables, layout}
-use Rattle.lot_table.specs.Book.{Has, Holds, IsUndone, always}
+use Rattle.lot_table.specs.Book.{Has, always}
 use Rattle.lot_table.specs.Call.{Answers}
-use Rattle.lot_table.specs.Statement.{DiskFailed}
 use Rattle.lot_table.specs.declared.fault.Fault.{Fault}
 use Rattle.lot_table.specs.declared.fault.Fault.TheVariants.{Damaged, Device, Memory}
 
@@ -23,70 +21,14 @@ pub record HasRead (says : List Entry → Type 0) (old now : State) : Type 0 whe
   pub same : HasCleanDisk now → IsUnchanged old now
   pub survives : Survives old now (λ _. ⊥)
 
--- ---- states
-
-has_still : (old mid : State) (tables : Tables) → IsUnchanged old mid → Has layout old tables → Has layout mid tables
-has_still old mid tables same has =
-    subst (λ (db : Database). (db.schema ≡ layout.schema) × Holds layout db.trees tables) (sym same.0.now_is) has
-
-same_then : (old mid new : State) → IsUnchanged old mid → IsUnchanged mid new → IsUnchanged old new
-same_then old mid new one two = (
-  record {
-    was_open = one.0.was_open;
-    is_open = two.0.is_open;
-    now_is = two.0.now_is ∙ one.0.now_is;
-    committed_is = two.0.committed_is ∙ one.0.committed_is;
-    mode = two.0.mode ∙ one.0.mode;
-  },
-  record { changes = two.1.changes ∙ one.1.changes; last_rowid = two.1.last_rowid ∙ one.1.last_rowid },
-  two.2 ∙ one.2,
-)
-
-undone_then : (old mid new : State) → IsUnchanged old mid → IsUndone mid new → IsUndone old new
-undone_then old mid new one (inl same) = inl (same_then old mid new one same)
-undone_then old mid new one (inr rolled) = inr (record {
-  was_open = λ h. one.0.was_open;
-  undone = λ h. ((rolled.undone h).0 ∙ one.0.committed_is, (rolled.undone h).1 ∙ one.0.committed_is);
-  autocommit = rolled.autocommit;
-  unmarked = rolled.unmarked;
-  counts = record { changes = rolled.counts.changes ∙ one.1.changes; last_rowid = rolled.counts.last_rowid ∙ one.1.last_rowid };
-})
-
-failed_then : (old mid new : State) → IsUnchanged old mid → Survives old mid (λ _. ⊥) → DiskFailed mid new → DiskFailed old new
-failed_then old mid new same one (inl more) = inl (omega (arith, one.counts, more))
-failed_then old mid new same one (inr shut) = absurd (true≢false (sym same.0.is_open ∙ shut))
-
-same_itself : (s : State) → IsTrue s.is_open → IsUnchanged s s
-same_itself s is_open = (
-  record { was_open = is_open; is_open = is_open; now_is = refl; committed_is = refl; mode = refl },
-  record { changes = refl; last_rowid = refl },
-  refl,
-)
-
-survives_itself : (s : State) → Survives s s (λ _. ⊥)
-survives_itself s = record {
-  clean = omega arith;
-  shield = λ h. h;
-  counts = omega arith;
-  limit = refl;
-  closes = λ clean h. inl h;
-  crash = λ clean db h. inl h;
-}
-
-survives_both : (old mid new : State) → Survives old mid (λ _. ⊥) → Survives mid new (λ _. ⊥) → Survives old new (λ _. ⊥)
-survives_both old mid new one two = survives_then old mid new (λ _. ⊥) (λ _. ⊥) (λ _. ⊥) (λ _ db none. none) (λ _ db none. none) one two
-
-early : (old now : State) → Survives old now (λ _. ⊥) → HasCleanDisk now → HasCleanDisk old
-early old now s clean = omega (arith, s.clean)
-
 -- ---- from one call to the next
 
 pub reads_none : (says : List Entry → Type 0) (s : State) → (HasCleanDisk s → IsTrue s.is_open) → ((entries : List Entry) → says entries)
     → HasRead says s s
 reads_none says s is_open all = record {
   told = λ clean tables has entries book stand. all entries;
-  same = λ clean. same_itself s (is_open clean);
-  survives = survives_itself s;
+  same = λ clean. unchanged s (is_open clean);
+  survives = survives_same s _;
 }
 
 pub is_open_still : (says : List Entry → Type 0) (old now : State) → HasRead says old now → HasCleanDisk now → IsTrue now.is_open

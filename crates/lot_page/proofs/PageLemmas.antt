@@ -16,7 +16,7 @@ use Rattle.sqlite_sql.specs.Program.{QueryOverflows}
 use Rattle.sqlite_typing.specs.Types.{accepts_program}
 use Rattle.sqlite_value.specs.declared.keys.Key.{Key}
 use Rattle.sqlite.proofs.Callers.{IsPlain, command_of, reads_as}
-use Rattle.lot_page.proofs.CallLemmas.{if_ok}
+use Rattle.lot_table.proofs.BookLemmas.{if_ok}
 use Rattle.lot_page.proofs.PlaceLemmas.{drop_none}
 use Rattle.lot_rows.specs.Tables.{Has, Tables, layout}
 use Rattle.lot_table.specs.Book.{BookTable, Holds, IsUndone, always}

@@ -62,7 +62,7 @@ one_longer xs x = length-append xs (x ∷ []) ∙ add-one (length xs)
 abbrev pub AreOfEntries : List Entry → Type 0
 AreOfEntries book = AllByRecursion (λ (leg : Leg). leg.entry ≤ length book) (legs_of book)
 
-numbered_next : (before : List Entry) (entry : Entry) → AreOfEntries before → Judges (facts_of before entry.key) entry.command (Accept entry.legs)
+pub numbered_next : (before : List Entry) (entry : Entry) → AreOfEntries before → Judges (facts_of before entry.key) entry.command (Accept entry.legs)
     → AreOfEntries (before ++ entry ∷ [])
 numbered_next before entry numbered judges =
     let number = length before in

@@ -6,3 +6,4 @@ pub mod FedLemmas
 pub mod GainLemmas
 pub mod GainLaws
 pub mod HoldingLemmas
+pub mod ReplyLemmas

@@ -10,3 +10,4 @@ pub mod MakeLemmas
 pub mod PlainLemmas
 pub mod PriceLemmas
 pub mod SaleLemmas
+pub mod StateLemmas

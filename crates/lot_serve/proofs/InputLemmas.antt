@@ -9,7 +9,7 @@ use Rattle.lot_serve.specs.Input.{Gives, GivesNone}
 use Rattle.lot_serve.specs.Runs.{IsUntouched, RunsInput, RunsOn}
 use Rattle.lot_serve.specs.declared.fault.InputFault.{InputFault}
 use Rattle.lot_serve.specs.declared.fault.InputFault.TheVariants.{Unread}
-use Rattle.lot_store.proofs.CommitLemmas.{survives_same}
+use Rattle.lot_rows.proofs.StateLemmas.{survives_same}
 
 -- the reader gives no bytes
 pub unread : (IsFaulty : List ℕ → InputFault → Type 0) (known : Option (List ℕ)) (fault : SlurpFault)

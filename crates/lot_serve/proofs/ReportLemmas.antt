@@ -13,7 +13,8 @@ use Rattle.lot_show.specs.Show.{HoldsOfBook, HoldsOfTables, ReadsBook, UnlessSto
 use Rattle.lot_show.specs.declared.fault.ShowFault.{ShowFault}
 use Rattle.lot_show.specs.declared.fault.ShowFault.TheVariants.{Row as AtRow, Walk as AtWalk}
 use Rattle.lot_store.proofs.ApplyLemmas.{stands_along}
-use Rattle.lot_store.proofs.PlaceLemmas.{early, failed_after, has_still, stays_then, survives_both, unchanged_stays}
+use Rattle.lot_rows.proofs.StateLemmas.{early, survives_both}
+use Rattle.lot_store.proofs.PlaceLemmas.{failed_after, has_still, stays_then, unchanged_stays}
 use Rattle.lot_store.specs.Create.{IsHandedBack, Tells, TellsOf}
 use Rattle.lot_store.specs.declared.book.Book.{Book}
 use Rattle.lot_store.specs.declared.book.Condition.TheVariants.{NeedsReopen as Unusable, Ready}

@@ -7,7 +7,7 @@ use Rattle.sqlite.specs.Store.{Ghosts}
 use Rattle.lot_book.specs.Facts.{Entry}
 use Rattle.lot_filed.specs.StandFor.{Stands}
 use Rattle.lot_rows.specs.Tables.{Has, Tables}
-use Rattle.lot_store.proofs.PlaceLemmas.{early}
+use Rattle.lot_rows.proofs.StateLemmas.{early}
 use Rattle.lot_store.specs.Step.{IsPrefix}
 use Rattle.lot_store.specs.Walk.{HasGiven, HasGivenRows, Walks, WalksOverRows}
 use Rattle.lot_store.specs.declared.book.Book.{Book}

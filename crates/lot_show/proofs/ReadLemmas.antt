@@ -13,7 +13,8 @@ use Rattle.lot_show.specs.Show.{HoldsOfBook, HoldsOfTables, ReadsBook, UnlessSto
 use Rattle.lot_show.specs.declared.fault.ShowFault.{ShowFault}
 use Rattle.lot_show.specs.declared.fault.ShowFault.TheVariants.{Row as AtRow, Walk as AtWalk}
 use Rattle.lot_store.proofs.ApplyLemmas.{stands_along}
-use Rattle.lot_store.proofs.PlaceLemmas.{early, failed_after, stays_itself, stays_then, survives_both, survives_itself}
+use Rattle.lot_rows.proofs.StateLemmas.{early, survives_both, survives_same}
+use Rattle.lot_store.proofs.PlaceLemmas.{failed_after, stays_itself, stays_then}
 use Rattle.lot_store.specs.Step.{LeavesTables}
 use Rattle.lot_store.specs.Walk.{HasGiven, Walks, condition_of, is_at_end, is_at_fault}
 use Rattle.lot_store.specs.declared.book.Book.{Book}
@@ -63,7 +64,7 @@ module _ {S : Type 0} (g : Ghosts S) where
   read_none old new is = subst (λ (book : Book S g). IsRead old book) (sym is) (record {
     condition = refl;
     same = λ clean. stays_itself (state g old.conn);
-    crash = survives_itself (state g old.conn);
+    crash = survives_same (state g old.conn) _;
   })
 
   pub read_then : (old mid new : Book S g) → IsRead old mid → IsRead mid new → IsRead old new

@@ -36,7 +36,8 @@ use Rattle.lot_store.specs.declared.fault.ApplyFault.{ApplyFault}
 use Rattle.lot_store.specs.declared.fault.ApplyFault.TheVariants.{Failed, Refused}
 use Rattle.lot_store.specs.declared.fault.StoreFault.{StoreFault}
 use Rattle.lot_store.specs.declared.fault.StoreFault.TheVariants.{Damaged, Device, InDoubt, Memory, NeedsReopen}
-use Rattle.lot_store.proofs.CommitLemmas.{keeps_then, leaves_none}
+use Rattle.lot_store.proofs.CommitLemmas.{leaves_none}
+use Rattle.lot_table.proofs.MakeLemmas.{keeps_then}
 
 -- tables are those of a state's database alone
 pub stands_along : (a b : State) (entries : List Entry) → b.now ≡ a.now → Stands a entries → Stands b entries

@@ -22,7 +22,8 @@ use Rattle.lot_store.specs.SaleStep.{HasRowsOf, TellsSale}
 use Rattle.lot_store.specs.Step.{IsPrefix, StaysOrGoesBack, Steps}
 use Rattle.lot_store.specs.declared.walk.gains.GainsPlace.{GainsPlace}
 use Rattle.lot_store.proofs.CursorLemmas.{next_left, none_left}
-use Rattle.lot_store.proofs.PlaceLemmas.{early, failed_after, has_still, stays_then, survives_both, unchanged_stays}
+use Rattle.lot_rows.proofs.StateLemmas.{early, survives_both}
+use Rattle.lot_store.proofs.PlaceLemmas.{failed_after, has_still, stays_then, unchanged_stays}
 use Rattle.lot_store.proofs.SaleLegLemmas.{sale_legs}
 use Rattle.lot_store.proofs.SaleRowLemmas.{one_sale_row}
 use Rattle.lot_store.proofs.StepLemmas.{left_then}

@@ -1,8 +1,8 @@
 -- Steps of a walk over sales whose tables may be those of no book.
-use Rattle.std.proofs.Common.{◌≡◌, ◌∙◌, ◌&&◌, cond, true, false, filter, List, [], ◌∷◌, ◌++◌, map, Option, None, Some, Result, Ok, Err, refl, sym, ap, subst}
+use Rattle.std.proofs.Common.{◌≡◌, ◌∙◌, ◌&&◌, cond, true, false, List, [], ◌∷◌, ◌++◌, map, Option, None, Some, Result, Ok, refl, sym, ap}
 use Rattle.std.proofs.lemmas.List.{append-nil, map-append}
 use Rattle.std.proofs.lemmas.List.Elements.{filter-append}
-use Rattle.sqlite.specs.State.{HasCleanDisk, State}
+use Rattle.sqlite.specs.State.{State}
 use Rattle.lot_book.specs.Sale.{SaleParts}
 use Rattle.lot_table.specs.declared.fault.Fault.{Fault}
 use Rattle.lot_rows.specs.Sale.{sale_cells}
@@ -16,7 +16,7 @@ use Rattle.lot_store.specs.SaleStep.{TellsSale}
 use Rattle.lot_store.specs.Step.{StepsOverRows}
 use Rattle.lot_store.specs.declared.walk.gains.GainsPlace.{GainsPlace}
 use Rattle.lot_store.proofs.GainLemmas.{ReadsSale}
-use Rattle.lot_store.proofs.PlaceLemmas.{early}
+use Rattle.lot_rows.proofs.StateLemmas.{early}
 use Rattle.lot_store.proofs.SaleRowLemmas.{one_sale_row}
 
 abbrev pub StepsRows : GainsPlace → GainsPlace → State → State → Result (Option SaleParts) Fault → Type 0

@@ -20,7 +20,8 @@ use Rattle.lot_store.specs.Place.{Went}
 use Rattle.lot_store.specs.Step.{StaysOrGoesBack}
 use Rattle.lot_store.specs.declared.walk.holdings.HoldingsPlace.{HoldingsPlace}
 use Rattle.lot_store.proofs.HoldingStepLemmas.{StepsOver, lot_ahead}
-use Rattle.lot_store.proofs.PlaceLemmas.{early, failed_after, has_still, stays_itself, stays_then, survives_both, survives_itself, unchanged_stays}
+use Rattle.lot_rows.proofs.StateLemmas.{early, survives_both, survives_same}
+use Rattle.lot_store.proofs.PlaceLemmas.{failed_after, has_still, stays_itself, stays_then, unchanged_stays}
 use Rattle.lot_store.proofs.StepLemmas.{left_then, undone_left}
 
 at_first : (place : HoldingsPlace) (tables : Tables) (given : List Holding) → place.has_begun ≡ false → IsAt place tables given → HasNotBegun place tables given
@@ -56,7 +57,7 @@ begin_idle place s begun = record {
   damaged = λ clean is. cc;
   failed = λ clean is. cc;
   left = λ clean. tt;
-  crash = survives_itself s;
+  crash = survives_same s _;
 }
 
 -- ---- the rows of plain units

@@ -1,12 +1,12 @@
 -- Steps of a walk over holdings whose tables may be those of no book.
-use Rattle.std.proofs.Common.{◌≡◌, ◌∙◌, ◌++◌, [], ◌∷◌, true, false, filter, List, map, Option, Some, None, Result, Ok, Err, IfSome, OnOk, option_map, refl, sym, ap, subst}
+use Rattle.std.proofs.Common.{◌≡◌, ◌∙◌, ◌++◌, [], ◌∷◌, true, false, filter, List, map, Option, Some, None, Result, Ok, option_map, refl, sym, ap, subst}
 use Rattle.std.specs.Option.{option_to_list}
 use Rattle.std.specs.Vec.Iter.{into_iter_items}
 use Rattle.std.specs.Global.{Vec}
 use Rattle.std.proofs.lemmas.Bool.{true≢false}
 use Rattle.std.proofs.lemmas.List.{append-nil, append_assoc, map-append}
 use Rattle.std.proofs.lemmas.List.Elements.{filter-append}
-use Rattle.sqlite.specs.State.{HasCleanDisk, State}
+use Rattle.sqlite.specs.State.{State}
 use Rattle.lot_book.specs.declared.holding.Holding.{Holding}
 use Rattle.lot_table.specs.declared.fault.Fault.{Fault}
 use Rattle.lot_rows.specs.Lot.{lot_cells}
@@ -20,7 +20,8 @@ use Rattle.lot_store.specs.Step.{StepsOverRows}
 use Rattle.lot_store.specs.declared.walk.holdings.HoldingsPlace.{HoldingsPlace}
 use Rattle.lot_store.proofs.HoldingBeginLemmas.{ListsPlain, ReadsFirst}
 use Rattle.lot_store.proofs.HoldingStepLemmas.{ReadsLot, lot_there}
-use Rattle.lot_store.proofs.PlaceLemmas.{early, has_still, unchanged_stays}
+use Rattle.lot_rows.proofs.StateLemmas.{early}
+use Rattle.lot_store.proofs.PlaceLemmas.{has_still, unchanged_stays}
 
 -- ---- what a place has given
 

@@ -35,7 +35,8 @@ use Rattle.lot_store.specs.declared.walk.holdings.HoldingsPlace.{HoldingsPlace}
 use Rattle.lot_store.proofs.CursorLemmas.{next_left, none_left, suffix_up}
 use Rattle.lot_store.proofs.HoldingLemmas.{lot_order, lots_up, merged_holdings, plain_up}
 use Rattle.lot_store.proofs.MergeLemmas.{AreLotsUp, ArePlainUp, below_all, holdings_total, merged_lot_first, merged_plain}
-use Rattle.lot_store.proofs.PlaceLemmas.{stays_itself, survives_itself}
+use Rattle.lot_rows.proofs.StateLemmas.{survives_same}
+use Rattle.lot_store.proofs.PlaceLemmas.{stays_itself}
 
 -- ---- rows of lots
 
@@ -200,7 +201,7 @@ plain_steps mid after s None begun e still lot lots takes = record {
   same = λ clean. stays_itself s;
   damaged = λ clean is. cc;
   failed = λ clean is. cc;
-  crash = survives_itself s;
+  crash = survives_same s _;
 }
 plain_steps mid after s (Some holding) begun e still lot lots takes = record {
   gives = λ clean tables entries has book stand asked given behind.
@@ -210,7 +211,7 @@ plain_steps mid after s (Some holding) begun e still lot lots takes = record {
   same = λ clean. stays_itself s;
   damaged = λ clean is. cc;
   failed = λ clean is. cc;
-  crash = survives_itself s;
+  crash = survives_same s _;
 }
 
 abbrev pub ReadsLot : HoldingsPlace → HoldingsPlace → State → State → Result (Option LotRow) Fault → Type 0

@@ -2,9 +2,9 @@
 use Rattle.std.proofs.Common.{◌≡◌, ◌∙◌, List, Option, Result, Ok, Err, refl, sym, subst, arith, inl, inr}
 use Rattle.sqlite.specs.Effect.{Database}
 use Rattle.sqlite.specs.State.{HasCleanDisk, IsUnchanged, State, Survives}
-use Rattle.sqlite.proofs.StateLemmas.{survives_then}
 use Rattle.lot_book.specs.Facts.{Entry}
 use Rattle.lot_page.specs.Cursor.{Stays}
+use Rattle.lot_rows.proofs.StateLemmas.{early, survives_both}
 use Rattle.lot_rows.specs.Tables.{Has, Tables, layout}
 use Rattle.lot_table.specs.Book.{Holds}
 use Rattle.lot_table.specs.Statement.{DiskFailed}
@@ -15,16 +15,6 @@ use Rattle.lot_store.specs.Step.{Steps, StepsOverRows}
 
 pub stays_itself : (s : State) → Stays s s
 stays_itself s = record { now = refl; committed = refl; mode = refl; is_open = refl }
-
-pub survives_itself : (s : State) → Survives s s (λ _. ⊥)
-survives_itself s = record {
-  clean = omega arith;
-  shield = λ h. h;
-  counts = omega arith;
-  limit = refl;
-  closes = λ clean h. inl h;
-  crash = λ clean db h. inl h;
-}
 
 pub unchanged_stays : (old new : State) → IsUnchanged old new → Stays old new
 unchanged_stays old new same = record {
@@ -45,12 +35,6 @@ stays_then old mid new one two = record {
 pub failed_after : (old mid new : State) → Stays old mid → Survives old mid (λ _. ⊥) → DiskFailed mid new → DiskFailed old new
 failed_after old mid new same one (inl more) = inl (omega (arith, one.counts, more))
 failed_after old mid new same one (inr shut) = inr (sym same.is_open ∙ shut)
-
-pub survives_both : (old mid new : State) → Survives old mid (λ _. ⊥) → Survives mid new (λ _. ⊥) → Survives old new (λ _. ⊥)
-survives_both old mid new one two = survives_then old mid new (λ _. ⊥) (λ _. ⊥) (λ _. ⊥) (λ _ db none. none) (λ _ db none. none) one two
-
-pub early : (mid new : State) → Survives mid new (λ _. ⊥) → HasCleanDisk new → HasCleanDisk mid
-early mid new s clean = omega (arith, s.clean)
 
 pub has_still : (old mid : State) (tables : Tables) → Stays old mid → Has old tables → Has mid tables
 has_still old mid tables same has = subst (λ (db : Database). (db.schema ≡ layout.schema) × Holds layout db.trees tables) (sym same.now) has

@@ -23,7 +23,8 @@ use Rattle.lot_store.specs.declared.walk.prices.Progress.{Progress}
 use Rattle.lot_store.specs.declared.walk.prices.Progress.TheVariants.{Gives, Passed}
 use Rattle.lot_store.proofs.CursorLemmas.{next_left, none_left, suffix_up, unmapped_up}
 use Rattle.lot_store.proofs.LastLemmas.{AreUp, last_rows-next, last_rows-pair, row_cmp}
-use Rattle.lot_store.proofs.PlaceLemmas.{stays_itself, survives_itself}
+use Rattle.lot_rows.proofs.StateLemmas.{survives_same}
+use Rattle.lot_store.proofs.PlaceLemmas.{stays_itself}
 use Rattle.lot_store.proofs.PriceLemmas.{are_prices, rows_up}
 
 -- ---- rows that wait, and one more
@@ -257,7 +258,7 @@ end_reached before after s last at past still on gone = record {
   same = λ clean. stays_itself s;
   damaged = λ clean is. cc;
   failed = λ clean is. cc;
-  crash = survives_itself s;
+  crash = survives_same s _;
 }
 
 -- or which turns out to have been the last

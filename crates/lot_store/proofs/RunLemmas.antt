@@ -1,5 +1,5 @@
 -- A run of commands, one after another.
-use Rattle.std.proofs.Common.{◌≡◌, ◌≢◌, ◌∙◌, ◌⊎◌, inl, inr, ◌<◌, ◌≤◌, ◌+◌, ℕ, suc, IfSome, IsTrue, List, [], ◌∷◌, ◌++◌, Ok, Err, Option, Result, Some, length, take, drop, get_or, add-one, append_assoc, append-nil, length-append, take-append-drop, refl, sym, ap, subst, arith}
+use Rattle.std.proofs.Common.{◌≡◌, ◌≢◌, ◌∙◌, inl, inr, ◌<◌, ◌≤◌, ◌+◌, ℕ, IfSome, IsTrue, List, [], ◌∷◌, ◌++◌, Ok, Err, Option, Result, Some, length, take, drop, get_or, add-one, append_assoc, append-nil, length-append, take-append-drop, refl, sym, ap, subst, arith}
 use Rattle.std.proofs.KnownBytes.{Appends-nil, Appends-trans}
 use Rattle.std.proofs.Math.Seq.{take-suc}
 use Rattle.std.specs.Io.KnownBytes.{Appends}
@@ -14,6 +14,7 @@ use Rattle.lot_book.specs.Judged.{Judges}
 use Rattle.lot_book.specs.declared.verdict.Verdict.{Verdict}
 use Rattle.lot_book.specs.declared.verdict.Verdict.TheVariants.{Accepted, Refused, Repeated}
 use Rattle.lot_filed.specs.StandFor.{Left, Stands}
+use Rattle.lot_report.proofs.ReplyLemmas.{replies_more}
 use Rattle.lot_report.specs.Printed.{replies, reply}
 use Rattle.lot_report.specs.Written.{IsPrefixOf, WritesLine}
 use Rattle.lot_report.specs.declared.line.PrintFault.{PrintFault}
@@ -34,7 +35,7 @@ use Rattle.lot_store.specs.declared.fault.StoreFault.TheVariants.{Damaged, Devic
 use Rattle.lot_store.specs.declared.run.Ending.{Ending}
 use Rattle.lot_store.specs.declared.run.Ending.TheVariants.{Complete, Output, Stopped}
 use Rattle.lot_store.proofs.ApplyLemmas.{stands_along}
-use Rattle.lot_store.proofs.CommitLemmas.{survives_same}
+use Rattle.lot_rows.proofs.StateLemmas.{survives_same}
 
 -- ---- one line
 
@@ -107,17 +108,6 @@ judges_more before [] [] mid after next verdict all one = (after, subst (λ (b :
 judges_more before [] (v ∷ verdicts) mid after next verdict all one = absurd all
 judges_more before (c ∷ done) [] mid after next verdict all one = absurd all
 judges_more before (c ∷ done) (v ∷ verdicts) mid after next verdict all one = (all.0, all.1, judges_more all.0 done verdicts mid after next verdict all.2 one)
-
-replies_more : (number : ℕ) (verdicts : List Verdict) (verdict : Verdict)
-    → replies number (verdicts ++ verdict ∷ []) ≡ replies number verdicts ++ reply (length verdicts + number) verdict
-replies_more number [] verdict = append-nil (reply number verdict) ∙ ap (λ n. reply n verdict) (counted_on number)
-  where
-    counted_on : (n : ℕ) → n ≡ 0 + n
-    counted_on n = omega arith
-replies_more number (v ∷ verdicts) verdict =
-    ap (λ text. reply number v ++ text) (replies_more (suc number) verdicts verdict)
-    ∙ sym (append_assoc (reply number v) (replies (suc number) verdicts) (reply (length verdicts + suc number) verdict))
-    ∙ ap (λ n. (reply number v ++ replies (suc number) verdicts) ++ reply n verdict) (omega arith)
 
 refused_more : (verdicts : List Verdict) (verdict : Verdict) → count_refused (verdicts ++ verdict ∷ []) ≡ count_refused verdicts + count_refused (verdict ∷ [])
 refused_more [] verdict = omega arith

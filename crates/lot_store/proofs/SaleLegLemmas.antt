@@ -31,7 +31,7 @@ use Rattle.lot_ledger.specs.Decide.{AreSales}
 use Rattle.lot_posting.specs.Posting.{lots_in_legs, sales_in, sales_of}
 use Rattle.lot_posting.proofs.PostingLemmas.{lots_in_legs-lots}
 use Rattle.lot_record.proofs.BookedLemmas.{AreApart, IsBookedAs, IsFrom, Walks, WalksOn, booked_as, elided_apart, legs_from, numbered_from, walks}
-use Rattle.lot_record.proofs.NumberLemmas.{AreOfEntries, one_longer, own_legs}
+use Rattle.lot_record.proofs.NumberLemmas.{AreOfEntries, numbered_next, one_longer, own_legs}
 use Rattle.lot_filed.specs.Kept.{SalesBehind, SalesOf, is_of_posting, legs_of_posting}
 use Rattle.lot_store.specs.Gains.{HasItsLegs}
 
@@ -304,14 +304,6 @@ only_own before entries entry posting earlier continues =
 
     beyond : (n : ℕ) → suc (suc (length before)) ≤ n → n ≡ suc (length before) → ⊥
     beyond n from same = omega (arith, from, same)
-
-numbered_next : (before : List Entry) (entry : Entry) → AreOfEntries before → Judges (facts_of before entry.key) entry.command (Accept entry.legs) → AreOfEntries (before ++ entry ∷ [])
-numbered_next before entry numbered judges =
-    subst (AllByRecursion (λ (leg : Leg). leg.entry ≤ length (before ++ entry ∷ []))) (sym (flat_map-append (λ (e : Entry). e.legs) before (entry ∷ []) ∙ ap (λ legs. legs_of before ++ legs) (append-nil entry.legs)))
-    (all-append (λ (leg : Leg). leg.entry ≤ length (before ++ entry ∷ [])) (legs_of before) entry.legs
-    (all_weaker (λ (leg : Leg). leg.entry ≤ length before) (λ (leg : Leg). leg.entry ≤ length (before ++ entry ∷ [])) (λ leg less. subst (λ n. leg.entry ≤ n) (sym (one_longer before entry)) (omega (arith, less))) (legs_of before) numbered)
-    (all_weaker (λ (leg : Leg). leg.entry ≡ suc (length before)) (λ (leg : Leg). leg.entry ≤ length (before ++ entry ∷ [])) (λ leg is. subst (λ n. leg.entry ≤ n) (sym (one_longer before entry)) (omega (arith, is))) entry.legs
-    (own_legs (facts_of before entry.key) entry.command entry.legs judges).0))
 
 sales_behind : (before entries : List Entry) (sales : List (ℕ × (ℕ × SaleParts))) → AreOfEntries before → Continues before entries → SalesBehind before entries sales
     → AllByRecursion (HasItsLegs (legs_of (before ++ entries))) sales

@@ -1,10 +1,9 @@
 -- Rows of sales and of their legs, which their columns tell.
-use Rattle.std.proofs.Common.{◌≡◌, ◌≢◌, ◌∙◌, ℕ, zero, suc, ◌<◌, length, get_or, arith, ℤ, All, IsTrue, List, [], ◌∷◌, map, None, Some, Ok, Err, Option, Result, refl, sym, ap, ap₂, subst, true≢false}
+use Rattle.std.proofs.Common.{◌≡◌, ◌≢◌, ◌∙◌, ℕ, zero, suc, ◌<◌, length, get_or, arith, ℤ, All, List, [], ◌∷◌, map, None, Some, Ok, Err, Option, Result, refl, sym, ap, ap₂, subst}
 use Rattle.std.specs.List.{AllByRecursion}
 use Rattle.std.proofs.lemmas.List.Elements.{All-from_recursion, recursion_from_All}
 use Rattle.sqlite.specs.State.{State}
 use Rattle.sqlite_rules.proofs.ListLemmas.{all_from, all_has, has_filtered}
-use Rattle.lot_base.specs.Name.{is_label}
 use Rattle.lot_inv.specs.declared.lot_key.LotKey.{LotKey}
 use Rattle.lot_command.specs.declared.price.Price.{Price}
 use Rattle.lot_command.specs.declared.price.Price.TheVariants.{Each, Whole}
@@ -17,11 +16,12 @@ use Rattle.lot_rows.specs.Tables.{Tables, layout}
 use Rattle.lot_rows.specs.declared.leg.LegRow.{LegRow}
 use Rattle.lot_rows.specs.declared.sale.SaleRow.{SaleRow}
 use Rattle.lot_table.specs.Call.{ListsColumns}
-use Rattle.lot_table.specs.Cell.{IsLabelOrNone, label_text}
+use Rattle.lot_table.specs.Cell.{label_text}
 use Rattle.lot_table.specs.Rows.{has_key, with_key}
 use Rattle.lot_table.specs.declared.fault.Fault.{Fault}
 use Rattle.lot_table.specs.declared.fault.Fault.TheVariants.{Damaged, Device}
 use Rattle.std.specs.Global.{Vec}
+use Rattle.lot_filed.proofs.KeyLemmas.{one_label}
 use Rattle.lot_filed.specs.Rows.{leg_row, posting_key}
 use Rattle.lot_store.specs.Gains.{HasLegs, at_lot, sale_with, taken}
 use Rattle.lot_store.specs.SaleStep.{HasRowsOf, TellsSale}
@@ -59,16 +59,6 @@ one_sale_row a b same =
     λ i. record { entry = entry i; posting = posting i; day = day i; account = account i; commodity = commodity i; units = units i; price = price i }
 
 -- ---- rows of `leg`
-
-label_is_some : (label : List ℕ) → IsTrue (is_label label) → label ≡ [] → ⊥
-unfolding is_label
-label_is_some label good e = true≢false (sym (subst (λ (text : List ℕ). IsTrue (is_label text)) e good))
-
-one_label : (a b : Option (List ℕ)) → IsLabelOrNone a → IsLabelOrNone b → label_text a ≡ label_text b → a ≡ b
-one_label None None p q e = refl
-one_label None (Some label) p q e = absurd (label_is_some label q.1 (sym e))
-one_label (Some label) None p q e = absurd (label_is_some label p.1 e)
-one_label (Some label) (Some other) p q e = ap Some e
 
 one_lot : (a b : Option LotKey) → IsLotOrPlain a → IsLotOrPlain b → cost_number a ≡ cost_number b → cost_currency a ≡ cost_currency b → cost_day a ≡ cost_day b → cost_label a ≡ cost_label b → a ≡ b
 one_lot None None p q n c d t = refl

@@ -6,7 +6,8 @@ use Rattle.lot_report.specs.Holdings.{IsEnd, fits, row_lines}
 use Rattle.lot_show.proofs.FeedLemmas.{none_shown}
 use Rattle.lot_show.proofs.HoldingLemmas.{not_begun, rows_with_prices, rows_without_prices, same_fault, with_prices, without_prices}
 use Rattle.lot_show.proofs.ReadLemmas.{reads_then, stands_still, was_read}
-use Rattle.lot_store.proofs.PlaceLemmas.{early, has_still}
+use Rattle.lot_rows.proofs.StateLemmas.{early}
+use Rattle.lot_store.proofs.PlaceLemmas.{has_still}
 use Rattle.lot_show.proofs.holdings.show_holdings.Goals as goal
 
 pub returns-in_err-prices-in-Some-clause-shows : goal.returns-in_err-prices-in-Some-clause-shows

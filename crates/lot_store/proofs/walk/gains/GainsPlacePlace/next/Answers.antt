@@ -6,7 +6,8 @@ use Rattle.lot_table.specs.declared.fault.Fault.TheVariants.{Damaged, Device}
 use Rattle.lot_store.specs.Gains.{AreAllSaleRows, AreSalesWithin, HasLegs, IsBehindSaleRows, IsBehindSales, is_within}
 use Rattle.lot_store.proofs.GainLemmas.{sale_given, sale_none, sale_passed, sale_unread, sale_untold, went_then}
 use Rattle.lot_store.proofs.GainRowLemmas.{sale_row_given, sale_row_passed, sale_rows_end}
-use Rattle.lot_store.proofs.PlaceLemmas.{keeps_then, rows_after, steps_after, survives_both}
+use Rattle.lot_rows.proofs.StateLemmas.{survives_both}
+use Rattle.lot_store.proofs.PlaceLemmas.{keeps_then, rows_after, steps_after}
 use Rattle.lot_store.proofs.walk.gains.GainsPlacePlace.next.Goals as goal
 
 pub returns-in_err-row-clause-steps : goal.returns-in_err-row-clause-steps

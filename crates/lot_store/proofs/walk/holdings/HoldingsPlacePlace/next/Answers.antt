@@ -7,7 +7,8 @@ use Rattle.lot_store.specs.Holdings.{AreAllHoldingRows, AreHoldings, IsAnyHoldin
 use Rattle.lot_store.proofs.HoldingBeginLemmas.{begin_failed, begun_went}
 use Rattle.lot_store.proofs.HoldingRowLemmas.{begun_keeps, lot_rows, plain_rows}
 use Rattle.lot_store.proofs.HoldingStepLemmas.{lot_steps, lot_unread, plain_steps}
-use Rattle.lot_store.proofs.PlaceLemmas.{rows_after, steps_after, survives_itself}
+use Rattle.lot_rows.proofs.StateLemmas.{survives_same}
+use Rattle.lot_store.proofs.PlaceLemmas.{rows_after, steps_after}
 use Rattle.lot_store.proofs.walk.holdings.HoldingsPlacePlace.next.Goals as goal
 
 pub returns-in_err-begin-clause-steps : goal.returns-in_err-begin-clause-steps
@@ -61,7 +62,7 @@ returns-then-not-is_lot_next-clause-rows g c =
     let now = state g.S.Store c.begin.new.conn in
     let begins = c.in_ok-begin.ensures.begins in
     let e : is_lot_next mid.plain mid.lot ≡ false = search rules in
-    rows_after IsBehindHoldingRows Fault shown_holding AreAllHoldingRows c.args.self.now mid c.next_plain.new.self old now now (Ok c.next_plain.result) begins.same (survives_itself now)
+    rows_after IsBehindHoldingRows Fault shown_holding AreAllHoldingRows c.args.self.now mid c.next_plain.new.self old now now (Ok c.next_plain.result) begins.same (survives_same now _)
     (begun_keeps c.args.self.now mid old now c.in_ok-begin.ensures.rows)
     (plain_rows mid c.next_plain.new.self now c.next_plain.result begins.begun e c.next_plain.ensures.begun c.next_plain.ensures.lot c.next_plain.ensures.lots c.next_plain.ensures.takes)
 
