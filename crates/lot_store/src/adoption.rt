@@ -12,7 +12,7 @@ use lot_table::{TableRow, ask};
 use sqlite::{Alter, Connection, Row};
 use std::alloc::Global;
 
-/// Takes up the book that is in a file. It changes nothing.
+/// Returns the book that is in a file, and changes nothing.
 ///
 /// The error is `NotABook` where the table `book` isn't one row with the mark of a book and, as edition, a whole number of at
 /// least 1, or there is no such table; `NewerEdition` where the edition is newer than this program; and `Device` only where the

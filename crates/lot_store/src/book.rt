@@ -48,7 +48,8 @@ pub struct Book<S: Alter> {
 }
 
 impl<S: Alter> Book<S> {
-    /// Applies a command under a key: judges it on the book, and makes it an entry in one commit where it is accepted.
+    /// Applies a command under a key: judges it on the book, and makes it an entry in one commit where it is accepted. Returns
+    /// whether it was accepted or repeats an entry.
     ///
     /// It reads and writes only the rows that the command touches. On a book `Device` comes only where the disk failed, or
     /// the database has no room for what the command writes. After `Device` and `InDoubt`, and only then, the book

@@ -17,7 +17,7 @@ use lot_table::AnyText;
 use sqlite::{Alter, Connection, Error, ErrorCode, Transaction};
 use std::alloc::{AllocError, Global};
 
-/// Makes the tables of a book, which is empty, in one commit.
+/// Makes the tables of a book in one commit, and returns the book, which is empty.
 ///
 /// The error is `NotABook` where the name of a table is taken, without regard to the case of ASCII letters, or the database
 /// takes no tables of a book for another cause; never where it has no tables. After `InDoubt` the tables were made or not.

@@ -33,7 +33,7 @@ pub struct GainsPlace {
 }
 
 impl<S: Alter> Book<S> {
-    /// Begins a walk over the sales from the first day to the last, both included, before the first sale. Without a day that
+    /// Returns a walk over the sales from the first day to the last, both included, before the first sale. Without a day that
     /// end is open. It reads nothing yet.
     pub fn gains(&mut self, first: Option<Day>, last: Option<Day>) -> Gains<'_, S>
         ensures same_reference { result.book.ghost_name ≡ self.entry.ghost_name }

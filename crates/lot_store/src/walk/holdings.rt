@@ -36,7 +36,7 @@ pub struct HoldingsPlace {
 }
 
 impl<S: Alter> Book<S> {
-    /// Begins a walk over all that the book holds, before the first row. It reads nothing yet.
+    /// Returns a walk over all that the book holds, before the first row. It reads nothing yet.
     pub fn holdings(&mut self) -> Holdings<'_, S>
         ensures same_reference { result.book.ghost_name ≡ self.entry.ghost_name }
         ensures same { result.book.now ≡ self.old }

@@ -34,7 +34,7 @@ pub struct JournalPlace {
 }
 
 impl<S: Alter> Book<S> {
-    /// Begins a walk over all entries, before the first. It reads nothing yet.
+    /// Returns a walk over all entries, before the first. It reads nothing yet.
     pub fn journal(&mut self) -> Journal<'_, S>
         ensures same_reference { result.book.ghost_name ≡ self.entry.ghost_name }
         ensures same { result.book.now ≡ self.old }

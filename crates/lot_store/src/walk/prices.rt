@@ -43,7 +43,7 @@ enum Progress {
 }
 
 impl<S: Alter> Book<S> {
-    /// Begins a walk over the prices at a day, before the first. It reads nothing yet.
+    /// Returns a walk over the prices at a day, before the first. It reads nothing yet.
     pub fn prices(&mut self, day: Day) -> Prices<'_, S>
         ensures same_reference { result.book.ghost_name ≡ self.entry.ghost_name }
         ensures same { result.book.now ≡ self.old }
