@@ -1,6 +1,7 @@
 #!/usr/bin/env bash
-# The journals of books, read by Beancount 2 where the machine has it: it finds no error in them, and holds the same lots and the same
-# plain units (tests/lib/by_beancount.py says what is compared). Each text of tests/cases/ and of examples/ that has no fault, the texts
+# The journals of books, read by Beancount 2: it finds no error in them, and holds the same lots and the same plain units
+# (tests/lib/by_beancount.py says what is compared). This is compared only where the machine has Beancount; elsewhere the script says
+# that it is skipped, and its last line is `0 passed, 0 failed`. Each text of tests/cases/ and of examples/ that has no fault, the texts
 # of each session of tests/reports/ and a book of 1,000 trades are posted, and the journal is read as it stands. Left out are books
 # with HIFO, which Beancount 2 doesn't know; tests/beancount.differs names the journals that it judges otherwise, with the reason.
 # The books lie in memory where the machine has room for files there.

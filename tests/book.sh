@@ -170,6 +170,14 @@ if ((status == 4)) && [[ $(<"$scratch/out") == "fault open" ]]; then
 else
     fail "a second post" "status $status, $(head -n 1 "$scratch/out")"
 fi
+exec 9<"$first" # the program and this shell share the place in the file, so a byte that the one reads is gone for the other
+timeout 20 "$program" post --book "$scratch/shared.book" --batch b <&9 >"$scratch/out" 2>"$scratch/err" && status=0 || status=$?
+cat <&9 >"$scratch/unread" && exec 9<&-
+if ((status == 4)) && [[ $(<"$scratch/out") == "fault open" && -s $scratch/err ]] && cmp -s "$first" "$scratch/unread"; then
+    pass "a second post reads no byte of its input"
+else
+    fail "a second post reads no byte of its input" "status $status, $(head -n 1 "$scratch/out"), $(wc -c <"$scratch/unread") bytes left"
+fi
 cat "$first" >&8 && exec 8>&-
 wait && [[ $(<"$scratch/first") == "$accepted" ]] && pass "the first post goes on" || fail "the first post goes on" "$(<"$scratch/first")"
 

@@ -1,10 +1,12 @@
-//! Stops: the log, or the database's file, fails at each of its calls while a book is made and a small ledger is posted.
+//! Stops: the log, or the database's file, fails at each of its calls while a book is made and a small ledger is posted. And a
+//! walk over damaged rows: what it returns after its fault.
 
 use crate::{Served, serve};
+use lot_store::{HandedBack, StoreFault, WalkFault, adopt};
 use lot_words::{Action, Batch, Start};
 use sqlite::{Connection, FileStore, Files, Options};
 use sqlite_disk::{Crash, Fuse, Memory};
-use std::alloc::Global;
+use std::alloc::{AllocError, Global};
 use std::test::Fail;
 
 type Disk = Fuse<Memory>;
@@ -139,5 +141,39 @@ fn a_stop_at_each_call(rt: HostRuntime) -> Result<(), Fail> {
         assert!(rt; is_made);
         assert_eq!(rt; accepted, COMMANDS);
     }
+    Ok(())
+}
+
+#[test]
+fn a_walk_stays_at_its_fault(rt: HostRuntime) -> Result<(), Fail> {
+    let Ok(batch) = Batch::new(rt.alloc(), "a") else {
+        return Err(Fail::from(AllocError));
+    };
+    let post = Action::Post {
+        book: String::new(rt.alloc()),
+        batch,
+        from: Start::at_first(),
+    };
+    let (_, _, left) = stopped(rt.alloc(), &post, Side::Log, u64::MAX)?;
+    let Ok(mut conn) = open(rt.alloc(), left) else {
+        return Err(Fail::from(AllocError));
+    };
+    let damaged = conn.execute("UPDATE entry SET body = 'none' WHERE number = 2", &[]);
+    assert!(rt; matches!(damaged, Ok(1)));
+    conn.set_step_limit(None);
+    if !conn.is_autocommit() {
+        return Err(Fail::from(AllocError));
+    }
+    let mut book = match adopt(rt.alloc(), conn) {
+        Ok(book) => book,
+        Err(HandedBack { fault: _, conn: _ }) => return Err(Fail::from(AllocError)),
+    };
+    let mut journal = book.journal();
+    assert!(rt; matches!(journal.next(), Ok(Some(_))));
+    assert!(rt; matches!(journal.next(), Err(WalkFault::Failed(StoreFault::Damaged))));
+    assert!(rt; matches!(journal.next(), Err(WalkFault::Ended)));
+    assert!(rt; matches!(journal.next(), Err(WalkFault::Ended)));
+    drop(journal);
+    let _conn = book.into_connection();
     Ok(())
 }

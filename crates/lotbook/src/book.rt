@@ -7,7 +7,8 @@ use std::io::Write;
 use std::path::Path;
 use std::{fs, io};
 
-/// The greatest status of an action that may have committed something.
+/// The status of an action that ran to its end, where some of its commands were refused. Where none was the status is 0; that of a
+/// fault is greater.
 const REFUSED: u8 = 1;
 
 /// The status where the file can't be opened, or memory ends.

@@ -64,14 +64,6 @@ total gain 400.00 USD
 }
 
 #[test]
-fn without_a_sale_there_are_no_gains(rt: HostRuntime) -> Result<(), Fail> {
-    let mut written = Vec::new(rt.alloc());
-    Gains::new(rt.alloc()).end(&mut written)?;
-    assert_eq!(rt; written.as_slice(), b"no gains\n".as_slice());
-    Ok(())
-}
-
-#[test]
 fn past_the_largest_total_a_report_is_spent(rt: HostRuntime) -> Result<(), Fail> {
     let alloc = rt.alloc();
     let none = lot(alloc, "2020-01-01", "0")?;

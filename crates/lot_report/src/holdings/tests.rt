@@ -49,61 +49,23 @@ fn plain(alloc: Global, account: &str, units: &str) -> Result<ValuedHolding, Fai
     })
 }
 
-/// Two purchases, valued, and what they cost.
-fn purchases(alloc: Global, valuation: Valuation) -> Result<Vec<u8>, Fail> {
+#[test]
+fn rows_stand_above_what_the_lots_cost(rt: HostRuntime) -> Result<(), Fail> {
+    let alloc = rt.alloc();
+    let older = lot_of(alloc, "10", "100", "2020-01-01", Valuation::Unasked)?;
+    let newer = lot_of(alloc, "10", "120", "2020-02-01", Valuation::Unasked)?;
     let mut holdings = Holdings::new(alloc);
     let mut written = Vec::new(alloc);
-    let older = lot_of(alloc, "10", "100", "2020-01-01", valuation)?;
-    let newer = lot_of(alloc, "10", "120", "2020-02-01", valuation)?;
     holdings.row(&older, &mut written)?;
     holdings.row(&newer, &mut written)?;
     holdings.row(&plain(alloc, "Equity:Start", "-2200")?, &mut written)?;
     holdings.end(&mut written)?;
-    Ok(written)
-}
-
-#[test]
-fn rows_stand_above_what_the_lots_cost(rt: HostRuntime) -> Result<(), Fail> {
     let want = b"Assets:Broker 10 HOOL {100 USD, 2020-01-01}
 Assets:Broker 10 HOOL {120 USD, 2020-02-01}
 Equity:Start -2200.00 USD
 total cost 2200.00 USD
 ";
-    let written = purchases(rt.alloc(), Valuation::Unasked)?;
     assert_eq!(rt; written.as_slice(), want.as_slice());
-    Ok(())
-}
-
-#[test]
-fn a_lot_with_a_price_has_its_value(rt: HostRuntime) -> Result<(), Fail> {
-    let want = b"Assets:Broker 10 HOOL {100 USD, 2020-01-01} value 1260.00 USD
-Assets:Broker 10 HOOL {120 USD, 2020-02-01} value 1260.00 USD
-Equity:Start -2200.00 USD
-total cost 2200.00 USD
-total value 2520.00 USD
-";
-    let written = purchases(rt.alloc(), Valuation::At(Rate::parse("126")?))?;
-    assert_eq!(rt; written.as_slice(), want.as_slice());
-    Ok(())
-}
-
-#[test]
-fn without_a_price_there_is_no_value_and_no_total_of_values(rt: HostRuntime) -> Result<(), Fail> {
-    let want = b"Assets:Broker 10 HOOL {100 USD, 2020-01-01} value none
-Assets:Broker 10 HOOL {120 USD, 2020-02-01} value none
-Equity:Start -2200.00 USD
-total cost 2200.00 USD
-";
-    let written = purchases(rt.alloc(), Valuation::Missing)?;
-    assert_eq!(rt; written.as_slice(), want.as_slice());
-    Ok(())
-}
-
-#[test]
-fn of_no_row_it_is_said_that_nothing_is_held(rt: HostRuntime) -> Result<(), Fail> {
-    let mut written = Vec::new(rt.alloc());
-    Holdings::new(rt.alloc()).end(&mut written)?;
-    assert_eq!(rt; written.as_slice(), b"nothing held\n".as_slice());
     Ok(())
 }
 
