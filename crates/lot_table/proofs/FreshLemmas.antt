@@ -1,5 +1,5 @@
--- Tables that are made one after another in a database of known tables: they are refused by the disk or when out of memory,
--- but for no other cause.
+-- Tables that are made one after another in a database of known tables: only a disk that fails, or memory that is out, refuses
+-- them.
 use Rattle.std.proofs.Common.{◌≡◌, ◌≢◌, ◌⊎◌, inl, inr, ℕ, ◌+◌, ◌*◌, ◌^◌, ◌<◌, ◌≤◌, true, false, ltb, Option, Some, None, Ok, Err, List, [], ◌∷◌, ◌++◌, length, codes, sym, ap, subst, ◌∙◌, true≢false, arith, IsTrue, IsUtf8}
 use Rattle.std.proofs.lemmas.Bool.{and_parts}
 use Rattle.std.proofs.lemmas.Bool.Decides.{nat_tests}

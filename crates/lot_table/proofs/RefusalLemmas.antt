@@ -1,4 +1,4 @@
--- A query of one table of a book is refused when out of memory, and by the disk, but for no other cause.
+-- A query of one table of a book is refused where memory is out or the disk fails, and for no other cause.
 use Rattle.std.proofs.Common.{◌≡◌, ◌≢◌, ◌⊎◌, inl, inr, ℕ, ◌≤◌, true, false, true≢false, Option, None, IsSome, Ok, Err, Result, List, [], length, All, map, append-nil, sym, ap, subst, ◌∙◌}
 use Rattle.sqlite.specs.Clock.{timed}
 use Rattle.sqlite.specs.Command.TheVariants.{Select, Rows}

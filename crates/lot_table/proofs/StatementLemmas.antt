@@ -86,7 +86,7 @@ pub record IsDelete {B X : Type 0} (layout : Layout B) (t : BookTable B X) (is :
 
 -- ---- why a change fails
 
--- the store fails for the disk, when out of memory, or since the change is too big
+-- the store fails for the disk, since memory is out, or since the change is too big
 pub failed_as : (old new : State) (big : Type 0) (e : Error) → Fails old new big e → (fault_of e ≡ Damaged → ⊥) × (fault_of e ≡ Device → DiskFailed old new ⊎ big)
 failed_as old new big e (store.OutOfMemory, is, cause, undone, told) = let same = ap fault_of is in (λ damaged. absurd cc, λ device. absurd cc)
 failed_as old new big e (store.Io, is, cause, undone, told) = let same = ap fault_of is in (λ damaged. absurd cc, λ device. inl (inl cause))
