@@ -113,16 +113,21 @@ fn resent(alloc: Global, post: &Action, left: Files<Disk>) -> Vec<u8> {
     }
 }
 
-#[test]
-fn a_stop_at_each_call(rt: HostRuntime) -> Result<(), Fail> {
-    let Ok(batch) = Batch::new(rt.alloc(), "a") else {
-        return Err(Fail::from(std::alloc::AllocError));
+/// A post of the ledger to a new batch.
+fn posting(alloc: Global) -> Result<Action, Fail> {
+    let Ok(batch) = Batch::new(alloc, "a") else {
+        return Err(Fail::from(AllocError));
     };
-    let post = Action::Post {
-        book: String::new(rt.alloc()),
+    Ok(Action::Post {
+        book: String::new(alloc),
         batch,
         from: Start::at_first(),
-    };
+    })
+}
+
+#[test]
+fn a_stop_at_each_call(rt: HostRuntime) -> Result<(), Fail> {
+    let post = posting(rt.alloc())?;
     for side in [Side::Log, Side::Database] {
         for calls in 0..CALLS {
             let (is_made, accepted, left) = stopped(rt.alloc(), &post, side, calls)?;
@@ -146,14 +151,7 @@ fn a_stop_at_each_call(rt: HostRuntime) -> Result<(), Fail> {
 
 #[test]
 fn a_walk_stays_at_its_fault(rt: HostRuntime) -> Result<(), Fail> {
-    let Ok(batch) = Batch::new(rt.alloc(), "a") else {
-        return Err(Fail::from(AllocError));
-    };
-    let post = Action::Post {
-        book: String::new(rt.alloc()),
-        batch,
-        from: Start::at_first(),
-    };
+    let post = posting(rt.alloc())?;
     let (_, _, left) = stopped(rt.alloc(), &post, Side::Log, u64::MAX)?;
     let Ok(mut conn) = open(rt.alloc(), left) else {
         return Err(Fail::from(AllocError));

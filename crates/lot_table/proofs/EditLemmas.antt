@@ -1,5 +1,5 @@
 -- Why an edit of a table is refused, whatever the table is: one that takes rows out never, and one that puts a row in for
--- want of room alone.
+-- lack of room alone.
 use Rattle.std.proofs.Common.{◌≡◌, ◌≢◌, ◌⊎◌, inl, inr, ℕ, zero, suc, ℤ, nat_lt, Bool, true, false, not, ◌&&◌, cond, Option, None, Some, option_map, Result, Err, List, [], ◌∷◌, length, length-append, refl, sym, ap, subst, ◌∙◌, true≢false, eqb, eq-eqb, eqb-true, arith}
 use Rattle.std.proofs.lemmas.Bool.{and_parts, and_from, or_right, not_from_false, false_from_ne_true, cases_Bool}
 use Rattle.std.proofs.lemmas.Cmp.{tied_itself}
@@ -162,7 +162,7 @@ module _ (schema : Schema) (table : declared.Table) (free : IsFree schema table)
       puts_in BadReference h = absurd (true≢false (sym (fitting true false) ∙ h))
       puts_in TooDeep h = absurd h
 
-      -- so it stops for want of room alone
+      -- so it stops for lack of room alone
       pub stops_put : cast_row table new ≡ new → (stop : Option Error) → Edited schema Enforced db (edit_of db table [] Given 0 (new ∷ [])) (Err stop) → StopsPut schema table id row stop
       stops_put casts stop h = elim (stopped db [] (new ∷ []) stop h) [
         | inl refused ↦

@@ -1,4 +1,4 @@
--- Why INSERT OR REPLACE of one row and DELETE are refused, whatever the table is: for want of room alone.
+-- Why INSERT OR REPLACE of one row and DELETE are refused, whatever the table is: for lack of room alone.
 use Rattle.std.proofs.Common.{IsSome, ◌≡◌, ◌⊎◌, inl, inr, ℕ, ◌/◌, ℤ, Bool, true, false, not, cond, Option, None, Some, Err, List, [], ◌∷◌, filter, length, refl, sym, ap, subst, ◌∙◌, MatchBool, true≢false, is_lt, int_cmp}
 use Rattle.std.proofs.lemmas.Bool.{false_from_ne_true}
 use Rattle.sqlite.specs.Command.TheVariants.{InsertOr}
