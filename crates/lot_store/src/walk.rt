@@ -55,8 +55,8 @@ enum Stage {
     Ended,
 }
 
-/// A walk over rows of a book, which it borrows. It holds a page of rows at most, and it may be dropped at any row: that
-/// changes nothing.
+/// A walk over rows of a book, which it borrows. It holds a page of rows at a time; beside these one over the holdings holds
+/// all plain units, and one over the gains the legs of a sale. It may be dropped at any row: that changes nothing.
 pub struct Walk<'a, S: Alter, P> {
     book: &'a mut Book<S>,
     place: P,
