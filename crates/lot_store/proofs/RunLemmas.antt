@@ -22,7 +22,7 @@ use Rattle.lot_report.specs.declared.line.PrintFault.TheVariants.{Write, Memory 
 use Rattle.lot_rows.specs.Tables.{layout}
 use Rattle.lot_table.specs.Book.{Holds}
 use Rattle.lot_store.specs.Apply.{AppliesWith, MayAdd, StandsWith, condition_after, ready_of, verdict_of}
-use Rattle.lot_store.specs.Run.{AppendsSome, FlushesLine, LeavesAtAnswer, LeavesAtFault, LeavesAtVerdict, RepliesTo, RunsBook, StopsWith, WritesOut, answer_line, count_refused, fault_line, told}
+use Rattle.lot_store.specs.Run.{AppendsSome, FlushesLine, LeavesAfter, LeavesAtAnswer, LeavesAtFault, LeavesAtVerdict, RepliesTo, Runs, RunsBook, StopsWith, WritesEnd, WritesOut, answer_line, count_refused, fault_line, told}
 use Rattle.lot_store.specs.Session.{JudgesKeyed, LeavesEntry, LeavesFirst, LeavesJudged, LeavesNext, Session}
 use Rattle.lot_store.specs.declared.book.Ack.{Ack}
 use Rattle.lot_store.specs.declared.book.Ack.TheVariants as ack
@@ -292,52 +292,36 @@ module _ (Kept KeptThen : List Entry → Type 0) (commands : List (Key × Comman
       at_verdict (Err (apply.Refused refusal)) (Refused refusal) refl applies safe clean book there
   at_answer (Err (apply.Failed fault)) applies usable safe clean book there was = at_fault fault applies (λ spent. usable (ap (λ (f : StoreFault). Err (apply.Failed f)) spent)) clean book there was
 
+  -- what was written up to the end, and what stands then
+  ends_so : (answer : Result Ack ApplyFault) (ending : Ending) → AppliesWith Kept KeptThen next.0 next.1 now new answer → WritesEnd from so.verdicts answer ending before written
+      → (HasCleanDisk new → (book : List Entry) → StandsWith Kept now book → ((trees : Trees) → now.may_leave trees → LeavesJudged old.may_leave so.verdicts book trees)
+      → LeavesAfter so.verdicts book (next ∷ drop (index + 1) commands) old new answer ending)
+      → Runs commands from old new before written answer (record { replied = index; refused = refused; ending = ending })
+  ends_so answer ending applies lines leaves = record {
+    verdicts = so.verdicts;
+    writes = record { replied = so.counted; refused = so.refusals; lines = lines };
+    session = λ clean entries stands.
+        let was = so.judged (omega (arith, clean, applies.crash.clean)) entries stands in
+        (was.0, next ∷ drop (index + 1) commands, session entries was.0 was.1, leaves clean was.0 was.2 was.3);
+    crash = first answer applies;
+  }
+
   pub run_ends : (ending : Ending) (condition : Condition) → RepliesTo Kept KeptThen next.0 next.1 number now new mid written condition (Err ending)
       → (IsTrue new.is_open → (trees : Trees) → new.may_leave trees → trees ≡ new.committed.trees)
       → RunsBook commands from old new before written condition (record { replied = index; refused = refused; ending = ending })
-  run_ends ending condition (answer, applies, usable, after, inl (fault, is, stopped, printed)) safe = (
+  run_ends ending condition (answer, applies, usable, after, inl (fault, is, stopped, printed)) safe = rw stopped (
     answer,
-    record {
-      verdicts = so.verdicts;
-      writes = record {
-        replied = so.counted;
-        refused = so.refusals;
-        lines = rw stopped (subst (λ n. Appends before written (replies from so.verdicts ++ fault_line n fault)) count (Appends-trans before mid written _ _ so.lines printed));
-      };
-      session = λ clean entries stands.
-          let was = so.judged (omega (arith, clean, applies.crash.clean)) entries stands in (
-            was.0,
-            next ∷ drop (index + 1) commands,
-            session entries was.0 was.1,
-            rw stopped (at_fault fault (subst (AppliesWith Kept KeptThen next.0 next.1 now new) is applies) (λ spent. usable (is ∙ ap (λ (f : StoreFault). Err (apply.Failed f)) spent)) clean was.0 was.2 was.3),
-          );
-      crash = first answer applies;
-    },
-    rw stopped (after ∙ ap condition_after is),
+    ends_so answer (Stopped fault) applies
+        (subst (λ n. Appends before written (replies from so.verdicts ++ fault_line n fault)) count (Appends-trans before mid written _ _ so.lines printed))
+        (at_fault fault (subst (AppliesWith Kept KeptThen next.0 next.1 now new) is applies) (λ spent. usable (is ∙ ap (λ (f : StoreFault). Err (apply.Failed f)) spent))),
+    after ∙ ap condition_after is,
   )
-  run_ends ending condition (answer, applies, usable, after, inr (cut, part)) safe = (
+  run_ends ending condition (answer, applies, usable, after, inr (cut, part)) safe = rw cut (
     answer,
-    record {
-      verdicts = so.verdicts;
-      writes = record {
-        replied = so.counted;
-        refused = so.refusals;
-        lines = rw cut (
-          part.0,
-          subst (λ n. IsPrefixOf part.0 (answer_line n answer)) count part.1,
-          Appends-trans before mid written _ _ so.lines part.2,
-        );
-      };
-      session = λ clean entries stands.
-          let was = so.judged (omega (arith, clean, applies.crash.clean)) entries stands in (
-            was.0,
-            next ∷ drop (index + 1) commands,
-            session entries was.0 was.1,
-            rw cut (at_answer answer applies usable safe clean was.0 was.2 was.3),
-          );
-      crash = first answer applies;
-    },
-    rw cut after,
+    ends_so answer Output applies
+        (part.0, subst (λ n. IsPrefixOf part.0 (answer_line n answer)) count part.1, Appends-trans before mid written _ _ so.lines part.2)
+        (at_answer answer applies usable safe),
+    after,
   )
 
 -- ---- the run ends behind all commands, or before any
