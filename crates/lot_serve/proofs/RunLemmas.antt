@@ -74,6 +74,7 @@ pub runs_after_look : (commands : List (Key × Command)) (from : ℕ) (old mid n
 runs_after_look commands from old mid new before written answer end same look ran = record {
   verdicts = ran.verdicts;
   writes = ran.writes;
+  place = ran.place;
   session = λ clean entries stands.
       let calm : HasCleanDisk mid = omega (arith, clean, ran.crash.clean) in
       let on = ran.session clean entries (stands_along old mid entries (same calm).0.now_is stands) in (
@@ -90,10 +91,10 @@ runs_after_look commands from old mid new before written answer end same look ra
 }
 
 -- commands are run on the book that was taken up
-pub runs_on : (commands : List (Key × Command)) (from : ℕ) (old mid new : State) (before written : Option (List ℕ)) (condition : Condition) (end : RunEnd) (status : ℕ)
+pub runs_on : (commands : List (Key × Command)) (from : ℕ) (old mid new : State) (before written : Option (List ℕ)) (was condition : Condition) (end : RunEnd) (status : ℕ)
     → (HasCleanDisk mid → (tables : Tables) → Has old tables → Tells tables.book (Ok tt)) → (HasCleanDisk mid → IsUnchanged old mid) → Survives old mid (λ _. ⊥)
-    → RunsBook commands from mid new before written condition end → status ≡ code_of (status_of_run end) → RunsOn commands from old new before written status
-runs_on commands from old mid new before written condition end status found same look (answer, ran, known) is =
+    → RunsBook commands from mid new before written was condition end → status ≡ code_of (status_of_run end) → RunsOn commands from old new before written status
+runs_on commands from old mid new before written was condition end status found same look (answer, ran, usable, known) is =
     inl (answer, end, (λ clean. found (omega (arith, clean, ran.crash.clean))), runs_after_look commands from old mid new before written answer end same look ran, is)
 
 -- the book isn't taken up

@@ -22,7 +22,7 @@ use Rattle.lot_report.specs.declared.line.PrintFault.TheVariants.{Write, Memory 
 use Rattle.lot_rows.specs.Tables.{layout}
 use Rattle.lot_table.specs.Book.{Holds}
 use Rattle.lot_store.specs.Apply.{AppliesWith, MayAdd, StandsWith, condition_after, ready_of, verdict_of}
-use Rattle.lot_store.specs.Run.{AppendsSome, FlushesLine, LeavesAfter, LeavesAtAnswer, LeavesAtFault, LeavesAtVerdict, RepliesTo, Runs, RunsBook, StopsWith, WritesEnd, WritesOut, answer_line, count_refused, fault_line, told}
+use Rattle.lot_store.specs.Run.{AppendsSome, EndsBehind, FlushesLine, LeavesAfter, LeavesAtAnswer, LeavesAtFault, LeavesAtVerdict, RepliesTo, Runs, RunsBook, StopsWith, WritesEnd, WritesOut, answer_line, count_refused, fault_line, told}
 use Rattle.lot_store.specs.Session.{JudgesKeyed, LeavesEntry, LeavesFirst, LeavesJudged, LeavesNext, Session}
 use Rattle.lot_store.specs.declared.book.Ack.{Ack}
 use Rattle.lot_store.specs.declared.book.Ack.TheVariants as ack
@@ -292,35 +292,42 @@ module _ (Kept KeptThen : List Entry → Type 0) (commands : List (Key × Comman
       at_verdict (Err (apply.Refused refusal)) (Refused refusal) refl applies safe clean book there
   at_answer (Err (apply.Failed fault)) applies usable safe clean book there was = at_fault fault applies (λ spent. usable (ap (λ (f : StoreFault). Err (apply.Failed f)) spent)) clean book there was
 
+  here : length so.verdicts < length commands
+  here = omega (arith, within, so.counted)
+
   -- what was written up to the end, and what stands then
   ends_so : (answer : Result Ack ApplyFault) (ending : Ending) → AppliesWith Kept KeptThen next.0 next.1 now new answer → WritesEnd from so.verdicts answer ending before written
+      → EndsBehind (length commands) (length so.verdicts) answer ending
       → (HasCleanDisk new → (book : List Entry) → StandsWith Kept now book → ((trees : Trees) → now.may_leave trees → LeavesJudged old.may_leave so.verdicts book trees)
       → LeavesAfter so.verdicts book (next ∷ drop (index + 1) commands) old new answer ending)
       → Runs commands from old new before written answer (record { replied = index; refused = refused; ending = ending })
-  ends_so answer ending applies lines leaves = record {
+  ends_so answer ending applies lines place leaves = record {
     verdicts = so.verdicts;
     writes = record { replied = so.counted; refused = so.refusals; lines = lines };
+    place = place;
     session = λ clean entries stands.
         let was = so.judged (omega (arith, clean, applies.crash.clean)) entries stands in
         (was.0, next ∷ drop (index + 1) commands, session entries was.0 was.1, leaves clean was.0 was.2 was.3);
     crash = first answer applies;
   }
 
-  pub run_ends : (ending : Ending) (condition : Condition) → RepliesTo Kept KeptThen next.0 next.1 number now new mid written condition (Err ending)
+  pub run_ends : (ending : Ending) (was condition : Condition) → RepliesTo Kept KeptThen next.0 next.1 number now new mid written condition (Err ending)
       → (IsTrue new.is_open → (trees : Trees) → new.may_leave trees → trees ≡ new.committed.trees)
-      → RunsBook commands from old new before written condition (record { replied = index; refused = refused; ending = ending })
-  run_ends ending condition (answer, applies, usable, after, inl (fault, is, stopped, printed)) safe = rw stopped (
+      → RunsBook commands from old new before written was condition (record { replied = index; refused = refused; ending = ending })
+  run_ends ending was condition (answer, applies, usable, after, inl (fault, is, stopped, printed)) safe = rw stopped (
     answer,
     ends_so answer (Stopped fault) applies
-        (subst (λ n. Appends before written (replies from so.verdicts ++ fault_line n fault)) count (Appends-trans before mid written _ _ so.lines printed))
+        (subst (λ n. Appends before written (replies from so.verdicts ++ fault_line n fault)) count (Appends-trans before mid written _ _ so.lines printed)) (inl here)
         (at_fault fault (subst (AppliesWith Kept KeptThen next.0 next.1 now new) is applies) (λ spent. usable (is ∙ ap (λ (f : StoreFault). Err (apply.Failed f)) spent))),
+    λ ready. usable,
     after ∙ ap condition_after is,
   )
-  run_ends ending condition (answer, applies, usable, after, inr (cut, part)) safe = rw cut (
+  run_ends ending was condition (answer, applies, usable, after, inr (cut, part)) safe = rw cut (
     answer,
     ends_so answer Output applies
-        (part.0, subst (λ n. IsPrefixOf part.0 (answer_line n answer)) count part.1, Appends-trans before mid written _ _ so.lines part.2)
+        (part.0, subst (λ n. IsPrefixOf part.0 (answer_line n answer)) count part.1, Appends-trans before mid written _ _ so.lines part.2) (inl here)
         (at_answer answer applies usable safe),
+    λ ready. usable,
     after,
   )
 
@@ -330,14 +337,15 @@ take_all : {X : Type 0} (xs : List X) → take (length xs) xs ≡ xs
 take_all [] = refl
 take_all (x ∷ xs) = ap (λ ys. x ∷ ys) (take_all xs)
 
-pub run_completes : (Kept : List Entry → Type 0) (commands : List (Key × Command)) (from refused : ℕ) (old new : State) (before written : Option (List ℕ)) (condition : Condition)
+pub run_completes : (Kept : List Entry → Type 0) (commands : List (Key × Command)) (from refused : ℕ) (old new : State) (before written : Option (List ℕ)) (was condition : Condition)
     → SoFar Kept commands from (length commands) refused old new before written → condition ≡ Ready
-    → RunsBook commands from old new before written condition (record { replied = length commands; refused = refused; ending = Complete })
-run_completes Kept commands from refused old new before written condition so ready = (
+    → RunsBook commands from old new before written was condition (record { replied = length commands; refused = refused; ending = Complete })
+run_completes Kept commands from refused old new before written was condition so ready = (
   Ok ack.Accepted,
   record {
     verdicts = so.verdicts;
     writes = record { replied = so.counted; refused = so.refusals; lines = so.lines };
+    place = sym so.counted;
     session = λ clean entries stands.
         let was = so.judged clean entries stands in (
           was.0,
@@ -347,20 +355,23 @@ run_completes Kept commands from refused old new before written condition so rea
         );
     crash = so.crash;
   },
+  λ usable is. absurd cc,
   ready,
 )
 
 pub run_needs_reopening : (commands : List (Key × Command)) (from : ℕ) (old : State) (before written : Option (List ℕ)) (ending : Ending) (condition : Condition)
     → StopsWith from NeedsReopen before written ending → condition ≡ Spent
-    → RunsBook commands from old old before written condition (record { replied = 0; refused = 0; ending = ending })
+    → RunsBook commands from old old before written condition condition (record { replied = 0; refused = 0; ending = ending })
 run_needs_reopening commands from old before written ending condition (inl (is, printed)) spent = (
   Err (apply.Failed NeedsReopen),
   record {
     verdicts = [];
     writes = record { replied = refl; refused = refl; lines = rw is (subst (λ n. Appends before written ([] ++ fault_line n NeedsReopen)) (zero-on from) printed) };
+    place = rw is (inr (refl, refl));
     session = λ clean entries stands. (entries, commands, record { done = []; split = refl; judged = refl }, rw is (refl, stands, λ trees may. inr (tt, may)));
     crash = survives_same old _;
   },
+  λ ready. let both = sym ready ∙ spent in absurd cc,
   rw is spent,
 )
   where
@@ -375,9 +386,11 @@ run_needs_reopening commands from old before written ending condition (inr (is, 
       refused = refl;
       lines = rw is (part.0, subst (λ n. IsPrefixOf part.0 (fault_line n NeedsReopen)) (zero-on from) part.1, part.2);
     };
+    place = rw is (inr (refl, refl));
     session = λ clean entries stands. (entries, commands, record { done = []; split = refl; judged = refl }, rw is (refl, stands, λ trees may. inr (tt, may)));
     crash = survives_same old _;
   },
+  λ ready. let both = sym ready ∙ spent in absurd cc,
   rw is spent,
 )
   where

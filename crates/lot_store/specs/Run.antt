@@ -1,6 +1,6 @@
 -- What a run of commands on a book writes, and what it leaves.
 use Rattle.std.specs.Io.KnownBytes.{Appends}
-use Rattle.std.specs.Prelude.{◌≡◌, ◌≢◌, ◌⊎◌, ℕ, ◌+◌, suc, IsTrue, List, [], ◌∷◌, ◌++◌, length, codes, decimal, Option, Result, Ok, Err}
+use Rattle.std.specs.Prelude.{◌≡◌, ◌≢◌, ◌⊎◌, ℕ, ◌+◌, ◌<◌, suc, IsTrue, List, [], ◌∷◌, ◌++◌, length, codes, decimal, Option, Result, Ok, Err}
 use Rattle.sqlite.specs.State.{HasCleanDisk, State, Survives}
 use Rattle.sqlite.specs.Tree.{Trees}
 use Rattle.lot_command.specs.declared.command.Command.{Command}
@@ -123,6 +123,16 @@ pub record Writes (from : ℕ) (verdicts : List Verdict) (answer : Result Ack Ap
   pub refused : end.refused ≡ count_refused verdicts
   pub lines : WritesEnd from verdicts answer end.ending old new
 
+-- a run ends at the command behind those that were replied to; before any only where the book needs reopening
+abbrev pub IsAtCommand : ℕ → ℕ → Result Ack ApplyFault → Type 0
+IsAtCommand commands replied answer = (replied < commands) ⊎ ((answer ≡ Err (apply.Failed NeedsReopen)) × (replied ≡ 0))
+
+-- where a run of so many commands ends: behind the last of them, or at the one that has the answer
+abbrev pub EndsBehind : ℕ → ℕ → Result Ack ApplyFault → Ending → Type 0
+EndsBehind commands replied answer Complete = replied ≡ commands
+EndsBehind commands replied answer (Stopped fault) = IsAtCommand commands replied (Err (apply.Failed fault))
+EndsBehind commands replied answer Output = IsAtCommand commands replied answer
+
 -- what stands after a run whose next command came to a fault, and what a crash may leave
 abbrev pub LeavesAtFault : StoreFault → List Verdict → List Entry → List (Key × Command) → State → State → Type 0
 LeavesAtFault Device verdicts book left old new =
@@ -160,6 +170,7 @@ LeavesAfter verdicts book left old new answer Output = LeavesAtAnswer answer ver
 pub record Runs (commands : List (Key × Command)) (from : ℕ) (old new : State) (before written : Option (List ℕ)) (answer : Result Ack ApplyFault) (end : RunEnd) : Type 0 where
   pub verdicts : List Verdict
   pub writes : Writes from verdicts answer end before written
+  pub place : EndsBehind (length commands) (length verdicts) answer end.ending
   pub session : HasCleanDisk new → (entries : List Entry) → Stands old entries
       → (book : List Entry) × (left : List (Key × Command)) × Session entries commands verdicts book left
       × LeavesAfter verdicts book left old new answer end.ending
@@ -179,7 +190,9 @@ IsConditionAfter answer Complete condition = condition ≡ Ready
 IsConditionAfter answer (Stopped fault) condition = condition ≡ condition_after (Err (apply.Failed fault))
 IsConditionAfter answer Output condition = condition ≡ condition_after answer
 
--- a run of commands on a book, and the condition of the book then
-abbrev pub RunsBook : List (Key × Command) → ℕ → State → State → Option (List ℕ) → Option (List ℕ) → Condition → RunEnd → Type 0
-RunsBook commands from old new before written condition end =
-    (answer : Result Ack ApplyFault) × Runs commands from old new before written answer end × IsConditionAfter answer end.ending condition
+-- A run of commands on a book in the first condition, which has the second one then. A book that was ready never answers that
+-- it needs reopening.
+abbrev pub RunsBook : List (Key × Command) → ℕ → State → State → Option (List ℕ) → Option (List ℕ) → Condition → Condition → RunEnd → Type 0
+RunsBook commands from old new before written was condition end =
+    (answer : Result Ack ApplyFault) × Runs commands from old new before written answer end
+    × (was ≡ Ready → answer ≢ Err (apply.Failed NeedsReopen)) × IsConditionAfter answer end.ending condition

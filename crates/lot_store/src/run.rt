@@ -52,7 +52,7 @@ impl<S: Alter> Book<S> {
     ) -> RunEnd
         requires { length commands.now + from < 2 ^ 64 }
         ensures runs { RunsBook commands.now from (state S.Store self.old.conn) (state S.Store self.new.conn)
-            (W.contents writer.old) (W.contents writer.new) self.new.condition result }
+            (W.contents writer.old) (W.contents writer.new) self.old.condition self.new.condition result }
         ensures spent { self.old.condition ≡ Condition.NeedsReopen
             → StopsAtOnce from result (W.contents writer.old) (W.contents writer.new) × (self.new ≡ self.old) }
         ensures usable { self.old.condition ≡ Condition.Ready → result.ending ≢ Stopped StoreFault.NeedsReopen }

@@ -31,7 +31,7 @@ returns-in-Err-reply g c = record {
   usable = λ ready. reply_usable (IsOf c.commands.kept) (IsOf c.reply.new.kept) _ _ (c.args.from + c.commands.index) (state g.S.Store c.commands.self.conn) (state g.S.Store c.reply.new.self.conn) _ _ c.reply.new.self.condition c.in-Err-reply.ending c.in-Err-reply.ensures.replies;
   runs = run_ends (IsOf c.commands.kept) (IsOf c.reply.new.kept) c.args.commands.now c.args.from c.commands.index c.commands.refused (c.args.from + c.commands.index) (state g.S.Store c.args.self.now.conn) (state g.S.Store c.commands.self.conn)
       (state g.S.Store c.reply.new.self.conn) _ _ _ c.commands.invariant.0 c.index-commands-index.result _ c.index-commands-index.is c.commands-test.true refl c.in-Err-reply.ending
-      c.reply.new.self.condition c.in-Err-reply.ensures.replies c.reply.ensures.safe;
+      c.args.self.now.condition c.reply.new.self.condition c.in-Err-reply.ensures.replies c.reply.ensures.safe;
 }
 
 pub commands-preserved : goal.commands-preserved
@@ -49,7 +49,7 @@ returns g c =
     record {
       spent = λ is. let both = sym is ∙ ready_ok c.args.self.now.condition (sym c.ready.ensures ∙ c.in_default.is) in absurd cc;
       usable = λ ready complete. absurd cc;
-      runs = run_completes (IsOf c.commands.kept) c.args.commands.now c.args.from c.commands.refused (state g.S.Store c.args.self.now.conn) (state g.S.Store c.commands.self.conn) _ _ c.commands.self.condition
+      runs = run_completes (IsOf c.commands.kept) c.args.commands.now c.args.from c.commands.refused (state g.S.Store c.args.self.now.conn) (state g.S.Store c.commands.self.conn) _ _ c.args.self.now.condition c.commands.self.condition
           (subst (λ n. SoFar (IsOf c.commands.kept) c.args.commands.now c.args.from n c.commands.refused (state g.S.Store c.args.self.now.conn) (state g.S.Store c.commands.self.conn) (g.W.Write.contents c.args.writer.now) (g.W.Write.contents c.commands.writer)) all c.commands.invariant.0)
           c.commands.invariant.1;
     }
