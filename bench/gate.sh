@@ -1,12 +1,17 @@
 #!/usr/bin/env bash
-# What a run of ./test costs, in processor minutes: for each crate its proofs, its tests and its must-fail edits.
+# What a run of ./test costs, in processor minutes and by the clock: for each crate its proofs, its tests and its must-fail edits; then
+# the scripts.
 #
 #   bench/gate.sh        runs ./test, keeps its output and what it cost in bench/out/gate.log, and prints the table
 #   bench/gate.sh LOG    prints the table of such a log
 #
+# What earlier runs on this machine passed is taken over by the gate: only where nothing was kept is it a run from nothing. As
+# `taskset -c 0,1 bench/gate.sh` it runs on two processors.
+#
 # The gate prints no times. So while it runs, the processor time of each process of the prover is read from /proc, five times
 # a second, with the crate and the kind of work that its command line and its folder name. The total is that of the shell's
-# `time`; what the table leaves to the line `rest` is linking, the scripts of tests/, and the last moments of each process.
+# `time`; what the table leaves to the line `linking, runs` is the rest of the kit's gate: linking, the runs of tests and programs, and the
+# last moments of each process.
 set -u -o pipefail
 
 cd "$(dirname "$(readlink -f "${BASH_SOURCE[0]}")")/.." || exit 1
@@ -56,7 +61,8 @@ table() {
             spent[$2, $3] += $4; of_crate[$2] += $4; of_kind[$3] += $4; sum += $4
             if (!($2 in seen)) { seen[$2] = 1; crates[++count] = $2 }
         }
-        $1 == "total" && NF == 3 { wall = $2; total = $3 }
+        $1 == "kit" && NF == 3 { of_kit_wall = $2; of_kit_total = $3 }
+        $1 == "total" && NF == 4 { wall = $2; total = $3; processors = $4; is_whole = 1 }
         $1 == "rt:" && $2 == "must-fail" { split($3, it, "/"); edits[it[1]]++; all_edits++ }
         /^[0-9]+ passed, [0-9]+ failed$/ { last = $0 }
         END {
@@ -71,10 +77,12 @@ table() {
             }
             printf form, "all", minutes(of_kind["proofs"]), minutes(of_kind["tests"]), minutes(of_kind["edits"]), minutes(sum),
                 all_edits + 0, all_edits ? sprintf("%.1f", of_kind["edits"] / all_edits) : "-"
-            if (total) {
-                printf form, "rest", "", "", "", minutes(total - sum), "", ""
+            if (is_whole) {
+                printf form, "linking, runs", "", "", "", minutes(of_kit_total - sum), "", ""
+                printf form, "scripts", "", "", "", minutes(total - of_kit_total), "", ""
                 printf form, "total", "", "", "", minutes(total), "", ""
-                printf "%s minutes by the clock; %s\n", minutes(wall), last
+                printf "%s minutes by the clock on %d processors, %s of them for the scripts; %s\n",
+                    minutes(wall), processors, minutes(wall - of_kit_wall), last
             }
         }' "$1"
 }
@@ -87,17 +95,36 @@ fi
 mkdir -p bench/out && scratch=$(mktemp -d) || exit 1
 trap 'rm -rf "$scratch"' EXIT
 log=bench/out/gate.log
+ticks=$(getconf CLK_TCK)
+
+# Writes this call's standard input to the log; when the first script begins, what the kit's gate took, `kit WALL SECONDS`, into a file.
+listen() {
+    local line begun stat fields
+    begun=$(date +%s%N)
+    while IFS= read -r line; do
+        if [[ $line == "== ./tests/"* && ! -e $scratch/kit ]]; then
+            stat=$(<"/proc/$(<"$scratch/session")/stat")
+            read -ra fields <<<"${stat##*) }"
+            awk -v ns=$(($(date +%s%N) - begun)) -v spent=$((fields[13] + fields[14])) -v ticks="$ticks" \
+                'BEGIN { printf "kit %.1f %.1f\n", ns / 1e9, spent / ticks }' >"$scratch/kit"
+        fi
+        printf '%s\n' "$line"
+    done >"$log"
+}
+
+mkfifo "$scratch/said" || exit 1
+listen <"$scratch/said" &
 watch "$scratch" >"$scratch/costs" &
 TIMEFORMAT='%R %U %S'
 {
-    time setsid -w bash -c 'echo $$ >"$1/begun" && mv "$1/begun" "$1/session" && exec ./test' _ "$scratch" </dev/null >"$log" 2>&1
+    time setsid -w bash -c 'echo $$ >"$1/begun" && mv "$1/begun" "$1/session" && exec ./test' _ "$scratch" </dev/null >"$scratch/said" 2>&1
 } 2>"$scratch/time"
 status=$?
 touch "$scratch/ended"
 wait
 {
-    cat "$scratch/costs"
-    awk '{ printf "total %.1f %.1f\n", $1, $2 + $3 }' "$scratch/time"
+    cat "$scratch/costs" "$scratch/kit"
+    awk -v processors="$(nproc)" '{ printf "total %.1f %.1f %d\n", $1, $2 + $3, processors }' "$scratch/time"
 } >>"$log"
 table "$log"
 exit "$status"

@@ -5,7 +5,7 @@ set -u -o pipefail
 
 cd "$(dirname "$(readlink -f "${BASH_SOURCE[0]}")")/.." || exit 1
 program=crates/lotbook/out/lotbook
-./lotbook </dev/null >/dev/null || exit 1
+LOTBOOK_BUILD=1 ./lotbook </dev/null >/dev/null || exit 1
 
 scratch=$(mktemp -d) || exit 1
 trap 'rm -rf "$scratch"' EXIT

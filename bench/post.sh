@@ -1,14 +1,14 @@
 #!/usr/bin/env bash
 # What a command costs that is posted to a book in a file: how it grows with the entries of the book and with the lots of what it
-# touches, and what it takes beside a program that writes the same rows without any rule. A call that posts nothing, which opens
-# the book and closes it, is taken off. Of interest are the ratios, not the milliseconds of this machine.
+# touches, and what it takes beside the floor: a plain program in Python (bench/book/plain.py) that writes the same rows without any
+# rule by Python's module `sqlite3`, with the same pragmas and a commit for each command. Its figures hold the time of Python, and of
+# another SQLite than this program's. A call that posts nothing, which opens the book and closes it, is taken off. Of interest are the
+# ratios, not the milliseconds of this machine.
 set -u -o pipefail
 
 cd "$(dirname "$(readlink -f "${BASH_SOURCE[0]}")")" || exit 1
 . lib/books.sh
 . lib/runs.sh
-rows_alone=crates/lot_write_bench/out/lot_write_bench
-(cd crates/lot_write_bench && rt run </dev/null >/dev/null 2>&1) || exit 1
 
 # ledger PAIRS COMMANDS DAY: the accounts where DAY is 1; then purchases of so many commodities in turn, from that day on.
 ledger() {
@@ -32,17 +32,6 @@ trades() {
     }'
 }
 
-# steps WORD: what each step on the way to the rows of a text takes a command, in milliseconds, in the run of five that took
-# the least time.
-steps() {
-    local run
-    for run in 1 2 3 4 5; do
-        rm -f "$scratch"/rows.book*
-        "$rows_alone" "$scratch/rows.book" "$1" <"$scratch/text" | sed "s/^/$run /" || exit 1
-    done | awk '{ sum[$1] += $3; steps[$1] = steps[$1] sprintf("%s %.4f\n", $2, $3 / 1000000) }
-        END { least = 1; for (run in sum) if (sum[run] < sum[least]) least = run; printf "%s", steps[least] }'
-}
-
 echo "a command on a book of so many entries, ten lots in each pair"
 printf '%9s %12s %9s\n' entries milliseconds ratio
 first=
@@ -55,22 +44,14 @@ for entries in 1000 10000 100000; do
 done
 
 echo
-echo "10,000 commands, beside programs that write the same rows with no rule, a commit each: with this program's sqlite, and with"
-echo "the SQLite of Python"
+echo "10,000 commands, beside the floor: the same rows by Python's sqlite3, with no rule, a commit each"
 "$program" init --book "$scratch/none.book" >/dev/null
 { ledger 1000 3 1 | head -n 3 && ledger 500 5000 2 && trades 500 5000; } >"$scratch/text"
 one=$(each "$scratch/none.book" "$scratch/text" 10003)
-rows=$(steps rows | awk '$1 == "writes" || $1 == "commit" { sum += $2 } END { printf "%.4f", sum }')
-plain=$(python3 -B bench/book/plain.py "$scratch/copy.book" "$scratch/plain.book" 3)
+plain=$(python3 -B bench/book/plain.py "$scratch/copy.book" "$scratch/plain.book" 3) || exit 1
 printf '%-12s %12s %9s\n' "" milliseconds ratio
-printf '%-12s %12s %9s\n' "rows alone" "$rows" 1.00
-printf '%-12s %12s %9s\n' "by Python" "$plain" "$(ratio "$plain" "$rows")"
-printf '%-12s %12s %9s\n' post "$one" "$(ratio "$one" "$rows")"
-
-echo
-echo "where the time of such a command goes"
-printf '%-12s %12s\n' step milliseconds
-steps look | while read -r step taken; do printf '%-12s %12s\n' "$step" "$taken"; done
+printf '%-12s %12s %9s\n' "the floor" "$plain" 1.00
+printf '%-12s %12s %9s\n' post "$one" "$(ratio "$one" "$plain")"
 
 echo
 echo "a purchase and a sale of one lot, in a pair of so many lots; a purchase more than the last would be one too many"

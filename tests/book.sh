@@ -30,6 +30,8 @@ prints "the same batch again" 0 $'1 repeat\n2 repeat\n3 repeat' post --book "$bo
 prints "its last command again" 0 "3 repeat" post --book "$book" --batch a --from 3 <"$first"
 run post --book "$book" --batch a --from 4 <"$first"
 expect "from behind its end" 0 /dev/null
+run post --from 10000000 --batch=-a.1 "--book=$book" <"$first"
+expect "from the last number of all, to a batch that begins with a dash" 0 /dev/null
 run post --book "$book" --batch a </dev/null
 expect "no commands" 0 /dev/null
 prints "the same text as another batch" 1 $'1 refused L2 AlreadyOpen\n2 refused L2 AlreadyOpen\n3 accepted' \

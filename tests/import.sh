@@ -85,6 +85,9 @@ printf '%s\n' "$header" "$inexact" "$row" | import --from 2
 answers "an inexact row that is skipped" 3 "fault row 1 C4 InexactAmount"
 printf '%s\n' "$header" "$row" "A2${row#A1}" | import
 answers "faults of skipped rows applied nothing" 0 $'1 accepted\n2 repeat'
+printf '%s\n' "$header" "$row" "A2${row#A1}" |
+    run import --gains Income:Gains --from 2 --fees Expenses:Fees --cash Assets:Cash --invest Assets:Broker --batch=x --book="$book"
+answers "the options in another order" 0 "2 repeat"
 
 # Long files.
 { echo "$header" && rows 100000; } | import --from 100000
@@ -101,6 +104,10 @@ answers "a row too many behind an inexact row" 3 "fault C3 TooManyRows"
 answers "a faulty row before the row too many" 3 "fault row 100000 C2 BadRow Length"
 { echo "$header" && head -c 1000000 /dev/zero | tr '\0' A && echo "${row#A1}"; } | import
 answers "a reference of a million bytes" 3 "fault row 1 C2 BadRow Ref"
+{ echo "$header" && printf 'A3,2020-01-02,BUY,HOOL,' && head -c 1000000 /dev/zero | tr '\0' 0 && echo 1,100,USD,; } | import
+answers "units of a million digits" 0 "1 accepted"
+{ echo "$header" && printf 'A3,2020-01-02,BUY,HOOL,1.' && head -c 1000000 /dev/zero | tr '\0' 0 && echo ,100,USD,; } | import
+answers "units of a million decimals, the same" 0 "1 repeat"
 
 # What comes first: a file that can't be opened, then a fault of the input, then one of the book.
 rm -f "$book"*

@@ -1,6 +1,7 @@
 #!/usr/bin/env bash
-# The pages: their links lead somewhere, the README is short and its example is the stored one, no cell of a table is long, the names
-# that PROVED.md and the map of RULES.md cite are those of the crates and of tests/, and a section that code names is one of the page.
+# The pages: their links lead somewhere, the README is short, its example is the stored one and it names the kit that is here and that of
+# release/, no cell of a table is long, the names that PROVED.md and the map of RULES.md cite are those of the crates and of tests/, the
+# paths that CONTRIBUTING.md names are there, and a section that code names is one of the page.
 source "$(dirname "$(readlink -f "${BASH_SOURCE[0]}")")/lib/cases.sh"
 cd "$root" || exit 1
 
@@ -14,7 +15,7 @@ none() {
 # The anchors of a page's headings.
 anchors() { sed -n 's/^##* //p' "$1" | tr 'A-Z' 'a-z' | sed 's/[^a-z0-9_ -]//g; s/ /-/g'; }
 
-for page in README.md docs/*.md; do
+for page in README.md CONTRIBUTING.md docs/*.md; do
     grep -o '](\([^)]*\))' "$page" | sed 's/^](\(.*\))$/\1/' | while IFS= read -r link; do
         file=$page
         if [[ ${link%%#*} ]]; then file=$(dirname "$page")/${link%%#*}; fi
@@ -37,8 +38,17 @@ example 'The output:' "$examples/first-purchase.expected"
 words=$(wc -w <README.md)
 if ((words <= 900)); then pass "the README is short"; else fail "the README is short" "$words words"; fi
 
+# The kits that README names have to be those that it was proved and built with: the one that is here, and that of release/.
+{ if command -v rt >/dev/null; then rt version; fi && sed -n 's/^kit //p' release/sums 2>/dev/null; } | sort -u |
+    while IFS= read -r kit; do grep -qF -- "\`$kit\`" README.md || echo "$kit"; done | none "the kits that the README names"
+
+# Words in quotes of code that are paths: of files, of folders, and with NAME or * for a part.
+grep -oE '`[^`]+`' CONTRIBUTING.md | tr -d '`' | grep -E '^[A-Za-z._*-]+/[^ ]*$' | sort -u | while IFS= read -r path; do
+    compgen -G "${path//NAME/*}" >/dev/null || echo "$path"
+done | none "paths in CONTRIBUTING.md"
+
 # A cell of two lines has some 250 bytes.
-awk -F ' [|] ' '/^\|/ { for (at = 1; at <= NF; at++) if (length($at) > 250) print FILENAME ":" FNR }' README.md docs/*.md | none "long cells of tables"
+awk -F ' [|] ' '/^\|/ { for (at = 1; at <= NF; at++) if (length($at) > 250) print FILENAME ":" FNR }' README.md CONTRIBUTING.md docs/*.md | none "long cells of tables"
 
 find crates -path '*/out' -prune -o \( -name '*.rt' -o -name '*.antt' \) -exec grep -hoE 'docs/[A-Z]+\.md, [A-Z][A-Za-z ]*[);]' {} + | sort -u |
     while IFS=, read -r page section; do
@@ -52,7 +62,7 @@ find crates -path '*/out' -prune -o \( -name '*.rt' -o -name '*.antt' \) -exec g
         echo "$file"
         cat "$file"
     done
-    ls crates crates/*/must-fail tests tests/cases tests/cases/text
+    ls crates crates/*/must-fail crates/*/edits tests tests/whole tests/cases tests/cases/text
 } | grep -oE '[A-Za-z_][A-Za-z_0-9-]*' | sort -u >"$scratch/known"
 { cat "$scratch/known" && tr '-' '\n' <"$scratch/known"; } | sort -u >"$scratch/words"
 

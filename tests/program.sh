@@ -80,6 +80,8 @@ unusable() {
 }
 unusable "sell" sell
 unusable "migrate" migrate --book f
+unusable "hold" hold --book f
+unusable "help" help
 for word in holdings gains journal import; do unusable "--book" "$word" --batch a; done
 unusable "--batch" post --book f
 unusable "--book" post --batch a
@@ -90,6 +92,8 @@ unusable "fault U2 BadValue --batch" post --book f --batch a/b
 unusable "fault U2 BadValue --batch" post --book f --batch ''
 unusable "fault U2 BadValue --batch" post --book f --batch 123456789012345678901234567890123
 unusable "--from" post --book f --batch a/b --from 0
+unusable "-a" post --book f --batch -a
+unusable "--book" journal --book f --book g
 unusable "UTF-8" post --book f --batch $'\xff'
 unusable "fault U2 BadValue --day" holdings --book f --day 2020-02-30
 unusable "fault U2 BadValue --first" gains --book f --last x --first ''
@@ -134,6 +138,15 @@ helps "--first 2024-01-01" gains -h
 helps "--last 2024-12-31" gains -h
 "$program" --help </dev/null 2>"$scratch/err" >/dev/full && status=0 || status=$?
 stops "help on a full disk"
+
+# The version: the program's name and its number, on standard output.
+helps "  -V, --version" --help
+for word in --version -V; do
+    prints "the version by $word" 0 "lotbook 1.0.0" "$word" </dev/null
+done
+unusable "--version" init --version
+"$program" --version </dev/null 2>"$scratch/err" >/dev/full && status=0 || status=$?
+stops "the version on a full disk"
 
 # The script `lotbook`, from elsewhere and by links; it hands on words, streams and status.
 program=$root/lotbook

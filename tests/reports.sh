@@ -253,27 +253,42 @@ ends_at() {
     expect "$1" 4 "$scratch/expected"
 }
 
-# Costs: so many lots, of a commodity each, against plain units of that commodity at its price.
+# Costs: so many lots of those units at that cost, of a commodity each, against plain units of that commodity at its price.
 costs() {
-    awk -v count="$1" -v most="$most" -v dearest="$dearest" 'BEGIN {
+    awk -v count="$1" -v units="$2" -v rate="$3" 'BEGIN {
         print "2020-01-01 open Assets:Lots\n2020-01-01 open Assets:Coins"
         for (n = 1; n <= count; n++) {
             if (n % 32 == 1) print "2020-01-01 *"
-            printf "  Assets:Lots %s C%05d {%s USD}\n  Assets:Coins -%s C%05d @ %s USD\n", most, n, dearest, most, n, dearest
+            printf "  Assets:Lots %s C%05d {%s USD}\n  Assets:Coins -%s C%05d @ %s USD\n", units, n, rate, units, n, rate
         }
     }'
 }
+# cost_rows UNITS RATE COINS LOTS: the rows of so many commodities, in the order of the report.
 cost_rows() {
-    seq -f "Assets:Coins -$most C%05g" "$1"
-    seq -f "Assets:Lots $most C%05g {$dearest USD, 2020-01-01}" "$2"
+    seq -f "Assets:Coins -$1 C%05g" "$3"
+    seq -f "Assets:Lots $1 C%05g {$2 USD, 2020-01-01}" "$4"
 }
-costs 10001 | post_to_range "a cost too many"
-cost_rows 10001 10000 >"$scratch/rows"
+costs 10001 "$most" "$dearest" | post_to_range "a cost too many"
+cost_rows "$most" "$dearest" 10001 10000 >"$scratch/rows"
 ends_at "a total cost that leaves its range in the last row" "$scratch/rows" holdings
-costs 10000 | post_to_range "the greatest total cost"
-{ cost_rows 10000 10000 && echo "total cost $total USD"; } >"$scratch/expected"
+{ accepted 1 315 && cat "$scratch/rows" && echo "fault P1 Range"; } >"$scratch/expected"
+costs 10001 "$most" "$dearest" | run
+expect "the same without words" 4 "$scratch/expected"
+costs 10000 "$most" "$dearest" | post_to_range "the greatest total cost of such rows"
+{ cost_rows "$most" "$dearest" 10000 10000 && echo "total cost $total USD"; } >"$scratch/expected"
 run holdings --book "$book" </dev/null
 expect "a total cost that stays in its range" 0 "$scratch/expected"
+
+# The greatest total itself, and the least cost more.
+costs 25000 8000000000 50000000 | post_to_range "the greatest total cost"
+{ cost_rows 8000000000.00 50000000 25000 0 && cost_rows 8000000000 50000000 0 25000; } >"$scratch/rows"
+{ cat "$scratch/rows" && echo "total cost 10000000000000000000000.00 USD"; } >"$scratch/expected"
+run holdings --book "$book" </dev/null
+expect "a total cost of exactly 10^22" 0 "$scratch/expected"
+printf '2020-01-01 *\n  Assets:Lots 0.00000001 D {0.00000001 USD}\n  Equity:D -0.00000001 D @ 0.00000001 USD\n' >"$scratch/least"
+{ echo "2020-01-01 open Equity:D" && cat "$scratch/least"; } |
+    prints "the least cost more" 0 $'1 accepted\n2 accepted' post --book "$book" --batch b
+ends_at "a total cost that leaves its range by the least" "$scratch/rows" holdings
 
 # Values: so many lots that cost nothing, with a price for each.
 values() {

@@ -1,38 +1,62 @@
 #!/usr/bin/env bash
-# The scripts `lotbook`, `test` and `bench/gate.sh` themselves. The first two run on a repository of their own whose kit is a
-# stand-in: it notes each call, builds a program that prints its words and its input, and fails where there is a file
-# `broken`.
+# The scripts `lotbook`, `test`, and those of tools/, bench/ and tests/ that stand on no program. They run on a repository of their own
+# whose kit is a stand-in: it notes each call, builds a program that prints its words and its input, fails in a crate with a file
+# `broken`, and takes its time in one with a file `slow`.
 source "$(dirname "$(readlink -f "${BASH_SOURCE[0]}")")/lib/cases.sh"
 
 repo=$scratch/repo
-mkdir -p "$scratch/kit/bin" "$repo/crates/lotbook/src" "$repo/crates/low/specs" "$repo/tests"
+mkdir -p "$scratch/kit/bin" "$repo"/crates/{lotbook,low,left,right,other}/src "$repo"/crates/{low,left}/specs "$repo/tests/whole"
+mkdir "$repo/.git"
 cp "$root/lotbook" "$root/test" "$repo/"
-printf 'low:\nlotbook: low\nother: low\n' >"$repo/crates.txt"
-touch "$repo/crates/lotbook/src/main.rt" "$repo/crates/low/specs/Lib.antt"
+cp -r "$root/tools" "$repo/"
+printf '%s\n' '# name: libraries' 'right: low std' 'low:' 'left: low' 'lotbook: left right' 'other: low' >"$repo/crates.txt"
+for crate in low left right other; do echo "fn $crate()" >"$repo/crates/$crate/src/lib.rt"; done
+echo "fn main()" >"$repo/crates/lotbook/src/main.rt"
+touch "$repo"/crates/{low,left}/specs/Lib.antt
 printf '#!/bin/sh\necho "1 passed, 0 failed"\n' >"$repo/tests/one.sh"
-chmod +x "$repo/tests/one.sh"
+printf '#!/bin/sh\necho "10 passed, 0 failed"\n' >"$repo/tests/whole/two.sh"
+chmod +x "$repo/tests/one.sh" "$repo/tests/whole/two.sh"
 echo "kit 1" >"$scratch/kit/KIT-ID"
 cat >"$scratch/kit/bin/rt" <<'END'
 #!/usr/bin/env bash
-echo "$*" >>"$CALLS"
-if [[ $1 == ci ]]; then cat "$CI" && exit "$(<"$CI.status")"; fi
-echo "the program's first output"
-echo "rt: chose --jobs 2 for low" >&2
-echo "fn low::f: proved" >&2
-echo "fn low::g: open goal" >&2
-cat >/dev/null
-[[ -e broken ]] && exit 1
-mkdir -p out
-printf '#!/bin/sh\necho "words: $*"\ncat\nexit 7\n' >out/lotbook
+case $1 in
+    version) cat "$(dirname "$(readlink -f "$0")")/../KIT-ID" && exit ;;
+    ci) cat "$CI" && exit "$(<"$CI.status")" ;;
+    all) exit "$(<"$CI.status")" ;;
+    must-fail)
+        for edit in crates/*/must-fail/*.edit; do echo "rt: must-fail ${edit//\/must-fail/}: $(<"$edit")"; done | sed 's|crates/||'
+        exit ;;
+esac
+crate=$(basename "$PWD")
+echo "$crate $*" >>"$CALLS"
+# The libraries below were built, of sources that stand here.
+for below in $(sed -n "s/^$crate://p" ../../crates.txt); do
+    if [[ -d ../$below ]] && ! cmp -s "../$below/src/lib.rt" "../$below/out/rlib/stamp"; then echo "no library $below" && exit 2; fi
+done
+echo "rt: chose --jobs 2 for $crate"
+echo "fn $crate::f: proved"
+mkdir -p out/incremental
+echo "$crate" >>out/incremental/kept
+if [[ -e src/slow ]]; then echo $$ >>"$CALLS.slow" && sleep 60; fi
+if [[ -e src/broken ]]; then echo "fn $crate::g: open goal" && exit 1; fi
+echo "logic=proved functions=3 sum=x"
+if [[ $1 == lib ]]; then
+    mkdir -p out/rlib/"$crate.rlib" && cat src/lib.rt >out/rlib/stamp && exit
+fi
+printf '#!/bin/sh\nif [ $# = 0 ]; then echo "nothing held"; exit; fi\necho "words: $*"\ncat\nexit 7\n# %s\n' "$(<src/main.rt)" >out/lotbook
 chmod +x out/lotbook
 END
 chmod +x "$scratch/kit/bin/rt"
 mkdir "$scratch/tools"
-for tool in bash sh cat chmod dirname find grep head mkdir mktemp readlink rm sleep sort tail tee touch wc; do
+for tool in awk bash sh basename cat chmod cmp cp cut date dirname find getconf grep gzip head ls mkdir mktemp mv nproc ps readlink rm sed setsid sha256sum sleep \
+    sort tail tee touch tr uname wc xargs; do
     ln -s "$(command -v "$tool")" "$scratch/tools/$tool"
 done
+printf '#!/bin/sh\nexec %s "$@"\n' "$(python3 -c 'import sys; print(sys.executable)')" >"$scratch/tools/python3"
+chmod +x "$scratch/tools/python3"
 export CALLS=$scratch/calls CI=$scratch/ci
 calls() { if [[ -e $CALLS ]]; then wc -l <"$CALLS"; else echo 0; fi; }
+with=$scratch/kit/bin:$scratch/tools without=$scratch/tools # a path with the kit and one without it
 
 # wrapped NAME STATUS CALLS WORDS..: the script called with these words and the input `in`: its status, the calls of the
 # kit so far, and on standard output the program's own words alone.
@@ -55,46 +79,205 @@ wrapped() {
 messages() {
     local lines
     lines=$(wc -l <"$scratch/err")
-    if (($2 == lines || ($2 < 0 && lines > -$2))); then pass "$1"; else fail "$1" "$lines lines of messages"; fi
+    if (($2 == lines)); then pass "$1"; else fail "$1" "$lines lines of messages"; fi
 }
 
-path=$scratch/tools
+# says NAME PATTERN: standard error has such a line.
+says() { if grep -qE "$2" "$scratch/err"; then pass "$1"; else fail "$1" "$(tail -n 1 "$scratch/err")"; fi; }
+
+# ---- the program that is proved and built here
+
+path=$without
 wrapped "no kit and no program" 4 0
 messages "no kit: one sentence" 1
-path=$scratch/kit/bin:$scratch/tools
-touch "$repo/crates/lotbook/broken"
-wrapped "a build that fails" 4 1
-messages "a build that fails: its last lines" -3
-rm "$repo/crates/lotbook/broken"
-wrapped "the first call builds" 7 2 a "b c"
-messages "the first call reports what it does" -2
+path=$with
+touch "$repo/crates/lotbook/src/broken"
+wrapped "a build that fails" 4 4
+says "a build that fails: its last lines" "^fn lotbook::g: open goal$"
+rm "$repo/crates/lotbook/src/broken"
+wrapped "the next call goes on from there" 7 5 a "b c"
+says "it reports how far it is" "; 3 of 4 crates, 9 of [0-9]+ functions; .* so far, about .* more$"
+sort "$CALLS" | cut -d ' ' -f 1,2 | uniq -c | awk '{ print $1, $2, $3 }' >"$scratch/out"
+printf '%s\n' "1 left lib" "2 lotbook run" "1 low lib" "1 right lib" >"$scratch/expected"
+if cmp -s "$scratch/out" "$scratch/expected"; then pass "each crate is proved once"; else fail "each crate is proved once" "$(tr '\n' '|' <"$scratch/out")"; fi
+if [[ $(<"$repo/crates/lotbook/out/incremental/kept") == $'lotbook\nlotbook' && ! -e $repo/.git/rooms ]]; then
+    pass "what the kit kept goes to the crates"
+else
+    fail "what the kit kept goes to the crates" "$(ls "$repo/crates/lotbook/out" | tr '\n' '|')"
+fi
 sleep 0.1
-wrapped "the second call builds nothing" 7 2 a
+wrapped "the second call builds nothing" 7 5 a
 messages "the second call says nothing" 0
-path=$scratch/tools
-wrapped "a program that stands needs no kit" 7 2 x
-path=$scratch/kit/bin:$scratch/tools
-touch "$repo/crates/low/specs/Lib.antt"
-wrapped "a newer definition" 7 3 y
-touch "$repo/crates.txt"
-wrapped "a newer list of crates" 7 4 y
+path=$without
+wrapped "a program that stands needs no kit" 7 5 x
+path=$with
+echo changed >>"$repo/crates/left/specs/Lib.antt"
+wrapped "a newer definition: this crate and those above" 7 7 y
+sed -i 's/^right: low std/right: low/' "$repo/crates.txt"
+wrapped "a newer list of crates: what it changes" 7 9 y
 echo new >"$repo/crates/low/specs/More.antt"
-wrapped "a new file" 7 5 y
+wrapped "a new file at the bottom: all" 7 13 y
 rm "$repo/crates/low/specs/More.antt"
-wrapped "a file taken away" 7 6 y
-wrapped "and then nothing" 7 6 y
+wrapped "a file taken away" 7 17 y
+wrapped "and then nothing" 7 17 y
+touch "$repo/crates/other/src/lib.rt"
+wrapped "a crate that the program doesn't stand on: the program alone" 7 18 y
 echo "kit 2" >"$scratch/kit/KIT-ID"
-wrapped "another kit" 7 7 y
-wrapped "the same kit again" 7 7 y
+wrapped "another kit: all" 7 22 y
+wrapped "the same kit again" 7 22 y
 rm "$repo/crates/lotbook/out/kit"
-wrapped "a program that the gate built" 7 7 y
-touch "$repo/crates/lotbook/src/main.rt" && path=$scratch/tools
-wrapped "newer sources and no kit" 4 7 y
+wrapped "a program that the gate built" 7 22 y
+touch "$repo/crates/lotbook/src/main.rt" && path=$without
+wrapped "newer sources and no kit" 4 22 y
+path=$with
 
-# tested NAME STATUS LASTLINE: the test command, with the output of the stand-in's gate in the file `ci`, and its status
+# ---- stops, and two at once
+
+# begun COUNT: the stand-in has begun so often with a crate that takes its time.
+begun() {
+    for _ in {1..200}; do
+        if [[ -e $CALLS.slow ]] && (($(wc -l <"$CALLS.slow") >= $1)); then return; fi
+        sleep 0.05
+    done
+}
+# ended NAME: none of the stand-in's calls that take their time goes on.
+ended() {
+    for _ in {1..100}; do
+        if ! xargs -r ps -o pid= -p <"$CALLS.slow" >/dev/null; then
+            pass "$1"
+            return
+        fi
+        sleep 0.05
+    done
+    fail "$1" "it goes on"
+}
+touch "$repo/crates/lotbook/src/slow"
+PATH=$path setsid "$repo/lotbook" a >"$scratch/out" 2>"$scratch/err" </dev/null &
+begun 1
+kill -TERM -- -$! && wait $! && status=0 || status=$?
+if ((status == 143)); then pass "a build that is ended by a signal"; else fail "a build that is ended by a signal" "status $status"; fi
+ended "nothing of it goes on"
+for _ in {1..100}; do # what builds ends a little later than the script
+    if grep -q stopped "$scratch/err"; then break; fi
+    sleep 0.05
+done
+says "it says so" "^lotbook: stopped; the next call goes on from here$"
+if [[ ! -e $repo/.git/rooms && $(wc -l <"$repo/crates/lotbook/out/incremental/kept") == 9 ]]; then
+    pass "what it kept goes to the crate"
+else
+    fail "what it kept goes to the crate" "$(wc -l <"$repo/crates/lotbook/out/incremental/kept") times"
+fi
+rm "$CALLS.slow"
+PATH=$path setsid "$repo/lotbook" a >"$scratch/out" 2>"$scratch/err" </dev/null &
+begun 1
+kill -KILL "$(ps -o pid=,args= -g $! | awk '/tools\/build.py/ { print $1 }')"
+wait $! && status=0 || status=$?
+if ((status == 4)); then pass "a build that is killed"; else fail "a build that is killed" "status $status"; fi
+ended "nothing of that goes on"
+rm "$CALLS.slow" "$repo/crates/lotbook/src/slow"
+built=$(calls)
+wrapped "the next one goes on" 7 $((built + 1)) y
+if [[ ! -e $repo/.git/rooms && $(wc -l <"$repo/crates/lotbook/out/incremental/kept") == 11 ]]; then
+    pass "from what that one kept"
+else
+    fail "from what that one kept" "$(wc -l <"$repo/crates/lotbook/out/incremental/kept") times"
+fi
+
+echo more >>"$repo/crates/low/src/lib.rt"
+for which in one two; do
+    PATH=$path "$repo/lotbook" "$which" </dev/null >"$scratch/$which" 2>>"$scratch/err" &
+done
+wait
+if [[ $(<"$scratch/one") == "words: one" && $(<"$scratch/two") == "words: two" && $(calls) == $((built + 5)) ]]; then
+    pass "two at once build once"
+else
+    fail "two at once build once" "$(calls) calls of the kit, '$(<"$scratch/one")', '$(<"$scratch/two")'"
+fi
+
+# ---- release/
+
+release() { PATH=$path "$repo/tools/release.sh" >"$scratch/out" 2>"$scratch/err" </dev/null; }
+# fresh: nothing was built or unpacked here.
+fresh() { rm -rf "$repo"/crates/*/out; }
+release && pass "release/ is made" || fail "release/ is made" "$(tail -n 1 "$scratch/err")"
+cp -r "$repo/release" "$scratch/first"
+sleep 1.1
+touch "$repo/crates/lotbook/out/lotbook"
+release && diff -r "$repo/release" "$scratch/first" >/dev/null && pass "made again it is the same" || fail "made again it is the same" "it isn't"
+built=$(calls)
+for path in "$without" "$with"; do
+    fresh
+    name="with a kit" && if [[ $path == "$without" ]]; then name="without a kit"; fi
+    wrapped "a fresh copy runs it, $name" 7 "$built" a "b c"
+    messages "it says nothing, $name" 0
+    wrapped "again, $name" 7 "$built" x
+done
+echo changed >>"$repo/crates/low/specs/Lib.antt"
+touch "$repo/crates/other/src/lib.rt"
+wrapped "another definition, and another crate: it is of these sources all the same" 7 "$built" x
+LOTBOOK_BUILD=1 wrapped "but for who wants it built here" 7 $((built + 4)) x
+says "that says why it is built" "since there is no program yet$"
+built=$((built + 4))
+# passed_over NAME WHY: it isn't run; without a kit that is all.
+passed_over() {
+    fresh
+    path=$without wrapped "$1, without a kit" 4 "$built" x
+    path=$with wrapped "$1" 7 $((built + 4)) x
+    says "$1: the reason" "since there is no program yet, and the program in release/ $2$"
+    built=$((built + 4))
+}
+echo more >>"$repo/crates/right/src/lib.rt"
+passed_over "another source" "is of other sources"
+release
+sed -i 's/^left: low/left: low std/' "$repo/crates.txt"
+passed_over "another line of a crate" "is of other sources"
+release
+echo "kit 3" >"$scratch/kit/KIT-ID"
+fresh
+path=$without wrapped "where there is no kit the sources decide" 7 "$built" x
+path=$with wrapped "another kit" 7 $((built + 4)) x
+says "another kit: the reason" "the program in release/ is of another kit$"
+built=$((built + 4))
+release
+cp -r "$repo/release" "$scratch/release"
+echo x | gzip -9n >"$repo/release/lotbook.gz"
+passed_over "a program of another sum" "isn't the one that release/sums names"
+head -c 100 "$scratch/release/lotbook.gz" >"$repo/release/lotbook.gz"
+passed_over "a program that is cut off" "can't be unpacked"
+printf '#!/bin/sh\nexit 1\n' >"$scratch/bad"
+gzip -9n <"$scratch/bad" >"$repo/release/lotbook.gz"
+sed -i "s/^program .*/program $(sha256sum <"$scratch/bad" | cut -d ' ' -f 1)/" "$repo/release/sums"
+passed_over "a program that doesn't run" "doesn't run here"
+rm -r "$repo/release" && cp -r "$scratch/release" "$repo/"
+mv "$scratch/tools/uname" "$scratch/uname"
+printf '#!/bin/sh\necho Linux aarch64\n' >"$scratch/tools/uname" && chmod +x "$scratch/tools/uname"
+passed_over "another machine" "is for x86-64 Linux with glibc"
+mv "$scratch/uname" "$scratch/tools/uname"
+
+# compared NAME STATUS LASTLINE: tests/release.sh of the repository.
+mkdir "$repo/examples" && cp -r "$root/tests/lib" "$root/tests/release.sh" "$repo/tests/"
+compared() {
+    PATH=$path "$repo/tests/release.sh" >"$scratch/out" 2>"$scratch/err" </dev/null
+    status=$?
+    if ((status == $2)) && [[ $(tail -n 1 "$scratch/out") == "$3" ]]; then pass "$1"; else fail "$1" "status $status, $(tail -n 2 "$scratch/out" | tr '\n' '|')"; fi
+}
+compared "compared: the same program" 0 "2 passed, 0 failed"
+echo "# another" >>"$repo/crates/lotbook/out/lotbook"
+compared "compared: another program of the same sources" 1 "1 passed, 1 failed"
+echo more >>"$repo/crates/low/src/lib.rt"
+compared "compared: a program of other sources" 0 "1 passed, 0 failed"
+echo x | gzip -9n >"$repo/release/lotbook.gz"
+compared "compared: a program that release/ doesn't name" 1 "0 passed, 1 failed"
+rm -r "$repo/release"
+compared "compared: no release" 0 "0 passed, 0 failed"
+rm -r "$repo"/tests/{lib,release.sh}
+
+# ---- test
+
+# tested NAME STATUS LASTLINE WORDS..: the test command, with the output of the stand-in's gate in the file `ci`, and its status
 # beside it.
 tested() {
-    PATH=$path "$repo/test" >"$scratch/out" 2>"$scratch/err"
+    PATH=$path "$repo/test" "${@:4}" >"$scratch/out" 2>"$scratch/err"
     status=$?
     if ((status == $2)) && [[ $(tail -n 1 "$scratch/out") == "$3" ]]; then
         pass "$1"
@@ -103,12 +286,15 @@ tested() {
     fi
 }
 
+path=$without
 tested "test: no kit" 1 "0 passed, 1 failed"
 messages "test: no kit, one sentence" 1
-path=$scratch/kit/bin:$scratch/tools
+path=$with
 echo 0 >"$CI.status"
 printf 'some lines\n4 passed, 0 failed\n' >"$CI"
 tested "test: all counts are added" 0 "5 passed, 0 failed"
+tested "test: the whole" 0 "15 passed, 0 failed" whole
+tested "test: another word" 2 "0 passed, 1 failed" all
 printf '4 passed, 2 failed\n' >"$CI" && echo 1 >"$CI.status"
 tested "test: a failure of the gate" 1 "5 passed, 2 failed"
 printf '4 passed, 0 failed\n' >"$CI"
@@ -123,7 +309,32 @@ tested "test: a script without a count" 1 "4 passed, 1 failed"
 rm "$repo/tests/one.sh"
 tested "test: no script" 1 "4 passed, 1 failed"
 
-# The script of the gate's cost, on a log.
+# ---- the edits beside the gate, in a copy
+
+cp -r "$root/tests/lib" "$repo/tests/" && cp "$root/tests/whole/edits.sh" "$repo/tests/whole/"
+# tried NAME STATUS LASTLINE: the script of the edits, where the stand-in answers for each what it holds.
+tried() {
+    PATH=$path "$repo/tests/whole/edits.sh" >"$scratch/out" 2>"$scratch/err" </dev/null
+    status=$?
+    if ((status == $2)) && [[ $(tail -n 1 "$scratch/out") == "$3" ]]; then pass "$1"; else fail "$1" "status $status, $(tail -n 2 "$scratch/out" | tr '\n' '|')"; fi
+}
+tried "edits: none" 0 "0 passed, 0 failed"
+mkdir "$repo"/crates/{left,low}/edits
+echo "refused, as it must be: x" >"$repo/crates/left/edits/one.edit"
+echo "refused, as it must be" >"$repo/crates/low/edits/two.edit"
+tried "edits: all refused" 0 "4 passed, 0 failed"
+if [[ $(ls "$repo/.git/edits/crates" | tr '\n' ' ') == "left low " && ! -e $repo/crates/low/must-fail ]]; then
+    pass "edits: the copy has the crates that it needs"
+else
+    fail "edits: the copy has the crates that it needs" "$(ls "$repo/.git/edits/crates" | tr '\n' ' ')"
+fi
+echo "NOT REFUSED: the crate is still proved with this edit" >"$repo/crates/low/edits/two.edit"
+tried "edits: one that isn't refused" 1 "3 passed, 1 failed"
+echo 1 >"$CI.status"
+tried "edits: a copy that isn't proved" 1 "0 passed, 1 failed"
+
+# ---- what the gate costs, on a log
+
 cat >"$scratch/log" <<'END'
 == low
 rt: low proved
@@ -133,7 +344,8 @@ rt: must-fail low/two.edit: refused, as it must be: x
 cost low edits 60.0
 cost low proofs 90.0
 cost lotbook tests 30.0
-total 120.0 240.0
+kit 90.0 210.0
+total 120.0 240.0 4
 END
 cat >"$scratch/expected" <<'END'
 processor minutes
@@ -141,14 +353,51 @@ crate            proofs    tests    edits      all    tried    s an edit
 low                 1.5      0.0      1.0      2.5        2         30.0
 lotbook             0.0      0.5      0.0      0.5        0            -
 all                 1.5      0.5      1.0      3.0        2         30.0
-rest                                           1.0                      
+linking, runs                                  0.5                      
+scripts                                        0.5                      
 total                                          4.0                      
-2.0 minutes by the clock; 5 passed, 0 failed
+2.0 minutes by the clock on 4 processors, 0.5 of them for the scripts; 5 passed, 0 failed
 END
 "$root/bench/gate.sh" "$scratch/log" >"$scratch/out" 2>"$scratch/err" && status=0 || status=$?
 expect "gate: the table of a log" 0 "$scratch/expected"
 echo "5 passed, 0 failed" >"$scratch/log"
 "$root/bench/gate.sh" "$scratch/log" >"$scratch/out" 2>"$scratch/err" && status=0 || status=$?
 if ((status == 1)); then pass "gate: a log without costs"; else fail "gate: a log without costs" "status $status"; fi
+
+# A run of it, on a stand-in of the test command.
+mkdir -p "$scratch/cost/bench" && cp "$root/bench/gate.sh" "$scratch/cost/bench/"
+printf '%s\n' '#!/bin/sh' 'echo "== rt ci"' 'echo "cost low proofs 60.0"' 'echo "== ./tests/one.sh"' 'echo "3 passed, 0 failed"' >"$scratch/cost/test"
+chmod +x "$scratch/cost/test"
+"$scratch/cost/bench/gate.sh" >"$scratch/out" 2>"$scratch/err" </dev/null && status=0 || status=$?
+if ((status == 0)) && grep -qE '^kit [0-9.]+ [0-9.]+$' "$scratch/cost/bench/out/gate.log" &&
+    [[ $(tail -n 1 "$scratch/out") =~ ^[0-9.]+\ minutes\ by\ the\ clock\ on\ [0-9]+\ processors,\ .*\;\ 3\ passed,\ 0\ failed$ ]]; then
+    pass "gate: a run"
+else
+    fail "gate: a run" "status $status, $(tail -n 1 "$scratch/out")"
+fi
+
+# ---- the graph of the crates
+
+mkdir "$repo/bench" && cp "$root/bench/graph.sh" "$repo/bench/"
+printf '// a comment\nfn a() {\n}\n\npub const fn b() {}\n' >"$repo/crates/low/src/lib.rt"
+printf '#[test]\nfn t() {}\n' >"$repo/crates/low/src/tests.rt"
+printf -- '-- a comment\npub mod A\n' >"$repo/crates/low/specs/Lib.antt"
+cat >"$scratch/expected" <<'END'
+crate            level functions   code definitions  proofs  tests  again
+right                2         1      2           0       0      0      2
+low                  1         2      3           1       0      2      5
+left                 2         1      1           1       0      0      2
+lotbook              3         1      1           0       0      0      1
+other                2         1      1           0       0      0      1
+all                            6      8           2       0      2
+5 crates, 3 levels
+END
+"$repo/bench/graph.sh" >"$scratch/out" 2>"$scratch/err" && status=0 || status=$?
+expect "graph: the table" 0 "$scratch/expected"
+echo "left: 2 of 5: left lotbook" >"$scratch/expected"
+"$repo/bench/graph.sh" left >"$scratch/out" 2>"$scratch/err" && status=0 || status=$?
+expect "graph: what is proved again" 0 "$scratch/expected"
+"$repo/bench/graph.sh" none >"$scratch/out" 2>"$scratch/err" && status=0 || status=$?
+if ((status != 0)); then pass "graph: no such crate"; else fail "graph: no such crate" "status $status"; fi
 
 finish

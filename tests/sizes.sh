@@ -146,4 +146,32 @@ for length in $lengths 4095 4096 4097 5000; do
     }'
 done
 
+# Sales of as many lots less one, or of all under STRICT, each lot of a day and a cost of its own: FIFO leaves the last one, LIFO and
+# HIFO leave the first.
+for length in $lengths 4095 4096 4097 10000; do
+    compared "a sale of $length lots by each method" 'function lot(n) {
+        return sprintf("%d USD, %04d-%02d-%02d", n, 1900 + int(n / 336), 1 + int(n / 28) % 12, 1 + n % 28)
+    }
+    BEGIN {
+        print "2020-01-01 open Assets:Cash"
+        replies = 1
+        count = split("Fifo Hifo Lifo Strict", methods)
+        for (m = 1; m <= count; m++) {
+            account = "Assets:" methods[m]
+            printf "2020-01-01 open %s \"%s\"\n", account, toupper(methods[m])
+            for (n = 1; n <= '"$length"'; n++) {
+                if (n % 63 == 1) { print "2020-01-02 *\n  Assets:Cash"; replies++ }
+                printf "  %s 1 HOOL {%s}\n", account, lot(n)
+            }
+            printf "2020-01-03 *\n  %s -%d HOOL {}\n  Assets:Cash\n", account, '"$length"' - (m < count)
+            replies += 2
+        }
+        for (n = 1; n <= replies; n++) print n " accepted" >expected
+        printf "Assets:Cash -%d.00 USD\n", '"$length"' + 2 >expected
+        printf "Assets:Fifo 1 HOOL {%s}\n", lot('"$length"') >expected
+        printf "Assets:Hifo 1 HOOL {%s}\nAssets:Lifo 1 HOOL {%s}\n", lot(1), lot(1) >expected
+        printf "total cost %d.00 USD\n", '"$length"' + 2 >expected
+    }'
+done
+
 finish

@@ -2,7 +2,7 @@
 
 cd .. || exit 1
 program=crates/lotbook/out/lotbook
-./lotbook </dev/null >/dev/null || exit 1
+LOTBOOK_BUILD=1 ./lotbook </dev/null >/dev/null || exit 1
 
 scratch=$(mktemp -d) || exit 1
 trap 'rm -rf "$scratch"' EXIT

@@ -33,25 +33,12 @@ finish() {
     exit
 }
 
-# Builds the program if it isn't built yet or is out of date; ends the script if that fails.
+# Proves and builds the program if it isn't built here yet or is out of date; ends the script if that fails.
 need_program() {
-    if ! "$root/lotbook" </dev/null >/dev/null || [[ ! -x $program ]]; then
+    if ! LOTBOOK_BUILD=1 "$root/lotbook" </dev/null >/dev/null || [[ ! -x $program ]]; then
         fail "the program" "it can't be built, or it fails on no input"
         finish
     fi
-}
-
-# need_crate NAME: has the program of another crate run from here on. Proves and builds it where the gate hasn't, or where a
-# source is newer.
-need_crate() {
-    local home=$root/crates/$1
-    program=$home/out/$1
-    if [[ -x $program && -z $(find "$root"/crates/*/src -newer "$program" -print -quit) ]]; then return; fi
-    if ! (cd "$home" && rt run </dev/null >"$scratch/log" 2>&1) || [[ ! -x $program ]]; then
-        fail "the program $1" "it can't be built: $(tail -n 3 "$scratch/log" | tr '\n' '|')"
-        finish
-    fi
-    touch "$program"
 }
 
 # run WORDS..: runs the program on this call's standard input. Keeps its output, its messages and its status.

@@ -41,7 +41,7 @@ def money(weight):
     return money_text(weight, 16)
 
 
-def lot_text(key):
+def lot_read(key):
     label = "" if key.label is None else f', "{key.label}"'
     return f"{{{number_text(key.number)} {key.currency}, {day_text(key.day)}{label}}}"
 
@@ -76,7 +76,7 @@ def holdings(book, day, seen):
             lines.append(f"{account} {money_text(held.plain[pair])} {commodity}")
             seen["plain units of a commodity with lots"] += bool(lots)
         for key in sorted(lots, key=key_order):
-            line = f"{account} {number_text(lots[key])} {commodity} {lot_text(key)}"
+            line = f"{account} {number_text(lots[key])} {commodity} {lot_read(key)}"
             costs[key.currency] = costs.get(key.currency, 0) + lots[key] * key.number
             if day is not None:
                 rate = price_at(book, day, commodity, key.currency, seen)
@@ -148,7 +148,7 @@ def gains(book, first, last, seen):
                 proceeds, cost = gain
                 lines.append(f"{line} proceeds {money(proceeds)} cost {money(cost)} gain {money(proceeds - cost)} {price.currency}")
                 totals[price.currency] = totals.get(price.currency, 0) + proceeds - cost
-            lines += [f"  {number_text(leg.units)} {commodity} {lot_text(leg.key)}" for leg in booked.legs]
+            lines += [f"  {number_text(leg.units)} {commodity} {lot_read(leg.key)}" for leg in booked.legs]
     seen["a range that leaves some sales out"] += bool(left_out and lines)
     seen["a range of one day with a sale"] += bool(first == last and lines)
     seen["a range whose first day is after its last"] += bool(first > last and left_out)

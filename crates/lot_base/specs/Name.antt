@@ -1,5 +1,5 @@
 -- Which texts are names. A text is the list of its bytes in UTF-8.
-use Rattle.std.specs.Prelude.{ℕ, Bool, false, not, ◌&&◌, ◌||◌, ◌==◌, nat_le, ◌-◌, slice_index, List, [], ◌∷◌, length, codes}
+use Rattle.std.specs.Prelude.{ℕ, Bool, false, not, ◌&&◌, ◌||◌, ◌==◌, nat_le, ◌-◌, slice_index, List, [], ◌∷◌, length, codes, IsTrue, IsUtf8}
 use Rattle.std.specs.Char.{is_ascii_digit, is_ascii_uppercase, is_ascii_alphanumeric, is_ascii_control}
 use Rattle.std.specs.List.{list_all, list_any, slice_split}
 use Rattle.lot_base.specs.Text.{same_text}
@@ -85,3 +85,9 @@ is_note_byte b = (b == 9) || not (is_ascii_control b)
 -- whether the text is a note, which may be empty
 unfoldable pub is_note : List ℕ → Bool
 is_note text = nat_le (length text) longest_note && list_all is_note_byte text
+
+-- ---- texts of a grammar
+
+-- a text of that grammar, which is UTF-8
+abbrev pub IsName : (List ℕ → Bool) → List ℕ → Type 0
+IsName is_name text = IsUtf8 text × IsTrue (is_name text)

@@ -9,7 +9,7 @@ use Rattle.std.proofs.Common.{refl, sym, ap, ◌∙◌}
 use Rattle.lot_base.specs.Text.{same_text, text_cmp}
 use Rattle.lot_inv.specs.Inventory.{Held, Position as Place, added, position_cmp as place_cmp, non_zero, units_at, with_units}
 use Rattle.lot_inv.specs.Zeros.{HasNoZeros}
-use Rattle.lot_inv.proofs.InventoryLemmas.{eq_then}
+use Rattle.lot_cost.proofs.OrderLemmas.{eq_then}
 use Rattle.lot_inv.proofs.LotLemmas.{get-with_units}
 use Rattle.lot_inv.proofs.SetLemmas.{kept_when_set}
 use Rattle.lot_book.specs.declared.leg.Leg.{Leg}

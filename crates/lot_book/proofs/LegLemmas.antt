@@ -8,7 +8,7 @@ use Rattle.lot_num.specs.Amount.{IsUnits}
 use Rattle.lot_base.specs.Text.{same_text}
 use Rattle.lot_base.proofs.TextLemmas.{one_text, same_text-itself}
 use Rattle.lot_inv.specs.Inventory.{Held, added, units_at}
-use Rattle.lot_inv.specs.declared.lot_key.LotKey.{LotKey}
+use Rattle.lot_cost.specs.declared.lot_key.LotKey.{LotKey}
 use Rattle.lot_inv.proofs.LotLemmas.{units_at-set, get-with_units_apart}
 use Rattle.lot_book.specs.declared.leg.Position.{Position}
 use Rattle.lot_book.specs.declared.leg.Leg.{Leg}

@@ -9,3 +9,4 @@ pub mod WeightLemmas
 pub mod GainSums
 pub mod GainLemmas
 pub mod StopLemmas
+pub mod SaleLemmas

@@ -9,10 +9,10 @@ use Rattle.std.proofs.lemmas.Cmp.{then_total, on_total, eq_by_cmp_equiv, nat_lis
 use Rattle.std.proofs.lemmas.Map.Lookups.{CmpEqualImpliesEq, exact_bytes}
 use Rattle.lot_base.specs.Text.{text_cmp}
 use Rattle.lot_base.proofs.OrderLemmas.{equal_parts, exact_options}
-use Rattle.lot_inv.proofs.OrderLemmas.{lots_total, exact_lots}
+use Rattle.lot_cost.proofs.OrderLemmas.{lots_total, exact_lots}
 use Rattle.lot_book.specs.declared.leg.Position.{Position}
 use Rattle.lot_book.specs.Leg.{position_cmp, same_position}
-use Rattle.lot_inv.specs.LotKey.{lot_cmp}
+use Rattle.lot_cost.specs.LotKey.{lot_cmp}
 
 pub positions_total : IsTotalOrder position_cmp
 positions_total = then_total (on_total (λ (p : Position). p.account) nat_list_cmp_total)

@@ -5,8 +5,8 @@ use Rattle.std.specs.List.{AllByRecursion}
 use Rattle.std.specs.Map.{lookup}
 use Rattle.std.specs.Option.{is_none, unwrap_or}
 use Rattle.lot_num.specs.Amount.{one, rate_limit, units_limit}
-use Rattle.lot_inv.specs.declared.lot_key.LotKey.{LotKey}
-use Rattle.lot_booking.specs.declared.cost.Cost.{Cost}
+use Rattle.lot_cost.specs.declared.lot_key.LotKey.{LotKey}
+use Rattle.lot_cost.specs.declared.cost.Cost.{Cost}
 use Rattle.lot_command.specs.declared.price.Price.{Price}
 use Rattle.lot_command.specs.declared.price.Price.TheVariants.{Each, Whole}
 use Rattle.lot_command.specs.declared.transaction.Posting.{Posting}

@@ -14,6 +14,8 @@ use Rattle.lot_book.specs.declared.leg.Leg.{Leg}
 use Rattle.lot_book.specs.declared.leg.Position.{Position}
 use Rattle.lot_book.specs.Facts.{Facts, day_at_cost}
 use Rattle.lot_book.specs.Leg.{same_position, with_legs}
+use Rattle.lot_book.specs.Sale.{AreSales}
+use Rattle.lot_book.specs.Step.{Accept, Decides}
 
 -- ---- positions
 
@@ -53,3 +55,13 @@ pub record IsChange (facts : Facts) (command : Command) (legs : List Leg) (chang
   pub same_legs : change.legs ≡ legs
   pub positions : ListsSums facts legs change.positions.entries
   pub heads : ListsHeads command change.heads
+
+-- a change lists what an accepted command changes
+pub record Lists (facts : Facts) (command : Command) (change : Change) : Type 0 where
+  pub positions : ListsSums facts change.legs change.positions.entries
+  pub heads : ListsHeads command change.heads
+  pub sales : AreSales facts command change.sales
+
+-- a command is accepted, and makes the change
+abbrev pub IsAcceptedWith : Facts → Command → Change → Type 0
+IsAcceptedWith facts command change = Decides facts command (Accept change.legs) × Lists facts command change

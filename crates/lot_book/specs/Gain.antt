@@ -4,7 +4,7 @@ use Rattle.std.specs.List.{AllByRecursion, list_any}
 use Rattle.lot_num.specs.Amount.{one}
 use Rattle.lot_num.specs.Sum.{sum_of}
 use Rattle.lot_base.specs.Text.{same_text}
-use Rattle.lot_inv.specs.declared.lot_key.LotKey.{LotKey}
+use Rattle.lot_cost.specs.declared.lot_key.LotKey.{LotKey}
 use Rattle.lot_command.specs.declared.price.Price.{Price}
 use Rattle.lot_command.specs.declared.price.Price.TheVariants.{Each, Whole}
 use Rattle.lot_book.specs.declared.gain.Gain.{Gain}

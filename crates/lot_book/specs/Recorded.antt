@@ -4,7 +4,7 @@ use Rattle.std.specs.FinMap as finite
 use Rattle.std.specs.Option.{option_map, option_or}
 use Rattle.lot_base.specs.Text.{same_text}
 use Rattle.lot_inv.specs.Inventory.{Held, added, with_units}
-use Rattle.lot_inv.specs.declared.lot_key.LotKey.{LotKey}
+use Rattle.lot_cost.specs.declared.lot_key.LotKey.{LotKey}
 use Rattle.lot_command.specs.declared.command.Command.{Command}
 use Rattle.lot_command.specs.declared.command.Command.TheVariants.{Opening, Closing, Declaring, Quoting, Transaction}
 use Rattle.lot_book.specs.declared.change.Change.{Change}

@@ -1,9 +1,14 @@
 -- Sales: postings that took lots away, with the legs that did so (docs/RULES.md, Reduce or augment, Legs).
-use Rattle.std.specs.Prelude.{◌≡◌, ◌≢◌, ℕ, ◌&&◌, ◌||◌, Bool, true, List, Option, ℤ, pos, int_lt}
+use Rattle.std.specs.Prelude.{◌≡◌, ◌≢◌, ℕ, ◌&&◌, ◌||◌, Bool, true, if◌then◌else◌, List, [], ◌∷◌, ◌++◌, Option, None, Some, ℤ, pos, int_lt}
 use Rattle.std.specs.List.{list_all}
-use Rattle.lot_inv.specs.declared.lot_key.LotKey.{LotKey}
+use Rattle.lot_cost.specs.declared.lot_key.LotKey.{LotKey}
+use Rattle.lot_command.specs.declared.command.Command.{Command}
+use Rattle.lot_command.specs.declared.command.Command.TheVariants.{Opening, Closing, Declaring, Quoting, Transaction}
 use Rattle.lot_command.specs.declared.price.Price.{Price}
 use Rattle.lot_booking.specs.Booking.{units_in}
+use Rattle.lot_book.specs.Booking.{All, Booked, BooksAll}
+use Rattle.lot_book.specs.Facts.{Facts}
+use Rattle.lot_book.specs.declared.leg.Leg.{Leg}
 
 -- ---- the legs of a sale
 
@@ -27,3 +32,43 @@ pub record SaleParts : Type 0 where
   pub units : ℤ
   pub price : Option Price
   pub legs : List (LotKey × ℤ)
+
+-- ---- the sales of a transaction
+
+-- the lots of legs, with what is taken of each
+abbrev pub lots_in_legs : List Leg → List (LotKey × ℤ)
+lots_in_legs [] = []
+lots_in_legs (leg ∷ legs) = lot_before leg.position.lot leg.units (lots_in_legs legs)
+  where
+    lot_before : Option LotKey → ℤ → List (LotKey × ℤ) → List (LotKey × ℤ)
+    lot_before None units lots = lots
+    lot_before (Some lot) units lots = (lot, units) ∷ lots
+
+-- the sale that a posting of that day is, with its place, where it takes lots away
+abbrev pub sales_of : ℤ → Booked → List (ℕ × SaleParts)
+sales_of day booked =
+    if booked.reduces then (
+      booked.place,
+      record {
+        day = day;
+        account = booked.account;
+        commodity = booked.amount.commodity;
+        units = booked.amount.units;
+        price = booked.amount.price;
+        legs = lots_in_legs booked.legs;
+      },
+    ) ∷ [] else []
+
+-- the sales of all postings, in their order
+abbrev pub sales_in : ℤ → List Booked → List (ℕ × SaleParts)
+sales_in day [] = []
+sales_in day (booked ∷ more) = sales_of day booked ++ sales_in day more
+
+-- the sales of a command: of a transaction its postings that take lots away
+abbrev pub AreSales : Facts → Command → List (ℕ × SaleParts) → Type 0
+AreSales facts (Opening o) sales = sales ≡ []
+AreSales facts (Closing c) sales = sales ≡ []
+AreSales facts (Declaring d) sales = sales ≡ []
+AreSales facts (Quoting q) sales = sales ≡ []
+AreSales facts (Transaction t) sales =
+    (booked : List Booked) × BooksAll facts t.day [] 1 t.postings (All booked) × (sales ≡ sales_in t.day booked)

@@ -5,7 +5,7 @@ ghost use Rattle.lot_book.specs.Gain.{cost_of, currency_of, gain_of, has_other_c
 use crate::sale::Sale;
 use lot_base::Commodity;
 use lot_command::Price;
-use lot_inv::LotKey;
+use lot_cost::LotKey;
 use lot_num::{Units, Wide, weight};
 
 /// What a sale brings, at scale 16, in the currency of its price and of its lots.

@@ -1,7 +1,7 @@
 ghost use Rattle.std.specs.Prelude.{◌≡◌, IfOk};
 
 use lot_base::{Account, Commodity};
-use lot_inv::LotKey;
+use lot_cost::LotKey;
 use lot_num::Units;
 use std::alloc::AllocError;
 

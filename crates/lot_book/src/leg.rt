@@ -3,7 +3,7 @@ ghost use Rattle.lot_num.specs.Amount.{rate_limit};
 ghost use Rattle.lot_book.specs.Balance.{weight_of};
 
 use lot_base::{Account, Commodity};
-use lot_inv::LotKey;
+use lot_cost::LotKey;
 use lot_num::{Units, Wide, weight};
 use std::alloc::AllocError;
 

@@ -21,7 +21,7 @@ pub use change::{Change, Pair};
 pub use gain::Gain;
 pub use holding::Holding;
 pub use leg::{Leg, Position};
-pub use lot_inv::LotKey;
+pub use lot_cost::LotKey;
 pub use refusal::{Refusal, Stop};
 pub use sale::Sale;
 pub use standing::Standing;

@@ -2,13 +2,13 @@ ghost use Rattle.std.specs.Prelude.{◌≡◌, ◌≢◌, ◌↔◌, [], ℤ, If
 ghost use Rattle.std.specs.List.{list_all};
 ghost use Rattle.std.specs.Option.{option_copied};
 ghost use Rattle.lot_num.specs.Amount.{IsUnits};
-ghost use Rattle.lot_inv.specs.declared.lot_key.LotKey.{LotKey};
+ghost use Rattle.lot_cost.specs.declared.lot_key.LotKey.{LotKey};
 ghost use Rattle.lot_booking.specs.Booking.{units_in};
 ghost use Rattle.lot_book.specs.Sale.{AreLegsOf, same_sign};
 
 use lot_base::{Account, Commodity, Day};
 use lot_command::Price;
-use lot_inv::LotKey;
+use lot_cost::LotKey;
 use lot_num::Units;
 use std::alloc::{AllocError, Global};
 use std::marker::Model;

@@ -9,9 +9,9 @@ use Rattle.std.proofs.Common.{inl, inr, refl, sym, ap, ◌∙◌, arith}
 use Rattle.std.proofs.lemmas.Cmp.{eq_by_cmp_equiv, tied_itself}
 use Rattle.std.proofs.lemmas.List.Elements.{filter_passes, recursion_from_All}
 use Rattle.std.proofs.lemmas.Map.Views.{lookup-from_Contains}
-use Rattle.lot_inv.specs.declared.lot_key.LotKey.{LotKey}
-use Rattle.lot_inv.specs.LotKey.{lot_cmp}
-use Rattle.lot_inv.proofs.OrderLemmas.{lots_total}
+use Rattle.lot_cost.specs.declared.lot_key.LotKey.{LotKey}
+use Rattle.lot_cost.specs.LotKey.{lot_cmp}
+use Rattle.lot_cost.proofs.OrderLemmas.{lots_total}
 use Rattle.lot_booking.specs.declared.fault.TakeFault.{TakeFault}
 use Rattle.lot_booking.specs.declared.fault.TakeFault.TheVariants.{NotEnough as TooFew, Memory as NoMemory}
 use Rattle.lot_booking.specs.Choice.{Choice, HasNoChoice, HaveDistinctKeys, InTurn, IsChoice, IsWhole, OneOrWhole, Takes, held_in}
@@ -19,7 +19,8 @@ use Rattle.lot_booking.specs.Fault.{booking_fault}
 use Rattle.lot_booking.specs.Order.{oldest_first}
 use Rattle.lot_booking.specs.Way.{StopsStrict}
 use Rattle.lot_booking.proofs.ChoiceLemmas.{given-from_whole, whole-from_given}
-use Rattle.lot_booking.proofs.ListLemmas.{all_weaker, each_member}
+use Rattle.lot_cost.proofs.ListLemmas.{all_weaker}
+use Rattle.lot_booking.proofs.ListLemmas.{each_member}
 
 -- ---- what holds of each element
 

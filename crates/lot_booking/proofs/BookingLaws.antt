@@ -13,15 +13,15 @@ use Rattle.std.proofs.lemmas.List.Sorted.{All-permutation, Contains-permutation,
 use Rattle.std.proofs.lemmas.List.Sums.{sum_by-cons}
 use Rattle.std.proofs.lemmas.Map.Keys.{IsDistinct-IsPermutation, IsDistinct-cons, IsDistinct-head, IsDistinct-tail}
 use Rattle.std.proofs.lemmas.Map.Views.{lookup-from_Contains}
-use Rattle.lot_inv.specs.declared.cost_spec.CostSpec.{CostSpec}
-use Rattle.lot_inv.specs.declared.lot_key.LotKey.{LotKey}
+use Rattle.lot_cost.specs.declared.cost_spec.CostSpec.{CostSpec}
+use Rattle.lot_cost.specs.declared.lot_key.LotKey.{LotKey}
 use Rattle.lot_inv.specs.Inventory.{MatchingLotsAreDistinct, matching, other_sign}
-use Rattle.lot_inv.specs.LotKey.{lot_cmp}
-use Rattle.lot_inv.proofs.OrderLemmas.{lots_total}
+use Rattle.lot_cost.specs.LotKey.{lot_cmp}
+use Rattle.lot_cost.proofs.OrderLemmas.{lots_total}
 use Rattle.lot_booking.specs.declared.fault.BookingFault.{BookingFault}
 use Rattle.lot_booking.specs.declared.fault.BookingFault.TheVariants.{ZeroUnits, InexactCost, IncompleteCost, NoMatch, Ambiguous, NotEnough, Memory}
-use Rattle.lot_booking.specs.declared.method.Method.{Method}
-use Rattle.lot_booking.specs.declared.method.Method.TheVariants.{Strict, Fifo, Lifo, Hifo, Unmatched}
+use Rattle.lot_cost.specs.declared.method.Method.{Method}
+use Rattle.lot_cost.specs.declared.method.Method.TheVariants.{Strict, Fifo, Lifo, Hifo, Unmatched}
 use Rattle.lot_booking.specs.Booking.{AreTaken, Augments, ComesTo, Braced, FindsNone, IsOneLeg, Legs, Outcome, Reduces, Refused, TakesFrom, candidates, is_ambiguous, is_inexact, opened_key, spec_of, units_in}
 use Rattle.lot_booking.specs.Choice.{AreInOrder, Choice, HasNoChoice, HaveDistinctKeys, IsChoice, Rule, Takes, chosen_legs, given, with_sign_of}
 use Rattle.lot_booking.specs.Method.{is_strict, order_of, rule_of}

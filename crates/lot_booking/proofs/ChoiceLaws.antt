@@ -5,9 +5,9 @@ use Rattle.std.specs.List.{AllByRecursion, Contains}
 use Rattle.std.specs.Ordering.{is_eq}
 use Rattle.std.proofs.Common.{sym, ap, ◌∙◌, arith, inl, inr}
 use Rattle.std.proofs.lemmas.Bool.{cases_Bool, cases_order, or_cases, true≢false}
-use Rattle.lot_inv.specs.declared.lot_key.LotKey.{LotKey}
-use Rattle.lot_inv.specs.LotKey.{lot_cmp}
-use Rattle.lot_inv.proofs.OrderLemmas.{exact_lots, lots_total}
+use Rattle.lot_cost.specs.declared.lot_key.LotKey.{LotKey}
+use Rattle.lot_cost.specs.LotKey.{lot_cmp}
+use Rattle.lot_cost.proofs.OrderLemmas.{exact_lots, lots_total}
 use Rattle.lot_booking.specs.Choice.{Choice, InTurn, IsChoice, IsWhole, OneOrWhole, given}
 use Rattle.lot_booking.specs.Order.{IsOrder}
 use Rattle.lot_booking.proofs.ListLemmas.{at_member, each_member, same_terms}

@@ -10,10 +10,11 @@ use Rattle.std.proofs.lemmas.List.Sorted.{IsPermutation-map, sum_by-IsPermutatio
 use Rattle.std.proofs.lemmas.List.Sums.{sum_by-cons}
 use Rattle.std.proofs.lemmas.Map.Keys.{IsDistinct-IsPermutation, IsDistinct-from_sorted}
 use Rattle.std.proofs.lemmas.Map.Made.{IsDistinct-keys_filter}
-use Rattle.lot_inv.specs.declared.lot_key.LotKey.{LotKey}
-use Rattle.lot_inv.specs.LotKey.{lot_cmp}
-use Rattle.lot_inv.proofs.OrderLemmas.{lots_total}
-use Rattle.lot_booking.proofs.ListLemmas.{all_permuted, all_weaker, same_terms, smaller_terms}
+use Rattle.lot_cost.specs.declared.lot_key.LotKey.{LotKey}
+use Rattle.lot_cost.specs.LotKey.{lot_cmp}
+use Rattle.lot_cost.proofs.OrderLemmas.{lots_total}
+use Rattle.lot_cost.proofs.ListLemmas.{all_weaker}
+use Rattle.lot_booking.proofs.ListLemmas.{all_permuted, same_terms, smaller_terms}
 use Rattle.lot_booking.specs.Choice.{Choice, HasNoChoice, HaveDistinctKeys, InTurn, IsWhole, Rule, given, held_in}
 
 -- what holds of each key holds of the key of each lot

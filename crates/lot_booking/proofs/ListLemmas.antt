@@ -8,10 +8,6 @@ use Rattle.std.proofs.lemmas.List.Sums.{sum_by-cons}
 
 -- ---- each element
 
-pub all_weaker : {X : Type 0} (P Q : X → Type 0) → ((x : X) → P x → Q x) → (xs : List X) → AllByRecursion P xs → AllByRecursion Q xs
-all_weaker P Q f [] p = tt
-all_weaker P Q f (x ∷ xs) p = (f x p.0, all_weaker P Q f xs p.1)
-
 pub all_both : {X : Type 0} (P Q R : X → Type 0) → ((x : X) → P x → Q x → R x) → (xs : List X) → AllByRecursion P xs → AllByRecursion Q xs
     → AllByRecursion R xs
 all_both P Q R f [] p q = tt

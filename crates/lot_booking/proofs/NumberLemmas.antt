@@ -3,9 +3,9 @@ use Rattle.std.specs.Prelude.{◌≡◌, ◌⊎◌, ℕ, ◌==◌, Bool, true, f
 use Rattle.std.proofs.Common.{inl, inr, refl, sym, ap, ◌∙◌, arith}
 use Rattle.std.proofs.lemmas.Bool.{cases_Bool}
 use Rattle.std.proofs.lemmas.Bool.Decides.{nat_tests}
-use Rattle.lot_inv.specs.declared.cost_spec.CostSpec.{CostSpec}
-use Rattle.lot_inv.specs.declared.lot_key.LotKey.{LotKey}
-use Rattle.lot_inv.specs.CostSpec.{fits}
+use Rattle.lot_cost.specs.declared.cost_spec.CostSpec.{CostSpec}
+use Rattle.lot_cost.specs.declared.lot_key.LotKey.{LotKey}
+use Rattle.lot_cost.specs.CostSpec.{fits}
 use Rattle.lot_inv.specs.Inventory.{Held, lots_of, matching, other_sign}
 use Rattle.lot_booking.specs.Booking.{fitting, with_number}
 

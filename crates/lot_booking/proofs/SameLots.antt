@@ -3,14 +3,14 @@ use Rattle.std.specs.Prelude.{◌≡◌, ℕ, nat_le, true, false, ◌&&◌, Lis
 use Rattle.std.specs.List.{list_any}
 use Rattle.std.specs.Map.{values_of}
 use Rattle.std.proofs.Common.{sym, ap, subst, ◌∙◌}
-use Rattle.lot_inv.specs.declared.cost_spec.CostSpec.{CostSpec}
-use Rattle.lot_inv.specs.declared.lot_key.LotKey.{LotKey}
-use Rattle.lot_inv.specs.CostSpec.{fits}
+use Rattle.lot_cost.specs.declared.cost_spec.CostSpec.{CostSpec}
+use Rattle.lot_cost.specs.declared.lot_key.LotKey.{LotKey}
+use Rattle.lot_cost.specs.CostSpec.{fits}
 use Rattle.lot_inv.specs.Inventory.{Held, lots_of, matching, other_sign}
-use Rattle.lot_booking.specs.declared.cost.Cost.{Cost}
+use Rattle.lot_cost.specs.declared.cost.Cost.{Cost}
 use Rattle.lot_booking.specs.declared.fault.BookingFault.{BookingFault}
 use Rattle.lot_booking.specs.declared.fault.BookingFault.TheVariants.{ZeroUnits, InexactCost, IncompleteCost, NoMatch, Ambiguous, NotEnough, Memory}
-use Rattle.lot_booking.specs.declared.method.Method.{Method}
+use Rattle.lot_cost.specs.declared.method.Method.{Method}
 use Rattle.lot_booking.specs.Booking.{Augments, Braced, ComesTo, Legs, Outcome, Reduces, Refused, Stops, candidates, given_of, is_ambiguous, is_reducing, posting_of, spec_of}
 use Rattle.lot_booking.specs.Choice.{HasNoChoice, Takes}
 use Rattle.lot_booking.specs.Method.{is_strict, may_reduce, order_of, rule_of}

@@ -9,13 +9,13 @@ use Rattle.std.proofs.lemmas.Bool.{and_parts, cases_Bool, cases_order, true≢fa
 use Rattle.std.proofs.lemmas.Int.{ints}
 use Rattle.std.proofs.lemmas.List.Sorted.{IsPermutation-refl, IsPermutation-cons, IsPermutation-swap, IsPermutation-trans}
 use Rattle.std.proofs.lemmas.Map.Keys.{IsDistinct-head, IsDistinct-tail}
-use Rattle.lot_inv.specs.declared.lot_key.LotKey.{LotKey}
+use Rattle.lot_cost.specs.declared.lot_key.LotKey.{LotKey}
 use Rattle.lot_inv.specs.Inventory.{MatchingLotsAreDistinct}
-use Rattle.lot_inv.specs.LotKey.{lot_cmp}
-use Rattle.lot_inv.proofs.OrderLemmas.{lots_total}
+use Rattle.lot_cost.specs.LotKey.{lot_cmp}
+use Rattle.lot_cost.proofs.OrderLemmas.{lots_total}
 use Rattle.lot_booking.specs.declared.fault.BookingFault.TheVariants.{ZeroUnits, InexactCost, IncompleteCost, NoMatch, Ambiguous, NotEnough}
-use Rattle.lot_booking.specs.declared.method.Method.{Method}
-use Rattle.lot_booking.specs.declared.method.Method.TheVariants.{Strict, Fifo, Lifo, Hifo, Unmatched}
+use Rattle.lot_cost.specs.declared.method.Method.{Method}
+use Rattle.lot_cost.specs.declared.method.Method.TheVariants.{Strict, Fifo, Lifo, Hifo, Unmatched}
 use Rattle.lot_booking.specs.Booking.{Augments, Braced, ComesTo, FindsNone, Legs, Outcome, Reduces, Refused, candidates, is_ambiguous, is_inexact, is_reducing, opened_key, spec_of}
 use Rattle.lot_booking.specs.Choice.{AreInOrder, HasNoChoice, HaveDistinctKeys, InTurn, OneOrWhole, Takes, held_in}
 use Rattle.lot_booking.specs.Method.{may_reduce, order_of, rule_of}
@@ -25,7 +25,8 @@ use Rattle.lot_booking.specs.Way.{walked}
 use Rattle.lot_booking.proofs.BookLemmas.{none_of_several, taken_strictly}
 use Rattle.lot_booking.proofs.BookingLaws.{candidates_distinct}
 use Rattle.lot_booking.proofs.ChoiceLemmas.{all_keys, held_in-permuted, no_choice-from_less}
-use Rattle.lot_booking.proofs.ListLemmas.{all_permuted, all_weaker}
+use Rattle.lot_cost.proofs.ListLemmas.{all_weaker}
+use Rattle.lot_booking.proofs.ListLemmas.{all_permuted}
 use Rattle.lot_booking.proofs.TakeLemmas.{other_first, takes-in_order}
 
 -- ---- lots in an order

@@ -12,14 +12,15 @@ use Rattle.std.proofs.lemmas.Cmp.{tied_itself}
 use Rattle.std.proofs.lemmas.List.Elements.{recursion_from_All}
 use Rattle.std.proofs.lemmas.List.Sorted.{IsPermutation-sym, sorted_far}
 use Rattle.std.proofs.lemmas.Map.Keys.{IsDistinct-head, IsDistinct-tail}
-use Rattle.lot_inv.specs.declared.lot_key.LotKey.{LotKey}
-use Rattle.lot_inv.specs.LotKey.{lot_cmp}
-use Rattle.lot_inv.proofs.OrderLemmas.{lots_total}
+use Rattle.lot_cost.specs.declared.lot_key.LotKey.{LotKey}
+use Rattle.lot_cost.specs.LotKey.{lot_cmp}
+use Rattle.lot_cost.proofs.OrderLemmas.{lots_total}
 use Rattle.lot_booking.specs.Choice.{AreInOrder, Choice, HaveDistinctKeys, InTurn, IsWhole, Takes, chosen_legs, given, held_in, with_sign_of}
 use Rattle.lot_booking.specs.Order.{IsOrder}
 use Rattle.lot_booking.specs.Way.{walked}
 use Rattle.lot_booking.proofs.ChoiceLemmas.{all_keys, distinct-permuted, given-cons, given-permuted, held_in-cons, in_turn-permuted}
-use Rattle.lot_booking.proofs.ListLemmas.{all_weaker, all_both, all_permuted}
+use Rattle.lot_cost.proofs.ListLemmas.{all_weaker}
+use Rattle.lot_booking.proofs.ListLemmas.{all_both, all_permuted}
 
 -- ---- a step of a walk
 

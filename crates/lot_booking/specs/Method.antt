@@ -1,18 +1,10 @@
--- The methods of an account: their words, which choices each allows, and in which order it lists the legs.
-use Rattle.std.specs.Prelude.{ℕ, Bool, false, true, List, [], ◌∷◌}
-use Rattle.lot_inv.specs.declared.lot_key.LotKey.{LotKey}
-use Rattle.lot_booking.specs.declared.method.Method.{Method}
-use Rattle.lot_booking.specs.declared.method.Method.TheVariants.{Strict, Fifo, Lifo, Hifo, Unmatched}
+-- The methods of an account: which choices each allows, and in which order it lists the legs.
+use Rattle.std.specs.Prelude.{Bool, false, true}
+use Rattle.lot_cost.specs.declared.lot_key.LotKey.{LotKey}
+use Rattle.lot_cost.specs.declared.method.Method.{Method}
+use Rattle.lot_cost.specs.declared.method.Method.TheVariants.{Strict, Fifo, Lifo, Hifo, Unmatched}
 use Rattle.lot_booking.specs.Choice.{Rule, OneOrWhole, InTurn}
 use Rattle.lot_booking.specs.Order.{oldest_first, newest_first, highest_first}
-
--- the word of a method, in bytes
-abbrev pub word_of : Method → List ℕ
-word_of Strict = 83 ∷ 84 ∷ 82 ∷ 73 ∷ 67 ∷ 84 ∷ []
-word_of Fifo = 70 ∷ 73 ∷ 70 ∷ 79 ∷ []
-word_of Lifo = 76 ∷ 73 ∷ 70 ∷ 79 ∷ []
-word_of Hifo = 72 ∷ 73 ∷ 70 ∷ 79 ∷ []
-word_of Unmatched = 78 ∷ 79 ∷ 78 ∷ 69 ∷ []
 
 -- whether postings under the method may reduce lots
 abbrev pub may_reduce : Method → Bool

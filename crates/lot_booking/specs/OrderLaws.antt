@@ -9,10 +9,10 @@ use Rattle.std.specs.Ordering.{nat_cmp, int_cmp, is_lt, ordering_reverse, orderi
 use Rattle.std.proofs.Common.{refl, ap, ◌∙◌}
 use Rattle.std.proofs.lemmas.Cmp.{back_total, then_total, on_total, nat_cmp_total, int_cmp_total, nat_list_cmp_total, tied_itself, tied_back}
 use Rattle.std.proofs.lemmas.Map.Lookups.{CmpEqualImpliesEq}
-use Rattle.lot_inv.specs.declared.lot_key.LotKey.{LotKey}
+use Rattle.lot_cost.specs.declared.lot_key.LotKey.{LotKey}
 use Rattle.lot_base.proofs.OrderLemmas.{equal_parts}
 use Rattle.lot_base.specs.Text.{text_cmp}
-use Rattle.lot_inv.proofs.OrderLemmas.{lots_total, exact_lots}
+use Rattle.lot_cost.proofs.OrderLemmas.{lots_total, exact_lots}
 use Rattle.lot_booking.specs.Order.{IsOrder, label_cmp, oldest_cmp, oldest_first, newest_cmp, newest_first, highest_cmp, highest_first}
 
 -- ---- an order from a comparison

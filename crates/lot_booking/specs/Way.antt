@@ -1,7 +1,7 @@
 -- The parts on the way to a posting's legs, for the contracts of private functions.
 use Rattle.std.specs.Prelude.{◌≡◌, ℕ, ◌≤◌, ◌<◌, ◌-◌, min, nat_eq, true, false, if◌then◌else◌, List, [], ◌∷◌, length, ℤ, unsigned_abs, ⊤}
-use Rattle.lot_inv.specs.declared.cost_spec.CostSpec.{CostSpec}
-use Rattle.lot_inv.specs.declared.lot_key.LotKey.{LotKey}
+use Rattle.lot_cost.specs.declared.cost_spec.CostSpec.{CostSpec}
+use Rattle.lot_cost.specs.declared.lot_key.LotKey.{LotKey}
 use Rattle.lot_booking.specs.declared.fault.BookingFault.{BookingFault}
 use Rattle.lot_booking.specs.declared.fault.BookingFault.TheVariants.{ZeroUnits, InexactCost, IncompleteCost, NoMatch, Ambiguous, NotEnough, Memory}
 use Rattle.lot_booking.specs.Booking.{is_incomplete}

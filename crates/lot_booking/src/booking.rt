@@ -1,21 +1,21 @@
 ghost use Rattle.std.specs.Prelude.{◌≡◌, ◌≢◌, ◌⊎◌, None, IfOk, IfErr, OnErr, ℤ, ◌<◌, [], true, unsigned_abs};
 ghost use Rattle.std.specs.List.{AllByRecursion};
-ghost use Rattle.lot_inv.specs.declared.lot_key.LotKey.{LotKey};
+ghost use Rattle.lot_cost.specs.declared.lot_key.LotKey.{LotKey};
 ghost use Rattle.lot_inv.specs.Inventory.{matching, other_sign};
-ghost use Rattle.lot_booking.specs.declared.method.Method.{Method};
-ghost use Rattle.lot_booking.specs.declared.cost.Cost.{Cost};
+ghost use Rattle.lot_cost.specs.declared.method.Method.{Method};
+ghost use Rattle.lot_cost.specs.declared.cost.Cost.{Cost};
 ghost use Rattle.lot_booking.specs.Booking.{ComesTo, IsOneLeg, Legs, Stops, fitting, posting_of, with_number};
 ghost use Rattle.lot_booking.specs.Choice.{HaveDistinctKeys, OneOrWhole, Takes, held_in};
 ghost use Rattle.lot_booking.specs.Order.{oldest_first};
 ghost use Rattle.lot_booking.specs.Way.{StopsStrict, StopsOpening};
 
 use crate::choice::take;
-use crate::cost::Cost;
+use crate::cost::{given, number};
 use crate::fault::BookingFault;
-use crate::method::Method;
 use crate::order::{Highest, LotOrder, Newest, Oldest};
 use lot_base::{Commodity, Day};
-use lot_inv::{CostSpec, Inventory, LotKey, is_other_sign};
+use lot_cost::{Cost, CostSpec, LotKey, Method};
+use lot_inv::{Inventory, is_other_sign};
 use lot_num::{Rate, Units};
 use std::alloc::{AllocError, Global};
 
@@ -54,8 +54,8 @@ pub fn book(
     if units == Units::ZERO {
         return Err(BookingFault::ZeroUnits);
     }
-    let number = cost.number(units)?;
-    let spec = cost.given();
+    let number = number(cost, units)?;
+    let spec = given(cost);
     let reduces = method != Method::Unmatched && inventory.reduces(commodity, units);
     if !reduces {
         let legs = open(alloc, number, spec, units, day)?;

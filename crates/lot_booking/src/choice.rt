@@ -8,7 +8,7 @@ ghost use Rattle.lot_booking.specs.declared.fault.TakeFault.TheVariants.{Memory,
 
 use crate::fault::TakeFault;
 use crate::order::LotOrder;
-use lot_inv::LotKey;
+use lot_cost::LotKey;
 use lot_num::Units;
 use std::alloc::Global;
 use std::cmp::Ordering;

@@ -1,127 +1,34 @@
-ghost use Rattle.std.specs.Prelude.{◌≡◌, ◌⊎◌, ℤ, pos, ◌≤ℤ◌, None, true, false, IsOk, IfOk, IfErr, SomeIff};
+ghost use Rattle.std.specs.Prelude.{◌≡◌, ◌⊎◌, ℤ, None, true, false, IsOk, IfOk, IfErr};
 ghost use Rattle.lot_booking.specs.Booking.{given_of, is_inexact, number_of};
 ghost use Rattle.lot_booking.specs.declared.fault.BookingFault.TheVariants.{InexactCost};
 
 use crate::fault::BookingFault;
-use lot_base::{Commodity, Day, Label};
-use lot_inv::CostSpec;
+use lot_cost::{Cost, CostSpec};
 use lot_num::{Rate, Units};
-use std::alloc::AllocError;
-use std::marker::Model;
 
-/// What a posting says in its braces.
-#[derive(Debug, Drop)]
-pub enum Cost {
-    /// `{..}`: the cost of each unit.
-    Each(CostSpec),
-    /// `{{..}}`: the cost of all units.
-    Whole(WholeCost),
-}
-
-impl Cost {
-    /// Returns what is given of the lot, the total of a whole cost aside.
-    pub(crate) fn given(&self) -> &CostSpec
-        ensures value { result.now ≡ given_of self.now }
-        ensures number { (units : ℤ) → (result.now.number ≡ None) ⊎ (result.now.number ≡ number_of units self.now) }
-    {
-        match self {
-            Cost::Each(spec) => spec,
-            Cost::Whole(whole) => whole.spec(),
-        }
-    }
-
-    /// Returns the number for each unit, where one is given, or `InexactCost` where the total of a whole cost by the units
-    /// isn't exactly a rate.
-    pub(crate) fn number(&self, units: Units) -> Result<Option<Rate>, BookingFault>
-        ensures number { IfOk result (λ number. number ≡ number_of units self.now) }
-        ensures exact { IsOk result → is_inexact units self.now ≡ false }
-        ensures inexact { IfErr result (λ fault. (fault ≡ InexactCost) × (is_inexact units self.now ≡ true)) }
-    {
-        match self {
-            Cost::Each(spec) => Ok(spec.number),
-            Cost::Whole(whole) => match units.per_unit(whole.total()) {
-                Some(number) => Ok(Some(number)),
-                None => Err(BookingFault::InexactCost),
-            },
-        }
-    }
-
-    /// Returns a copy of the cost. The only error is out of memory.
-    pub fn copy(&self) -> Result<Cost, AllocError>
-        ensures { IfOk result (λ cost. cost ≡ self.now) }
-    {
-        match self {
-            Cost::Each(spec) => Ok(Cost::Each(spec.copy()?)),
-            Cost::Whole(whole) => Ok(Cost::Whole(whole.copy()?)),
-        }
+/// Returns what a cost gives of the lot, the total of a whole cost aside.
+pub(crate) fn given(cost: &Cost) -> &CostSpec
+    ensures value { result.now ≡ given_of cost.now }
+    ensures number { (units : ℤ) → (result.now.number ≡ None) ⊎ (result.now.number ≡ number_of units cost.now) }
+{
+    match cost {
+        Cost::Each(spec) => spec,
+        Cost::Whole(whole) => whole.spec(),
     }
 }
 
-/// The cost of all units of a posting: a total, which isn't below zero, and what else is given of the lot. A contract sees
-/// the total beside a specification without a number.
-#[derive(Debug, Drop)]
-pub struct WholeCost {
-    total: Units,
-    /// It has no number.
-    spec: CostSpec,
-}
-
-impl Model for WholeCost {
-    ghost use Rattle.std.specs.Prelude.{◌≡◌, ℤ, pos, None, ◌≤ℤ◌};
-    ghost use Rattle.lot_inv.specs.declared.cost_spec.CostSpec.{CostSpec};
-
-    ghost Value = { ℤ × CostSpec };
-
-    ghost view = { λ w. (w.total, w.spec) };
-
-    ghost invariant = { λ w. (pos 0 ≤ℤ w.total) × (w.spec.number ≡ None) };
-}
-
-impl WholeCost {
-    /// Returns the cost of that total, with the given parts of the lot, or `None` where the total is below zero.
-    pub fn new(
-        total: Units,
-        currency: Option<Commodity>,
-        day: Option<Day>,
-        label: Option<Label>,
-    ) -> Option<WholeCost>
-        ensures { SomeIff result (pos 0 ≤ℤ total) (total, record { number = None; currency = currency; day = day; label = label }) }
-    {
-        if total < Units::ZERO {
-            return None;
-        }
-        let spec = CostSpec {
-            number: None,
-            currency,
-            day,
-            label,
-        };
-        Some(WholeCost { total, spec })
-    }
-
-    /// Returns the total.
-    pub fn total(&self) -> Units
-        ensures value { result ≡ self.now.0 }
-        ensures not_negative { pos 0 ≤ℤ self.now.0 }
-    {
-        self.total
-    }
-
-    /// Returns what is given of the lot, which has no number.
-    pub fn spec(&self) -> &CostSpec
-        ensures value { result.now ≡ self.now.1 }
-        ensures no_number { self.now.1.number ≡ None }
-    {
-        &self.spec
-    }
-
-    /// Returns a copy of the cost. The only error is out of memory.
-    pub fn copy(&self) -> Result<WholeCost, AllocError>
-        ensures { IfOk result (λ cost. cost ≡ self.now) }
-    {
-        Ok(WholeCost {
-            total: self.total,
-            spec: self.spec.copy()?,
-        })
+/// Returns the number for each of so many units, where one is given, or `InexactCost` where the total of a whole cost by the
+/// units isn't exactly a rate.
+pub(crate) fn number(cost: &Cost, units: Units) -> Result<Option<Rate>, BookingFault>
+    ensures number { IfOk result (λ number. number ≡ number_of units cost.now) }
+    ensures exact { IsOk result → is_inexact units cost.now ≡ false }
+    ensures inexact { IfErr result (λ fault. (fault ≡ InexactCost) × (is_inexact units cost.now ≡ true)) }
+{
+    match cost {
+        Cost::Each(spec) => Ok(spec.number),
+        Cost::Whole(whole) => match units.per_unit(whole.total()) {
+            Some(number) => Ok(Some(number)),
+            None => Err(BookingFault::InexactCost),
+        },
     }
 }

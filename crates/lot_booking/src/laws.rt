@@ -2,13 +2,13 @@
 //! nothing, or that returns what the law is about.
 ghost use Rattle.std.specs.Prelude.{◌≡◌, Bool, true, ℕ, ℤ, List};
 ghost use Rattle.std.specs.List.{AllByRecursion};
-ghost use Rattle.lot_inv.specs.declared.lot_key.LotKey.{LotKey};
+ghost use Rattle.lot_cost.specs.declared.lot_key.LotKey.{LotKey};
 ghost use Rattle.lot_booking.specs.Booking.{ComesTo, Braced, Legs, Outcome, TakesFrom, candidates, units_in};
 ghost use Rattle.lot_booking.specs.Choice.{Choice, HaveDistinctKeys, InTurn, IsChoice, OneOrWhole};
 ghost use Rattle.lot_booking.specs.Order.{IsOrder, oldest_first, newest_first, highest_first};
 
 use crate::{Highest, LotOrder, Newest, Oldest};
-use lot_inv::LotKey;
+use lot_cost::LotKey;
 use lot_inv::laws::matching_lots_are_distinct;
 
 /// Among lots there is at most one choice of an amount: under STRICT, and in each order.

@@ -1,9 +1,10 @@
 //! Booking: which lots a posting with braces takes, or which one it opens.
 //!
-//! - `method`: `Method`, how the lots of a reduction are chosen.
+//! Methods and costs are those of `lot_cost`.
+//!
 //! - `order`: `LotOrder`, in which order lots are taken, and its three orders.
 //! - `choice`: `take`, the lots that units take in an order.
-//! - `cost`: `Cost`, what a posting says in its braces.
+//! - `cost`: what a cost gives of a lot.
 //! - `booking`: `book`, the legs of a posting with braces, and `fitting`, the lots that it may take.
 //! - `fault`: `BookingFault` and `TakeFault`, why there are none.
 //! - `laws`: what holds of the definitions that the contracts cite.
@@ -14,12 +15,10 @@ mod choice;
 mod cost;
 mod fault;
 pub mod laws;
-mod method;
 mod order;
 
 pub use booking::{Booked, book, fitting};
 pub use choice::take;
-pub use cost::{Cost, WholeCost};
 pub use fault::{BookingFault, TakeFault};
-pub use method::Method;
+pub use lot_cost::{Cost, Method, WholeCost};
 pub use order::{Highest, LotOrder, Newest, Oldest};

@@ -1,8 +1,8 @@
 ghost use Rattle.std.specs.Prelude.{◌≡◌, Bool};
-ghost use Rattle.lot_inv.specs.declared.lot_key.LotKey.{LotKey};
+ghost use Rattle.lot_cost.specs.declared.lot_key.LotKey.{LotKey};
 ghost use Rattle.lot_booking.specs.Order.{IsOrder};
 
-use lot_inv::LotKey;
+use lot_cost::LotKey;
 
 mod highest;
 mod newest;

@@ -1,8 +1,7 @@
+pub mod HaltLemmas
+pub mod InitLemmas
 pub mod InputLemmas
-pub mod KeyLemmas
-pub mod RunLemmas
-pub mod FaultLemmas
-pub mod LawAnswersReports
-pub mod LawAnswers
-pub mod AnswerLemmas
+pub mod KeyedLemmas
 pub mod ReportLemmas
+pub mod RowLemmas
+pub mod RunLemmas

@@ -1,159 +1,117 @@
--- Runs of commands.
-use Rattle.std.proofs.Common.{◌≡◌, ℕ, List, [], ◌∷◌, ◌++◌, length, refl, sym, ap, ◌∙◌, subst, append_assoc, append-nil, length-append}
-use Rattle.std.specs.Prelude.{suc, ◌+◌, ◌<◌, ◌^◌, Option, Ok, Err}
-use native.Mathlib.Omega.{arith}
-use Rattle.std.specs.Io.KnownBytes.{Appends}
-use Rattle.std.proofs.KnownBytes.{Appends-trans}
-use Rattle.lot_report.specs.declared.line.PrintFault.{PrintFault}
-use Rattle.lot_cli.specs.declared.batch.fault.Fault.{Fault}
-use Rattle.lot_cli.specs.declared.batch.status.Status.{Status}
+-- A run on a database that was only looked at before is a run on the database as it was.
+use Rattle.std.proofs.Common.{◌≡◌, ◌≢◌, inl, inr, ℕ, List, [], ◌∷◌, ◌++◌, Ok, Err, Option, Result, arith}
+use Rattle.sqlite.proofs.StateLemmas.{survives_then}
+use Rattle.sqlite.specs.State.{HasCleanDisk, IsUnchanged, State, Survives}
+use Rattle.sqlite.specs.Tree.{Trees}
+use Rattle.lot_book.specs.Facts.{Entry}
 use Rattle.lot_book.specs.declared.verdict.Verdict.{Verdict}
-use Rattle.lot_view.specs.declared.view.View.{View}
+use Rattle.lot_book.specs.declared.verdict.Verdict.TheVariants.{Accepted, Refused, Repeated}
 use Rattle.lot_command.specs.declared.command.Command.{Command}
-use Rattle.lot_cli.specs.Status.{fault_at, status_after, status_of_verdict}
-use Rattle.lot_report.specs.Written.{AppendsPrefix, WritesLine}
-use Rattle.lot_report.specs.Printed.{reply, replies}
-use Rattle.lot_book.specs.Facts.{Entry, Facts}
-use Rattle.lot_book.specs.Judged.{Judges, JudgesAll}
-use Rattle.lot_view.specs.View.{known}
-use Rattle.lot_cli.specs.Key.{key_of}
-use Rattle.lot_cli.specs.Answer.{status_of_replies}
-use Rattle.lot_cli.specs.Way.{JudgesKnown, Replies, Runs}
-use Rattle.lot_report.proofs.PrintLemmas.{prefix_behind}
-use Rattle.lot_report.proofs.ReplyLemmas.{replies_more}
-use Rattle.lot_cli.proofs.KeyLemmas.{Stands, judged_as}
+use Rattle.lot_command.specs.declared.key.Key.{Key}
+use Rattle.lot_stream.specs.Status.{code_of}
+use Rattle.lot_stored.specs.StandFor.{Stands}
+use Rattle.lot_rows.specs.Tables.{Has, Tables}
+use Rattle.lot_cli.specs.Runs.{RunsOn, status_of_run}
+use Rattle.lot_cli.specs.Says.{Halts}
+use Rattle.lot_cli.specs.declared.halt.Halt.TheVariants as halt
+use Rattle.lot_store.proofs.ApplyLemmas.{stands_along}
+use Rattle.lot_store.specs.Create.{IsHandedBack, TellsBook, TellsOf}
+use Rattle.lot_store.specs.Run.{LeavesAfter, LeavesAtAnswer, LeavesAtFault, LeavesAtVerdict, RunsSession, RunsBook}
+use Rattle.lot_store.specs.Session.{LeavesFirst, LeavesJudged, LeavesNext}
+use Rattle.lot_store.specs.declared.book.Ack.{Ack}
+use Rattle.lot_store.specs.declared.book.Ack.TheVariants as ack
+use Rattle.lot_store.specs.declared.book.Condition.{Condition}
+use Rattle.lot_store.specs.declared.book.Condition.TheVariants.{Ready}
+use Rattle.lot_store.specs.declared.fault.AdoptFault.{AdoptFault}
+use Rattle.lot_store.specs.declared.fault.AdoptFault.TheVariants as adopt
+use Rattle.lot_store.specs.declared.fault.ApplyFault.{ApplyFault}
+use Rattle.lot_store.specs.declared.fault.ApplyFault.TheVariants as apply
+use Rattle.lot_store.specs.declared.fault.StoreFault.{StoreFault}
+use Rattle.lot_store.specs.declared.fault.StoreFault.TheVariants.{Damaged, Device, InDoubt, Memory, NeedsReopen}
+use Rattle.lot_store.specs.declared.run.Ending.{Ending}
+use Rattle.lot_store.specs.declared.run.Ending.TheVariants.{Complete, Output, Stopped}
+use Rattle.lot_store.specs.declared.run.RunEnd.{RunEnd}
+use Rattle.lot_table.specs.Book.{IsUndone}
 
--- a reply that isn't written whole
-pub reply_stops : (before after : Facts) (command : Command) (verdict : Verdict) (number : ℕ) (old new : Option (List ℕ)) (fault : PrintFault) (e : Fault)
-    → JudgesKnown before command verdict after → WritesLine old new (Err fault) (reply number verdict) → e ≡ fault_at number fault
-    → Replies before command number old new (Err e)
-reply_stops before after command verdict number old new PrintFault.Write e judged part is = rw (is) (verdict, after, judged, part)
-reply_stops before after command verdict number old new PrintFault.Memory e judged nothing is = rw (is) (refl, nothing)
+-- a crash may leave no more after the look than before
+module _ (old mid new : State) (verdicts : List Verdict) (book : List Entry) (may : (trees : Trees) → mid.may_leave trees → old.may_leave trees) where
+  judged : (trees : Trees) → LeavesJudged mid.may_leave verdicts book trees → LeavesJudged old.may_leave verdicts book trees
+  judged trees (inl left) = inl left
+  judged trees (inr (none, could)) = inr (none, may trees could)
 
--- ---- One command more.
+  next : (left : List (Key × Command)) (trees : Trees) → LeavesNext mid.may_leave verdicts book left trees → LeavesNext old.may_leave verdicts book left trees
+  next [] trees leaves = judged trees leaves
+  next (command ∷ left) trees (inl leaves) = inl (judged trees leaves)
+  next (command ∷ left) trees (inr entry) = inr entry
 
-judges_more : (number : ℕ) (before : List Entry) (done : List Command) (verdicts : List Verdict) (mid after : List Entry) (command : Command) (verdict : Verdict)
-    → JudgesAll key_of number before done verdicts mid → Judges mid (key_of (length verdicts + number)) command verdict after
-    → JudgesAll key_of number before (done ++ command ∷ []) (verdicts ++ verdict ∷ []) after
-judges_more number before [] [] mid after command verdict all one =
-    let first : length {A = Verdict} [] + number ≡ number = omega arith in
-    let at_first = subst (λ (n : ℕ). Judges mid (key_of n) command verdict after) first one in
-    (after, subst (λ (b : List Entry). Judges b (key_of number) command verdict after) all at_first, refl)
-judges_more number before [] (v ∷ verdicts) mid after command verdict all one = absurd all
-judges_more number before (c ∷ done) [] mid after command verdict all one = absurd all
-judges_more number before (c ∷ done) (v ∷ verdicts) mid after command verdict all one =
-    let counted : length (v ∷ verdicts) + number ≡ length verdicts + suc number = omega arith in (
-      all.0,
-      all.1,
-      judges_more (suc number) all.0 done verdicts mid after command verdict all.2
-          (subst (λ (n : ℕ). Judges mid (key_of n) command verdict after) counted one),
+  at_fault : (left : List (Key × Command)) (fault : StoreFault) → LeavesAtFault fault verdicts book left mid new → LeavesAtFault fault verdicts book left old new
+  at_fault left Device (stands, leaves) = (stands, λ trees left_so. judged trees (leaves trees left_so))
+  at_fault left NeedsReopen (none, stands, leaves) = (none, stands, λ trees left_so. judged trees (leaves trees left_so))
+  at_fault left Damaged none = absurd none
+  at_fault left InDoubt (stands, leaves) = (stands, λ trees left_so. next left trees (leaves trees left_so))
+  at_fault left Memory (stands, leaves) = (stands, λ trees left_so. next left trees (leaves trees left_so))
+
+module _ (old mid new : State) (verdicts : List Verdict) (book : List Entry) (may : (trees : Trees) → mid.may_leave trees → old.may_leave trees) where
+  at_verdict : (left : List (Key × Command)) (verdict : Verdict) → LeavesAtVerdict verdict verdicts book left mid new → LeavesAtVerdict verdict verdicts book left old new
+  at_verdict [] verdict none = absurd none
+  at_verdict (command ∷ left) verdict (after, judges, stands, leaves) =
+      (after, judges, stands, λ trees left_so. judged old mid new (verdicts ++ verdict ∷ []) after may trees (leaves trees left_so))
+
+  at_answer : (left : List (Key × Command)) (answer : Result Ack ApplyFault) → LeavesAtAnswer answer verdicts book left mid new → LeavesAtAnswer answer verdicts book left old new
+  at_answer left (Ok ack.Accepted) leaves = at_verdict left Accepted leaves
+  at_answer left (Ok ack.Repeat) leaves = at_verdict left Repeated leaves
+  at_answer left (Err (apply.Refused refusal)) leaves = at_verdict left (Refused refusal) leaves
+  at_answer left (Err (apply.Failed fault)) leaves = at_fault old mid new verdicts book may left fault leaves
+
+  leaves_after : (left : List (Key × Command)) (answer : Result Ack ApplyFault) (ending : Ending) → LeavesAfter verdicts book left mid new answer ending
+      → LeavesAfter verdicts book left old new answer ending
+  leaves_after left answer Complete (all, stands, leaves) = (all, stands, λ trees left_so. judged old mid new verdicts book may trees (leaves trees left_so))
+  leaves_after left answer (Stopped fault) leaves = at_fault old mid new verdicts book may left fault leaves
+  leaves_after left answer Output leaves = at_answer left answer leaves
+
+pub runs_after_look : (commands : List (Key × Command)) (from : ℕ) (old mid new : State) (before written : Option (List ℕ)) (answer : Result Ack ApplyFault) (end : RunEnd)
+    → (HasCleanDisk mid → IsUnchanged old mid) → Survives old mid (λ _. ⊥) → RunsSession commands from mid new before written answer end
+    → RunsSession commands from old new before written answer end
+runs_after_look commands from old mid new before written answer end same look ran = record {
+  verdicts = ran.verdicts;
+  writes = ran.writes;
+  place = ran.place;
+  session = λ clean entries stands.
+      let calm : HasCleanDisk mid = omega (arith, clean, ran.crash.clean) in
+      let on = ran.session clean entries (stands_along old mid entries (same calm).0.now_is stands) in (
+        on.0,
+        on.1,
+        on.2,
+        leaves_after old mid new ran.verdicts on.0 (λ trees may. elim (look.crash calm trees may) [ inl earlier ↦ earlier | inr none ↦ absurd none ]) on.1 answer end.ending on.3,
+      );
+  crash = survives_then old mid new (λ _. ⊥) (λ trees. (entries : List Entry) → Stands mid entries → LeavesFirst entries commands trees)
+      (λ trees. (entries : List Entry) → Stands old entries → LeavesFirst entries commands trees) (λ clean trees none. absurd none)
+      (λ clean trees leaves entries stands.
+      let calm : HasCleanDisk mid = omega (arith, clean, ran.crash.clean) in leaves entries (stands_along old mid entries (same calm).0.now_is stands))
+      look ran.crash;
+}
+
+-- commands are run on the book that was taken up
+pub runs_on : (commands : List (Key × Command)) (from : ℕ) (old mid new : State) (before written : Option (List ℕ)) (was condition : Condition) (end : RunEnd) (status : ℕ)
+    → (HasCleanDisk mid → (tables : Tables) → Has old tables → TellsBook tables.book (Ok tt))
+    → (HasCleanDisk mid → IsUnchanged old mid) → Survives old mid (λ _. ⊥) → was ≡ Ready
+    → RunsBook commands from mid new before written was condition end → (was ≡ Ready → end.ending ≢ Stopped NeedsReopen)
+    → status ≡ code_of (status_of_run end) → RunsOn commands from old new before written status
+runs_on commands from old mid new before written was condition end status found same look ready (answer, ran, usable, known) stops is =
+    inl (
+      answer,
+      end,
+      (λ clean. found (omega (arith, clean, ran.crash.clean))),
+      runs_after_look commands from old mid new before written answer end same look ran,
+      (usable ready, stops ready),
+      is,
     )
 
-after_accepted : (verdict : Verdict) → status_after (status_of_verdict verdict) Status.Accepted ≡ status_of_verdict verdict
-after_accepted Verdict.Accepted = refl
-after_accepted Verdict.Repeated = refl
-after_accepted (Verdict.Refused refusal) = refl
-
-regroup : (a b c : Status) → status_after a (status_after b c) ≡ status_after (status_after a b) c
-regroup Status.Accepted b c = refl
-regroup Status.Refused b c = refl
-regroup Status.BadInput b c = refl
-regroup Status.Stopped b c = refl
-
-status_more : (verdicts : List Verdict) (verdict : Verdict)
-    → status_of_replies (verdicts ++ verdict ∷ []) ≡ status_after (status_of_replies verdicts) (status_of_verdict verdict)
-status_more [] verdict = after_accepted verdict
-status_more (v ∷ verdicts) verdict =
-    ap (λ s. status_after (status_of_verdict v) s) (status_more verdicts verdict)
-    ∙ regroup (status_of_verdict v) (status_of_replies verdicts) (status_of_verdict verdict)
-
--- ---- A run so far.
-
--- some commands were judged and replied to, so many in number, and these are left
-abbrev pub RanSoFar : List Command → List Command → ℕ → View → Status → Option (List ℕ) → Option (List ℕ) → Type 0
-RanSoFar commands left count view status old new =
-    (done : List Command) × (verdicts : List Verdict) × (book : List Entry) × (commands ≡ done ++ left) × (count ≡ length verdicts)
-    × JudgesAll key_of 1 [] done verdicts book × Stands (known view) (length verdicts + 1) book × Appends old new (replies 1 verdicts) × (status ≡ status_of_replies verdicts)
-
-next_number : (number count : ℕ) (verdicts : List Verdict) → count ≡ length verdicts → number ≡ count + 1 → number ≡ length verdicts + 1
-next_number number count verdicts so_far is = omega (arith, so_far, is)
-
-as_many : (number : ℕ) (before : List Entry) (done : List Command) (verdicts : List Verdict) (after : List Entry)
-    → JudgesAll key_of number before done verdicts after → length done ≡ length verdicts
-as_many number before [] [] after all = refl
-as_many number before [] (v ∷ verdicts) after all = absurd all
-as_many number before (c ∷ done) [] after all = absurd all
-as_many number before (c ∷ done) (v ∷ verdicts) after all = ap suc (as_many (suc number) all.0 done verdicts after all.2)
-
--- where commands are left, the number of the next one is in range
-in_range : (commands left rest : List Command) (command : Command) (done : List Command) (verdicts : List Verdict) (book : List Entry)
-    → JudgesAll key_of 1 [] done verdicts book → commands ≡ done ++ left → left ≡ command ∷ rest → length commands < 2 ^ 64
-    → length verdicts + 1 < 2 ^ 64
-in_range commands left rest command done verdicts book all split is small =
-    let counted = as_many 1 [] done verdicts book all in
-    let whole : length commands ≡ length done + length (command ∷ rest) =
-    ap length (split ∙ ap (λ (cs : List Command). done ++ cs) is) ∙ length-append done (command ∷ rest) in
-    omega (arith, counted, whole, small)
-
-more_by_one : (verdicts : List Verdict) (verdict : Verdict) → suc (length verdicts + 1) ≡ length (verdicts ++ verdict ∷ []) + 1
-more_by_one verdicts verdict = omega (arith, length-append verdicts (verdict ∷ []))
-
-pub run_next : (commands left rest : List Command) (command : Command) (count number later : ℕ) (view next : View) (status replied both : Status)
-    (old mid new : Option (List ℕ))
-    → RanSoFar commands left count view status old mid → left ≡ command ∷ rest → number ≡ count + 1 → later ≡ count + 1
-    → length commands < 2 ^ 64 → Replies (known view) command number mid new (Ok (next, replied)) → both ≡ status_after status replied
-    → RanSoFar commands rest later next both old new
-run_next commands left rest command count number later view next status replied both old mid new so_far is numbered counted_on small
-    (verdict, judged, written, said) joined =
-    let (done, verdicts, book, split, counted, all, stands, before, status_is) = so_far in
-    let place = next_number number count verdicts counted numbered in
-    let (after, one, stands_next) =
-    judged_as (known view) (known next) book (length verdicts + 1) command verdict (in_range commands left rest command done verdicts book all split is small) stands judged in (
-      done ++ command ∷ [],
-      verdicts ++ verdict ∷ [],
-      after,
-      split ∙ ap (λ cs. done ++ cs) is ∙ sym (append_assoc done (command ∷ []) rest),
-      counted_on ∙ ap (λ n. n + 1) counted ∙ sym (length-append verdicts (verdict ∷ [])),
-      judges_more 1 [] done verdicts book after command verdict all one,
-      subst (λ (n : ℕ). Stands (known next) n after) (more_by_one verdicts verdict) stands_next,
-      subst (Appends old new) (sym (replies_more 1 verdicts verdict ∙ ap (λ n. replies 1 verdicts ++ reply n verdict) (sym place)))
-          (Appends-trans old mid new _ _ before written),
-      joined ∙ ap (λ s. status_after s replied) status_is ∙ ap (λ s. status_after (status_of_replies verdicts) s) said ∙ sym (status_more verdicts verdict),
-    )
-
-pub run_stops : (commands left rest : List Command) (command : Command) (count number : ℕ) (view : View) (status : Status) (fault : Fault)
-    (old mid new : Option (List ℕ))
-    → RanSoFar commands left count view status old mid → left ≡ command ∷ rest → number ≡ count + 1
-    → length commands < 2 ^ 64 → Replies (known view) command number mid new (Err fault)
-    → Runs commands old new (Err fault)
-run_stops commands left rest command count number view status Fault.Write old mid new so_far is numbered small (verdict, after, judged, part) =
-    let (done, verdicts, book, split, counted, all, stands, before, status_is) = so_far in
-    let place = next_number number count verdicts counted numbered in
-    let (more, one, stands_next) =
-    judged_as (known view) after book (length verdicts + 1) command verdict (in_range commands left rest command done verdicts book all split is small) stands judged in (
-      done ++ command ∷ [],
-      rest,
-      verdicts ++ verdict ∷ [],
-      more,
-      split ∙ ap (λ cs. done ++ cs) is ∙ sym (append_assoc done (command ∷ []) rest),
-      judges_more 1 [] done verdicts book more command verdict all one,
-      subst (AppendsPrefix old new) (sym (replies_more 1 verdicts verdict ∙ ap (λ n. replies 1 verdicts ++ reply n verdict) (sym place)))
-          (prefix_behind old mid new (replies 1 verdicts) (reply number verdict) before part),
-    )
-run_stops commands left rest command count number view status (Fault.MemoryAt stopped) old mid new so_far is numbered small (same, nothing) =
-    let (done, verdicts, book, split, counted, all, stands, before, status_is) = so_far in (
-      done,
-      command,
-      rest,
-      verdicts,
-      book,
-      split ∙ ap (λ cs. done ++ cs) is,
-      all,
-      same ∙ next_number number count verdicts counted numbered,
-      subst (Appends old new) (append-nil (replies 1 verdicts)) (Appends-trans old mid new _ _ before nothing),
-    )
-run_stops commands left rest command count number view status Fault.Memory old mid new so_far is numbered small none = none
-run_stops commands left rest command count number view status Fault.Range old mid new so_far is numbered small none = none
-run_stops commands left rest command count number view status (Fault.Text line fault) old mid new so_far is numbered small none = none
-run_stops commands left rest command count number view status Fault.TooLong old mid new so_far is numbered small none = none
-run_stops commands left rest command count number view status Fault.Read old mid new so_far is numbered small none = none
+-- the book isn't taken up
+pub left_alone : (commands : List (Key × Command)) (from : ℕ) (old new : State) (before written : Option (List ℕ)) (fault : AdoptFault) (status : ℕ)
+    → (HasCleanDisk new → TellsOf old new (Err fault))
+    → (HasCleanDisk new → fault ≢ adopt.Device → (tables : Tables) → Has old tables → TellsBook tables.book (Err fault)) → (HasCleanDisk new → IsHandedBack old new)
+    → (HasCleanDisk new → IsUndone old new) → Survives old new (λ _. ⊥) → Halts (halt.Adopt fault) before written status
+    → RunsOn commands from old new before written status
+left_alone commands from old new before written fault status tells told back undone crash said =
+    inr (fault, record { tells = tells; told = told; handed_back = back; undone = undone; crash = crash }, said)

@@ -1,41 +1,32 @@
--- What is made of the bytes of a reader, call by call (docs/RULES.md, Limits).
-use Rattle.std.specs.Prelude.{◌≡◌, ◌≢◌, ℕ, ◌+◌, ◌<◌, ◌≤◌, List, ◌++◌, length, take, Result, Ok, Err}
-use Rattle.std.specs.IoError.{error_kind}
-use Rattle.std.specs.declared.io.Error.{Error}
-use Rattle.std.specs.declared.io.ErrorKind.{ErrorKind}
-use Rattle.lot_cli.specs.declared.input.Progress.{Progress}
-use Rattle.lot_cli.specs.declared.input.Progress.TheVariants.{Ended, Goes}
-use Rattle.lot_cli.specs.declared.input.SlurpFault.{SlurpFault}
-use Rattle.lot_cli.specs.declared.input.SlurpFault.TheVariants.{Read, TooLong, Memory}
+-- The commands that an input gives, each under its key, or why it gives none.
+use Rattle.std.specs.Prelude.{◌≡◌, ◌<◌, ◌≤◌, ℕ, List, length, IfSome, Option, ⊤}
+use Rattle.lot_stream.specs.Input.{longest_input}
+use Rattle.lot_stream.specs.declared.input.SlurpFault.{SlurpFault}
+use Rattle.lot_stream.specs.declared.input.SlurpFault.TheVariants as slurp
+use Rattle.lot_command.specs.declared.command.Command.{Command}
+use Rattle.lot_command.specs.declared.key.Key.{Key}
+use Rattle.lot_cli.specs.declared.fault.InputFault.{InputFault}
+use Rattle.lot_cli.specs.declared.fault.InputFault.TheVariants.{Unread, Text, Rows, Cash, Memory}
 
--- the most bytes that an input may have: 16 MiB
-abbrev pub longest_input : ℕ
-longest_input = 16777216
+-- all that a reader has, where it is known which bytes it has, is this input, which is no longer than one may be
+abbrev pub IsAllOf : Option (List ℕ) → List ℕ → Type 0
+IsAllOf known input = IfSome known (λ bytes. input ≡ bytes) × (length input ≤ longest_input)
 
--- how many bytes a reader is asked for at a time
-abbrev pub chunk_size : ℕ
-chunk_size = 65536
+-- why not all that a reader has is had: it can't be read, or is too long; or memory ends
+abbrev pub IsUnread : Option (List ℕ) → SlurpFault → Type 0
+IsUnread known slurp.Read = ⊤
+IsUnread known slurp.TooLong = IfSome known (λ bytes. longest_input < length bytes)
+IsUnread known slurp.Memory = ⊤
 
--- What one call of `read` comes to, which gave its bytes at the start of the chunk: the bytes so far, those after it,
--- and whether the reader is at its end.
--- A call that gave nothing ends the input. One that was interrupted is tried again, and one that failed otherwise is a
--- fault of the reader. The bytes that it gave are kept, where there is memory for them; they are too many if that is
--- more than the limit, and not otherwise.
-abbrev pub TakesIn : List ℕ → List ℕ → Result ℕ Error → List ℕ → Result Progress SlurpFault → Type 0
-TakesIn bytes chunk (Ok count) after (Ok Ended) = (count ≡ 0) × (after ≡ bytes)
-TakesIn bytes chunk (Ok count) after (Ok Goes) =
-    (0 < count) × (length bytes + count ≤ longest_input) × (after ≡ bytes ++ take count chunk)
-TakesIn bytes chunk (Ok count) after (Err Read) = ⊥
-TakesIn bytes chunk (Ok count) after (Err TooLong) = longest_input < length bytes + count
-TakesIn bytes chunk (Ok count) after (Err Memory) = (0 < count) × (length bytes + count ≤ longest_input)
-TakesIn bytes chunk (Err error) after (Ok Ended) = ⊥
-TakesIn bytes chunk (Err error) after (Ok Goes) = (error_kind error ≡ ErrorKind.Interrupted) × (after ≡ bytes)
-TakesIn bytes chunk (Err error) after (Err Read) = error_kind error ≢ ErrorKind.Interrupted
-TakesIn bytes chunk (Err error) after (Err TooLong) = ⊥
-TakesIn bytes chunk (Err error) after (Err Memory) = ⊥
+-- all that a reader has gives these commands under their keys, where `Means` tells which an input gives
+abbrev pub Gives : (List ℕ → List (Key × Command) → Type 0) → Option (List ℕ) → List (Key × Command) → Type 0
+Gives Means known keyed = (input : List ℕ) × IsAllOf known input × Means input keyed
 
--- how many bytes were taken from the reader before the fault
-abbrev pub TookBefore : SlurpFault → ℕ → Type 0
-TookBefore Read count = count ≤ longest_input
-TookBefore TooLong count = (longest_input < count) × (count ≤ longest_input + chunk_size)
-TookBefore Memory count = count ≤ longest_input
+-- why it gives none: it isn't had; or it is had, and this is its fault, where `IsFaulty` tells which an input has; or memory
+-- ends
+abbrev pub GivesNone : (List ℕ → InputFault → Type 0) → Option (List ℕ) → InputFault → Type 0
+GivesNone IsFaulty known (Unread fault) = IsUnread known fault
+GivesNone IsFaulty known (Text fault) = (input : List ℕ) × IsAllOf known input × IsFaulty input (Text fault)
+GivesNone IsFaulty known (Rows fault) = (input : List ℕ) × IsAllOf known input × IsFaulty input (Rows fault)
+GivesNone IsFaulty known (Cash fault) = (input : List ℕ) × IsAllOf known input × IsFaulty input (Cash fault)
+GivesNone IsFaulty known Memory = ⊤

@@ -1,6 +1,9 @@
-pub mod Status
+pub mod Keyed
+pub mod HaltLine
+pub mod Says
 pub mod Input
-pub mod FaultLine
-pub mod Key
-pub mod Answer
-pub mod Way
+pub mod Runs
+pub mod Posts
+pub mod Imports
+pub mod Reports
+pub mod Serve

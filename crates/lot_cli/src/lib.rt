@@ -1,16 +1,26 @@
-//! The way from bytes to bytes: a ledger text is read, its commands are judged one after another on a fresh
-//! book, and the replies and the holdings are written.
+//! What the program does: what its words ask for (`parse_words`), all that a reader has (`slurp`), and the action itself
+//! (`serve`): a book is made, ledger text or a broker file is posted to it, or a report of it is written (docs/RULES.md, The
+//! program). The first two are passed on from `lot_args` and `lot_stream`.
 //!
-//! - `input`: all bytes of a reader.
-//! - `batch`: reading, judging and writing, joined.
-//! - `laws`: what holds of the definitions that the contracts cite.
+//! - `action`: `serve`, and what an action leaves.
+//! - `post`: the commands of ledger text; `import`: those of the rows of a broker file.
+//! - `run`: commands run on the book that is there.
+//! - `report`: reports of the book that is there.
+//! - `keyed`: the keys of the commands of a batch.
+//! - `halt`: why an action ends before its first command; `fault`: why an input gives no commands.
+//! - `laws`: what becomes of a row that comes again.
 #![tactic(auto)]
 
-mod batch;
-#[cfg(test)]
-mod fakes;
-mod input;
+mod action;
+mod fault;
+mod halt;
+mod import;
+mod keyed;
 pub mod laws;
+mod post;
+mod report;
+mod run;
 
-pub use batch::{Fault, Status, check, finish, print_fault};
-pub use input::{SlurpFault, slurp};
+pub use action::{Served, serve};
+pub use lot_args::{Action, BadOption, Batch, Start, WordsFault, parse_words};
+pub use lot_stream::{SlurpFault, slurp};

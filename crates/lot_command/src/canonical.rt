@@ -10,7 +10,7 @@ mod posting;
 use crate::command::{Closing, Command, Declaring, Opening, Quoting};
 use crate::transaction::{Flag, Narration, Transaction};
 use lot_base::{Commodity, Note};
-use lot_booking::Method;
+use lot_cost::Method;
 use posting::push_postings;
 use std::alloc::{AllocError, Global};
 

@@ -3,7 +3,7 @@ ghost use Rattle.std.specs.Prelude.{◌≡◌, IfOk};
 use crate::currencies::Currencies;
 use crate::transaction::Transaction;
 use lot_base::{Account, Commodity, Day};
-use lot_booking::Method;
+use lot_cost::Method;
 use lot_num::Rate;
 use std::alloc::{AllocError, Global};
 

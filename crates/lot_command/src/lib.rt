@@ -6,6 +6,7 @@
 //! - `price`: the price in a posting.
 //! - `canonical`: the canonical text of a command.
 //! - `key`: what tells a command from every other.
+//! - `sayable`: each command is within the rules of ledger text.
 //! - `items`: `Items`, a list that contracts see as a list.
 #![tactic(auto)]
 
@@ -15,13 +16,14 @@ mod currencies;
 mod items;
 mod key;
 mod price;
+mod sayable;
 mod transaction;
 
 pub use command::{Closing, Command, Declaring, Opening, Quoting};
 pub use currencies::Currencies;
 pub use items::Items;
 pub use key::Key;
-pub use lot_booking::{Cost, Method, WholeCost};
-pub use lot_inv::CostSpec;
+pub use lot_cost::{Cost, CostSpec, Method, WholeCost};
 pub use price::{Price, UnitPrice, WholePrice};
+pub use sayable::is_sayable;
 pub use transaction::{Amount, Flag, Narration, Posting, Transaction};

@@ -3,7 +3,7 @@ ghost use Rattle.std.specs.Prelude.{◌≡◌, IfOk};
 use crate::items::Items;
 use crate::price::Price;
 use lot_base::{Account, Commodity, Day, Note};
-use lot_booking::Cost;
+use lot_cost::Cost;
 use lot_num::Units;
 use std::alloc::{AllocError, Global};
 

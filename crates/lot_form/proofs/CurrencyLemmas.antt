@@ -10,7 +10,7 @@ use Rattle.lot_token.specs.Token.{Lexeme, word, number, date, text, mark}
 use Rattle.lot_form.specs.Form.{currency_tokens}
 use Rattle.lot_form.specs.Shape.{◌>>=◌, as_word, after_comma}
 use denote.Ref.{Bor}
-use Rattle.lot_form.specs.Head.{seen_text, more_words, within_limit, currencies_by, currencies_at}
+use Rattle.lot_form.specs.Header.{seen_text, more_words, within_limit, currencies_by, currencies_at}
 use Rattle.lot_form.proofs.PartLemmas.{bound, then_is, word_is, comma_is}
 
 abbrev pub Words : Type 0

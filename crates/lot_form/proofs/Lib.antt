@@ -1,4 +1,4 @@
 pub mod PartLemmas
 pub mod PostingLemmas
 pub mod CurrencyLemmas
-pub mod HeadLemmas
+pub mod HeaderLemmas

@@ -163,8 +163,8 @@ IsDirective tokens (quoting base rate quote) = tokens ≡ word (codes "price") �
 IsDirective tokens (transaction flag notes) = (token : Lexeme) × IsFlag token flag × (tokens ≡ token ∷ perhaps note_tokens notes)
 
 -- a line that isn't indented: its day, and what it gives beside it
-abbrev pub IsHead : List Lexeme → List ℕ → Directive → Type 0
-IsHead tokens when directive = (rest : List Lexeme) × IsDirective rest directive × (tokens ≡ date when ∷ rest)
+abbrev pub IsHeader : List Lexeme → List ℕ → Directive → Type 0
+IsHeader tokens when directive = (rest : List Lexeme) × IsDirective rest directive × (tokens ≡ date when ∷ rest)
 
 -- ---- Which lines are directives at all.
 

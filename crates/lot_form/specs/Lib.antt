@@ -1,3 +1,3 @@
 pub mod Form
 pub mod Shape
-pub mod Head
+pub mod Header

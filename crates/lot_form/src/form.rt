@@ -123,7 +123,7 @@ impl<'a> Part<'a> {
 
 /// A line that isn't indented: a day, and what is done on it.
 #[derive(Drop)]
-pub struct HeadForm<'a> {
+pub struct HeaderForm<'a> {
     pub day: &'a str,
     pub directive: DirectiveForm<'a>,
 }

@@ -2,20 +2,20 @@
 //!
 //! - `form`: the parts of a line, as they are written.
 //! - `posting_line`: the form of a posting.
-//! - `head_line`: the forms of the other lines.
+//! - `header_line`: the forms of the other lines.
 //! - `take`: one token of a line.
 #![tactic(auto)]
 
 mod fault;
 mod form;
-mod head_line;
+mod header_line;
 mod posting_line;
 mod take;
 
 pub use fault::FormFault;
 pub use form::{
-    AmountForm, CostForm, CurrencyWords, DirectiveForm, HeadForm, NotesForm, Part, Parts,
+    AmountForm, CostForm, CurrencyWords, DirectiveForm, HeaderForm, NotesForm, Part, Parts,
     PostingForm, PriceForm,
 };
-pub use head_line::head;
+pub use header_line::header;
 pub use posting_line::posting;

@@ -1,5 +1,5 @@
 ghost use Rattle.std.specs.Prelude.{◌≡◌, None, Some, MatchOption, option_map};
-ghost use Rattle.lot_form.specs.Head.{as_text, last_word, seen_text};
+ghost use Rattle.lot_form.specs.Header.{as_text, last_word, seen_text};
 ghost use Rattle.lot_form.specs.Shape.{after_close, after_close_close, after_comma, as_number, as_word, is_empty};
 
 use lot_token::{Mark, Token, Tokens};

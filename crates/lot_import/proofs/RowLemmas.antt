@@ -3,7 +3,7 @@ use Rattle.std.specs.Prelude.{◌==◌, false, Result, Ok, Err, IsErrAnd, MatchR
 use Rattle.std.proofs.Common.{◌≡◌, ℕ, zero, suc, List, [], ◌∷◌, length, get_or, Option, Some, None, ℤ, refl, sym, ◌∙◌, ap, subst, inl, inr, arith}
 use Rattle.std.proofs.lemmas.Option.{same_Some}
 use Rattle.csv.specs.Records as csv
-use Rattle.lot_import.specs.Column.{Gives, IsRowFault}
+use Rattle.lot_import.specs.Column.{GivesField, IsRowFault}
 use Rattle.lot_import.specs.Row.{Passes, FirstFailing, HasLot, IsRow, SaysAction, SaysCommodity, SaysDay, SaysFee, SaysLabel, SaysRate, at_column, causes, columns}
 use Rattle.lot_import.specs.declared.fault.Cause.{Cause}
 use Rattle.lot_import.specs.declared.fault.Cause.TheVariants as Causes
@@ -68,14 +68,14 @@ pass Passing c cs (Bad cause) p h = inr (p, h)
 pass Passing c cs Memory p h = tt
 
 pub stop : {A : Type 0} (Says : A → Type 0) (Passing : Cause → Type 0) (c : Cause) (cs : List Cause) (fault : RowFault)
-    → (Passing c → (value : A) × Says value) → Gives Says c (Err fault) → FaultBy Passing (c ∷ cs) fault
+    → (Passing c → (value : A) × Says value) → GivesField Says c (Err fault) → FaultBy Passing (c ∷ cs) fault
 stop Says Passing c cs (Bad cause) value h = inl (h.0, λ p. h.1 (value p).0 (value p).1)
 stop Says Passing c cs Memory value h = tt
 
 -- the same of a column whose field was read
 pub stop_at : {A : Type 0} (Says : List ℕ → A → Type 0) (Passing : Cause → Type 0) (c : Cause) (cs : List Cause) (fault : RowFault) (f g : List ℕ)
-    → f ≡ g → (Passing c → (value : A) × Says g value) → Gives (Says f) c (Err fault) → FaultBy Passing (c ∷ cs) fault
-stop_at Says Passing c cs fault f g e value h = stop (Says g) Passing c cs fault value (subst (λ (x : List ℕ). Gives (Says x) c (Err fault)) e h)
+    → f ≡ g → (Passing c → (value : A) × Says g value) → GivesField (Says f) c (Err fault) → FaultBy Passing (c ∷ cs) fault
+stop_at Says Passing c cs fault f g e value h = stop (Says g) Passing c cs fault value (subst (λ (x : List ℕ). GivesField (Says x) c (Err fault)) e h)
 
 pub said : {A : Type 0} (Says : List ℕ → A → Type 0) (f g : List ℕ) → f ≡ g → (value : A) → Says f value → (value : A) × Says g value
 said Says f g e value h = (value, subst (λ (x : List ℕ). Says x value) e h)
@@ -101,7 +101,7 @@ symbol_passes version written fault f0 f1 f2 f3 name day action symbol whole e0 
 -- ---- A fee that is given is a rate.
 
 pub fee_said : (field : List ℕ) (cause : Cause) (result : Result ℕ RowFault) → (length field == 0) ≡ false
-    → Gives (SaysRate field) cause result → Gives (SaysFee field) cause result
+    → GivesField (SaysRate field) cause result → GivesField (SaysFee field) cause result
 fee_said [] cause result e h = cc
 fee_said (b ∷ bytes) cause (Ok fee) e h = h
 fee_said (b ∷ bytes) cause (Err (Bad c)) e h = h

@@ -7,10 +7,10 @@ use Rattle.lot_import.specs.declared.version.Version.{Version}
 use Rattle.lot_import.specs.Row.{IsFaulty}
 
 -- a value that the column says; or its cause, where it says none; out of memory may come in any case
-abbrev pub Gives : {A : Type 0} → (A → Type 0) → Cause → Result A RowFault → Type 0
-Gives Says cause (Ok value) = Says value
-Gives {A} Says cause (Err (Bad c)) = (c ≡ cause) × ((value : A) → Says value → ⊥)
-Gives Says cause (Err Memory) = ⊤
+abbrev pub GivesField : {A : Type 0} → (A → Type 0) → Cause → Result A RowFault → Type 0
+GivesField Says cause (Ok value) = Says value
+GivesField {A} Says cause (Err (Bad c)) = (c ≡ cause) × ((value : A) → Says value → ⊥)
+GivesField Says cause (Err Memory) = ⊤
 
 -- the record gives no row: it is faulty, or out of memory
 abbrev pub IsRowFault : Version → List (List ℕ) → RowFault → Type 0

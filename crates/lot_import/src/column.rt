@@ -2,7 +2,7 @@
 ghost use Rattle.std.specs.Prelude.{◌≡◌, IsUtf8, IsSome, IfSome, IfNone};
 ghost use Rattle.csv.specs.Records.{fields_of};
 ghost use Rattle.lot_import.specs.Row.{NamesLot, SaysAction, SaysCommodity, SaysDay, SaysFee, SaysLabel, SaysLot, SaysRate, SaysUnits, at_column};
-ghost use Rattle.lot_import.specs.Column.{Gives};
+ghost use Rattle.lot_import.specs.Column.{GivesField};
 ghost use Rattle.lot_import.specs.declared.fault.RowFault.TheVariants as Faults;
 
 use crate::fault::{Cause, RowFault};
@@ -24,7 +24,7 @@ pub(crate) fn field(written: &ByteRecord, column: usize) -> &[u8]
 
 /// Returns the label that a field says, or else that cause.
 pub(crate) fn label(alloc: Global, field: &[u8], cause: Cause) -> Result<Label, RowFault>
-    ensures { Gives (SaysLabel field.now) cause result }
+    ensures { GivesField (SaysLabel field.now) cause result }
 {
     let Some(text) = text(field) else {
         return Err(RowFault::Bad(cause));
@@ -38,7 +38,7 @@ pub(crate) fn label(alloc: Global, field: &[u8], cause: Cause) -> Result<Label, 
 
 /// Returns the commodity that a field says, or else that cause.
 pub(crate) fn commodity(alloc: Global, field: &[u8], cause: Cause) -> Result<Commodity, RowFault>
-    ensures { Gives (SaysCommodity field.now) cause result }
+    ensures { GivesField (SaysCommodity field.now) cause result }
 {
     let Some(text) = text(field) else {
         return Err(RowFault::Bad(cause));
@@ -52,7 +52,7 @@ pub(crate) fn commodity(alloc: Global, field: &[u8], cause: Cause) -> Result<Com
 
 /// Returns the day that a field says, or else that cause.
 pub(crate) fn day(field: &[u8], cause: Cause) -> Result<Day, RowFault>
-    ensures { Gives (SaysDay field.now) cause result }
+    ensures { GivesField (SaysDay field.now) cause result }
 {
     let Some(text) = text(field) else {
         return Err(RowFault::Bad(cause));
@@ -65,7 +65,7 @@ pub(crate) fn day(field: &[u8], cause: Cause) -> Result<Day, RowFault>
 
 /// Returns the action that a field says, or else that cause.
 pub(crate) fn action(field: &[u8], cause: Cause) -> Result<Action, RowFault>
-    ensures { Gives (SaysAction field.now) cause result }
+    ensures { GivesField (SaysAction field.now) cause result }
 {
     if field == b"BUY".as_slice() {
         Ok(Action::Buy)
@@ -78,7 +78,7 @@ pub(crate) fn action(field: &[u8], cause: Cause) -> Result<Action, RowFault>
 
 /// Returns the units that a field says, which aren't below zero, or else that cause.
 pub(crate) fn units(field: &[u8], cause: Cause) -> Result<Units, RowFault>
-    ensures { Gives (SaysUnits field.now) cause result }
+    ensures { GivesField (SaysUnits field.now) cause result }
 {
     let Some(text) = text(field) else {
         return Err(RowFault::Bad(cause));
@@ -91,7 +91,7 @@ pub(crate) fn units(field: &[u8], cause: Cause) -> Result<Units, RowFault>
 
 /// Returns the rate that a field says, or else that cause.
 pub(crate) fn rate(field: &[u8], cause: Cause) -> Result<Rate, RowFault>
-    ensures { Gives (SaysRate field.now) cause result }
+    ensures { GivesField (SaysRate field.now) cause result }
 {
     let Some(text) = text(field) else {
         return Err(RowFault::Bad(cause));
@@ -104,7 +104,7 @@ pub(crate) fn rate(field: &[u8], cause: Cause) -> Result<Rate, RowFault>
 
 /// Returns the fee that a field says, which is zero where it is empty, or else that cause.
 pub(crate) fn fee(field: &[u8], cause: Cause) -> Result<Rate, RowFault>
-    ensures { Gives (SaysFee field.now) cause result }
+    ensures { GivesField (SaysFee field.now) cause result }
 {
     if field.is_empty() {
         Ok(no_fee())
@@ -130,7 +130,7 @@ pub(crate) fn lot(
     field: &[u8],
     cause: Cause,
 ) -> Result<Option<Label>, RowFault>
-    ensures { Gives (SaysLot action reference.now field.now) cause result }
+    ensures { GivesField (SaysLot action reference.now field.now) cause result }
 {
     if field.is_empty() {
         return Ok(None);

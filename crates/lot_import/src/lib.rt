@@ -18,8 +18,6 @@ mod file;
 mod keyed;
 pub mod laws;
 mod row;
-#[cfg(test)]
-mod tests;
 mod version;
 mod written;
 

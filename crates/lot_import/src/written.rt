@@ -1,7 +1,7 @@
 ghost use Rattle.std.specs.Prelude.{◌≡◌, MatchResult};
 ghost use Rattle.csv.specs.Records.{fields_of};
 ghost use Rattle.lot_import.specs.Row.{HasLot, IsRow};
-ghost use Rattle.lot_import.specs.Column.{Gives, IsRowFault};
+ghost use Rattle.lot_import.specs.Column.{GivesField, IsRowFault};
 
 use crate::column::{action, commodity, day, fee, field, label, lot, rate, units};
 use crate::fault::{Cause, RowFault};
@@ -47,7 +47,7 @@ fn lot_in(
     deal: Action,
     written: &ByteRecord,
 ) -> Result<Option<Label>, RowFault>
-    ensures { Gives (HasLot version deal (fields_of written.now)) Cause.Lot result }
+    ensures { GivesField (HasLot version deal (fields_of written.now)) Cause.Lot result }
 {
     match version {
         Version::First => Ok(None),

@@ -15,12 +15,13 @@ use Rattle.std.proofs.lemmas.List.{append-nil}
 use Rattle.std.proofs.lemmas.Cmp.{nat_list_cmp_total}
 use Rattle.std.proofs.lemmas.Map.Lookups.{exact_bytes}
 use Rattle.lot_inv.specs.declared.inventory.Holding.{Holding}
-use Rattle.lot_inv.specs.declared.lot_key.LotKey.{LotKey}
+use Rattle.lot_cost.specs.declared.lot_key.LotKey.{LotKey}
 use Rattle.lot_inv.specs.Holding.{AreHoldings, IsHolding, held_at, found, plain_rows, lot_rows, rows}
 use Rattle.lot_inv.specs.Inventory.{Held, Position, position_cmp, non_zero, lots_in, lots_of}
-use Rattle.lot_inv.specs.LotKey.{lot_cmp}
+use Rattle.lot_cost.specs.LotKey.{lot_cmp}
 use Rattle.lot_base.proofs.MapLemmas.{one_map, keys_sorted, found_by_order, none_below}
 use Rattle.lot_base.specs.Text.{text_cmp}
+use Rattle.lot_cost.proofs.OrderLemmas.{eq_then, is_equal}
 use Rattle.lot_inv.proofs.OrderLemmas.{positions_total, exact_positions}
 
 -- ---- the order of the rows
@@ -95,11 +96,6 @@ sorted_rows (entry ∷ holdings) h k =
     (plain_below_lots entry.0 entry.1.lots.entries (rows holdings) (below_rows (entry.0, None) holdings h.0))
 
 -- ---- what is found in the rows
-
-pub eq_then : (o r : Ordering) → is_eq (ordering_then o r) ≡ (is_eq o && is_eq r)
-eq_then Less r = refl
-eq_then Equal r = refl
-eq_then Greater r = refl
 
 pub never_less : (b : Bool) → (b && false) ≡ false
 never_less true = refl
@@ -178,11 +174,6 @@ held-parts holding (Some key) = elim (lookup (is_at (lot_cmp key)) holding.lots.
 none_in_below : (position : Position) (rest : List (Position × ℤ)) → IsBelow position rest → found_in position rest ≡ None
 none_in_below position [] h = refl
 none_in_below position (row ∷ rest) h = ap (λ o. cond (is_eq o) (Some row.1) (found_in position rest)) h.0 ∙ none_in_below position rest h.1
-
-pub is_equal : (o : Ordering) → is_eq o ≡ true → o ≡ Equal
-is_equal Less e = cc
-is_equal Equal e = refl
-is_equal Greater e = cc
 
 pub found_in-rows : (holdings : List (List ℕ × Holding)) (position : Position) → IsStrictlySortedBy text_cmp (keys_of holdings)
     → found_in position (rows holdings) ≡ found holdings position

@@ -10,11 +10,12 @@ use Rattle.std.specs.Map.{keys_of, lookup}
 use Rattle.std.specs.Ordering.{is_eq, ordering_then}
 use Rattle.std.proofs.Common.{refl, sym, ap, subst, ◌∙◌}
 use Rattle.std.proofs.lemmas.Map.Lookups.{exact_bytes}
-use Rattle.lot_inv.specs.declared.lot_key.LotKey.{LotKey}
-use Rattle.lot_inv.specs.CostSpec.{fits}
+use Rattle.lot_cost.specs.declared.lot_key.LotKey.{LotKey}
+use Rattle.lot_cost.specs.CostSpec.{fits}
 use Rattle.lot_inv.specs.Inventory.{Held, Position, position_cmp, lots_in, lots_of, matching, MatchingLotsAreDistinct, LotsAreThoseOfTheMap}
-use Rattle.lot_inv.specs.LotKey.{lot_cmp}
-use Rattle.lot_inv.proofs.InventoryLemmas.{eq_then, never_less, is_equal}
+use Rattle.lot_cost.specs.LotKey.{lot_cmp}
+use Rattle.lot_cost.proofs.OrderLemmas.{eq_then, is_equal}
+use Rattle.lot_inv.proofs.InventoryLemmas.{never_less}
 use Rattle.lot_base.proofs.MapLemmas.{in_order, keys_sorted, found_by_order}
 use Rattle.lot_base.specs.Text.{text_cmp}
 

@@ -17,12 +17,14 @@ use Rattle.std.proofs.lemmas.Int.{ints}
 use Rattle.lot_base.proofs.MapLemmas.{found_by_order, in_order, none_below, one_map}
 use Rattle.lot_base.specs.Text.{text_cmp}
 use Rattle.lot_num.specs.Sum.{sum_of}
-use Rattle.lot_inv.specs.declared.lot_key.LotKey.{LotKey}
+use Rattle.lot_cost.specs.declared.lot_key.LotKey.{LotKey}
 use Rattle.lot_inv.specs.Inventory.{Held, Position, position_cmp, added, lots_of, non_zero, sum, units_at, with_units}
-use Rattle.lot_inv.specs.LotKey.{lot_cmp}
-use Rattle.lot_inv.proofs.InventoryLemmas.{eq_then, is_equal, never_less}
+use Rattle.lot_cost.specs.LotKey.{lot_cmp}
+use Rattle.lot_cost.proofs.OrderLemmas.{eq_then, is_equal}
+use Rattle.lot_inv.proofs.InventoryLemmas.{never_less}
 use Rattle.lot_inv.proofs.LawLemmas.{lots_of-get, sorted_lots_of}
-use Rattle.lot_inv.proofs.OrderLemmas.{exact_lots, exact_positions, lots_total, positions_total}
+use Rattle.lot_cost.proofs.OrderLemmas.{exact_lots, lots_total}
+use Rattle.lot_inv.proofs.OrderLemmas.{exact_positions, positions_total}
 
 -- ---- positions
 

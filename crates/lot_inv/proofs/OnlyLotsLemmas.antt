@@ -13,11 +13,12 @@ use Rattle.std.proofs.lemmas.List.{append-nil}
 use Rattle.std.proofs.lemmas.Map.Lookups.{exact_bytes}
 use Rattle.lot_base.proofs.MapLemmas.{none_below}
 use Rattle.lot_base.specs.Text.{text_cmp}
-use Rattle.lot_inv.specs.declared.lot_key.LotKey.{LotKey}
+use Rattle.lot_cost.specs.declared.lot_key.LotKey.{LotKey}
 use Rattle.lot_inv.specs.Holding.{lot_rows, with_lots}
 use Rattle.lot_inv.specs.Inventory.{Held, Position, position_cmp, is_lot_of, lots_of, non_zero, only_lots, with_units}
-use Rattle.lot_inv.specs.LotKey.{lot_cmp}
-use Rattle.lot_inv.proofs.InventoryLemmas.{found_in, found_in-lots, in_lots, is_equal, never_less}
+use Rattle.lot_cost.specs.LotKey.{lot_cmp}
+use Rattle.lot_cost.proofs.OrderLemmas.{is_equal}
+use Rattle.lot_inv.proofs.InventoryLemmas.{found_in, found_in-lots, in_lots, never_less}
 use Rattle.lot_inv.proofs.LawLemmas.{lots_of-get}
 use Rattle.lot_inv.proofs.LotLemmas.{get-with_units, same_held, same_lots}
 use Rattle.lot_inv.proofs.OrderLemmas.{exact_positions}

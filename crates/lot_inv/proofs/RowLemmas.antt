@@ -2,7 +2,7 @@
 use Rattle.std.specs.Prelude.{◌≡◌, ◌≢◌, ℕ, suc, ◌≤◌, length, List, [], ◌∷◌, ◌++◌, ℤ}
 use Rattle.std.proofs.Common.{refl, sym, ap, subst, ◌∙◌, append_assoc, arith}
 use Rattle.lot_inv.specs.declared.inventory.Holding.{Holding}
-use Rattle.lot_inv.specs.declared.lot_key.LotKey.{LotKey}
+use Rattle.lot_cost.specs.declared.lot_key.LotKey.{LotKey}
 use Rattle.lot_inv.specs.Holding.{lot_row, lot_rows, plain_rows, rows, rows_of}
 use Rattle.lot_inv.specs.Inventory.{Position}
 

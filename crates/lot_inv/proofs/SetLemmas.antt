@@ -11,12 +11,14 @@ use Rattle.std.proofs.Common.{refl, sym, ap, subst, ◌∙◌}
 use Rattle.std.proofs.lemmas.Map.Lookups.{exact_bytes}
 use Rattle.lot_base.specs.Text.{text_cmp}
 use Rattle.lot_inv.specs.declared.inventory.Holding.{Holding}
-use Rattle.lot_inv.specs.declared.lot_key.LotKey.{LotKey}
+use Rattle.lot_cost.specs.declared.lot_key.LotKey.{LotKey}
 use Rattle.lot_inv.specs.Holding.{AreAlike, AreHoldings, HoldsSomething, IsHolding, ChangesPosition, NeedsPosition, NoneIsEmpty, NoOtherIsEmpty, held_at, found, rows}
 use Rattle.lot_inv.specs.Inventory.{Held, Position, StoresMore, position_cmp, non_zero, units_at, with_units}
-use Rattle.lot_inv.specs.LotKey.{lot_cmp}
-use Rattle.lot_inv.proofs.InventoryLemmas.{eq_then, found_seen, get-rows, is_equal}
-use Rattle.lot_inv.proofs.OrderLemmas.{lots_total, lot_options_total, positions_total, exact_positions}
+use Rattle.lot_cost.specs.LotKey.{lot_cmp}
+use Rattle.lot_cost.proofs.OrderLemmas.{eq_then, is_equal}
+use Rattle.lot_inv.proofs.InventoryLemmas.{found_seen, get-rows}
+use Rattle.lot_cost.proofs.OrderLemmas.{lots_total, lot_options_total}
+use Rattle.lot_inv.proofs.OrderLemmas.{positions_total, exact_positions}
 
 pub on_err : {X Y : Type 0} {P : Type 0} (r : Result X Y) → P → OnErr r P
 on_err (Ok x) p = tt

@@ -7,9 +7,9 @@ use Rattle.std.specs.Option.{unwrap_or}
 use Rattle.std.specs.Ordering.{int_eq, is_eq}
 use Rattle.lot_base.specs.Text.{text_cmp}
 use Rattle.lot_inv.specs.declared.inventory.Holding.{Holding}
-use Rattle.lot_inv.specs.declared.lot_key.LotKey.{LotKey}
+use Rattle.lot_cost.specs.declared.lot_key.LotKey.{LotKey}
 use Rattle.lot_inv.specs.Inventory.{Held, Position, position_cmp, non_zero, with_units}
-use Rattle.lot_inv.specs.LotKey.{lot_cmp}
+use Rattle.lot_cost.specs.LotKey.{lot_cmp}
 
 -- what a holding has in the lot of that key, or plain
 abbrev pub held_at : Holding → Option LotKey → Option ℤ

@@ -11,10 +11,10 @@ use Rattle.std.specs.Option.{option_cmp, unwrap_or}
 use Rattle.std.specs.Ordering.{int_eq, is_eq, ordering_then}
 use Rattle.lot_num.specs.Sum.{sum_of}
 use Rattle.lot_base.specs.Text.{coded_text, text_cmp}
-use Rattle.lot_inv.specs.declared.cost_spec.CostSpec.{CostSpec}
-use Rattle.lot_inv.specs.declared.lot_key.LotKey.{LotKey}
-use Rattle.lot_inv.specs.CostSpec.{fits}
-use Rattle.lot_inv.specs.LotKey.{lot_cmp, coded_key}
+use Rattle.lot_cost.specs.declared.cost_spec.CostSpec.{CostSpec}
+use Rattle.lot_cost.specs.declared.lot_key.LotKey.{LotKey}
+use Rattle.lot_cost.specs.CostSpec.{fits}
+use Rattle.lot_cost.specs.LotKey.{lot_cmp, coded_key}
 
 -- ---- positions and what they hold
 

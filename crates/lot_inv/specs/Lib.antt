@@ -1,5 +1,3 @@
-pub mod CostSpec
 pub mod Holding
 pub mod Inventory
-pub mod LotKey
 pub mod Zeros

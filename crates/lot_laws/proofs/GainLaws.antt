@@ -8,7 +8,7 @@ use Rattle.std.proofs.lemmas.Int.{ints}
 use Rattle.std.proofs.lemmas.Bool.Decides.{nat_tests}
 use Rattle.lot_base.specs.Text.{same_text}
 use Rattle.lot_base.proofs.TextLemmas.{one_text, same_text-itself}
-use Rattle.lot_inv.specs.declared.lot_key.LotKey.{LotKey}
+use Rattle.lot_cost.specs.declared.lot_key.LotKey.{LotKey}
 use Rattle.lot_booking.specs.Booking.{Braced, ComesTo, Legs}
 use Rattle.lot_booking.specs.Choice.{Choice, chosen_legs, with_sign_of}
 use Rattle.lot_booking.proofs.BookingLaws.{units_of_legs}

@@ -15,7 +15,7 @@ use Rattle.lot_book.specs.declared.verdict.Verdict.TheVariants.{Accepted, Repeat
 use Rattle.lot_book.specs.Book.{IsBook, entry_of}
 use Rattle.lot_book.specs.Facts.{Entry, Facts}
 use Rattle.lot_book.specs.Holding.{ListsHoldings, entry_of as as_entry, position_of}
-use Rattle.lot_book.specs.Judged.{Judges, JudgesAll}
+use Rattle.lot_book.specs.Judged.{JudgesOn, JudgesAll, numbered}
 use Rattle.lot_book.specs.Leg.{position_cmp}
 use Rattle.lot_book.specs.Step.{Accept, Outcome, Refuse, Repeat, Step}
 use Rattle.lot_book.proofs.OrderLemmas.{exact_positions, positions_total}
@@ -25,13 +25,13 @@ use Rattle.lot_laws.proofs.RecordedBook.{book-grows}
 -- ---- Judged commands leave a book a book.
 
 judged_once : (before : List Entry) (key : Key) (command : Command) (verdict : Verdict) (after : List Entry)
-    → Judges before key command verdict after → IsBook before → IsBook after
+    → JudgesOn before key command verdict after → IsBook before → IsBook after
 judged_once before key command Accepted after h book = subst IsBook (sym h.2) (book-grows before key command h.0 book h.1)
 judged_once before key command Repeated after h book = subst IsBook (sym h.1) book
 judged_once before key command (Refused refusal) after h book = subst IsBook (sym h.1) book
 
 pub judged_book : (key_of : ℕ → Key) (number : ℕ) (before : List Entry) (commands : List Command) (verdicts : List Verdict)
-    (after : List Entry) → IsBook before → JudgesAll key_of number before commands verdicts after → IsBook after
+    (after : List Entry) → IsBook before → JudgesAll before (numbered key_of number commands) verdicts after → IsBook after
 judged_book key_of number before [] [] after book h = subst IsBook (sym h) book
 judged_book key_of number before [] (verdict ∷ verdicts) after book h = absurd h
 judged_book key_of number before (command ∷ commands) [] after book h = absurd h
@@ -42,13 +42,13 @@ judged_book key_of number before (command ∷ commands) (verdict ∷ verdicts) a
 -- ---- Commands come to some verdicts and some book.
 
 judged_by : (before : List Entry) (key : Key) (command : Command) (outcome : Outcome) → Step before key command outcome
-    → (verdict : Verdict) × (after : List Entry) × Judges before key command verdict after
+    → (verdict : Verdict) × (after : List Entry) × JudgesOn before key command verdict after
 judged_by before key command (Accept legs) step = (Accepted, before ++ entry_of key command legs ∷ [], (legs, step, refl))
 judged_by before key command Repeat step = (Repeated, before, (step, refl))
 judged_by before key command (Refuse refusal) step = (Refused refusal, before, (step, refl))
 
 pub some_judged : (key_of : ℕ → Key) (number : ℕ) (before : List Entry) (commands : List Command)
-    → (verdicts : List Verdict) × (after : List Entry) × JudgesAll key_of number before commands verdicts after
+    → (verdicts : List Verdict) × (after : List Entry) × JudgesAll before (numbered key_of number commands) verdicts after
 some_judged key_of number before [] = ([], before, refl)
 some_judged key_of number before (command ∷ commands) =
     let outcome = some_step before (key_of number) command in
@@ -74,7 +74,7 @@ repeat_or_refuse : (refusal : Refusal) → Repeat ≡ Refuse refusal → ⊥
 repeat_or_refuse refusal e = cc
 
 alike : (before : List Entry) (key : Key) (command : Command) (v w : Verdict) (a b : List Entry)
-    → Judges before key command v a → Judges before key command w b → (v ≡ w) × (a ≡ b)
+    → JudgesOn before key command v a → JudgesOn before key command w b → (v ≡ w) × (a ≡ b)
 alike before key command Accepted Accepted a b h k =
     let legs = same_legs h.0 k.0 (step_one before key command (Accept h.0) (Accept k.0) h.1 k.1) in
     (refl, h.2 ∙ ap (λ (legs : List Leg). before ++ entry_of key command legs ∷ []) legs ∙ sym k.2)
@@ -95,7 +95,7 @@ alike before key command (Refused p) (Refused q) a b h k =
     (ap Refused (same_refusal p q (step_one before key command (Refuse p) (Refuse q) h.0 k.0)), h.1 ∙ sym k.1)
 
 pub judged_alike : (key_of : ℕ → Key) (number : ℕ) (before : List Entry) (commands : List Command) (vs ws : List Verdict)
-    (a b : List Entry) → JudgesAll key_of number before commands vs a → JudgesAll key_of number before commands ws b
+    (a b : List Entry) → JudgesAll before (numbered key_of number commands) vs a → JudgesAll before (numbered key_of number commands) ws b
     → (vs ≡ ws) × (a ≡ b)
 judged_alike key_of number before [] [] [] a b h k = (refl, h ∙ sym k)
 judged_alike key_of number before [] [] (w ∷ ws) a b h k = absurd k
@@ -105,7 +105,7 @@ judged_alike key_of number before (command ∷ commands) (v ∷ vs) [] a b h k =
 judged_alike key_of number before (command ∷ commands) (v ∷ vs) (w ∷ ws) a b h k =
     let first = alike before (key_of number) command v w h.0 k.0 h.1 k.1 in
     let rest = judged_alike key_of (suc number) h.0 commands vs ws a b h.2
-    (subst (λ (mid : List Entry). JudgesAll key_of (suc number) mid commands ws b) (sym first.1) k.2) in
+    (subst (λ (mid : List Entry). JudgesAll mid (numbered key_of (suc number) commands) ws b) (sym first.1) k.2) in
     (ap (λ (u : Verdict). u ∷ vs) first.0 ∙ ap (λ (us : List Verdict). w ∷ us) rest.0, rest.1)
 
 -- ---- What is held is listed in one way.

@@ -4,7 +4,7 @@ use Rattle.lot_base.proofs.TextLemmas.{one_text}
 use Rattle.lot_base.specs.Text.{same_text}
 use Rattle.lot_book.proofs.CaseLemmas.{by_bool}
 use Rattle.lot_book.specs.Facts.{Entry, facts_of, text_under}
-use Rattle.lot_book.specs.Judged.{Judges}
+use Rattle.lot_book.specs.Judged.{JudgesOn}
 use Rattle.lot_book.specs.Step.{Accept, DecidesBy, Outcome, Refuse, Repeat, Step}
 use Rattle.lot_book.specs.declared.refusal.Refusal.TheVariants.{KeyReused}
 use Rattle.lot_book.specs.declared.verdict.Verdict.{Verdict}
@@ -16,12 +16,12 @@ use Rattle.lot_laws.proofs.LawKeys.{only_repeats, stands, still_stands}
 
 -- ---- what stands
 
-pub accepted_stands : (book after : List Entry) (key : Key) (command : Command) → Judges book key command Accepted after
+pub accepted_stands : (book after : List Entry) (key : Key) (command : Command) → JudgesOn book key command Accepted after
     → text_under after key ≡ Some (canonical command)
 accepted_stands book after key command judged = ap (λ (entries : List Entry). text_under entries key) judged.2 ∙ stands book key command judged.0 judged.1
 
 pub remains : (book after : List Entry) (key other : Key) (text : List ℕ) (command : Command) (verdict : Verdict) → text_under book key ≡ Some text
-    → Judges book other command verdict after → text_under after key ≡ Some text
+    → JudgesOn book other command verdict after → text_under after key ≡ Some text
 remains book after key other text command Accepted known judged =
     ap (λ (entries : List Entry). text_under entries key) judged.2 ∙ still_stands book key text other command (Accept judged.0) known
 remains book after key other text command Repeated known judged = ap (λ (entries : List Entry). text_under entries key) judged.1 ∙ known
@@ -31,7 +31,7 @@ remains book after key other text command (Refused refusal) known judged = ap (�
 
 -- with the text that stands there
 pub is_repeat : (book after : List Entry) (key : Key) (command : Command) (verdict : Verdict) → text_under book key ≡ Some (canonical command)
-    → Judges book key command verdict after → (verdict ≡ Repeated) × (after ≡ book)
+    → JudgesOn book key command verdict after → (verdict ≡ Repeated) × (after ≡ book)
 is_repeat book after key command Accepted known judged = let none : Accept judged.0 ≡ Repeat = only_repeats book key command (Accept judged.0) known judged.1 in absurd cc
 is_repeat book after key command Repeated known judged = (refl, judged.1)
 is_repeat book after key command (Refused refusal) known judged = let none : Refuse refusal ≡ Repeat = only_repeats book key command (Refuse refusal) known judged.0 in absurd cc
@@ -45,7 +45,7 @@ only_refuses book key command text outcome known other step =
 
 -- with another text
 pub is_refused : (book after : List Entry) (key : Key) (command : Command) (text : List ℕ) (verdict : Verdict) → text_under book key ≡ Some text
-    → text ≢ canonical command → Judges book key command verdict after → (verdict ≡ Refused KeyReused) × (after ≡ book)
+    → text ≢ canonical command → JudgesOn book key command verdict after → (verdict ≡ Refused KeyReused) × (after ≡ book)
 is_refused book after key command text Accepted known other judged =
     let none : Accept judged.0 ≡ Refuse KeyReused = only_refuses book key command text (Accept judged.0) known other judged.1 in absurd cc
 is_refused book after key command text Repeated known other judged =

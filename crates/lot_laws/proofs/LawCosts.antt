@@ -5,10 +5,10 @@ use Rattle.std.proofs.Math.IntN.{*ℤ-zero, +ℤ_idl}
 use Rattle.std.proofs.lemmas.Grind.{flat_map-append}
 use Rattle.std.proofs.lemmas.List.Elements.{filter-append}
 use Rattle.lot_base.specs.Text.{same_text}
-use Rattle.lot_inv.specs.declared.lot_key.LotKey.{LotKey}
+use Rattle.lot_cost.specs.declared.lot_key.LotKey.{LotKey}
 use Rattle.lot_inv.specs.Inventory.{lots_of}
 use Rattle.lot_inv.proofs.LotLemmas.{sum_at}
-use Rattle.lot_booking.specs.declared.cost.Cost.{Cost}
+use Rattle.lot_cost.specs.declared.cost.Cost.{Cost}
 use Rattle.lot_command.specs.declared.command.Command.{Command}
 use Rattle.lot_command.specs.declared.command.Command.TheVariants.{Opening, Closing, Declaring, Quoting, Transaction}
 use Rattle.lot_command.specs.declared.transaction.Amount.{Amount}

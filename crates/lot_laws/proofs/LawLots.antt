@@ -7,7 +7,7 @@ use Rattle.std.proofs.lemmas.Bool.{true≢false}
 use Rattle.lot_num.specs.Sum.{sum_of}
 use Rattle.lot_base.specs.Text.{same_text}
 use Rattle.lot_base.proofs.TextLemmas.{one_text, same_text-itself}
-use Rattle.lot_inv.specs.declared.lot_key.LotKey.{LotKey}
+use Rattle.lot_cost.specs.declared.lot_key.LotKey.{LotKey}
 use Rattle.lot_inv.specs.Inventory.{Held, added, lots_of, units_at}
 use Rattle.lot_inv.proofs.LotLemmas.{lots_of-empty, lots_of-other, lots_of-plain, sum_at, sum_at-added}
 use Rattle.lot_command.specs.declared.command.Command.{Command}

@@ -8,10 +8,10 @@ use Rattle.std.proofs.lemmas.Grind.{flat_map-append}
 use Rattle.std.proofs.lemmas.List.Elements.{filter-append}
 use Rattle.lot_base.specs.Text.{same_text}
 use Rattle.lot_base.proofs.TextLemmas.{one_text, same_text-itself}
-use Rattle.lot_inv.specs.declared.lot_key.LotKey.{LotKey}
+use Rattle.lot_cost.specs.declared.lot_key.LotKey.{LotKey}
 use Rattle.lot_inv.specs.Inventory.{reduces}
-use Rattle.lot_booking.specs.declared.cost.Cost.{Cost}
-use Rattle.lot_booking.specs.declared.method.Method.TheVariants.{Unmatched}
+use Rattle.lot_cost.specs.declared.cost.Cost.{Cost}
+use Rattle.lot_cost.specs.declared.method.Method.TheVariants.{Unmatched}
 use Rattle.lot_booking.specs.Method.{may_reduce}
 use Rattle.lot_command.specs.declared.command.Command.{Command}
 use Rattle.lot_command.specs.declared.command.Command.TheVariants.{Opening, Closing, Declaring, Quoting, Transaction}

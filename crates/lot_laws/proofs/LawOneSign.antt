@@ -10,20 +10,21 @@ use Rattle.std.proofs.lemmas.List.Elements.{All-contains, All-filter, All-from_r
 use Rattle.std.proofs.lemmas.Map.Views.{Contains-from_lookup}
 use Rattle.lot_base.specs.Text.{same_text}
 use Rattle.lot_base.proofs.TextLemmas.{one_text, same_text-itself}
-use Rattle.lot_inv.specs.CostSpec.{fits}
-use Rattle.lot_inv.specs.declared.lot_key.LotKey.{LotKey}
+use Rattle.lot_cost.specs.CostSpec.{fits}
+use Rattle.lot_cost.specs.declared.lot_key.LotKey.{LotKey}
 use Rattle.lot_inv.specs.Inventory.{Held, added, lots_of, matching, other_sign, position_cmp, reduces, units_at}
-use Rattle.lot_inv.specs.LotKey.{lot_cmp}
-use Rattle.lot_inv.proofs.InventoryLemmas.{is_equal}
+use Rattle.lot_cost.specs.LotKey.{lot_cmp}
+use Rattle.lot_cost.proofs.OrderLemmas.{is_equal}
 use Rattle.lot_inv.proofs.LawLemmas.{sorted_matching}
-use Rattle.lot_inv.proofs.OrderLemmas.{exact_lots}
-use Rattle.lot_booking.specs.declared.cost.Cost.{Cost}
-use Rattle.lot_booking.specs.declared.method.Method.{Method}
-use Rattle.lot_booking.specs.declared.method.Method.TheVariants.{Strict, Fifo, Lifo, Hifo, Unmatched}
+use Rattle.lot_cost.proofs.OrderLemmas.{exact_lots}
+use Rattle.lot_cost.specs.declared.cost.Cost.{Cost}
+use Rattle.lot_cost.specs.declared.method.Method.{Method}
+use Rattle.lot_cost.specs.declared.method.Method.TheVariants.{Strict, Fifo, Lifo, Hifo, Unmatched}
 use Rattle.lot_booking.specs.Booking.{Braced, ComesTo, Legs, TakesFrom, candidates, spec_of}
 use Rattle.lot_booking.specs.Method.{may_reduce}
 use Rattle.lot_booking.proofs.BookingLaws.{taken_distinct, taken_from}
-use Rattle.lot_booking.proofs.ListLemmas.{all_weaker, each_member}
+use Rattle.lot_cost.proofs.ListLemmas.{all_weaker}
+use Rattle.lot_booking.proofs.ListLemmas.{each_member}
 use Rattle.lot_command.specs.declared.command.Command.{Command}
 use Rattle.lot_command.specs.declared.command.Command.TheVariants.{Opening, Closing, Declaring, Quoting, Transaction}
 use Rattle.lot_command.specs.declared.command.Opening.{Opening as OpeningOf}

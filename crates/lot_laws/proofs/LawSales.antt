@@ -4,8 +4,8 @@ use Rattle.std.specs.List.{list_all}
 use Rattle.std.proofs.Common.{refl, sym, ap, subst, ◌∙◌, arith}
 use Rattle.std.proofs.lemmas.Bool.{eqb-false, true≢false}
 use Rattle.std.proofs.lemmas.Int.{ints}
-use Rattle.lot_inv.specs.declared.lot_key.LotKey.{LotKey}
-use Rattle.lot_booking.specs.declared.cost.Cost.{Cost}
+use Rattle.lot_cost.specs.declared.lot_key.LotKey.{LotKey}
+use Rattle.lot_cost.specs.declared.cost.Cost.{Cost}
 use Rattle.lot_booking.specs.Booking.{Braced, ComesTo, Legs}
 use Rattle.lot_booking.specs.Choice.{Choice, chosen_legs, with_sign_of}
 use Rattle.lot_booking.proofs.BookingLaws.{units_of_legs}

@@ -11,13 +11,14 @@ use Rattle.std.proofs.lemmas.Bool.{or_parts, true≢false}
 use Rattle.std.proofs.lemmas.Int.{ints}
 use Rattle.std.proofs.lemmas.Map.Keys.{IsDistinct-from_sorted, IsDistinct-head, IsDistinct-tail}
 use Rattle.std.proofs.lemmas.Map.Views.{lookup-from_Contains}
-use Rattle.lot_inv.specs.declared.lot_key.LotKey.{LotKey}
+use Rattle.lot_cost.specs.declared.lot_key.LotKey.{LotKey}
 use Rattle.lot_inv.specs.Inventory.{Held, Position, added, lots_of, other_sign, position_cmp, reduces, units_at}
-use Rattle.lot_inv.specs.LotKey.{lot_cmp}
-use Rattle.lot_inv.proofs.InventoryLemmas.{is_equal}
+use Rattle.lot_cost.specs.LotKey.{lot_cmp}
+use Rattle.lot_cost.proofs.OrderLemmas.{is_equal}
 use Rattle.lot_inv.proofs.LawLemmas.{lots_of-get, sorted_lots_of}
 use Rattle.lot_inv.proofs.LotLemmas.{get-with_units_apart, units_at-set}
-use Rattle.lot_inv.proofs.OrderLemmas.{exact_positions, lots_total, positions_total}
+use Rattle.lot_cost.proofs.OrderLemmas.{lots_total}
+use Rattle.lot_inv.proofs.OrderLemmas.{exact_positions, positions_total}
 use Rattle.lot_booking.specs.Choice.{HaveDistinctKeys}
 use Rattle.lot_booking.proofs.ListLemmas.{each_member}
 use Rattle.lot_laws.specs.Laws.{HaveOneSign}

@@ -6,10 +6,10 @@ use Rattle.std.proofs.Math.IntN.{*ℤ-one, +ℤ_idl, one}
 use Rattle.std.proofs.lemmas.Int.{ints}
 use Rattle.lot_num.specs.Sum.{sum_of}
 use Rattle.lot_base.specs.Text.{same_text}
-use Rattle.lot_inv.specs.declared.lot_key.LotKey.{LotKey}
+use Rattle.lot_cost.specs.declared.lot_key.LotKey.{LotKey}
 use Rattle.lot_inv.specs.Inventory.{sum, lots_of}
 use Rattle.lot_inv.proofs.LotLemmas.{sum_at}
-use Rattle.lot_booking.specs.declared.cost.Cost.{Cost}
+use Rattle.lot_cost.specs.declared.cost.Cost.{Cost}
 use Rattle.lot_booking.proofs.BookingLaws.{units_of_legs}
 use Rattle.lot_command.specs.declared.command.Command.{Command}
 use Rattle.lot_command.specs.declared.command.Command.TheVariants.{Opening, Closing, Declaring, Quoting, Transaction}

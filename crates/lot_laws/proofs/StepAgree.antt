@@ -4,13 +4,13 @@ use Rattle.std.specs.List.{AllByRecursion}
 use Rattle.std.specs.Option.{is_none}
 use Rattle.std.proofs.Common.{refl, sym, ap, subst, ◌∙◌, inl, inr}
 use Rattle.lot_inv.specs.Inventory.{Held}
-use Rattle.lot_booking.specs.declared.cost.Cost.{Cost}
-use Rattle.lot_booking.specs.declared.method.Method.{Method}
+use Rattle.lot_cost.specs.declared.cost.Cost.{Cost}
+use Rattle.lot_cost.specs.declared.method.Method.{Method}
 use Rattle.lot_booking.specs.Booking.{Legs, Refused}
 use Rattle.lot_booking.proofs.SameLots.{same_outcome}
 use Rattle.lot_command.specs.declared.transaction.Amount.{Amount}
 use Rattle.lot_command.specs.declared.transaction.Posting.{Posting}
-use Rattle.lot_inv.specs.declared.lot_key.LotKey.{LotKey}
+use Rattle.lot_cost.specs.declared.lot_key.LotKey.{LotKey}
 use Rattle.lot_book.specs.declared.leg.Leg.{Leg}
 use Rattle.lot_book.specs.declared.change.Pair.{Pair}
 use Rattle.lot_book.specs.declared.refusal.Refusal.{Refusal}

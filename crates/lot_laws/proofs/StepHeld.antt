@@ -8,7 +8,7 @@ use Rattle.std.proofs.Common.{refl, sym, ap, subst, ◌∙◌}
 use Rattle.lot_base.specs.Text.{same_text}
 use Rattle.lot_num.specs.Amount.{units_limit}
 use Rattle.lot_inv.specs.Inventory.{Held, Position, added, lots_of, non_zero, position_cmp, units_at}
-use Rattle.lot_inv.proofs.InventoryLemmas.{is_equal}
+use Rattle.lot_cost.proofs.OrderLemmas.{is_equal}
 use Rattle.lot_inv.proofs.LotLemmas.{get-with_units, same_lots}
 use Rattle.lot_inv.proofs.OrderLemmas.{exact_positions}
 use Rattle.lot_book.specs.declared.leg.Leg.{Leg}

@@ -3,7 +3,7 @@ use Rattle.std.specs.Prelude.{◌≡◌, ℕ, ◌&&◌, Bool, false, not, if◌t
 use Rattle.std.specs.List.{AllByRecursion, IsDistinct}
 use Rattle.lot_num.specs.Sum.{sum_of}
 use Rattle.lot_base.specs.Text.{same_text}
-use Rattle.lot_inv.specs.declared.lot_key.LotKey.{LotKey}
+use Rattle.lot_cost.specs.declared.lot_key.LotKey.{LotKey}
 use Rattle.lot_inv.specs.Inventory.{other_sign}
 use Rattle.lot_command.specs.declared.command.Command.{Command}
 use Rattle.lot_command.specs.declared.command.Command.TheVariants.{Opening, Closing, Declaring, Quoting, Transaction}
@@ -89,10 +89,10 @@ abbrev pub HaveOneKeyEach : List Entry → Type 0
 HaveOneKeyEach entries = IsDistinct same_key (map (λ (entry : Entry). entry.key) entries)
 
 -- commands with their keys, judged one after another on a book, come to that book
-abbrev pub JudgesAll : List Entry → List (Key × Command) → List Entry → Type 0
-JudgesAll before [] book = book ≡ before
-JudgesAll before (keyed ∷ commands) book =
-    (outcome : Outcome) × Step before keyed.0 keyed.1 outcome × JudgesAll (after before keyed.0 keyed.1 outcome) commands book
+abbrev pub LeadsTo : List Entry → List (Key × Command) → List Entry → Type 0
+LeadsTo before [] book = book ≡ before
+LeadsTo before (keyed ∷ commands) book =
+    (outcome : Outcome) × Step before keyed.0 keyed.1 outcome × LeadsTo (after before keyed.0 keyed.1 outcome) commands book
 
 -- ---- The cost of lots.
 

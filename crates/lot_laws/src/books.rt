@@ -1,12 +1,12 @@
 //! Laws of books: of their entries, of what they hold, and of what judging commands leaves.
 ghost use Rattle.std.specs.Prelude.{◌≡◌, ◌≢◌, ℕ, ℤ, pos, true, Some, List, [], ◌∷◌, ◌++◌, ◌+ℤ◌, neg_ℤ};
-ghost use Rattle.lot_booking.specs.declared.method.Method.TheVariants.{Unmatched};
+ghost use Rattle.lot_cost.specs.declared.method.Method.TheVariants.{Unmatched};
 ghost use Rattle.lot_command.specs.Canonical.{canonical};
 ghost use Rattle.lot_command.specs.declared.command.Command.{Command};
 ghost use Rattle.lot_command.specs.declared.command.Command.TheVariants.{Transaction};
 ghost use Rattle.lot_command.specs.declared.key.Key.{Key};
 ghost use Rattle.lot_command.specs.declared.transaction.Transaction.{Transaction as TransactionOf};
-ghost use Rattle.lot_inv.specs.declared.lot_key.LotKey.{LotKey};
+ghost use Rattle.lot_cost.specs.declared.lot_key.LotKey.{LotKey};
 ghost use Rattle.lot_inv.specs.Inventory.{lots_of, sum, units_at};
 ghost use Rattle.lot_book.specs.declared.leg.Leg.{Leg};
 ghost use Rattle.lot_book.specs.declared.leg.Position.{Position};
@@ -17,8 +17,8 @@ ghost use Rattle.lot_book.specs.Book.{IsBook, after, entry_of};
 ghost use Rattle.lot_book.specs.Booking.{Booked, IsBooked, Line, method_of};
 ghost use Rattle.lot_book.specs.Currencies.{sum_in};
 ghost use Rattle.lot_book.specs.Facts.{Entry, facts_of, legs_of, standing_of, text_under};
-ghost use Rattle.lot_book.specs.Judged.{Judges, JudgesAll as JudgesNumbered};
-ghost use Rattle.lot_laws.specs.Laws.{BooksEntries, HaveOneKeyEach, HaveOneSign, IsBalanced, JudgesAll};
+ghost use Rattle.lot_book.specs.Judged.{JudgesOn, JudgesAll, numbered};
+ghost use Rattle.lot_laws.specs.Laws.{BooksEntries, HaveOneKeyEach, HaveOneSign, IsBalanced, LeadsTo};
 ghost use Rattle.lot_laws.specs.Laws.{bought, bought_into, cost_in, lot_at, sold, sold_of, weights_at_cost};
 ghost use Rattle.lot_book.specs.Leg.{inventory_of, legs_at_lots, sum_at};
 ghost use Rattle.lot_book.specs.Sale.{AreLegsOf};
@@ -70,10 +70,10 @@ pub fn an_equal_command_may_be_taken_out()
         → text_under book key ≡ Some (canonical command) → Step book key command outcome → outcome ≡ Repeat }
     ensures taken_out { (book result : List Entry) (key : Key) (command : Command) (first more : List (Key × Command))
         → text_under book key ≡ Some (canonical command)
-        → JudgesAll book (first ++ (key, command) ∷ more) result → JudgesAll book (first ++ more) result }
+        → LeadsTo book (first ++ (key, command) ∷ more) result → LeadsTo book (first ++ more) result }
     ensures put_in { (book result : List Entry) (key : Key) (command : Command) (first more : List (Key × Command))
         → text_under book key ≡ Some (canonical command)
-        → JudgesAll book (first ++ more) result → JudgesAll book (first ++ (key, command) ∷ more) result }
+        → LeadsTo book (first ++ more) result → LeadsTo book (first ++ (key, command) ∷ more) result }
 {}
 
 /// A key acts once. The text of an accepted command stands under its key, and it remains there whatever is judged later. A
@@ -81,15 +81,15 @@ pub fn an_equal_command_may_be_taken_out()
 /// another one; both leave the book as it was.
 pub fn a_key_acts_once()
     ensures stands { (before after : List Entry) (key : Key) (command : Command)
-        → Judges before key command Accepted after → text_under after key ≡ Some (canonical command) }
+        → JudgesOn before key command Accepted after → text_under after key ≡ Some (canonical command) }
     ensures remains { (before after : List Entry) (key other : Key) (text : List ℕ) (command : Command) (verdict : Verdict)
-        → text_under before key ≡ Some text → Judges before other command verdict after
+        → text_under before key ≡ Some text → JudgesOn before other command verdict after
         → text_under after key ≡ Some text }
     ensures repeats { (before after : List Entry) (key : Key) (command : Command) (verdict : Verdict)
-        → text_under before key ≡ Some (canonical command) → Judges before key command verdict after
+        → text_under before key ≡ Some (canonical command) → JudgesOn before key command verdict after
         → (verdict ≡ Repeated) × (after ≡ before) }
     ensures refused { (before after : List Entry) (key : Key) (command : Command) (text : List ℕ) (verdict : Verdict)
-        → text_under before key ≡ Some text → text ≢ canonical command → Judges before key command verdict after
+        → text_under before key ≡ Some text → text ≢ canonical command → JudgesOn before key command verdict after
         → (verdict ≡ Refused KeyReused) × (after ≡ before) }
 {}
 
@@ -133,12 +133,12 @@ pub fn nothing_is_sold_under_none()
 pub fn judged_commands_make_a_book()
     ensures some { (key_of : ℕ → Key) (number : ℕ) (before : List Entry) (commands : List Command)
         → (verdicts : List Verdict) × (after : List Entry)
-        × JudgesNumbered key_of number before commands verdicts after }
+        × JudgesAll before (numbered key_of number commands) verdicts after }
     ensures one { (key_of : ℕ → Key) (number : ℕ) (before : List Entry) (commands : List Command) (vs ws : List Verdict)
         (a b : List Entry)
-        → JudgesNumbered key_of number before commands vs a → JudgesNumbered key_of number before commands ws b
+        → JudgesAll before (numbered key_of number commands) vs a → JudgesAll before (numbered key_of number commands) ws b
         → (vs ≡ ws) × (a ≡ b) }
     ensures book { (key_of : ℕ → Key) (number : ℕ) (before : List Entry) (commands : List Command)
         (verdicts : List Verdict) (after : List Entry)
-        → IsBook before → JudgesNumbered key_of number before commands verdicts after → IsBook after }
+        → IsBook before → JudgesAll before (numbered key_of number commands) verdicts after → IsBook after }
 {}

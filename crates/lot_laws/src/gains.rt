@@ -1,7 +1,7 @@
 //! Laws of sales and of their gains.
 ghost use Rattle.std.specs.Prelude.{◌≡◌, ◌↔◌, true, List, Some, ℤ, pos, ◌-ℤ◌, ◌*ℤ◌, neg_ℤ};
 ghost use Rattle.std.specs.Option.{IsSome};
-ghost use Rattle.lot_inv.specs.declared.lot_key.LotKey.{LotKey};
+ghost use Rattle.lot_cost.specs.declared.lot_key.LotKey.{LotKey};
 ghost use Rattle.lot_booking.specs.Booking.{Braced, ComesTo, Legs};
 ghost use Rattle.lot_command.specs.declared.price.Price.TheVariants.{Each};
 ghost use Rattle.lot_command.specs.declared.price.UnitPrice.{UnitPrice};

@@ -11,7 +11,8 @@ use Rattle.lot_posting.specs.declared.draft.Draft.{Draft}
 use Rattle.lot_book.specs.declared.refusal.Stop.{Stop}
 use Rattle.lot_book.specs.declared.refusal.Stop.TheVariants.{Refused, Memory}
 use Rattle.lot_book.specs.Booking.{All}
-use Rattle.lot_ledger.specs.Decide.{Accepts, DraftsAll, Lists, StopsJudging, conditions_on, legs_with_fill, residual_conditions}
+use Rattle.lot_book.specs.Change.{Lists}
+use Rattle.lot_ledger.specs.Decide.{Accepts, DraftsAll, StopsJudging, conditions_on, legs_with_fill, residual_conditions}
 use Rattle.lot_book.specs.Facts.{Facts}
 use Rattle.lot_book.specs.Refusals.{Stops, book_full, too_many_lots}
 use Rattle.lot_book.specs.Step.{Accept, Decides, DecidesBy, Judges, JudgesTransaction, Refuse, accept_unless, all_legs, first_conditions, first_of, last_conditions}

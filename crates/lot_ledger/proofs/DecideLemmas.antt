@@ -11,7 +11,8 @@ use Rattle.lot_book.specs.Balance.{AreWithin, residuals, weights_in}
 use Rattle.lot_book.specs.Booking.{All, Booked, Bookings, Books as BooksOne, BooksAll, Fails, Stopped, follow, legs_in}
 use Rattle.lot_ledger.specs.Decide.{BooksNext, IsDraft, StopsNext}
 use Rattle.lot_book.specs.Facts.{Facts}
-use Rattle.lot_posting.specs.Posting.{Books, sales_in, sales_of}
+use Rattle.lot_book.specs.Sale.{sales_in, sales_of}
+use Rattle.lot_posting.specs.Posting.{Books}
 use Rattle.lot_posting.proofs.BalanceResiduals.{AreWithin-more, weights_in-push}
 
 -- what postings come to, behind others that are booked

@@ -5,7 +5,7 @@ use Rattle.std.specs.Ordering.{is_eq}
 use Rattle.std.proofs.Common.{refl, sym, ap, ◌∙◌, add-one, drop-cons}
 use Rattle.lot_base.specs.Text.{same_text, text_cmp}
 use Rattle.lot_base.proofs.TextLemmas.{same_text-ordered}
-use Rattle.lot_inv.proofs.InventoryLemmas.{eq_then}
+use Rattle.lot_cost.proofs.OrderLemmas.{eq_then}
 use Rattle.lot_command.specs.declared.transaction.Amount.{Amount}
 use Rattle.lot_command.specs.declared.transaction.Posting.{Posting}
 use Rattle.lot_book.specs.declared.change.Pair.{Pair}

@@ -1,7 +1,6 @@
 -- What deciding a command gives beside its outcome.
 use Rattle.std.specs.Prelude.{◌≡◌, ℕ, suc, is_some, if◌then◌else◌, List, [], ◌∷◌, ◌++◌, Option, None, Some, ℤ, ⊤}
 use Rattle.lot_command.specs.declared.command.Command.{Command}
-use Rattle.lot_command.specs.declared.command.Command.TheVariants.{Opening, Closing, Declaring, Quoting, Transaction}
 use Rattle.lot_command.specs.declared.transaction.Transaction.{Transaction as TransactionOf}
 use Rattle.lot_command.specs.declared.transaction.Amount.{Amount}
 use Rattle.lot_book.specs.declared.leg.Leg.{Leg}
@@ -17,26 +16,11 @@ use Rattle.lot_book.specs.declared.refusal.Stop.{Stop}
 use Rattle.lot_book.specs.declared.refusal.Stop.TheVariants.{Refused, Memory}
 use Rattle.lot_book.specs.Balance.{elided_postings, fill_of, residuals, weights_in}
 use Rattle.lot_book.specs.Booking.{All, Booked, BooksAll, Stopped, legs_in, line_of}
-use Rattle.lot_book.specs.Change.{ListsHeads, ListsSums}
+use Rattle.lot_book.specs.Change.{IsAcceptedWith, Lists, ListsSums}
 use Rattle.lot_book.specs.Facts.{Facts}
-use Rattle.lot_posting.specs.Posting.{Books, StopsPosting, sales_in}
-use Rattle.lot_book.specs.Sale.{SaleParts}
+use Rattle.lot_posting.specs.Posting.{Books, StopsPosting}
+use Rattle.lot_book.specs.Sale.{sales_in}
 use Rattle.lot_book.specs.Step.{Accept, Decides, Judges, Refuse, Repeat}
-
--- the sales of a command: of a transaction its postings that take lots away
-abbrev pub AreSales : Facts → Command → List (ℕ × SaleParts) → Type 0
-AreSales facts (Opening o) sales = sales ≡ []
-AreSales facts (Closing c) sales = sales ≡ []
-AreSales facts (Declaring d) sales = sales ≡ []
-AreSales facts (Quoting q) sales = sales ≡ []
-AreSales facts (Transaction t) sales =
-    (booked : List Booked) × BooksAll facts t.day [] 1 t.postings (All booked) × (sales ≡ sales_in t.day booked)
-
--- a change lists what an accepted command changes
-pub record Lists (facts : Facts) (command : Command) (change : Change) : Type 0 where
-  pub positions : ListsSums facts change.legs change.positions.entries
-  pub heads : ListsHeads command change.heads
-  pub sales : AreSales facts command change.sales
 
 -- a command whose key is new is accepted with the change
 pub record Accepts (facts : Facts) (command : Command) (change : Change) : Type 0 where
@@ -45,7 +29,7 @@ pub record Accepts (facts : Facts) (command : Command) (change : Change) : Type 
 
 -- the outcome that is decided is that of the step
 abbrev pub Comes : Facts → Command → Decided → Type 0
-Comes facts command (decided.Accept change) = Decides facts command (Accept change.legs) × Lists facts command change
+Comes facts command (decided.Accept change) = IsAcceptedWith facts command change
 Comes facts command decided.Repeat = Decides facts command Repeat
 
 -- deciding stops at the refusal of the step, or out of memory

@@ -4,8 +4,8 @@ use Rattle.std.specs.Prelude.{ℤ, flat_map}
 use Rattle.std.specs.List.{list_any}
 use Rattle.std.proofs.lemmas.Bool.{false≢true}
 use Rattle.lot_base.specs.Name.{is_commodity, is_label as is_label_name}
-use Rattle.lot_booking.specs.declared.cost.Cost.{Cost}
-use Rattle.lot_booking.specs.declared.cost.Cost.TheVariants as Costs
+use Rattle.lot_cost.specs.declared.cost.Cost.{Cost}
+use Rattle.lot_cost.specs.declared.cost.Cost.TheVariants as Costs
 use Rattle.lot_form.specs.Form.{CostPart, money, amount, currency, day, label, is_money, is_day, is_label, has_number, how_many, AtMostOneEach, WrittenCost, each, whole, FitsCost}
 use Rattle.lot_meaning.specs.declared.given.Given.{Given}
 use Rattle.lot_meaning.specs.Checked.{MeansGiven, either, spec_of}

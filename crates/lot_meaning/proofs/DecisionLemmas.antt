@@ -5,9 +5,9 @@ use Rattle.lot_num.specs.NumberText.{units_of, rate_of, total_of}
 use Rattle.lot_base.specs.Name.{is_account, is_commodity, is_label, is_note}
 use Rattle.lot_base.specs.Day.{named_day}
 use Rattle.lot_base.proofs.DecisionLemmas.{Decided, decided_by, ok_or_not, same_or_not, some_or_not, true_or_not}
-use Rattle.lot_booking.specs.Method.{word_of}
-use Rattle.lot_booking.specs.declared.method.Method.{Method}
-use Rattle.lot_booking.specs.declared.method.Method.TheVariants.{Strict, Fifo, Lifo, Hifo, Unmatched}
+use Rattle.lot_cost.specs.Method.{word_of}
+use Rattle.lot_cost.specs.declared.method.Method.{Method}
+use Rattle.lot_cost.specs.declared.method.Method.TheVariants.{Strict, Fifo, Lifo, Hifo, Unmatched}
 use Rattle.lot_command.specs.Canonical.{escaped, escaped_byte}
 use Rattle.lot_meaning.specs.declared.fault.ValueFault.{ValueFault}
 use Rattle.lot_meaning.specs.Meaning.{Item, units_item, rate_item, total_item, account_item, commodity_item, method_item, label_item, note_item, day_item, IsInside, AreInside, FirstOutside, Names, Quotes, fault_of}

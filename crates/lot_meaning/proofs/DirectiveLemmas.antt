@@ -5,10 +5,10 @@ use Rattle.std.specs.List.{AllZip, list_all}
 use Rattle.std.proofs.lemmas.Bool.{and_parts, false≢true}
 use Rattle.std.proofs.lemmas.Option.{none-some}
 use Rattle.lot_base.specs.Name.{is_account, is_commodity}
-use Rattle.lot_booking.specs.Method.{word_of}
-use Rattle.lot_booking.specs.declared.method.Method.{Method}
+use Rattle.lot_cost.specs.Method.{word_of}
+use Rattle.lot_cost.specs.declared.method.Method.{Method}
 use Rattle.lot_form.specs.Form.{opening}
-use Rattle.lot_form.specs.Head.{seen_text}
+use Rattle.lot_form.specs.Header.{seen_text}
 use Rattle.lot_meaning.specs.declared.fault.ValueFault.{ValueFault}
 use Rattle.lot_meaning.specs.declared.fault.ValueFault.TheVariants.{BadName}
 use Rattle.lot_meaning.specs.declared.fault.MeaningFault.{MeaningFault}

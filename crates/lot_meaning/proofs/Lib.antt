@@ -7,4 +7,4 @@ pub mod GivenLemmas
 pub mod CostLemmas
 pub mod PostingLemmas
 pub mod DirectiveLemmas
-pub mod HeadLemmas
+pub mod HeaderLemmas

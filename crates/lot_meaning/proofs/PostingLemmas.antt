@@ -1,8 +1,8 @@
 -- A written posting means one posting at most, and it means one exactly where all its parts are within their rules.
 use Rattle.std.proofs.Common.{◌≡◌, List, Option, Some, None, sym, ap, ◌∙◌}
 use Rattle.lot_base.specs.Name.{is_account, is_commodity, is_label}
-use Rattle.lot_inv.specs.declared.cost_spec.CostSpec.{CostSpec}
-use Rattle.lot_booking.specs.declared.cost.Cost.TheVariants as Costs
+use Rattle.lot_cost.specs.declared.cost_spec.CostSpec.{CostSpec}
+use Rattle.lot_cost.specs.declared.cost.Cost.TheVariants as Costs
 use Rattle.lot_command.specs.declared.price.Price.{Price}
 use Rattle.lot_command.specs.declared.price.Price.TheVariants as Prices
 use Rattle.lot_command.specs.declared.transaction.Amount.{Amount}

@@ -5,12 +5,12 @@ use Rattle.std.specs.List.{AllZip, AllByRecursion}
 use Rattle.lot_num.specs.NumberText.{units_of, rate_of, total_of}
 use Rattle.lot_base.specs.Name.{is_account, is_commodity, is_label, is_note}
 use Rattle.lot_base.specs.Day.{named_day}
-use Rattle.lot_inv.specs.declared.cost_spec.CostSpec.{CostSpec}
-use Rattle.lot_booking.specs.Method.{word_of}
-use Rattle.lot_booking.specs.declared.cost.Cost.{Cost}
-use Rattle.lot_booking.specs.declared.cost.Cost.TheVariants as Costs
-use Rattle.lot_booking.specs.declared.method.Method.{Method}
-use Rattle.lot_booking.specs.declared.method.Method.TheVariants.{Strict}
+use Rattle.lot_cost.specs.declared.cost_spec.CostSpec.{CostSpec}
+use Rattle.lot_cost.specs.Method.{word_of}
+use Rattle.lot_cost.specs.declared.cost.Cost.{Cost}
+use Rattle.lot_cost.specs.declared.cost.Cost.TheVariants as Costs
+use Rattle.lot_cost.specs.declared.method.Method.{Method}
+use Rattle.lot_cost.specs.declared.method.Method.TheVariants.{Strict}
 use Rattle.lot_command.specs.Canonical.{escaped}
 use Rattle.lot_command.specs.declared.command.Command.{Command}
 use Rattle.lot_command.specs.declared.command.Command.TheVariants as Commands
@@ -131,17 +131,17 @@ pub record MeansNotes (notes : Option (List ℕ) × List ℕ) (meant : Narration
   pub payee : MeansPerhaps (Quotes is_note) notes.0 meant.payee
   pub narration : Quotes is_note notes.1 meant.text
 
-abbrev pub MeansHead : List ℕ → Directive → Command → Type 0
-MeansHead when (opening account currencies method) (Commands.Opening o) =
+abbrev pub MeansHeader : List ℕ → Directive → Command → Type 0
+MeansHeader when (opening account currencies method) (Commands.Opening o) =
     MeansDay when o.day × Names is_account account o.account × AllZip (Names is_commodity) currencies o.currencies
     × MeansMethod method o.method
-MeansHead when (closing account) (Commands.Closing c) = MeansDay when c.day × Names is_account account c.account
-MeansHead when (declaring commodity) (Commands.Declaring d) = MeansDay when d.day × Names is_commodity commodity d.commodity
-MeansHead when (quoting base rate quote) (Commands.Quoting q) =
+MeansHeader when (closing account) (Commands.Closing c) = MeansDay when c.day × Names is_account account c.account
+MeansHeader when (declaring commodity) (Commands.Declaring d) = MeansDay when d.day × Names is_commodity commodity d.commodity
+MeansHeader when (quoting base rate quote) (Commands.Quoting q) =
     MeansDay when q.day × Names is_commodity base q.base × MeansRate rate q.rate × Names is_commodity quote q.quote
-MeansHead when (transaction flag notes) (Commands.Transaction t) =
+MeansHeader when (transaction flag notes) (Commands.Transaction t) =
     MeansDay when t.day × (t.flag ≡ flag) × MeansPerhaps MeansNotes notes t.narration × (t.postings ≡ [])
-MeansHead when directive command = ⊥
+MeansHeader when directive command = ⊥
 
 -- ---- The first part outside its rule.
 
@@ -234,5 +234,5 @@ directive_items (declaring commodity) = commodity_item commodity ∷ []
 directive_items (quoting base rate quote) = commodity_item base ∷ rate_item rate ∷ commodity_item quote ∷ []
 directive_items (transaction flag notes) = listed_by note_items notes
 
-abbrev pub head_items : List ℕ → Directive → List Item
-head_items when directive = day_item when ∷ directive_items directive
+abbrev pub header_items : List ℕ → Directive → List Item
+header_items when directive = day_item when ∷ directive_items directive

@@ -8,7 +8,7 @@ ghost use Rattle.lot_meaning.specs.Checked.{cost_of};
 use crate::fault::ValueFault;
 use crate::given::Given;
 use crate::value::Total;
-use lot_booking::{Cost, WholeCost};
+use lot_cost::{Cost, WholeCost};
 use lot_form::CostForm;
 use lot_num::Rate;
 use std::alloc::{AllocError, Global};

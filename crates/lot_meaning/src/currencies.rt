@@ -3,7 +3,7 @@ ghost use Rattle.std.specs.Prelude.{◌≡◌, ◌≤◌, [], ◌∷◌, length,
 ghost use Rattle.std.specs.List.{AllZip, list_all};
 ghost use Rattle.lot_base.specs.Name.{is_commodity};
 ghost use Rattle.lot_command.specs.Currencies.{most_currencies};
-ghost use Rattle.lot_form.specs.Head.{seen_text};
+ghost use Rattle.lot_form.specs.Header.{seen_text};
 ghost use Rattle.lot_meaning.specs.Meaning.{FirstOutside, Names, commodity_item};
 
 use crate::fault::ValueFault;
@@ -24,7 +24,7 @@ impl<'w, 'a> Model for CurrencyParts<'w, 'a> {
     ghost use Rattle.std.specs.List.{list_all};
     ghost use Rattle.lot_base.specs.Name.{is_commodity};
     ghost use Rattle.lot_command.specs.Currencies.{most_currencies};
-    ghost use Rattle.lot_form.specs.Head.{seen_text};
+    ghost use Rattle.lot_form.specs.Header.{seen_text};
 
     ghost Value = { List (List ℕ) };
 

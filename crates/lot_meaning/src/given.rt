@@ -9,8 +9,8 @@ use crate::fault::ValueFault;
 use crate::name::{CommodityPart, LabelPart};
 use crate::value::{Total, day, rate};
 use lot_base::Day;
+use lot_cost::CostSpec;
 use lot_form::{Part, Parts};
-use lot_inv::CostSpec;
 use lot_num::Rate;
 use std::alloc::{AllocError, Global};
 

@@ -5,7 +5,7 @@ ghost use Rattle.lot_command.specs.declared.command.Command.{Command};
 ghost use Rattle.lot_command.specs.declared.transaction.Posting.{Posting};
 ghost use Rattle.lot_form.specs.Form.{Directive, FitsCost, FitsPerhaps, WrittenAmount, WrittenPosting};
 ghost use Rattle.lot_meaning.specs.declared.fault.ValueFault.{ValueFault};
-ghost use Rattle.lot_meaning.specs.Meaning.{AreInside, FirstOutside, Item, MeansHead, MeansPosting, head_items, posting_items};
+ghost use Rattle.lot_meaning.specs.Meaning.{AreInside, FirstOutside, Item, MeansHeader, MeansPosting, header_items, posting_items};
 
 /// A list of parts has a first one outside its rule, with one fault, or all of them are within their rules.
 pub fn parts_have_one_first_fault_or_none()
@@ -26,8 +26,8 @@ pub fn a_posting_means_one_posting()
 {}
 
 /// A day and a directive mean one command at most, and they mean one exactly where all their parts are within their rules.
-pub fn a_head_means_one_command()
-    ensures one { (day : List ℕ) (directive : Directive) (a b : Command) → MeansHead day directive a → MeansHead day directive b → a ≡ b }
-    ensures some { (day : List ℕ) (directive : Directive) → AreInside (head_items day directive) → (command : Command) × MeansHead day directive command }
-    ensures inside { (day : List ℕ) (directive : Directive) (command : Command) → MeansHead day directive command → AreInside (head_items day directive) }
+pub fn a_header_means_one_command()
+    ensures one { (day : List ℕ) (directive : Directive) (a b : Command) → MeansHeader day directive a → MeansHeader day directive b → a ≡ b }
+    ensures some { (day : List ℕ) (directive : Directive) → AreInside (header_items day directive) → (command : Command) × MeansHeader day directive command }
+    ensures inside { (day : List ℕ) (directive : Directive) (command : Command) → MeansHeader day directive command → AreInside (header_items day directive) }
 {}

@@ -1,7 +1,7 @@
 //! What the parts of a line of ledger text mean: the command that begins there, or the posting.
 //!
 //! - `fault`: why they mean nothing.
-//! - `head_line`: the command that begins on a line, with its `currencies`.
+//! - `header_line`: the command that begins on a line, with its `currencies`.
 //! - `posting_line`: the posting on a line, with what it gives of a lot (`given`), its `cost` and its `price`.
 //! - `value`, `name`, `note`: one part.
 //! - `laws`: what holds of the definitions that the contracts cite.
@@ -11,7 +11,7 @@ mod cost;
 mod currencies;
 mod fault;
 mod given;
-mod head_line;
+mod header_line;
 pub mod laws;
 mod name;
 mod note;
@@ -20,5 +20,5 @@ mod price;
 mod value;
 
 pub use fault::{MeaningFault, ValueFault};
-pub use head_line::command;
+pub use header_line::command;
 pub use posting_line::posting;

@@ -4,7 +4,7 @@ ghost use Rattle.std.specs.Str.Iter.{chars_rest};
 ghost use Rattle.lot_base.specs.Name.{is_note, longest_note};
 ghost use Rattle.lot_command.specs.Canonical.{escaped};
 ghost use Rattle.lot_meaning.specs.Meaning.{FirstOutside, MeansPerhaps, Quotes, note_item, note_items};
-ghost use Rattle.lot_form.specs.Head.{notes_seen};
+ghost use Rattle.lot_form.specs.Header.{notes_seen};
 ghost use Rattle.lot_meaning.specs.Outside.{IsOutside};
 
 use crate::fault::ValueFault;

@@ -8,8 +8,8 @@ use Rattle.std.proofs.lemmas.Int.{ints}
 use Rattle.std.proofs.lemmas.List.{append-nil}
 use Rattle.std.proofs.lemmas.List.Sorted.{sum_by-IsPermutation}
 use Rattle.std.proofs.lemmas.List.Sums.{sum_by-cons}
-use Rattle.lot_inv.specs.declared.lot_key.LotKey.{LotKey}
-use Rattle.lot_booking.specs.declared.cost.Cost.{Cost}
+use Rattle.lot_cost.specs.declared.lot_key.LotKey.{LotKey}
+use Rattle.lot_cost.specs.declared.cost.Cost.{Cost}
 use Rattle.lot_booking.specs.Booking.{Braced, ComesTo, Legs, candidates}
 use Rattle.lot_booking.specs.Choice.{Choice, chosen_legs, given, held_in, with_sign_of}
 use Rattle.lot_booking.proofs.BookingLaws.{size_of-sign, units_of_legs}
@@ -23,8 +23,8 @@ use Rattle.lot_book.specs.Booking.{Booked, HasLegs, Line, braced, line_of}
 use Rattle.lot_book.specs.Change.{ListsSums}
 use Rattle.lot_book.specs.Facts.{Facts}
 use Rattle.lot_book.specs.Leg.{leave_range, leg_at, legs_at_lots, units_moved, with_legs}
-use Rattle.lot_posting.specs.Posting.{Books, StopsPosting, lots_in_legs, sales_of}
-use Rattle.lot_book.specs.Sale.{AreLegsOf, SaleParts, same_sign}
+use Rattle.lot_book.specs.Sale.{lots_in_legs, sales_of, AreLegsOf, SaleParts, same_sign}
+use Rattle.lot_posting.specs.Posting.{Books, StopsPosting}
 use Rattle.lot_posting.specs.Tally.{AreOf, StopsAt}
 
 -- ---- legs at lots
@@ -33,12 +33,6 @@ pub AreOf-lots : (entry posting : ℕ) (account commodity : List ℕ) (place : �
     → AreOf account posting (legs_at_lots entry posting account commodity place lots)
 AreOf-lots entry posting account commodity place [] = tt
 AreOf-lots entry posting account commodity place (lot ∷ lots) = ((refl, refl), AreOf-lots entry posting account commodity (suc place) lots)
-
-pub lots_in_legs-lots : (entry posting : ℕ) (account commodity : List ℕ) (place : ℕ) (lots : List (LotKey × ℤ))
-    → lots_in_legs (legs_at_lots entry posting account commodity place lots) ≡ lots
-lots_in_legs-lots entry posting account commodity place [] = refl
-lots_in_legs-lots entry posting account commodity place (lot ∷ lots) =
-    ap (λ ls. lot ∷ ls) (lots_in_legs-lots entry posting account commodity (suc place) lots)
 
 abbrev size : LotKey × ℤ → ℕ
 size lot = unsigned_abs lot.1

@@ -12,9 +12,9 @@ use Rattle.std.proofs.Common.{refl, sym, ap, ◌∙◌, arith}
 use Rattle.std.proofs.lemmas.Map.Keys.{sorted_head, sorted_tail}
 use Rattle.lot_base.specs.Text.{same_text}
 use Rattle.lot_base.proofs.TextLemmas.{same_text-itself}
-use Rattle.lot_inv.specs.declared.lot_key.LotKey.{LotKey}
+use Rattle.lot_cost.specs.declared.lot_key.LotKey.{LotKey}
 use Rattle.lot_inv.specs.Inventory.{Held, lots_of, non_zero, units_at, with_units}
-use Rattle.lot_inv.specs.LotKey.{lot_cmp}
+use Rattle.lot_cost.specs.LotKey.{lot_cmp}
 use Rattle.lot_inv.specs.Zeros.{HasNoZeros}
 use Rattle.lot_inv.proofs.LawLemmas.{lots_of-get}
 use Rattle.lot_inv.proofs.LotLemmas.{length-set, one_if, same_lots}

@@ -9,7 +9,7 @@ use Rattle.std.proofs.lemmas.Map.Keys.{sorted_head, sorted_tail}
 use Rattle.lot_base.specs.Text.{same_text}
 use Rattle.lot_base.proofs.MapLemmas.{none_below}
 use Rattle.lot_base.proofs.TextLemmas.{one_text, same_text-itself}
-use Rattle.lot_inv.specs.declared.lot_key.LotKey.{LotKey}
+use Rattle.lot_cost.specs.declared.lot_key.LotKey.{LotKey}
 use Rattle.lot_inv.specs.Inventory.{Held, lots_of, non_zero, with_units, Position as Place}
 use Rattle.lot_inv.specs.Zeros.{HasNoZeros}
 use Rattle.lot_inv.proofs.LotLemmas.{same_lots}

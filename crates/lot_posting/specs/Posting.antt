@@ -1,6 +1,5 @@
 -- Booking one posting of a transaction: what it adds to what is booked so far.
-use Rattle.std.specs.Prelude.{◌≡◌, ℕ, suc, if◌then◌else◌, List, [], ◌∷◌, ◌++◌, Option, None, Some, ℤ, ⊤}
-use Rattle.lot_inv.specs.declared.lot_key.LotKey.{LotKey}
+use Rattle.std.specs.Prelude.{◌≡◌, ℕ, suc, List, ◌++◌, ℤ, ⊤}
 use Rattle.lot_command.specs.declared.transaction.Amount.{Amount}
 use Rattle.lot_posting.specs.declared.draft.Draft.{Draft}
 use Rattle.lot_book.specs.declared.leg.Leg.{Leg}
@@ -13,38 +12,7 @@ use Rattle.lot_booking.specs.Booking.{Braced, ComesTo, Refused as Rejected}
 use Rattle.lot_book.specs.Booking.{IsRefusalOf, Booked, BooksTo, Fails, HasNoLegs, IsBooked, Line, line_of}
 use Rattle.lot_book.specs.Change.{ListsSums}
 use Rattle.lot_book.specs.Facts.{Facts}
-use Rattle.lot_book.specs.Sale.{SaleParts}
-
--- ---- sales
-
--- the lots of legs, with what is taken of each
-abbrev pub lots_in_legs : List Leg → List (LotKey × ℤ)
-lots_in_legs [] = []
-lots_in_legs (leg ∷ legs) = lot_before leg.position.lot leg.units (lots_in_legs legs)
-  where
-    lot_before : Option LotKey → ℤ → List (LotKey × ℤ) → List (LotKey × ℤ)
-    lot_before None units lots = lots
-    lot_before (Some lot) units lots = (lot, units) ∷ lots
-
--- the sale that a posting of that day is, with its place, where it takes lots away
-abbrev pub sales_of : ℤ → Booked → List (ℕ × SaleParts)
-sales_of day booked =
-    if booked.reduces then (
-      booked.place,
-      record {
-        day = day;
-        account = booked.account;
-        commodity = booked.amount.commodity;
-        units = booked.amount.units;
-        price = booked.amount.price;
-        legs = lots_in_legs booked.legs;
-      },
-    ) ∷ [] else []
-
--- the sales of all postings, in their order
-abbrev pub sales_in : ℤ → List Booked → List (ℕ × SaleParts)
-sales_in day [] = []
-sales_in day (booked ∷ more) = sales_of day booked ++ sales_in day more
+use Rattle.lot_book.specs.Sale.{sales_of}
 
 -- ---- one posting
 

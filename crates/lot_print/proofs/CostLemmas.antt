@@ -7,14 +7,14 @@ use Rattle.std.proofs.lemmas.Bool.Decides.{nat_tests}
 use Rattle.std.proofs.lemmas.List.{append-nil}
 use Rattle.lot_num.specs.Amount.{IsRate, IsUnits}
 use Rattle.lot_base.specs.Day.{day_text}
-use Rattle.lot_base.specs.Name.{is_commodity, is_label, longest_commodity}
-use Rattle.lot_inv.specs.declared.cost_spec.CostSpec.{CostSpec}
+use Rattle.lot_base.specs.Name.{IsName, is_commodity, is_label, longest_commodity}
+use Rattle.lot_cost.specs.declared.cost_spec.CostSpec.{CostSpec}
 use Rattle.lot_command.specs.Canonical.{cost_parts, given, in_quotes, joined, money, parts_text, rate_text, units_text}
 use Rattle.lot_token.specs.Token.{Lexeme, Stands, begins, begins_with, is_sign, is_word_byte, is_word_start, date, number, word}
 use Rattle.lot_token.specs.Cutting.{BeginsNumber}
 use Rattle.lot_token.proofs.NumberLemmas.{begins_number}
 use Rattle.lot_form.specs.Form.{CostPart, amount, currency, day, label, money as money_of, part_tokens, parts_tokens}
-use Rattle.lot_print.specs.Sayable.{IsName, IsSpec}
+use Rattle.lot_command.specs.Sayable.{IsSpec}
 use Rattle.lot_print.proofs.ListLemmas.{both_zip, zip_weaker}
 use Rattle.lot_print.proofs.NameLemmas.{commodity_word}
 use Rattle.lot_print.proofs.DayLemmas.{day_stands, day_starts}
@@ -71,7 +71,7 @@ word_no_brace (b ∷ bytes) rest e = start_no_brace b e
 
 currency_part : (c : List ℕ) → IsName is_commodity c → IsPart c (currency c)
 currency_part c h =
-    let w = commodity_word c h.good in
+    let w = commodity_word c h.1 in
     record {
       stands = λ rest tokens apart cuts. word_first longest_commodity c rest tokens w apart.word cuts;
       no_brace = λ rest. word_no_brace c rest w.starts;
@@ -88,7 +88,7 @@ money_cut : (n c rest : List ℕ) (tokens : List Lexeme) → IsNumeral n → IsN
     → IsCut tokens rest → IsCut (number n ∷ word c ∷ tokens) (n ++ 32 ∷ (c ++ rest))
 money_cut n c rest tokens h k ends cuts =
     token_first (number n) (h.stands (32 ∷ (c ++ rest)) (before_space (c ++ rest)))
-    (space_first (word_first longest_commodity c rest tokens (commodity_word c k.good) ends cuts))
+    (space_first (word_first longest_commodity c rest tokens (commodity_word c k.1) ends cuts))
 
 money_part : (n c : List ℕ) → IsNumeral n → IsName is_commodity c → IsPart (n ++ 32 ∷ c) (money_of n c)
 money_part n c h k = record {
@@ -109,7 +109,7 @@ day_part d = record {
 
 label_part : (l : List ℕ) → IsName is_label l → IsPart (in_quotes l) (label l)
 label_part l h = record {
-  stands = λ rest tokens apart cuts. text_first l rest tokens (label_stands l rest h.good) cuts;
+  stands = λ rest tokens apart cuts. text_first l rest tokens (label_stands l rest h.1) cuts;
   no_brace = λ rest. refl;
 }
 

@@ -3,11 +3,11 @@ use Rattle.std.proofs.Common.{◌≡◌, ℕ, ◌≤◌, List, [], ◌∷◌, �
 use Rattle.std.specs.Prelude.{option_map, Option, Some, None, IfSome, IsTrue}
 use Rattle.std.specs.List.{list_any}
 use Rattle.lot_base.specs.Day.{IsDayNumber, day_text}
-use Rattle.lot_base.specs.Name.{is_commodity, is_label}
-use Rattle.lot_inv.specs.declared.cost_spec.CostSpec.{CostSpec}
+use Rattle.lot_base.specs.Name.{IsName, is_commodity, is_label}
+use Rattle.lot_cost.specs.declared.cost_spec.CostSpec.{CostSpec}
 use Rattle.lot_form.specs.Form.{CostPart, money, amount, currency, day, label, AtMostOneEach, has_number, how_many, is_day, is_label as is_label_part, is_money}
 use Rattle.lot_meaning.specs.Meaning.{MeansDay, MeansPerhaps, MeansRest, Names, Quotes, number_in, currency_in, day_in, label_in}
-use Rattle.lot_print.specs.Sayable.{IsName, IsSpec}
+use Rattle.lot_command.specs.Sayable.{IsSpec}
 use Rattle.lot_print.proofs.MeaningLemmas.{name_means, day_means, label_means}
 
 -- ---- The parts.
@@ -33,7 +33,7 @@ written_parts number spec =
 
 -- ---- What they give.
 
-record Gives (number in_currency on_day of_label : Option (List ℕ)) (parts : List CostPart) : Type 0 where
+record GivesStatement (number in_currency on_day of_label : Option (List ℕ)) (parts : List CostPart) : Type 0 where
   is_number : number_in parts ≡ number
   is_currency : currency_in parts ≡ in_currency
   is_day : day_in parts ≡ on_day
@@ -41,7 +41,7 @@ record Gives (number in_currency on_day of_label : Option (List ℕ)) (parts : L
 
 -- a day and a label, of which each may be absent
 record IsTail (on_day of_label : Option (List ℕ)) (parts : List CostPart) : Type 0 where
-  gives : Gives None None on_day of_label parts
+  gives : GivesStatement None None on_day of_label parts
   moneys : how_many is_money parts ≡ 0
   days : how_many is_day parts ≤ 1
   labels : how_many is_label_part parts ≤ 1
@@ -72,7 +72,7 @@ tail (Some d) (Some l) = record {
   labels = omega arith;
 }
 
-given_by : (n c d l : Option (List ℕ)) (parts : List CostPart) → IsTail d l parts → Gives n c d l (written_money n c ++ parts)
+given_by : (n c d l : Option (List ℕ)) (parts : List CostPart) → IsTail d l parts → GivesStatement n c d l (written_money n c ++ parts)
 given_by None None d l parts t = t.gives
 given_by None (Some c) d l parts t =
     record { is_number = t.gives.is_number; is_currency = refl; is_day = t.gives.is_day; is_label = t.gives.is_label }
@@ -106,7 +106,7 @@ parts_number number spec = by spec.currency
     by (Some c) = refl
 
 gives : (number : Option (List ℕ)) (spec : CostSpec)
-    → Gives number spec.currency (option_map day_text spec.day) spec.label (written_parts number spec)
+    → GivesStatement number spec.currency (option_map day_text spec.day) spec.label (written_parts number spec)
 gives number spec = given_by number spec.currency _ _ _ (spec_tail spec)
 
 pub number_is : (number : Option (List ℕ)) (spec : CostSpec) → number_in (written_parts number spec) ≡ number

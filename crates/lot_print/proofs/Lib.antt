@@ -12,7 +12,7 @@ pub mod CostParts
 pub mod CostLemmas
 pub mod CostTexts
 pub mod PostingLines
-pub mod HeadLines
+pub mod HeaderLines
 pub mod LinePieces
 pub mod TextLines
 pub mod ReadLemmas

@@ -4,13 +4,13 @@ use Rattle.std.specs.Prelude.{codes, option_map, Option, Some, None, IfSome}
 use Rattle.std.specs.List.{AllByRecursion}
 use Rattle.lot_num.specs.Amount.{IsRate}
 use Rattle.lot_base.specs.Day.{day_text}
-use Rattle.lot_base.specs.Name.{is_account, is_commodity, is_label, is_note, longest_account, longest_commodity}
-use Rattle.lot_inv.specs.declared.cost_spec.CostSpec.{CostSpec}
-use Rattle.lot_booking.proofs.ListLemmas.{all_weaker}
-use Rattle.lot_booking.specs.declared.cost.Cost.{Cost}
-use Rattle.lot_booking.specs.declared.cost.Cost.TheVariants as Costs
-use Rattle.lot_booking.specs.declared.method.Method.{Method}
-use Rattle.lot_booking.specs.declared.method.Method.TheVariants.{Strict, Fifo, Lifo, Hifo, Unmatched}
+use Rattle.lot_base.specs.Name.{IsName, is_account, is_commodity, is_label, is_note, longest_account, longest_commodity}
+use Rattle.lot_cost.specs.declared.cost_spec.CostSpec.{CostSpec}
+use Rattle.lot_cost.proofs.ListLemmas.{all_weaker}
+use Rattle.lot_cost.specs.declared.cost.Cost.{Cost}
+use Rattle.lot_cost.specs.declared.cost.Cost.TheVariants as Costs
+use Rattle.lot_cost.specs.declared.method.Method.{Method}
+use Rattle.lot_cost.specs.declared.method.Method.TheVariants.{Strict, Fifo, Lifo, Hifo, Unmatched}
 use Rattle.lot_command.specs.Canonical.{amount_part, cost_parts, cost_text, currencies_part, flag_text, given, in_quotes, method_part, money, narration_text, note_part, part, parts_text, price_text, rate_text, units_text}
 use Rattle.lot_command.specs.declared.command.Command.{Command}
 use Rattle.lot_command.specs.declared.command.Command.TheVariants as Commands
@@ -22,7 +22,7 @@ use Rattle.lot_command.specs.declared.transaction.Flag.TheVariants.{Complete, In
 use Rattle.lot_command.specs.declared.transaction.Narration.{Narration}
 use Rattle.lot_command.specs.declared.transaction.Posting.{Posting}
 use Rattle.lot_print.specs.Length.{longest_printed}
-use Rattle.lot_print.specs.Sayable.{AreCurrencies, IsAmount, IsCost, IsName, IsNarration, IsPosting, IsPrice, IsSayable, IsSpec}
+use Rattle.lot_command.specs.Sayable.{AreCurrencies, IsAmount, IsCost, IsNarration, IsPosting, IsPrice, IsSayable, IsSpec}
 use Rattle.lot_print.proofs.CanonicalLines.{canonical_lines, posting_line}
 use Rattle.lot_print.proofs.Lengths.{longest_amount, longest_cost, longest_currencies, longest_narration, longest_note_part, longest_number, longest_part, longest_parts, longest_price}
 use Rattle.lot_print.proofs.ListLemmas.{all_made, both_hold}
@@ -36,10 +36,10 @@ nothing : IsPiece 0 []
 nothing = printed 0 [] refl (omega arith)
 
 account_piece : (account : List ℕ) → IsName is_account account → IsPiece longest_account account
-account_piece account h = (account_word account h.good).piece
+account_piece account h = (account_word account h.1).piece
 
 commodity_piece : (commodity : List ℕ) → IsName is_commodity commodity → IsPiece longest_commodity commodity
-commodity_piece commodity h = (commodity_word commodity h.good).piece
+commodity_piece commodity h = (commodity_word commodity h.1).piece
 
 space : IsPiece 1 (codes " ")
 space = printed 1 (codes " ") refl (omega arith)
@@ -61,7 +61,7 @@ day_pieces (Some d) = (wider longest_part (omega arith) (day_piece d), tt)
 
 label_pieces : (l : Option (List ℕ)) → IfSome l (IsName is_label) → ArePieces (given (option_map in_quotes l))
 label_pieces None h = tt
-label_pieces (Some l) h = (label_piece l h.good h.utf8, tt)
+label_pieces (Some l) h = (label_piece l h.1 h.0, tt)
 
 given_length : (o : Option (List ℕ)) → length (given o) ≤ 1
 given_length None = omega arith
@@ -151,7 +151,7 @@ flag_piece Complete = printed 1 (codes "*") refl (omega arith)
 flag_piece Incomplete = printed 1 (codes "!") refl (omega arith)
 
 note_part_piece : (note : List ℕ) → IsName is_note note → IsPiece longest_note_part (note_part note)
-note_part_piece note h = both_pieces space (note_piece note h.good h.utf8)
+note_part_piece note h = both_pieces space (note_piece note h.1 h.0)
 
 payee_piece : (payee : Option (List ℕ)) → IfSome payee (IsName is_note) → IsPiece longest_note_part (part note_part payee)
 payee_piece None h = wider longest_note_part (omega arith) nothing

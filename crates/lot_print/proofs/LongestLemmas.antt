@@ -6,7 +6,7 @@ use Rattle.std.proofs.lemmas.Bool.{and_from, le-leb}
 use Rattle.std.proofs.lemmas.Int.{ints}
 use Rattle.std.proofs.lemmas.List.{length-replicate}
 use Rattle.lot_base.specs.Day.{day_text}
-use Rattle.lot_base.specs.Name.{is_note, is_note_byte, longest_note}
+use Rattle.lot_base.specs.Name.{IsName, is_note, is_note_byte, longest_note}
 use Rattle.lot_command.specs.Canonical.{canonical, escaped, note_part}
 use Rattle.lot_command.specs.declared.command.Command.{Command}
 use Rattle.lot_command.specs.declared.command.Command.TheVariants.{Transaction}
@@ -14,7 +14,7 @@ use Rattle.lot_command.specs.declared.transaction.Flag.TheVariants.{Complete}
 use Rattle.lot_command.specs.declared.transaction.Transaction.{Transaction as TransactionOf}
 use Rattle.lot_token.specs.Line.{AreLines}
 use Rattle.lot_print.specs.Length.{longest_printed}
-use Rattle.lot_print.specs.Sayable.{IsName, IsSayable}
+use Rattle.lot_command.specs.Sayable.{IsSayable}
 use Rattle.lot_print.proofs.CanonicalLines.{transaction_line}
 use Rattle.lot_print.proofs.DayLemmas.{length-day_text}
 use Rattle.lot_print.proofs.PieceLemmas.{is_printed, printed}
@@ -38,10 +38,10 @@ unfolding is_note
 quotes_note n le = and_from _ _ (le-leb _ longest_note (omega (arith, length-replicate {A = ℕ} n 34))) (quotes_pass is_note_byte n refl)
 
 quotes_name : (n : ℕ) → n ≤ longest_note → IsName is_note (quotes n)
-quotes_name n le = record {
-  good = quotes_note n le;
-  utf8 = (printed n (quotes n) (quotes_pass is_printed n refl) (omega (arith, length-replicate {A = ℕ} n 34))).utf8;
-}
+quotes_name n le = (
+  (printed n (quotes n) (quotes_pass is_printed n refl) (omega (arith, length-replicate {A = ℕ} n 34))).utf8,
+  quotes_note n le,
+)
 
 -- ---- A transaction with two of them.
 

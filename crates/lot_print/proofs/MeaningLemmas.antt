@@ -9,21 +9,21 @@ use Rattle.lot_num.specs.declared.number_text.Sign.{Sign}
 use Rattle.lot_num.specs.declared.number_text.Sign.TheVariants.{Plus, Minus}
 use Rattle.lot_num.proofs.PrintedLemmas.{rate_of-amount_text, units_of-amount_text}
 use Rattle.lot_base.specs.Day.{IsDayNumber, day_text}
-use Rattle.lot_base.specs.Name.{is_label, is_note}
+use Rattle.lot_base.specs.Name.{IsName, is_label, is_note}
 use Rattle.lot_base.proofs.ReadBackLemmas.{named_day-day_text}
 use Rattle.lot_command.specs.Canonical.{escaped, rate_text, units_text}
 use Rattle.lot_meaning.specs.Meaning.{MeansDay, MeansRate, MeansTotal, MeansUnits, Names, Quotes}
-use Rattle.lot_print.specs.Sayable.{IsName, IsTotal}
+use Rattle.lot_command.specs.Sayable.{IsTotal}
 use Rattle.lot_print.proofs.NoteLemmas.{label_escaped}
 
 pub name_means : (is_name : List ℕ → Bool) (name : List ℕ) → IsName is_name name → Names is_name name name
-name_means is_name name h = record { spelled = refl; good = h.good }
+name_means is_name name h = record { spelled = refl; good = h.1 }
 
 pub label_means : (label : List ℕ) → IsName is_label label → Quotes is_label label label
-label_means label h = record { spelled = label_escaped label h.good; good = h.good }
+label_means label h = record { spelled = label_escaped label h.1; good = h.1 }
 
 pub note_means : (note : List ℕ) → IsName is_note note → Quotes is_note (escaped note) note
-note_means note h = record { spelled = refl; good = h.good }
+note_means note h = record { spelled = refl; good = h.1 }
 
 pub units_mean : (units : ℤ) → IsUnits units → MeansUnits (units_text units) units
 units_mean units h = units_of-amount_text 0 units h

@@ -10,9 +10,9 @@ use Rattle.std.proofs.lemmas.Grind.{flat_map-append}
 use Rattle.std.proofs.lemmas.List.{append-nil}
 use Rattle.std.proofs.lemmas.Str.{IsUtf8-append, IsUtf8-nil}
 use Rattle.lot_base.specs.Name.{is_label, is_label_byte, is_note, is_note_byte, longest_label, longest_note}
-use Rattle.lot_booking.specs.Method.{word_of}
-use Rattle.lot_booking.specs.declared.method.Method.{Method}
-use Rattle.lot_booking.specs.declared.method.Method.TheVariants.{Strict, Fifo, Lifo, Hifo, Unmatched}
+use Rattle.lot_cost.specs.Method.{word_of}
+use Rattle.lot_cost.specs.declared.method.Method.{Method}
+use Rattle.lot_cost.specs.declared.method.Method.TheVariants.{Strict, Fifo, Lifo, Hifo, Unmatched}
 use Rattle.lot_command.specs.Canonical.{escaped, escaped_byte, in_quotes, quoted}
 use Rattle.lot_command.proofs.CanonicalLemmas.{escaped_plain}
 use Rattle.lot_token.specs.Token.{Stands, text}

@@ -8,8 +8,8 @@ use Rattle.lot_command.specs.declared.transaction.Posting.{Posting}
 use Rattle.lot_token.specs.Token.{Lexeme, begins, is_word_byte, number, word}
 use Rattle.lot_form.specs.Form.{FitsCost, FitsPerhaps, WrittenAmount, WrittenPosting, amount_tokens, cost_tokens, perhaps, price_tokens}
 use Rattle.lot_meaning.specs.Meaning.{MeansAmount, MeansPerhaps}
-use Rattle.lot_text.specs.Line.{IsPostingLine}
-use Rattle.lot_print.specs.Sayable.{IsAmount, IsPosting}
+use Rattle.lot_read.specs.Line.{IsPostingLine}
+use Rattle.lot_command.specs.Sayable.{IsAmount, IsPosting}
 use Rattle.lot_print.proofs.CanonicalLines.{posting_line}
 use Rattle.lot_print.proofs.NameLemmas.{account_word, commodity_word}
 use Rattle.lot_print.proofs.NumberLemmas.{before_space}
@@ -39,7 +39,7 @@ amount_cut (Some a) h =
     cost_cut a.cost (part price_text a.price) price_behind h.at_cost
     (price_no_brace a.price) (price_cut a.price h.at_price) in
     let apart : begins is_word_byte behind ≡ false = cost_apart a.cost (part price_text a.price) (price_apart a.price) in
-    let is_word = commodity_word a.commodity h.in_commodity.good in
+    let is_word = commodity_word a.commodity h.in_commodity.1 in
     let commodity = word_first longest_commodity a.commodity behind tokens is_word apart cost in
     let units = (units_numeral a.units h.of_units).stands (32 ∷ (a.commodity ++ behind)) (before_space (a.commodity ++ behind)) in
     space_first (token_first (number (units_text a.units)) units (space_first commodity))
@@ -71,7 +71,7 @@ written posting = record { account = posting.account; amount = option_map writte
 pub posting_says : (posting : Posting) → IsPosting posting → IsPostingLine (posting_line posting) posting
 posting_says posting h =
     let account = word_first longest_account posting.account (part amount_part posting.amount) _
-    (account_word posting.account h.of_account.good)
+    (account_word posting.account h.of_account.1)
     (amount_apart posting.amount) (amount_cut posting.amount h.of_amount) in
     record {
       indented = refl;

@@ -7,13 +7,13 @@ use Rattle.lot_command.specs.Canonical.{canonical}
 use Rattle.lot_command.specs.declared.command.Command.{Command}
 use Rattle.lot_command.specs.declared.command.Command.TheVariants as Commands
 use Rattle.lot_command.specs.declared.transaction.Posting.{Posting}
-use Rattle.lot_text.specs.Line.{IsPostingLine, IsReadable, Says}
-use Rattle.lot_text.specs.Text.{LinesSay, Reads, present, statements_of}
-use Rattle.lot_text.proofs.TextLaws.{reads_one}
+use Rattle.lot_read.specs.Line.{IsPostingLine, IsReadable, SaysStatement}
+use Rattle.lot_read.specs.Text.{LinesSay, Reads, present, statements_of}
+use Rattle.lot_read.proofs.TextLaws.{reads_one}
 use Rattle.lot_print.specs.Length.{longest_printed}
-use Rattle.lot_print.specs.Sayable.{IsPosting, IsSayable}
+use Rattle.lot_command.specs.Sayable.{IsPosting, IsSayable}
 use Rattle.lot_print.proofs.CanonicalLines.{canonical_lines, posting_line}
-use Rattle.lot_print.proofs.HeadLines.{closing_says, declaring_says, opening_says, quoting_says, transaction_says}
+use Rattle.lot_print.proofs.HeaderLines.{closing_says, declaring_says, opening_says, quoting_says, transaction_says}
 use Rattle.lot_print.proofs.LinePieces.{line_pieces}
 use Rattle.lot_print.proofs.ListLemmas.{both_zip}
 use Rattle.lot_print.proofs.PieceLemmas.{IsPiece}
@@ -35,23 +35,23 @@ postings_say Said posts each [] all pieces = tt
 postings_say Said posts each (p ∷ postings) (h, all) (piece, pieces) =
     (each p (readable (posting_line p) piece) (posting_says p h), postings_say Said posts each postings all pieces)
 
-lines_say : (command : Command) → IsSayable command → AllZip Says (canonical_lines command) (map Some (statements_of command))
+lines_say : (command : Command) → IsSayable command → AllZip SaysStatement (canonical_lines command) (map Some (statements_of command))
 lines_say (Commands.Opening o) h = ((readable _ (line_pieces (Commands.Opening o) h).0, opening_says o h), tt)
 lines_say (Commands.Closing c) h = ((readable _ (line_pieces (Commands.Closing c) h).0, closing_says c h), tt)
 lines_say (Commands.Declaring d) h = ((readable _ (line_pieces (Commands.Declaring d) h).0, declaring_says d h), tt)
 lines_say (Commands.Quoting q) h = ((readable _ (line_pieces (Commands.Quoting q) h).0, quoting_says q h), tt)
 lines_say (Commands.Transaction t) h =
     let pieces = line_pieces (Commands.Transaction t) h in
-    ((readable _ pieces.0, transaction_says t h), postings_say Says _ (λ p r is. (r, is)) t.postings h.of_postings pieces.1)
+    ((readable _ pieces.0, transaction_says t h), postings_say SaysStatement _ (λ p r is. (r, is)) t.postings h.of_postings pieces.1)
 
 -- ---- Lists of commands.
 
 all_say : (commands : List Command) → AreSayable commands
-    → AllZip Says (all_lines commands) (map Some (flat_map statements_of commands))
+    → AllZip SaysStatement (all_lines commands) (map Some (flat_map statements_of commands))
 all_say [] all = tt
 all_say (c ∷ commands) (h, all) =
     rw (map-append Some (statements_of c) (flat_map statements_of commands))
-    (both_zip Says (canonical_lines c) (all_lines commands) _ _ (lines_say c h) (all_say commands all))
+    (both_zip SaysStatement (canonical_lines c) (all_lines commands) _ _ (lines_say c h) (all_say commands all))
 
 -- what keeps the items that are there keeps all of these
 all_kept_by : {T : Type 0} (kept : List (Option T) → List T) → kept [] ≡ []

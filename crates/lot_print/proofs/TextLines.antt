@@ -8,14 +8,14 @@ use Rattle.std.proofs.lemmas.Grind.{flat_map-append}
 use Rattle.std.proofs.lemmas.List.{append-nil}
 use Rattle.lot_base.specs.Day.{day_text}
 use Rattle.lot_base.specs.Name.{is_note_byte}
-use Rattle.lot_booking.proofs.ListLemmas.{all_weaker}
+use Rattle.lot_cost.proofs.ListLemmas.{all_weaker}
 use Rattle.lot_command.specs.Canonical.{canonical}
 use Rattle.lot_command.specs.declared.command.Command.{Command}
 use Rattle.lot_command.specs.declared.command.Command.TheVariants as Commands
 use Rattle.lot_token.specs.Line.{AreEnded, AreLines, ended_lines, is_within_line, without_mark, without_return}
 use Rattle.lot_token.proofs.LineLemmas.{are_ended, ended_first, lines_are}
 use Rattle.lot_print.specs.Length.{longest_printed}
-use Rattle.lot_print.specs.Sayable.{IsSayable}
+use Rattle.lot_command.specs.Sayable.{IsSayable}
 use Rattle.lot_print.proofs.CanonicalLines.{canonical_is, canonical_lines, with_ends}
 use Rattle.lot_print.proofs.DayLemmas.{StartsWithDigit, day_starts}
 use Rattle.lot_print.proofs.LinePieces.{line_pieces}

@@ -4,10 +4,10 @@ ghost use Rattle.std.specs.List.{AllByRecursion};
 ghost use Rattle.lot_command.specs.Canonical.{canonical};
 ghost use Rattle.lot_command.specs.declared.command.Command.{Command};
 ghost use Rattle.lot_token.specs.Line.{AreLines};
-ghost use Rattle.lot_text.specs.Line.{longest_line};
-ghost use Rattle.lot_text.specs.Text.{Reads};
+ghost use Rattle.lot_read.specs.Line.{longest_line};
+ghost use Rattle.lot_read.specs.Text.{Reads};
 ghost use Rattle.lot_print.specs.Length.{longest_printed};
-ghost use Rattle.lot_print.specs.Sayable.{IsSayable};
+ghost use Rattle.lot_command.specs.Sayable.{IsSayable};
 
 /// The canonical text of a command reads as that command.
 pub fn canonical_text_reads_as_its_command()

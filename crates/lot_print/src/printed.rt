@@ -1,10 +1,9 @@
 ghost use Rattle.std.specs.Prelude.{◌≡◌, [], ◌∷◌, IfOk};
 ghost use Rattle.std.specs.String.{string_bytes};
 ghost use Rattle.lot_command.specs.Canonical.{canonical};
-ghost use Rattle.lot_text.specs.Text.{Reads};
+ghost use Rattle.lot_read.specs.Text.{Reads};
 
-use crate::sayable::is_sayable;
-use lot_command::{Command, canonical};
+use lot_command::{Command, canonical, is_sayable};
 use std::alloc::{AllocError, Global};
 
 /// Returns the canonical text of a command (docs/FORMATS.md, Canonical text), which reads as that command. The only error

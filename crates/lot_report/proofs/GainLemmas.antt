@@ -4,7 +4,7 @@ use Rattle.std.specs.Prelude.{◌≢◌, Bool, true, false, not, IsTrue, IfErr, 
 use Rattle.lot_num.specs.Amount.{IsWide}
 use Rattle.lot_num.specs.AmountText.{amount_text}
 use Rattle.lot_base.proofs.TextLemmas.{same_text-itself}
-use Rattle.lot_inv.specs.declared.lot_key.LotKey.{LotKey}
+use Rattle.lot_cost.specs.declared.lot_key.LotKey.{LotKey}
 use Rattle.lot_book.specs.declared.gain.Gain.{Gain}
 use Rattle.lot_book.specs.Currencies.{sum_in}
 use Rattle.lot_book.specs.Sale.{SaleParts}

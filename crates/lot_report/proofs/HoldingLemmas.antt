@@ -3,7 +3,7 @@ use Rattle.std.proofs.Common.{◌≡◌, ℕ, List, [], ◌∷◌, ◌++◌, ref
 use Rattle.std.specs.Prelude.{◌≢◌, Bool, true, false, not, ◌&&◌, IsTrue, IsErrAnd, IfErr, IsErrOf, OnOk, Option, None, Some, Result, Ok, Err, ℤ, pos, ◌+ℤ◌, ◌*ℤ◌, codes}
 use Rattle.lot_num.specs.Amount.{IsWide}
 use Rattle.lot_num.specs.AmountText.{amount_text}
-use Rattle.lot_inv.specs.declared.lot_key.LotKey.{LotKey}
+use Rattle.lot_cost.specs.declared.lot_key.LotKey.{LotKey}
 use Rattle.lot_book.specs.Currencies.{sum_in}
 use Rattle.lot_report.specs.declared.fault.ReportFault.{ReportFault}
 use Rattle.lot_report.specs.declared.fault.ReportFault.TheVariants.{Range, Write, Memory}

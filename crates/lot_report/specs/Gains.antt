@@ -2,7 +2,7 @@
 use Rattle.std.specs.Prelude.{◌≡◌, ℕ, Bool, true, false, is_none, List, [], ◌∷◌, ◌++◌, map, flat_map, Option, None, Some, option_map, Result, ℤ, codes}
 use Rattle.lot_num.specs.AmountText.{amount_text}
 use Rattle.lot_base.specs.Day.{day_text}
-use Rattle.lot_inv.specs.declared.lot_key.LotKey.{LotKey}
+use Rattle.lot_cost.specs.declared.lot_key.LotKey.{LotKey}
 use Rattle.lot_command.specs.declared.price.Price.{Price}
 use Rattle.lot_book.specs.declared.gain.Gain.{Gain}
 use Rattle.lot_book.specs.Gain.{currency_of, gain_of}

@@ -1,7 +1,7 @@
 -- The report of what is held: its rows, and what the lots cost and are worth in each currency (docs/FORMATS.md, Holdings).
 use Rattle.std.specs.Prelude.{◌≡◌, ◌⊎◌, Result, Ok, Err, ℕ, Bool, true, false, not, is_none, IsTrue, ◌&&◌, List, [], ◌∷◌, ◌++◌, map, flat_map, Option, None, Some, ℤ, pos, ◌*ℤ◌, codes}
 use Rattle.std.specs.Io.KnownBytes.{Appends}
-use Rattle.lot_inv.specs.declared.lot_key.LotKey.{LotKey}
+use Rattle.lot_cost.specs.declared.lot_key.LotKey.{LotKey}
 use Rattle.lot_book.specs.declared.holding.Holding.{Holding}
 use Rattle.lot_report.specs.declared.fault.ReportFault.{ReportFault}
 use Rattle.lot_report.specs.declared.fault.ReportFault.TheVariants.{Range, Write, Memory}

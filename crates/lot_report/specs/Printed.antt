@@ -2,7 +2,7 @@
 use Rattle.std.specs.Prelude.{ℕ, suc, List, [], ◌∷◌, ◌++◌, ℤ, pos, ◌*ℤ◌, codes, decimal, Option, Some, None}
 use Rattle.lot_num.specs.AmountText.{amount_text}
 use Rattle.lot_base.specs.Day.{day_text}
-use Rattle.lot_inv.specs.declared.lot_key.LotKey.{LotKey}
+use Rattle.lot_cost.specs.declared.lot_key.LotKey.{LotKey}
 use Rattle.lot_book.specs.declared.refusal.Refusal.{Refusal}
 use Rattle.lot_book.specs.declared.refusal.Refusal.TheVariants.{KeyReused, AlreadyOpen, UnknownAccount, NotOpenYet, Closed, AlreadyDeclared, CurrencyNotAllowed, TooManyPostings, TwoElided, BackDated, NoMatch, Ambiguous, NotEnough, IncompleteCost, InexactCost, ZeroUnits, Range, InexactFill, FillNotAllowed, NotBalanced, TooManyLots, BookFull}
 use Rattle.lot_book.specs.declared.verdict.Verdict.{Verdict}

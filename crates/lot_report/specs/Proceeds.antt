@@ -4,7 +4,7 @@ use Rattle.std.specs.Map.{lookup}
 use Rattle.std.specs.Ordering.{is_eq}
 use Rattle.lot_num.specs.Sum.{sum_of}
 use Rattle.lot_base.specs.Text.{same_text, text_cmp}
-use Rattle.lot_inv.specs.declared.lot_key.LotKey.{LotKey}
+use Rattle.lot_cost.specs.declared.lot_key.LotKey.{LotKey}
 use Rattle.lot_command.specs.declared.price.Price.{Price}
 use Rattle.lot_book.specs.Gain.{cost_of, currency_of, has_other_currency, proceeds_at}
 use Rattle.lot_book.specs.Sale.{SaleParts}

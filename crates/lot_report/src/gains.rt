@@ -5,9 +5,6 @@ ghost use Rattle.lot_book.specs.Sale.{SaleParts};
 ghost use Rattle.lot_report.specs.Gains.{CountsSale, EndsGains, GrowsBySale, HasTaken, IsFed, TakesSale, end_lines, gained, is_spent, leg_line, priced_line, sale_line, sale_lines, sales_text, unpriced_line};
 ghost use Rattle.lot_report.specs.Written.{WritesEach, WritesLine};
 
-#[cfg(test)]
-mod tests;
-
 use crate::fault::{ReportFault, RowFault};
 use crate::line::{PrintFault, print_line};
 use crate::lot::{Valuation, print_lot};

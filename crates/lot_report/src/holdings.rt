@@ -6,9 +6,6 @@ ghost use Rattle.lot_report.specs.Printed.{plain_row};
 ghost use Rattle.lot_report.specs.Report.{AreSums};
 ghost use Rattle.lot_report.specs.Written.{WritesEach, WritesLine};
 
-#[cfg(test)]
-mod tests;
-
 use crate::fault::{ReportFault, RowFault};
 use crate::line::{PrintFault, print_line};
 use crate::lot::{Valuation, print_lot};

@@ -4,9 +4,6 @@ ghost use Rattle.lot_report.specs.declared.journal.Entry.{Entry as EntryValue};
 ghost use Rattle.lot_report.specs.Journal.{GrowsByEntry, entry_text, is_spent, journal_text};
 ghost use Rattle.lot_report.specs.Written.{WritesLine};
 
-#[cfg(test)]
-mod tests;
-
 use crate::line::{PrintFault, put_all};
 use itoa::Buffer;
 use lot_command::Key;

@@ -38,7 +38,7 @@ const LONGEST: usize = 512;
 ///
 /// Returns `Memory` where the line has more than `LONGEST` bytes (no contract says when): the writer is as it was.
 /// Returns `Write` where the writer fails, or takes nothing: a prefix of the line is written, but not all of it. A write
-/// that was interrupted is tried again. That the writer is called so is shown by the tests of `lot_cli`.
+/// that was interrupted is tried again. That the writer is called so is shown by tests.
 pub fn print_line<W: Write, T: Display + Drop>(writer: &mut W, text: T) -> Result<(), PrintFault>
     ensures bytes { IfSome (with_newline (T.output text))
         (WritesLine (W.contents writer.old) (W.contents writer.new) result) }

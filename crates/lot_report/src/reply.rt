@@ -2,9 +2,6 @@ ghost use Rattle.std.specs.Prelude.{◌≡◌, ◌≤◌, length, IsErrOf};
 ghost use Rattle.lot_report.specs.Printed.{argument_text, name_text, reply};
 ghost use Rattle.lot_report.specs.Written.{WritesLine, longest_written};
 
-#[cfg(test)]
-mod tests;
-
 use crate::line::{PrintFault, print_line};
 use lot_book::{Refusal, Verdict};
 use std::fmt;

@@ -17,9 +17,9 @@ use Rattle.lot_rows.specs.Tables.{account_table, shapes, layout}
 use Rattle.lot_rows.specs.declared.account.AccountRow.{AccountRow}
 use Rattle.std.proofs.Common.{Option, Some, slice_index, ◌==◌}
 use Rattle.sqlite.specs.Values.{or_null}
-use Rattle.lot_booking.specs.Method.{word_of}
-use Rattle.lot_booking.specs.declared.method.Method.TheVariants.{Strict, Fifo, Lifo, Hifo, Unmatched}
-use Rattle.lot_booking.specs.declared.method.Method.{Method}
+use Rattle.lot_cost.specs.Method.{word_of}
+use Rattle.lot_cost.specs.declared.method.Method.TheVariants.{Strict, Fifo, Lifo, Hifo, Unmatched}
+use Rattle.lot_cost.specs.declared.method.Method.{Method}
 use Rattle.lot_table.specs.Call.{Finds, Lists, Puts, Runs, Selects}
 use Rattle.lot_table.specs.declared.fault.Fault.{Fault}
 use Rattle.lot_table.proofs.ShapeLemmas.{free}

@@ -15,7 +15,7 @@ use Rattle.lot_table.proofs.WriteLemmas.{cast_int}
 use Rattle.lot_rows.specs.Leg.{IsLegRow, leg_cells}
 use Rattle.lot_rows.specs.Tables.{leg_table, shapes, layout}
 use Rattle.lot_rows.specs.declared.leg.LegRow.{LegRow}
-use Rattle.lot_inv.specs.declared.lot_key.LotKey.{LotKey}
+use Rattle.lot_cost.specs.declared.lot_key.LotKey.{LotKey}
 use Rattle.lot_table.specs.Cell.{label_text}
 use Rattle.lot_table.specs.Call.{ListsColumns, Puts, Runs, Selects}
 use Rattle.lot_table.specs.declared.fault.Fault.{Fault}

@@ -14,7 +14,7 @@ use Rattle.lot_table.proofs.WriteLemmas.{cast_int}
 use Rattle.lot_rows.specs.Lot.{IsLotRow, lot_cells}
 use Rattle.lot_rows.specs.Tables.{lot_table, shapes, layout}
 use Rattle.lot_rows.specs.declared.lot.LotRow.{LotRow}
-use Rattle.lot_inv.specs.declared.lot_key.LotKey.{LotKey}
+use Rattle.lot_cost.specs.declared.lot_key.LotKey.{LotKey}
 use Rattle.lot_table.specs.Cell.{label_text}
 use Rattle.lot_table.specs.Call.{Deletes, ListsColumns, Puts, Runs, Selects}
 use Rattle.lot_table.specs.declared.fault.Fault.{Fault}

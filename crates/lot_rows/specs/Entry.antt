@@ -7,7 +7,8 @@ use Rattle.sqlite_value.specs.Keys.{rising}
 use Rattle.lot_rows.specs.declared.entry.NumberRow.{NumberRow}
 use Rattle.sqlite.specs.Order.{Row}
 use Rattle.sqlite.specs.declared.types.Value.TheVariants.{Int, Text}
-use Rattle.lot_table.specs.Cell.{IsLabelText, IsOrdinal}
+use Rattle.lot_base.specs.Name.{IsName, is_label}
+use Rattle.lot_table.specs.Cell.{IsOrdinal}
 use Rattle.lot_rows.specs.declared.entry.EntryRow.{EntryRow}
 
 abbrev pub entry_cells : EntryRow → Row
@@ -15,8 +16,8 @@ entry_cells entry = Int (pos entry.number) ∷ Text entry.source ∷ Text entry.
 
 pub record IsEntryRow (entry : EntryRow) : Type 0 where
   pub number : IsOrdinal entry.number
-  pub source : IsLabelText entry.source
-  pub name : IsLabelText entry.name
+  pub source : IsName is_label entry.source
+  pub name : IsName is_label entry.name
   pub body : IsUtf8 entry.body
 
 -- ---- the second key

@@ -4,13 +4,14 @@ use Rattle.sqlite.specs.Values.{or_null}
 use Rattle.sqlite.specs.declared.types.Value.TheVariants.{Int, Text}
 use Rattle.sqlite.specs.declared.types.Value.{Value}
 use Rattle.lot_base.specs.Day.{IsDayNumber}
-use Rattle.lot_inv.specs.declared.lot_key.LotKey.{LotKey}
+use Rattle.lot_cost.specs.declared.lot_key.LotKey.{LotKey}
 use Rattle.lot_num.specs.Amount.{IsRate}
-use Rattle.lot_table.specs.Cell.{IsCommodityText, IsLabelOrNone, label_text}
+use Rattle.lot_base.specs.Name.{IsName, is_commodity}
+use Rattle.lot_table.specs.Cell.{IsLabelOrNone, label_text}
 
 pub record IsLotKey (lot : LotKey) : Type 0 where
   pub day : IsDayNumber lot.day
-  pub currency : IsCommodityText lot.currency
+  pub currency : IsName is_commodity lot.currency
   pub number : IsRate lot.number
   pub label : IsLabelOrNone lot.label
 

@@ -7,7 +7,8 @@ use Rattle.lot_base.specs.Day.{IsDayNumber}
 use Rattle.lot_command.specs.declared.price.Price.TheVariants.{Each, Whole}
 use Rattle.lot_command.specs.declared.price.Price.{Price}
 use Rattle.lot_num.specs.Amount.{IsRate, IsUnits}
-use Rattle.lot_table.specs.Cell.{IsAccountText, IsCommodityText, IsOrdinal, IsSum}
+use Rattle.lot_base.specs.Name.{IsName, is_account, is_commodity}
+use Rattle.lot_table.specs.Cell.{IsOrdinal, IsSum}
 use Rattle.lot_rows.specs.declared.sale.SaleRow.{SaleRow}
 
 -- ---- the price of a sale: kind, amount and currency
@@ -30,8 +31,8 @@ currency_of (Some (Whole price)) = Text price.1
 
 abbrev pub IsPriceOrNone : Option Price → Type 0
 IsPriceOrNone None = ⊤
-IsPriceOrNone (Some (Each price)) = IsRate price.rate × IsCommodityText price.currency
-IsPriceOrNone (Some (Whole price)) = IsUnits price.0 × (pos 0 ≤ℤ price.0) × IsCommodityText price.1
+IsPriceOrNone (Some (Each price)) = IsRate price.rate × IsName is_commodity price.currency
+IsPriceOrNone (Some (Whole price)) = IsUnits price.0 × (pos 0 ≤ℤ price.0) × IsName is_commodity price.1
 
 -- ---- rows
 
@@ -44,7 +45,7 @@ pub record IsSaleRow (sale : SaleRow) : Type 0 where
   pub entry : IsOrdinal sale.entry
   pub posting : IsOrdinal sale.posting
   pub day : IsDayNumber sale.day
-  pub account : IsAccountText sale.account
-  pub commodity : IsCommodityText sale.commodity
+  pub account : IsName is_account sale.account
+  pub commodity : IsName is_commodity sale.commodity
   pub units : IsSum sale.units
   pub price : IsPriceOrNone sale.price

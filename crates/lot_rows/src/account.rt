@@ -8,7 +8,7 @@ ghost use Rattle.sqlite.specs.State.{HasCleanDisk};
 ghost use Rattle.sqlite.specs.declared.types.Value.TheVariants.{Text};
 
 use lot_base::{Account, Day};
-use lot_booking::Method;
+use lot_cost::Method;
 use lot_table::{Cell, Fault, TableRow, change, column, find as find_row, select};
 use sqlite::{Alter, Connection, Row, Transaction};
 use std::alloc::Global;

@@ -1,13 +1,13 @@
 //! The cost of a leg in columns: number, currency, day and label, each null for plain units.
 
 ghost use Rattle.std.specs.Prelude.{◌≡◌, ◌≢◌, ◌↔◌, ◌<◌, ◌+◌, length, IfOk, Option, IsTrue};
-ghost use Rattle.lot_inv.specs.declared.lot_key.LotKey.{LotKey};
+ghost use Rattle.lot_cost.specs.declared.lot_key.LotKey.{LotKey};
 ghost use Rattle.lot_rows.specs.LotKey.{IsLotOrPlain, cost_currency, cost_day, cost_label, cost_number};
 ghost use Rattle.sqlite.specs.declared.types.Value.TheVariants.{Null};
 ghost use Rattle.sqlite_value.specs.Order.{column};
 ghost use Rattle.sqlite_value.specs.Value.{owned};
 
-use lot_inv::LotKey;
+use lot_cost::LotKey;
 use lot_table::{Cell, Fault, column};
 use sqlite::Row;
 use sqlite::types::ValueRef;

@@ -9,7 +9,7 @@ ghost use Rattle.sqlite.specs.declared.types.Value.TheVariants.{Int};
 
 use crate::cost;
 use lot_base::{Account, Commodity};
-use lot_inv::LotKey;
+use lot_cost::LotKey;
 use lot_num::Units;
 use lot_table::{Cell, Fault, Ordinal, TableRow, change, column, select};
 use sqlite::{Alter, Connection, Row, Transaction};

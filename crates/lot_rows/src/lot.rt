@@ -9,7 +9,7 @@ ghost use Rattle.sqlite.specs.State.{HasCleanDisk};
 ghost use Rattle.sqlite.specs.declared.types.Value.TheVariants.{Int, Text};
 
 use lot_base::{Account, Commodity};
-use lot_inv::LotKey;
+use lot_cost::LotKey;
 use lot_table::{Cell, Fault, Sum, TableRow, change, column, select};
 use sqlite::{Alter, Connection, Row, Transaction};
 use std::alloc::Global;

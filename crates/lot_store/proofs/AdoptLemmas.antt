@@ -1,6 +1,9 @@
 -- The columns of the table `book`, and what is told of them.
-use Rattle.std.proofs.Common.{◌≡◌, ◌≢◌, ◌<◌, ◌≤◌, inl, inr, Ok, Err, None, List, [], ◌∷◌, Result, length, refl, subst, get_or, arith, codes, lit≤}
-use Rattle.lot_print.proofs.PieceLemmas.{printed}
+use Rattle.std.proofs.Common.{◌≡◌, ◌≢◌, ◌<◌, ◌≤◌, inl, inr, Ok, Err, None, List, [], ◌∷◌, Result, length, refl, subst, get_or, arith, codes, ℕ}
+use Rattle.std.proofs.lemmas.Str.Ascii.{IsAscii-cons, IsAscii-nil}
+use Rattle.std.proofs.lemmas.Str.{IsUtf8-from_ascii}
+use Rattle.std.specs.List.{AllByRecursion}
+use Rattle.std.specs.Str.{IsAscii, IsUtf8}
 use Rattle.sqlite.specs.Order.{Row}
 use Rattle.sqlite.specs.State.{State}
 use Rattle.lot_rows.proofs.BookLemmas.{list_refused, list_rows}
@@ -10,7 +13,7 @@ use Rattle.lot_rows.specs.declared.book.BookRow.{BookRow}
 use Rattle.lot_table.specs.Statement.{DiskFailed, Refused}
 use Rattle.lot_table.specs.declared.fault.Fault.{Fault}
 use Rattle.lot_table.specs.declared.fault.Fault.TheVariants.{Damaged, Device, Memory}
-use Rattle.lot_store.specs.Create.{IsUnanswered, Tells, TellsColumns, TellsOf, adopt_fault_of, marks_text}
+use Rattle.lot_store.specs.Create.{IsUnanswered, TellsBook, TellsColumns, TellsOf, adopt_fault_of, marks_text}
 use Rattle.lot_store.specs.declared.fault.AdoptFault.{AdoptFault}
 use Rattle.lot_store.specs.declared.fault.AdoptFault.TheVariants as adopt
 
@@ -19,6 +22,17 @@ pub one_item : {X : Type 0} (xs : List X) (d : X) → 1 ≤ length xs → length
 one_item [] d least most = absurd (omega (arith, least))
 one_item (x ∷ []) d least most = refl
 one_item (x ∷ y ∷ xs) d least most = absurd (omega (arith, most))
+
+ascii : (bytes : List ℕ) → AllByRecursion (λ b. b < 128) bytes → IsAscii bytes
+ascii [] all = IsAscii-nil
+ascii (b ∷ bytes) all = IsAscii-cons b bytes all.0 (ascii bytes all.1)
+
+-- the mark of a book is a text
+mark_is_utf8 : IsUtf8 (codes "lot-book")
+mark_is_utf8 =
+    IsUtf8-from_ascii (codes "lot-book")
+    (ascii (codes "lot-book")
+    (omega arith, (omega arith, (omega arith, (omega arith, (omega arith, (omega arith, (omega arith, (omega arith, tt)))))))))
 
 -- a row that is read as none that a book can have isn't marked
 pub no_mark : (row : Row) (fault : Fault) → fault ≢ Device → (fault ≡ Damaged → (x : BookRow) → IsBookRow x → row ≢ book_cells x)
@@ -29,7 +43,7 @@ no_mark row Damaged apart damaged =
     λ edition least marked.
     let book : BookRow = record { mark = codes "lot-book"; edition = edition } in
     let same : row ≡ book_cells book = cc in
-    damaged refl book (record { mark = (printed 8 (codes "lot-book") refl (lit≤ tt)).utf8 }) same
+    damaged refl book (record { mark = mark_is_utf8 }) same
 
 -- ---- the question for the columns
 
@@ -41,7 +55,7 @@ module _ (old new : State) where
 
   -- in a database with the tables of a book it is answered
   pub tells_book : (result : Result (Unit {0}) AdoptFault) → TellsOf old new result → old.step_limit ≡ None → result ≢ Err adopt.Device → (tables : Tables) → Has old tables
-      → Tells tables.book result
+      → TellsBook tables.book result
   tells_book result (inl (rows, shown, tells)) unlimited apart tables has = subst (λ (rs : List Row). TellsColumns rs result) (list_rows old new rows shown tables has) tells
   tells_book (Ok done) (inr none) unlimited apart tables has = absurd none
   tells_book (Err adopt.NewerEdition) (inr none) unlimited apart tables has = absurd none

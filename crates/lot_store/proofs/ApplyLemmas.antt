@@ -9,23 +9,24 @@ use Rattle.lot_command.specs.declared.key.Key.{Key}
 use Rattle.lot_book.specs.Agree.{Agrees}
 use Rattle.lot_book.specs.Book.{IsBook, entry_of}
 use Rattle.lot_book.specs.Facts.{Entry, Facts, facts_of}
-use Rattle.lot_book.specs.Judged.{Judges}
+use Rattle.lot_book.specs.Judged.{JudgesOn}
 use Rattle.lot_book.specs.Step.{Accept, Decides, Refuse, Repeat, Step}
 use Rattle.lot_book.specs.declared.refusal.Refusal.{Refusal}
 use Rattle.lot_book.specs.declared.change.Change.{Change}
 use Rattle.lot_book.specs.declared.verdict.Verdict.{Verdict}
 use Rattle.lot_book.specs.declared.verdict.Verdict.TheVariants.{Accepted}
-use Rattle.lot_filed.specs.StandFor.{AreOfBook, StandFor, Stands}
+use Rattle.lot_stored.specs.StandFor.{AreOfBook, StandFor, Stands}
 use Rattle.lot_laws.proofs.RecordedBook.{book-grows, key_was_new}
 use Rattle.lot_laws.proofs.StepLooks.{same_decision}
-use Rattle.lot_print.specs.Sayable.{IsSayable}
-use Rattle.lot_ledger.specs.Decide.{Comes, Lists}
+use Rattle.lot_command.specs.Sayable.{IsSayable}
+use Rattle.lot_book.specs.Change.{Lists}
+use Rattle.lot_ledger.specs.Decide.{Comes}
 use Rattle.lot_ledger.specs.declared.decision.Outcome.TheVariants as decided
-use Rattle.lot_record.specs.Call.{Stops}
-use Rattle.lot_record.specs.Write.{AreFit, IsGood, written_all}
-use Rattle.lot_record.specs.Writes.{AreNumbered, ListsInOrder, writes_of}
+use Rattle.lot_write.specs.Call.{Stops}
+use Rattle.lot_write.specs.Write.{AreFit, IsGood, written_all}
+use Rattle.lot_write.specs.Writes.{AreNumbered, ListsInOrder, writes_of}
 use Rattle.lot_rows.specs.Tables.{Has, Tables, layout}
-use Rattle.lot_record.specs.declared.write.Write.{Write}
+use Rattle.lot_write.specs.declared.write.Write.{Write}
 use Rattle.lot_table.specs.Book.{Holds}
 use Rattle.lot_table.specs.Statement.{DiskFailed}
 use Rattle.lot_store.specs.Apply.{Applies, AppliesWith, HasNoRoomFor, MayAdd, MayWrite, RefusedByDeviceWith, StandsWith, WritesDown, verdict_of}
@@ -90,7 +91,7 @@ module _ (law : KeepsBook) (entries : List Entry) (key : Key) (command : Command
 
   pub stands_on : (s : State) (tables : Tables) → StandFor tables entries
       → (AreFit (writes_of known key command change) tables → Has s (written_all (writes_of known key command change) tables))
-      → Judges entries key command Accepted (entries ++ entry_of key command change.legs ∷ []) × Stands s (entries ++ entry_of key command change.legs ∷ [])
+      → JudgesOn entries key command Accepted (entries ++ entry_of key command change.legs ∷ []) × Stands s (entries ++ entry_of key command change.legs ∷ [])
   stands_on s tables stand has = (
     (change.legs, step, refl),
     record { book = grown; tables = written_all (writes_of known key command change) tables; has = has (kept tables stand).0; stand = (kept tables stand).1 },
@@ -271,8 +272,8 @@ with_nothing key command old new result Kept KeptThen all applies = record {
 }
   where
     judged_alone : (told : Option Verdict) (entries : List Entry)
-        → IfSome told (λ verdict. (after : List Entry) × Judges entries key command verdict after × StandsWith KeptThen new after)
-        → IfSome told (λ verdict. (after : List Entry) × Judges entries key command verdict after × Stands new after)
+        → IfSome told (λ verdict. (after : List Entry) × JudgesOn entries key command verdict after × StandsWith KeptThen new after)
+        → IfSome told (λ verdict. (after : List Entry) × JudgesOn entries key command verdict after × Stands new after)
     judged_alone None entries it = tt
     judged_alone (Some verdict) entries it = (it.0, it.1, it.2.0)
 

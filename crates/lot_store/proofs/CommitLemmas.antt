@@ -6,8 +6,8 @@ use Rattle.sqlite.specs.Store.{Ghosts}
 use Rattle.sqlite.specs.Tree.{Trees}
 use Rattle.sqlite.proofs.Callers.{survives_begin}
 use Rattle.sqlite.proofs.StateLemmas.{survives_then, survives_weaker}
-use Rattle.lot_record.specs.Call.{Stops}
-use Rattle.lot_record.specs.declared.write.Write.{Write}
+use Rattle.lot_write.specs.Call.{Stops}
+use Rattle.lot_write.specs.declared.write.Write.{Write}
 use Rattle.lot_rows.specs.Tables.{Has, Tables}
 use Rattle.lot_table.specs.Statement.{DiskFailed}
 use Rattle.lot_table.specs.declared.fault.Fault as table

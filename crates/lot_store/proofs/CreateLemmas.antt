@@ -6,8 +6,8 @@ use Rattle.sqlite.specs.Store.{Ghosts}
 use Rattle.sqlite.specs.Tree.{Trees}
 use Rattle.sqlite.specs.declared.error.Error.{Error}
 use Rattle.sqlite_catalog.specs.Listing.{IsSound}
-use Rattle.lot_filed.specs.Rows.{this_edition}
-use Rattle.lot_filed.specs.StandFor.{Left, StandFor, Stands}
+use Rattle.lot_stored.specs.Rows.{this_edition}
+use Rattle.lot_stored.specs.StandFor.{Left, StandFor, Stands}
 use Rattle.lot_rows.specs.Tables.{Has, Tables, book_table, layout, no_rows_yet}
 use Rattle.lot_rows.specs.declared.book.BookRow.{BookRow}
 use Rattle.lot_table.specs.Book.{Holds, Turns, always}

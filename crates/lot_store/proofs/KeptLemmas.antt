@@ -11,10 +11,10 @@ use Rattle.lot_book.specs.declared.refusal.Stop.{Stop}
 use Rattle.lot_ledger.specs.Decide.{Comes, StopsStep}
 use Rattle.lot_ledger.specs.declared.decision.Outcome.{Outcome}
 use Rattle.lot_ledger.specs.declared.decision.Outcome.TheVariants.{Accept}
-use Rattle.lot_look.specs.Kept.{IsOf, Keeps, seen}
-use Rattle.lot_look.specs.declared.kept.Kept.{Kept}
-use Rattle.lot_record.specs.Writes.{writes_of}
-use Rattle.lot_record.specs.declared.write.Write.{Write}
+use Rattle.lot_load.specs.Kept.{IsOf, Keeps, seen}
+use Rattle.lot_load.specs.declared.kept.Kept.{Kept}
+use Rattle.lot_write.specs.Writes.{writes_of}
+use Rattle.lot_write.specs.declared.write.Write.{Write}
 use Rattle.lot_view.specs.View.{known}
 use Rattle.lot_view.specs.declared.view.View.{View}
 

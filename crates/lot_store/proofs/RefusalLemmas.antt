@@ -20,7 +20,7 @@ use Rattle.sqlite_sql.specs.Ops.{fits_i64}
 use Rattle.sqlite_trees.specs.View.{IsStorable}
 use Rattle.sqlite_value.specs.Order.{number}
 use Rattle.sqlite_value.specs.declared.value.Value.{Value}
-use Rattle.lot_filed.specs.Rows.{this_edition}
+use Rattle.lot_stored.specs.Rows.{this_edition}
 use Rattle.lot_rows.specs.Book.{book_cells}
 use Rattle.lot_rows.specs.Tables.{Has, book_table, layout, no_rows_yet}
 use Rattle.lot_table.specs.Book.{Holds}

@@ -10,10 +10,10 @@ use Rattle.sqlite.specs.Tree.{Trees}
 use Rattle.lot_command.specs.declared.command.Command.{Command}
 use Rattle.lot_command.specs.declared.key.Key.{Key}
 use Rattle.lot_book.specs.Facts.{Entry}
-use Rattle.lot_book.specs.Judged.{Judges}
+use Rattle.lot_book.specs.Judged.{JudgesAll, JudgesOn}
 use Rattle.lot_book.specs.declared.verdict.Verdict.{Verdict}
 use Rattle.lot_book.specs.declared.verdict.Verdict.TheVariants.{Accepted, Refused, Repeated}
-use Rattle.lot_filed.specs.StandFor.{Left, Stands}
+use Rattle.lot_stored.specs.StandFor.{Left, Stands}
 use Rattle.lot_report.proofs.ReplyLemmas.{replies_more}
 use Rattle.lot_report.specs.Printed.{replies, reply}
 use Rattle.lot_report.specs.Written.{IsPrefixOf, WritesLine}
@@ -22,12 +22,12 @@ use Rattle.lot_report.specs.declared.line.PrintFault.TheVariants.{Write, Memory 
 use Rattle.lot_rows.specs.Tables.{layout}
 use Rattle.lot_table.specs.Book.{Holds}
 use Rattle.lot_store.specs.Apply.{AppliesWith, MayAdd, StandsWith, condition_after, ready_of, verdict_of}
-use Rattle.lot_store.specs.Run.{AppendsSome, EndsBehind, FlushesLine, LeavesAfter, LeavesAtAnswer, LeavesAtFault, LeavesAtVerdict, RepliesTo, Runs, RunsBook, StopsWith, WritesEnd, WritesOut, answer_line, count_refused, fault_line, told}
-use Rattle.lot_store.specs.Session.{JudgesKeyed, LeavesEntry, LeavesFirst, LeavesJudged, LeavesNext, Session}
+use Rattle.lot_store.specs.Run.{AppendsSome, EndsBehind, FlushesLine, LeavesAfter, LeavesAtAnswer, LeavesAtFault, LeavesAtVerdict, RepliesTo, RunsSession, RunsBook, StopsWith, WritesEnd, WritesOut, answer_line, count_refused, fault_line, told}
+use Rattle.lot_store.specs.Session.{LeavesEntry, LeavesFirst, LeavesJudged, LeavesNext, Session}
 use Rattle.lot_store.specs.declared.book.Ack.{Ack}
 use Rattle.lot_store.specs.declared.book.Ack.TheVariants as ack
 use Rattle.lot_store.specs.declared.book.Condition.{Condition}
-use Rattle.lot_store.specs.declared.book.Condition.TheVariants.{NeedsReopen as Spent, Ready}
+use Rattle.lot_store.specs.declared.book.Condition.TheVariants.{NeedsReopen as MustReopen, Ready}
 use Rattle.lot_store.specs.declared.fault.ApplyFault.{ApplyFault}
 use Rattle.lot_store.specs.declared.fault.ApplyFault.TheVariants as apply
 use Rattle.lot_store.specs.declared.fault.StoreFault.{StoreFault}
@@ -80,15 +80,15 @@ module _ (Kept KeptThen : List Entry → Type 0) (key : Key) (command : Command)
 
 pub ready_fault : (condition : Condition) (fault : StoreFault) → ready_of condition ≡ Err fault → fault ≡ NeedsReopen
 ready_fault Ready fault is = absurd cc
-ready_fault Spent fault is = cc
+ready_fault MustReopen fault is = cc
 
-pub spent_if : (condition : Condition) (fault : StoreFault) → ready_of condition ≡ Err fault → condition ≡ Spent
+pub spent_if : (condition : Condition) (fault : StoreFault) → ready_of condition ≡ Err fault → condition ≡ MustReopen
 spent_if Ready fault is = absurd cc
-spent_if Spent fault is = refl
+spent_if MustReopen fault is = refl
 
 pub ready_ok : {x : Unit {0}} (condition : Condition) → ready_of condition ≡ Ok x → condition ≡ Ready
 ready_ok Ready is = refl
-ready_ok Spent is = absurd cc
+ready_ok MustReopen is = absurd cc
 
 -- a book that could be used doesn't stop since it needs reopening
 pub reply_usable : (Kept KeptThen : List Entry → Type 0) (key : Key) (command : Command) (number : ℕ) (old new : State) (before written : Option (List ℕ)) (condition : Condition) (ending : Ending)
@@ -103,8 +103,8 @@ reply_usable Kept KeptThen key command number old new before written condition e
 -- ---- one command more
 
 pub judges_more : (before : List Entry) (done : List (Key × Command)) (verdicts : List Verdict) (mid after : List Entry) (next : Key × Command) (verdict : Verdict)
-    → JudgesKeyed before done verdicts mid → Judges mid next.0 next.1 verdict after → JudgesKeyed before (done ++ next ∷ []) (verdicts ++ verdict ∷ []) after
-judges_more before [] [] mid after next verdict all one = (after, subst (λ (b : List Entry). Judges b next.0 next.1 verdict after) all one, refl)
+    → JudgesAll before done verdicts mid → JudgesOn mid next.0 next.1 verdict after → JudgesAll before (done ++ next ∷ []) (verdicts ++ verdict ∷ []) after
+judges_more before [] [] mid after next verdict all one = (after, subst (λ (b : List Entry). JudgesOn b next.0 next.1 verdict after) all one, refl)
 judges_more before [] (v ∷ verdicts) mid after next verdict all one = absurd all
 judges_more before (c ∷ done) [] mid after next verdict all one = absurd all
 judges_more before (c ∷ done) (v ∷ verdicts) mid after next verdict all one = (all.0, all.1, judges_more all.0 done verdicts mid after next verdict all.2 one)
@@ -130,7 +130,7 @@ pub record SoFar (Kept : List Entry → Type 0) (commands : List (Key × Command
   pub refusals : refused ≡ count_refused verdicts
   pub lines : Appends before written (replies from verdicts)
   pub judged : HasCleanDisk now → (entries : List Entry) → Stands old entries
-      → (book : List Entry) × JudgesKeyed entries (take index commands) verdicts book × StandsWith Kept now book × ((trees : Trees) → now.may_leave trees → LeavesJudged old.may_leave verdicts book trees)
+      → (book : List Entry) × JudgesAll entries (take index commands) verdicts book × StandsWith Kept now book × ((trees : Trees) → now.may_leave trees → LeavesJudged old.may_leave verdicts book trees)
   pub crash : Survives old now (λ trees. (entries : List Entry) → Stands old entries → LeavesFirst entries commands trees)
 
 -- what is kept before the first is of any book
@@ -209,10 +209,10 @@ module _ (Kept KeptThen : List Entry → Type 0) (commands : List (Key × Comman
   -- the next command is judged, and the book after it is what stands, and what a crash leaves
   judges_next : (answer : Result Ack ApplyFault) (verdict : Verdict) → told answer ≡ Ok verdict → AppliesWith Kept KeptThen next.0 next.1 now new answer
       → (IsTrue new.is_open → (trees : Trees) → new.may_leave trees → trees ≡ new.committed.trees) → HasCleanDisk new → (book : List Entry) → StandsWith Kept now book
-      → (after : List Entry) × Judges book next.0 next.1 verdict after × StandsWith KeptThen new after × ((trees : Trees) → new.may_leave trees → Left trees after)
+      → (after : List Entry) × JudgesOn book next.0 next.1 verdict after × StandsWith KeptThen new after × ((trees : Trees) → new.may_leave trees → Left trees after)
   judges_next answer verdict is applies safe clean book there =
       let told_so = verdict_told answer verdict is in
-      let one = subst (λ o. IfSome o (λ v. (after : List Entry) × Judges book next.0 next.1 v after × StandsWith KeptThen new after)) told_so (applies.judged clean book there) in
+      let one = subst (λ o. IfSome o (λ v. (after : List Entry) × JudgesOn book next.0 next.1 v after × StandsWith KeptThen new after)) told_so (applies.judged clean book there) in
       let set = subst (λ o. IfSome o (λ v. IsTrue new.is_open × (new.committed ≡ new.now))) told_so (applies.settled clean) in
       (one.0, one.1, one.2, λ trees may. left_of new one.0 trees one.2.0 set.1 (safe set.0 trees may))
 
@@ -229,7 +229,7 @@ module _ (Kept KeptThen : List Entry → Type 0) (commands : List (Key × Comman
         let was = so.judged (omega (arith, clean, applies.crash.clean)) entries stands in
         let one = judges_next answer verdict is applies safe clean was.0 was.2 in (
           one.0,
-          subst (λ done. JudgesKeyed entries done (so.verdicts ++ verdict ∷ []) one.0) (sym taken) (judges_more entries (take index commands) so.verdicts was.0 one.0 next verdict was.1 one.1),
+          subst (λ done. JudgesAll entries done (so.verdicts ++ verdict ∷ []) one.0) (sym taken) (judges_more entries (take index commands) so.verdicts was.0 one.0 next verdict was.1 one.1),
           one.2,
           λ trees may. inl (one.3 trees may),
         );
@@ -239,7 +239,7 @@ module _ (Kept KeptThen : List Entry → Type 0) (commands : List (Key × Comman
   -- ---- the run ends at the command
 
   -- the session that has judged the commands before it
-  session : (entries : List Entry) (book : List Entry) → JudgesKeyed entries (take index commands) so.verdicts book → Session entries commands so.verdicts book (next ∷ drop (index + 1) commands)
+  session : (entries : List Entry) (book : List Entry) → JudgesAll entries (take index commands) so.verdicts book → Session entries commands so.verdicts book (next ∷ drop (index + 1) commands)
   session entries book keyed = record { done = take index commands; split = split; judged = keyed }
 
   -- where nothing is added
@@ -300,7 +300,7 @@ module _ (Kept KeptThen : List Entry → Type 0) (commands : List (Key × Comman
       → EndsBehind (length commands) (length so.verdicts) answer ending
       → (HasCleanDisk new → (book : List Entry) → StandsWith Kept now book → ((trees : Trees) → now.may_leave trees → LeavesJudged old.may_leave so.verdicts book trees)
       → LeavesAfter so.verdicts book (next ∷ drop (index + 1) commands) old new answer ending)
-      → Runs commands from old new before written answer (record { replied = index; refused = refused; ending = ending })
+      → RunsSession commands from old new before written answer (record { replied = index; refused = refused; ending = ending })
   ends_so answer ending applies lines place leaves = record {
     verdicts = so.verdicts;
     writes = record { replied = so.counted; refused = so.refusals; lines = lines };
@@ -350,7 +350,7 @@ run_completes Kept commands from refused old new before written was condition so
         let was = so.judged clean entries stands in (
           was.0,
           [],
-          record { done = commands; split = sym (append-nil commands); judged = subst (λ cs. JudgesKeyed entries cs so.verdicts was.0) (take_all commands) was.1 },
+          record { done = commands; split = sym (append-nil commands); judged = subst (λ cs. JudgesAll entries cs so.verdicts was.0) (take_all commands) was.1 },
           (refl, was.2.0, was.3),
         );
     crash = so.crash;
@@ -360,7 +360,7 @@ run_completes Kept commands from refused old new before written was condition so
 )
 
 pub run_needs_reopening : (commands : List (Key × Command)) (from : ℕ) (old : State) (before written : Option (List ℕ)) (ending : Ending) (condition : Condition)
-    → StopsWith from NeedsReopen before written ending → condition ≡ Spent
+    → StopsWith from NeedsReopen before written ending → condition ≡ MustReopen
     → RunsBook commands from old old before written condition condition (record { replied = 0; refused = 0; ending = ending })
 run_needs_reopening commands from old before written ending condition (inl (is, printed)) spent = (
   Err (apply.Failed NeedsReopen),

@@ -5,19 +5,19 @@ use Rattle.sqlite.specs.Effect.{Database}
 use Rattle.sqlite.specs.State.{HasCleanDisk, State, Survives}
 use Rattle.sqlite.specs.Store.{Ghosts}
 use Rattle.lot_book.specs.Facts.{Entry}
-use Rattle.lot_filed.specs.StandFor.{Stands}
+use Rattle.lot_stored.specs.StandFor.{Stands}
 use Rattle.lot_page.specs.Cursor.{Stays}
 use Rattle.lot_rows.specs.Tables.{Has, Tables, layout}
 use Rattle.lot_table.specs.Book.{Holds}
-use Rattle.lot_store.specs.Step.{Steps, StepsOverRows}
+use Rattle.lot_walk.specs.Step.{Steps, StepsOverRows}
 use Rattle.lot_store.specs.Walk.{Gives, HasGiven, HasGivenRows, Walks, WalksOverRows, is_at_end, is_at_fault, stage_after}
 use Rattle.lot_store.specs.declared.fault.StoreFault.{StoreFault}
 use Rattle.lot_store.specs.declared.fault.StoreFault.TheVariants.{Damaged, Device, NeedsReopen}
-use Rattle.lot_store.specs.declared.book.Condition.TheVariants.{NeedsReopen as Spent}
+use Rattle.lot_store.specs.declared.book.Condition.TheVariants.{NeedsReopen as MustReopen}
 use Rattle.lot_store.specs.declared.walk.Stage.TheVariants.{Going}
 use Rattle.lot_store.specs.declared.walk.Walk.{Walk}
 use Rattle.lot_store.specs.declared.walk.WalkFault.{WalkFault}
-use Rattle.lot_store.proofs.PlaceLemmas.{has_still}
+use Rattle.lot_walk.proofs.PlaceLemmas.{has_still}
 
 -- tables are those of a state's database alone
 stands_on : (a b : State) (entries : List Entry) → b.now ≡ a.now → Stands a entries → Stands b entries
@@ -72,7 +72,7 @@ module _ {S Place Row Asked Shown : Type 0} (g : Ghosts S) (shown : Row → Show
   ends (Some row) stage ended = let no : false ≡ true = subst (λ s. IsTrue (is_at_fault s)) stage ended in cc
 
   pub walks_on : (found : Option Row) → old.stage ≡ Going → new.stage ≡ stage_after (read found) → StepsOk found
-      → ((read found ≡ Err NeedsReopen) ↔ (old.book.now.condition ≡ Spent)) → new.book.now.condition ≡ old.book.now.condition
+      → ((read found ≡ Err NeedsReopen) ↔ (old.book.now.condition ≡ MustReopen)) → new.book.now.condition ≡ old.book.now.condition
       → Walks g shown IsGood AreAll IsBehind old new (Ok found)
   walks_on found going stage steps reopen condition = record {
     gives = given_on found stage steps;

@@ -6,17 +6,17 @@ use Rattle.lot_command.specs.declared.command.Command.{Command}
 use Rattle.lot_command.specs.declared.key.Key.{Key}
 use Rattle.lot_book.specs.Agree.{Agrees}
 use Rattle.lot_book.specs.Facts.{Entry, Facts, facts_of}
-use Rattle.lot_book.specs.Judged.{Judges}
+use Rattle.lot_book.specs.Judged.{JudgesOn}
 use Rattle.lot_book.specs.declared.change.Change.{Change}
 use Rattle.lot_book.specs.declared.verdict.Verdict.{Verdict}
 use Rattle.lot_book.specs.declared.verdict.Verdict.TheVariants as verdict
-use Rattle.lot_filed.specs.StandFor.{Stands}
+use Rattle.lot_stored.specs.StandFor.{Stands}
 use Rattle.lot_ledger.specs.Decide.{Comes}
 use Rattle.lot_ledger.specs.declared.decision.Outcome.TheVariants.{Accept}
-use Rattle.lot_record.specs.Call.{Stops as StopsWriting}
-use Rattle.lot_record.specs.Write.{AreFit, written_all}
-use Rattle.lot_record.specs.Writes.{AreNumbered, writes_of}
-use Rattle.lot_record.specs.declared.write.Write.{Write}
+use Rattle.lot_write.specs.Call.{Stops as StopsWriting}
+use Rattle.lot_write.specs.Write.{AreFit, written_all}
+use Rattle.lot_write.specs.Writes.{AreNumbered, writes_of}
+use Rattle.lot_write.specs.declared.write.Write.{Write}
 use Rattle.lot_rows.specs.Tables.{Has, Tables, layout}
 use Rattle.lot_table.specs.Book.{Holds}
 use Rattle.lot_table.specs.Statement.{DiskFailed}
@@ -27,7 +27,7 @@ use Rattle.sqlite.specs.declared.error.ErrorCode.TheVariants as code
 use Rattle.lot_store.specs.declared.book.Ack.{Ack}
 use Rattle.lot_store.specs.declared.book.Ack.TheVariants as ack
 use Rattle.lot_store.specs.declared.book.Condition.{Condition}
-use Rattle.lot_store.specs.declared.book.Condition.TheVariants.{Ready, NeedsReopen as Spent}
+use Rattle.lot_store.specs.declared.book.Condition.TheVariants.{Ready, NeedsReopen as MustReopen}
 use Rattle.lot_store.specs.declared.fault.ApplyFault.{ApplyFault}
 use Rattle.lot_store.specs.declared.fault.ApplyFault.TheVariants.{Refused, Failed}
 use Rattle.lot_store.specs.declared.fault.StoreFault.{StoreFault}
@@ -55,15 +55,15 @@ commit_outcome (Err error) = Err (commit_fault_of error)
 
 abbrev pub ready_of : Condition → Result (Unit {0}) StoreFault
 ready_of Ready = Ok tt
-ready_of Spent = Err NeedsReopen
+ready_of MustReopen = Err NeedsReopen
 
 -- after a failure of the device, and after one in doubt, a book needs reopening
 abbrev pub condition_after : Result Ack ApplyFault → Condition
 condition_after (Ok ack) = Ready
 condition_after (Err (Refused refusal)) = Ready
-condition_after (Err (Failed Device)) = Spent
-condition_after (Err (Failed InDoubt)) = Spent
-condition_after (Err (Failed NeedsReopen)) = Spent
+condition_after (Err (Failed Device)) = MustReopen
+condition_after (Err (Failed InDoubt)) = MustReopen
+condition_after (Err (Failed NeedsReopen)) = MustReopen
 condition_after (Err (Failed Damaged)) = Ready
 condition_after (Err (Failed Memory)) = Ready
 
@@ -117,7 +117,7 @@ LeavesAlone None old new = KeepsCommit old new × (IsTrue new.is_open → new.no
 pub record AppliesOn (Before After : List Entry → Type 0) (key : Key) (command : Command) (old new : State) (result : Result Ack ApplyFault) : Type 0 where
   -- where a book is there, the verdict is that of a step on it, and the book after the step is there then
   pub judged : HasCleanDisk new → (entries : List Entry) → Before entries
-      → IfSome (verdict_of result) (λ verdict. (after : List Entry) × Judges entries key command verdict after × After after)
+      → IfSome (verdict_of result) (λ verdict. (after : List Entry) × JudgesOn entries key command verdict after × After after)
   -- with the verdict all is committed
   pub settled : HasCleanDisk new → IfSome (verdict_of result) (λ verdict. IsTrue new.is_open × (new.committed ≡ new.now))
   -- without one the last commit stands, and while the connection is open its tables are as they were

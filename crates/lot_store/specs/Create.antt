@@ -6,7 +6,7 @@ use Rattle.sqlite.specs.declared.error.Error.{Error}
 use Rattle.sqlite.specs.declared.error.Error.TheVariants.{SqliteFailure}
 use Rattle.sqlite.specs.declared.error.ErrorCode.TheVariants as code
 use Rattle.sqlite_disk.specs.Disk.{MoreFaults}
-use Rattle.lot_filed.specs.Rows.{this_edition}
+use Rattle.lot_stored.specs.Rows.{current_edition, marked, this_edition}
 use Rattle.lot_rows.specs.Book.{book_cells}
 use Rattle.lot_rows.specs.Tables.{Has, Tables, no_rows_yet}
 use Rattle.lot_rows.specs.declared.book.BookRow.{BookRow}
@@ -65,9 +65,9 @@ StandsForNone s = Has s no_entries_yet
 
 -- ---- taking up
 
--- the columns of all rows of the table `book`: the one row with our mark and this edition
+-- the columns of all rows of the table `book`: the one row that marks a book of that edition
 abbrev pub AreMarked : ℤ → List Row → Type 0
-AreMarked edition rows = rows ≡ book_cells (record { mark = codes "lot-book"; edition = edition }) ∷ []
+AreMarked edition rows = rows ≡ book_cells (marked edition) ∷ []
 
 abbrev pub adopt_fault_of : table.Fault → AdoptFault
 adopt_fault_of table.TheVariants.Device = adopt.Device
@@ -76,15 +76,15 @@ adopt_fault_of table.TheVariants.Memory = adopt.Memory
 
 -- what is told of these columns: this program's edition, a newer one, or that they are no book's
 abbrev pub TellsColumns : List Row → Result (Unit {0}) AdoptFault → Type 0
-TellsColumns rows (Ok done) = AreMarked (pos 1) rows
-TellsColumns rows (Err adopt.NewerEdition) = (edition : ℤ) × (pos 1 <ℤ edition) × AreMarked edition rows
+TellsColumns rows (Ok done) = AreMarked current_edition rows
+TellsColumns rows (Err adopt.NewerEdition) = (edition : ℤ) × (current_edition <ℤ edition) × AreMarked edition rows
 TellsColumns rows (Err adopt.NotABook) = (edition : ℤ) → pos 1 ≤ℤ edition → ¬ AreMarked edition rows
 TellsColumns rows (Err adopt.Device) = ⊥
 TellsColumns rows (Err adopt.Memory) = Unit {0}
 
 -- the same of the rows of the table
-abbrev pub Tells : List BookRow → Result (Unit {0}) AdoptFault → Type 0
-Tells rows = TellsColumns (map book_cells rows)
+abbrev pub TellsBook : List BookRow → Result (Unit {0}) AdoptFault → Type 0
+TellsBook rows = TellsColumns (map book_cells rows)
 
 -- the question for these columns
 abbrev pub marks_text : List ℕ

@@ -1,13 +1,6 @@
 pub mod Apply
 pub mod Create
-pub mod Gains
-pub mod Holdings
-pub mod Journal
-pub mod Place
-pub mod Prices
 pub mod Run
-pub mod SaleStep
 pub mod Session
-pub mod Sold
 pub mod Step
 pub mod Walk

@@ -6,10 +6,10 @@ use Rattle.sqlite.specs.Tree.{Trees}
 use Rattle.lot_command.specs.declared.command.Command.{Command}
 use Rattle.lot_command.specs.declared.key.Key.{Key}
 use Rattle.lot_book.specs.Facts.{Entry}
-use Rattle.lot_book.specs.Judged.{Judges}
+use Rattle.lot_book.specs.Judged.{JudgesOn}
 use Rattle.lot_book.specs.declared.verdict.Verdict.{Verdict}
 use Rattle.lot_book.specs.declared.verdict.Verdict.TheVariants.{Accepted, Repeated, Refused}
-use Rattle.lot_filed.specs.StandFor.{Stands}
+use Rattle.lot_stored.specs.StandFor.{Stands}
 use Rattle.std.specs.declared.io.Error.{Error}
 use Rattle.lot_report.specs.declared.line.PrintFault.{PrintFault}
 use Rattle.lot_report.specs.Printed.{line, replies, reply}
@@ -149,7 +149,7 @@ LeavesAtFault Memory verdicts book left old new =
 abbrev pub LeavesAtVerdict : Verdict → List Verdict → List Entry → List (Key × Command) → State → State → Type 0
 LeavesAtVerdict verdict verdicts book [] old new = ⊥
 LeavesAtVerdict verdict verdicts book (next ∷ left) old new =
-    (after : List Entry) × Judges book next.0 next.1 verdict after × Stands new after
+    (after : List Entry) × JudgesOn book next.0 next.1 verdict after × Stands new after
     × ((trees : Trees) → new.may_leave trees → LeavesJudged old.may_leave (verdicts ++ verdict ∷ []) after trees)
 
 abbrev pub LeavesAtAnswer : Result Ack ApplyFault → List Verdict → List Entry → List (Key × Command) → State → State → Type 0
@@ -167,7 +167,7 @@ LeavesAfter verdicts book left old new answer (Stopped fault) = LeavesAtFault fa
 LeavesAfter verdicts book left old new answer Output = LeavesAtAnswer answer verdicts book left old new
 
 -- a run of commands on a book in a file; the answer is that to the command at which the writer failed
-pub record Runs (commands : List (Key × Command)) (from : ℕ) (old new : State) (before written : Option (List ℕ)) (answer : Result Ack ApplyFault) (end : RunEnd) : Type 0 where
+pub record RunsSession (commands : List (Key × Command)) (from : ℕ) (old new : State) (before written : Option (List ℕ)) (answer : Result Ack ApplyFault) (end : RunEnd) : Type 0 where
   pub verdicts : List Verdict
   pub writes : Writes from verdicts answer end before written
   pub place : EndsBehind (length commands) (length verdicts) answer end.ending
@@ -194,5 +194,5 @@ IsConditionAfter answer Output condition = condition ≡ condition_after answer
 -- it needs reopening.
 abbrev pub RunsBook : List (Key × Command) → ℕ → State → State → Option (List ℕ) → Option (List ℕ) → Condition → Condition → RunEnd → Type 0
 RunsBook commands from old new before written was condition end =
-    (answer : Result Ack ApplyFault) × Runs commands from old new before written answer end
+    (answer : Result Ack ApplyFault) × RunsSession commands from old new before written answer end
     × (was ≡ Ready → answer ≢ Err (apply.Failed NeedsReopen)) × IsConditionAfter answer end.ending condition

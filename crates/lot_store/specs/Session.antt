@@ -5,27 +5,19 @@ use Rattle.sqlite.specs.Tree.{Trees}
 use Rattle.lot_command.specs.declared.command.Command.{Command}
 use Rattle.lot_command.specs.declared.key.Key.{Key}
 use Rattle.lot_book.specs.Facts.{Entry}
-use Rattle.lot_book.specs.Judged.{Judges}
+use Rattle.lot_book.specs.Judged.{JudgesAll, JudgesOn}
 use Rattle.lot_book.specs.declared.verdict.Verdict.{Verdict}
 use Rattle.lot_book.specs.declared.verdict.Verdict.TheVariants.{Accepted, Repeated, Refused}
-use Rattle.lot_filed.specs.StandFor.{Left}
+use Rattle.lot_stored.specs.StandFor.{Left}
 
--- ---- commands in their order
-
--- commands judged in their order, each under its key: the verdict on each, and the book after all
-abbrev pub JudgesKeyed : List Entry → List (Key × Command) → List Verdict → List Entry → Type 0
-JudgesKeyed before [] [] after = after ≡ before
-JudgesKeyed before (keyed ∷ more) (verdict ∷ verdicts) after =
-    (mid : List Entry) × Judges before keyed.0 keyed.1 verdict mid × JudgesKeyed mid more verdicts after
-JudgesKeyed before [] (verdict ∷ verdicts) after = ⊥
-JudgesKeyed before (keyed ∷ more) [] after = ⊥
+-- ---- sessions
 
 -- A session on a book that has judged the first of its commands: their verdicts, the book after them, and the commands
 -- that are left.
 pub record Session (before : List Entry) (commands : List (Key × Command)) (verdicts : List Verdict) (book : List Entry) (left : List (Key × Command)) : Type 0 where
   pub done : List (Key × Command)
   pub split : commands ≡ done ++ left
-  pub judged : JudgesKeyed before done verdicts book
+  pub judged : JudgesAll before done verdicts book
 
 -- none of the commands was accepted: the session has made no commit
 abbrev pub NoneAccepted : List Verdict → Type 0
@@ -38,7 +30,7 @@ NoneAccepted (Refused refusal ∷ verdicts) = NoneAccepted verdicts
 
 -- the book with the entry of a command, where step accepts it
 abbrev pub LeavesEntry : List Entry → Key → Command → Trees → Type 0
-LeavesEntry book key command trees = (after : List Entry) × Judges book key command Accepted after × Left trees after
+LeavesEntry book key command trees = (after : List Entry) × JudgesOn book key command Accepted after × Left trees after
 
 -- the book after the commands that were judged; while none was accepted, also what could be left before the session
 abbrev pub LeavesJudged : (Trees → Type 0) → List Verdict → List Entry → Trees → Type 0

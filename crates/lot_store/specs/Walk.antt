@@ -5,14 +5,14 @@ use Rattle.sqlite.specs.Held.{state}
 use Rattle.sqlite.specs.State.{HasCleanDisk, Survives}
 use Rattle.sqlite.specs.Store.{Ghosts}
 use Rattle.lot_book.specs.Facts.{Entry}
-use Rattle.lot_filed.specs.StandFor.{Stands}
+use Rattle.lot_stored.specs.StandFor.{Stands}
 use Rattle.lot_page.specs.Cursor.{Stays}
 use Rattle.lot_rows.specs.Tables.{Has, Tables}
 use Rattle.lot_table.specs.Statement.{DiskFailed}
-use Rattle.lot_store.specs.Step.{IsPrefix, LeavesTables, condition_from}
+use Rattle.lot_store.specs.Step.{LeavesTables, condition_from}
+use Rattle.lot_walk.specs.Step.{IsPrefix}
 use Rattle.lot_store.specs.declared.book.Condition.{Condition}
-use Rattle.lot_store.specs.declared.book.Condition.TheVariants.{NeedsReopen as Spent}
-use Rattle.lot_store.specs.declared.fault.StoreFault.{StoreFault}
+use Rattle.lot_store.specs.declared.book.Condition.TheVariants.{NeedsReopen as MustReopen}
 use Rattle.lot_store.specs.declared.fault.StoreFault.TheVariants.{Damaged, Device, InDoubt, NeedsReopen}
 use Rattle.lot_store.specs.declared.walk.Stage.{Stage}
 use Rattle.lot_store.specs.declared.walk.Stage.TheVariants.{Going, Complete, Ended}
@@ -83,7 +83,7 @@ module _ {S Place Row Asked Shown : Type 0} (g : Ghosts S) (shown : Row → Show
     pub ended : result ≡ Err fault.Ended ↔ IsTrue (has_ended old)
     pub ends : IsErr result ↔ IsTrue (has_ended new)
     -- a book that needs reopening gives no row, and only a failure of the device makes it need that
-    pub reopen : result ≡ Err (fault.Failed NeedsReopen) ↔ ((old.stage ≡ Going) × (old.book.now.condition ≡ Spent))
+    pub reopen : result ≡ Err (fault.Failed NeedsReopen) ↔ ((old.stage ≡ Going) × (old.book.now.condition ≡ MustReopen))
     pub condition : new.book.now.condition ≡ condition_of old.book.now.condition result
     pub failed : HasCleanDisk (state g new.book.now.conn) → result ≡ Err (fault.Failed Device)
         → DiskFailed (state g old.book.now.conn) (state g new.book.now.conn)

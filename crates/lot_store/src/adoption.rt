@@ -1,6 +1,6 @@
 ghost use Rattle.std.specs.Prelude.{◌≡◌, ◌≢◌, [], ◌∷◌, false, Err, IfErr, IfOk, None, Ok, OnErr, OnOk};
 ghost use Rattle.lot_rows.specs.Tables.{Has, Tables};
-ghost use Rattle.lot_store.specs.Create.{IsHandedBack, Tells, TellsColumns, TellsOf};
+ghost use Rattle.lot_store.specs.Create.{IsHandedBack, TellsBook, TellsColumns, TellsOf};
 ghost use Rattle.lot_table.specs.Book.{IsUndone};
 ghost use Rattle.sqlite.specs.Held.{state};
 ghost use Rattle.sqlite.specs.State.{HasCleanDisk, IsUnchanged, Survives};
@@ -8,6 +8,7 @@ ghost use Rattle.sqlite.specs.State.{HasCleanDisk, IsUnchanged, Survives};
 use crate::book::{Book, Condition};
 use crate::fault::{AdoptFault, HandedBack};
 use lot_rows::book::BookRow;
+use lot_stored::EDITION;
 use lot_table::{TableRow, ask};
 use sqlite::{Alter, Connection, Row};
 use std::alloc::Global;
@@ -27,9 +28,9 @@ pub fn adopt<S: Alter>(
     ensures tells_ok { IfOk result (λ book. HasCleanDisk (state S.Store book.conn) → TellsOf (state S.Store conn) (state S.Store book.conn) (Ok tt)) }
     ensures tells_err { IfErr result (λ left. HasCleanDisk (state S.Store left.conn) → TellsOf (state S.Store conn) (state S.Store left.conn) (Err left.fault)) }
     // Of a database that has the tables of a book.
-    ensures found { IfOk result (λ book. HasCleanDisk (state S.Store book.conn) → (tables : Tables) → Has (state S.Store conn) tables → Tells tables.book (Ok tt)) }
+    ensures found { IfOk result (λ book. HasCleanDisk (state S.Store book.conn) → (tables : Tables) → Has (state S.Store conn) tables → TellsBook tables.book (Ok tt)) }
     ensures refused { IfErr result (λ left. HasCleanDisk (state S.Store left.conn) → left.fault ≢ AdoptFault.Device
-        → (tables : Tables) → Has (state S.Store conn) tables → Tells tables.book (Err left.fault)) }
+        → (tables : Tables) → Has (state S.Store conn) tables → TellsBook tables.book (Err left.fault)) }
     ensures same { IfOk result (λ book. HasCleanDisk (state S.Store book.conn) → IsUnchanged (state S.Store conn) (state S.Store book.conn)) }
     ensures handed_back { IfErr result (λ left. HasCleanDisk (state S.Store left.conn) → IsHandedBack (state S.Store conn) (state S.Store left.conn)) }
     ensures undone { IfErr result (λ left. HasCleanDisk (state S.Store left.conn) → IsUndone (state S.Store conn) (state S.Store left.conn)) }
@@ -51,7 +52,7 @@ fn tell<S: Alter>(alloc: Global, conn: &mut Connection<S>) -> Result<(), AdoptFa
     requires { conn.old.step_limit ≡ None }
     ensures tells { HasCleanDisk (state S.Store conn.new) → TellsOf (state S.Store conn.old) (state S.Store conn.new) result }
     ensures of_book { HasCleanDisk (state S.Store conn.new) → result ≢ Err AdoptFault.Device
-        → (tables : Tables) → Has (state S.Store conn.old) tables → Tells tables.book result }
+        → (tables : Tables) → Has (state S.Store conn.old) tables → TellsBook tables.book result }
     ensures same { HasCleanDisk (state S.Store conn.new) → OnOk result (IsUnchanged (state S.Store conn.old) (state S.Store conn.new)) }
     ensures undone { HasCleanDisk (state S.Store conn.new) → OnErr result (IsUndone (state S.Store conn.old) (state S.Store conn.new)) }
     ensures crash { Survives (state S.Store conn.old) (state S.Store conn.new) (λ _. ⊥) }
@@ -73,13 +74,13 @@ fn tell_rows(alloc: Global, rows: &[Row]) -> Result<(), AdoptFault>
 
 /// Tells the same from the one row.
 fn tell_row(book: &BookRow) -> Result<(), AdoptFault>
-    ensures tells { Tells (book.now ∷ []) result }
+    ensures tells { TellsBook (book.now ∷ []) result }
     ensures no_memory { result ≢ Err AdoptFault.Memory }
 {
     if book.mark.as_str() != "lot-book" || book.edition < 1 {
         return Err(AdoptFault::NotABook);
     }
-    if book.edition > 1 {
+    if book.edition > EDITION {
         return Err(AdoptFault::NewerEdition);
     }
     Ok(())

@@ -1,7 +1,8 @@
 ghost use Rattle.std.specs.Prelude.{◌≡◌, ◌≢◌, ◌↔◌, false, Err, IsTrue, None, OnErr};
-ghost use Rattle.lot_look.specs.Kept.{IsOf};
+ghost use Rattle.lot_load.specs.Kept.{IsOf};
 ghost use Rattle.lot_store.specs.Apply.{Applies, AppliesWith, RefusedByDevice, RefusedByDeviceWith, condition_after, ready_of, verdict_of};
-ghost use Rattle.lot_store.specs.Step.{LeavesTables, Steps, StepsOverRows, condition_from};
+ghost use Rattle.lot_store.specs.Step.{LeavesTables, condition_from};
+ghost use Rattle.lot_walk.specs.Step.{Steps, StepsOverRows};
 ghost use Rattle.lot_store.specs.declared.fault.ApplyFault.TheVariants.{Failed};
 ghost use Rattle.lot_table.specs.Statement.{DiskFailed};
 ghost use Rattle.sqlite.specs.Held.{state};
@@ -10,14 +11,13 @@ ghost use Rattle.sqlite.specs.Tree.{Trees};
 
 use crate::commit::commit;
 use crate::fault::{ApplyFault, StoreFault};
-use crate::walk::Place;
-use lot_command::{Command, Key};
+use lot_command::{Command, Key, is_sayable};
 use lot_ledger::{Outcome, Stop, decide};
-use lot_look::{Kept, look_on};
-use lot_print::is_sayable;
-use lot_record::laws::what_is_written_stands_for_the_book;
-use lot_record::writes;
+use lot_load::{Kept, look_on};
 use lot_table::Fault;
+use lot_walk::Place;
+use lot_write::laws::what_is_written_stands_for_the_book;
+use lot_write::writes;
 use sqlite::{Alter, Connection};
 use std::alloc::Global;
 
@@ -31,7 +31,7 @@ pub enum Ack {
 }
 
 /// Whether a book can be used.
-#[derive(Clone, Copy, Debug, PartialEq, Eq)]
+#[derive(Clone, Copy)]
 pub(crate) enum Condition {
     Ready,
     /// The device failed, or a commit is in doubt.

@@ -1,6 +1,6 @@
 ghost use Rattle.std.specs.Prelude.{◌≡◌, ◌≢◌, ◌⊎◌, false, Err, IsTrue, None, OnErr, OnOk};
-ghost use Rattle.lot_record.specs.Call.{Stops};
-ghost use Rattle.lot_record.specs.Write.{AreFit};
+ghost use Rattle.lot_write.specs.Call.{Stops};
+ghost use Rattle.lot_write.specs.Write.{AreFit};
 ghost use Rattle.lot_rows.specs.Tables.{Has, Tables};
 ghost use Rattle.lot_store.specs.Apply.{MayWrite, WritesDown, commit_outcome};
 ghost use Rattle.lot_store.specs.declared.fault.StoreFault.TheVariants.{Damaged, Device, InDoubt, NeedsReopen};
@@ -9,7 +9,7 @@ ghost use Rattle.sqlite.specs.Held.{state};
 ghost use Rattle.sqlite.specs.State.{HasCleanDisk, KeepsCommit, Survives};
 
 use crate::fault::StoreFault;
-use lot_record::{Write, write_all};
+use lot_write::{Write, write_all};
 use sqlite::{Alter, Connection, Error, ErrorCode};
 
 /// Writes rows in one commit.

@@ -1,6 +1,6 @@
 ghost use Rattle.std.specs.Prelude.{◌≡◌, [], false, Err, IfErr, IfOk, IsTrue, None, OnErr, OnOk};
-ghost use Rattle.lot_filed.specs.Rows.{this_edition};
-ghost use Rattle.lot_filed.specs.StandFor.{Left, Stands};
+ghost use Rattle.lot_stored.specs.Rows.{this_edition};
+ghost use Rattle.lot_stored.specs.StandFor.{Left, Stands};
 ghost use Rattle.lot_rows.specs.Tables.{table_names};
 ghost use Rattle.lot_store.specs.Create.{IsHandedBack, RefusedFor, StandsForNone, create_outcome};
 ghost use Rattle.lot_table.specs.Make.{is_taken};
@@ -13,6 +13,7 @@ use crate::book::{Book, Condition};
 use crate::fault::{CreateFault, HandedBack};
 use lot_rows::book::{self, BookRow};
 use lot_rows::tables;
+use lot_stored::EDITION;
 use lot_table::AnyText;
 use sqlite::{Alter, Connection, Error, ErrorCode, Transaction};
 use std::alloc::{AllocError, Global};
@@ -84,7 +85,7 @@ fn edition_row(alloc: Global) -> Result<BookRow, AllocError>
 {
     Ok(BookRow {
         mark: AnyText::new(String::from_str(alloc, "lot-book")?),
-        edition: 1,
+        edition: EDITION,
     })
 }
 

@@ -5,8 +5,6 @@
 //! - `commit`: rows written in one commit.
 //! - `run`: commands applied one after another, with a reply to each.
 //! - `walk`: walks over the rows of a book, and why one gives none.
-//! - `price`: the price of a pair at a day.
-//! - `laws`: of what a book holds, and of its prices at a day.
 //! - `fault`: why a call fails.
 #![tactic(auto)]
 
@@ -15,8 +13,6 @@ mod book;
 mod commit;
 mod creation;
 mod fault;
-pub mod laws;
-mod price;
 mod run;
 mod walk;
 
@@ -24,6 +20,6 @@ pub use adoption::adopt;
 pub use book::{Ack, Book};
 pub use creation::create;
 pub use fault::{AdoptFault, ApplyFault, CreateFault, HandedBack, StoreFault};
-pub use price::PairPrice;
+pub use lot_walk::{PairPrice, laws};
 pub use run::{Ending, RunEnd};
 pub use walk::{Gains, Holdings, Journal, Prices, Walk, WalkFault};

@@ -1,5 +1,5 @@
 ghost use Rattle.std.specs.Prelude.{◌≡◌, ◌≢◌, ◌+◌, ◌<◌, ◌^◌, [], ◌∷◌, length, IsOk, IsTrue};
-ghost use Rattle.lot_look.specs.Kept.{IsOf};
+ghost use Rattle.lot_load.specs.Kept.{IsOf};
 ghost use Rattle.lot_report.specs.Printed.{reply};
 ghost use Rattle.lot_store.specs.Run.{FlushesLine, RepliesTo, RunsBook, StopsAtOnce, StopsWith, WritesOut, count_refused, flush_outcome, told};
 ghost use Rattle.lot_store.specs.declared.run.Ending.TheVariants.{Stopped};
@@ -10,7 +10,7 @@ use crate::book::{Ack, Book, Condition};
 use crate::fault::{ApplyFault, StoreFault};
 use lot_command::{Command, Key};
 use lot_ledger::Verdict;
-use lot_look::Kept;
+use lot_load::Kept;
 use lot_report::{PrintFault, print_line, print_reply};
 use sqlite::Alter;
 use std::io::{self, Write};

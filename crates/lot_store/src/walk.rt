@@ -1,27 +1,33 @@
 //! Walks over the rows of a book: each is a value that borrows the book, and gives one row after another.
-//!
-//! - `place`: where a walk is among the rows.
-//! - `journal`: the entries; `holdings`: what accounts hold; `gains`: the sales of a range of days; `prices`: the prices at a
-//!   day.
-
-ghost use Rattle.std.specs.Prelude.{◌≡◌};
-ghost use Rattle.lot_store.specs.Walk.{Walks, WalksOverRows, stage_after};
-
-mod gains;
-mod holdings;
-mod journal;
-mod place;
-mod prices;
+ghost use Rattle.std.specs.Prelude.{◌≡◌, [], List};
+ghost use Rattle.lot_book.specs.Facts.{Entry};
+ghost use Rattle.lot_rows.specs.Tables.{Has, Tables};
+ghost use Rattle.lot_store.specs.Walk.{HasGiven, HasGivenRows, Walks, WalksOverRows, stage_after};
+ghost use Rattle.lot_stored.specs.StandFor.{Stands};
+ghost use Rattle.lot_walk.specs.Gains.{AreSalesWithin, IsBehindSaleRows, IsBehindSales};
+ghost use Rattle.lot_walk.specs.Holdings.{AreHoldings, IsBehindHoldingRows, IsBehindHoldings};
+ghost use Rattle.lot_walk.specs.Journal.{AreEntries, IsBehindEntries, IsBehindEntryRows};
+ghost use Rattle.lot_walk.specs.Prices.{ArePricesAt, IsBehindPriceRows, IsBehindPrices};
+ghost use Rattle.sqlite.specs.Held.{state};
 
 use crate::book::Book;
 use crate::fault::StoreFault;
-pub use gains::Gains;
-pub use holdings::Holdings;
-pub use journal::Journal;
-pub(crate) use place::Place;
-pub use prices::Prices;
+use lot_base::Day;
+use lot_walk::{GainsPlace, HoldingsPlace, JournalPlace, Place, PricesPlace};
 use sqlite::Alter;
 use thiserror::Error;
+
+/// A walk over the sales of a book on the days of a range, in their order, each with its legs.
+pub type Gains<'a, S> = Walk<'a, S, GainsPlace>;
+
+/// A walk over what a book holds: by account, then commodity, the plain units first, then the lots in the order of their keys.
+pub type Holdings<'a, S> = Walk<'a, S, HoldingsPlace>;
+
+/// A walk over the entries of a book, in their order. Each has the canonical text of its command.
+pub type Journal<'a, S> = Walk<'a, S, JournalPlace>;
+
+/// A walk over the prices of a book at a day, by base and quote. A pair without a price at the day isn't given.
+pub type Prices<'a, S> = Walk<'a, S, PricesPlace>;
 
 /// Why a walk gives no row (docs/RULES.md, All codes).
 #[derive(Clone, Copy, Debug, PartialEq, Eq, Error)]
@@ -46,7 +52,7 @@ impl From<StoreFault> for WalkFault {
 }
 
 /// How far a walk is.
-#[derive(Clone, Copy, Debug, PartialEq, Eq)]
+#[derive(Clone, Copy)]
 enum Stage {
     Going,
     /// All rows were given.
@@ -61,6 +67,77 @@ pub struct Walk<'a, S: Alter, P> {
     book: &'a mut Book<S>,
     place: P,
     stage: Stage,
+}
+
+impl<S: Alter> Book<S> {
+    /// Returns a walk over all entries, before the first. It reads nothing yet.
+    pub fn journal(&mut self) -> Journal<'_, S>
+        ensures same_reference { result.book.ghost_name ≡ self.entry.ghost_name }
+        ensures same { result.book.now ≡ self.old }
+        ensures going { result.stage ≡ Stage.Going }
+        ensures begun { (entries : List Entry) → Stands (state S.Store self.old.conn) entries
+            → HasGiven S.Store AreEntries IsBehindEntries result tt entries [] }
+        ensures rows { (tables : Tables) → Has (state S.Store self.old.conn) tables → HasGivenRows S.Store IsBehindEntryRows result tt tables [] }
+    {
+        let place = JournalPlace::new(self.allocator());
+        Walk {
+            book: self,
+            place,
+            stage: Stage::Going,
+        }
+    }
+
+    /// Returns a walk over all that the book holds, before the first row. It reads nothing yet.
+    pub fn holdings(&mut self) -> Holdings<'_, S>
+        ensures same_reference { result.book.ghost_name ≡ self.entry.ghost_name }
+        ensures same { result.book.now ≡ self.old }
+        ensures going { result.stage ≡ Stage.Going }
+        ensures begun { (entries : List Entry) → Stands (state S.Store self.old.conn) entries
+            → HasGiven S.Store AreHoldings IsBehindHoldings result tt entries [] }
+        ensures rows { (tables : Tables) → Has (state S.Store self.old.conn) tables → HasGivenRows S.Store IsBehindHoldingRows result tt tables [] }
+    {
+        let place = HoldingsPlace::new(self.allocator());
+        Walk {
+            book: self,
+            place,
+            stage: Stage::Going,
+        }
+    }
+
+    /// Returns a walk over the sales from the first day to the last, both included, before the first sale. Without a day that
+    /// end is open. It reads nothing yet.
+    pub fn gains(&mut self, first: Option<Day>, last: Option<Day>) -> Gains<'_, S>
+        ensures same_reference { result.book.ghost_name ≡ self.entry.ghost_name }
+        ensures same { result.book.now ≡ self.old }
+        ensures going { result.stage ≡ Stage.Going }
+        ensures begun { (entries : List Entry) → Stands (state S.Store self.old.conn) entries
+            → HasGiven S.Store AreSalesWithin IsBehindSales result (first, last) entries [] }
+        ensures rows { (tables : Tables) → Has (state S.Store self.old.conn) tables → HasGivenRows S.Store IsBehindSaleRows result (first, last) tables [] }
+    {
+        let place = GainsPlace::new(self.allocator(), first, last);
+        Walk {
+            book: self,
+            place,
+            stage: Stage::Going,
+        }
+    }
+
+    /// Returns a walk over the prices at a day, before the first. It reads nothing yet.
+    pub fn prices(&mut self, day: Day) -> Prices<'_, S>
+        ensures same_reference { result.book.ghost_name ≡ self.entry.ghost_name }
+        ensures same { result.book.now ≡ self.old }
+        ensures going { result.stage ≡ Stage.Going }
+        ensures begun { (entries : List Entry) → Stands (state S.Store self.old.conn) entries
+            → HasGiven S.Store ArePricesAt IsBehindPrices result day entries [] }
+        ensures rows { (tables : Tables) → Has (state S.Store self.old.conn) tables → HasGivenRows S.Store IsBehindPriceRows result day tables [] }
+    {
+        let place = PricesPlace::new(self.allocator(), day);
+        Walk {
+            book: self,
+            place,
+            stage: Stage::Going,
+        }
+    }
 }
 
 impl<S: Alter, P: Place> Walk<'_, S, P> {

@@ -4,9 +4,9 @@ use Rattle.std.proofs.lemmas.Str.Ascii.{IsAscii-cons, IsAscii-nil}
 use Rattle.std.proofs.lemmas.Str.{IsUtf8-from_ascii}
 use Rattle.std.specs.List.{AllByRecursion}
 use Rattle.std.specs.Str.{IsAscii, IsUtf8}
-use Rattle.lot_booking.specs.Method.{word_of}
-use Rattle.lot_booking.specs.declared.method.Method.TheVariants.{Strict, Fifo, Lifo, Hifo, Unmatched}
-use Rattle.lot_booking.specs.declared.method.Method.{Method}
+use Rattle.lot_cost.specs.Method.{word_of}
+use Rattle.lot_cost.specs.declared.method.Method.TheVariants.{Strict, Fifo, Lifo, Hifo, Unmatched}
+use Rattle.lot_cost.specs.declared.method.Method.{Method}
 
 ascii : (bs : List ℕ) → AllByRecursion (λ b. b < 128) bs → IsAscii bs
 ascii [] all = IsAscii-nil

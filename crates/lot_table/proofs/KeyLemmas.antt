@@ -24,7 +24,7 @@ use Rattle.sqlite_sql.proofs.QueryLemmas.{key_cmp_total}
 use Rattle.sqlite_value.specs.Keys.{rising}
 use Rattle.sqlite_keyed.specs.Lists.{insert_sorted}
 use Rattle.sqlite_keyed.proofs.ListLemmas.{filter_all, filter-map, all_weaker, ascending-filter, IsPermutation-filter}
-use Rattle.lot_inv.proofs.InventoryLemmas.{is_equal}
+use Rattle.lot_cost.proofs.OrderLemmas.{is_equal}
 use Rattle.lot_table.specs.Rows.{columns, key_order, has_key, HasRows, without_row, with_row}
 
 -- ---- a list in the order of a key

@@ -1,19 +1,10 @@
 -- What a column holds, and which values a book can have there (docs/FORMATS.md, Tables).
-use Rattle.std.specs.Prelude.{◌≢◌, ◌<◌, ◌≤◌, ◌^◌, ℕ, ℤ, pos, List, [], Option, Some, None, IsTrue, IsUtf8, ⊤}
-use Rattle.lot_base.specs.Name.{is_account, is_commodity, is_label}
+use Rattle.std.specs.Prelude.{◌≢◌, ◌<◌, ◌≤◌, ◌^◌, ℕ, ℤ, pos, List, [], Option, Some, None, ⊤}
+use Rattle.lot_base.specs.Name.{IsName, is_label}
 use Rattle.lot_base.specs.Day.{IsDayNumber}
 use Rattle.lot_num.specs.Amount.{IsUnits}
 
--- ---- texts, which are UTF-8
-
-abbrev pub IsAccountText : List ℕ → Type 0
-IsAccountText text = IsUtf8 text × IsTrue (is_account text)
-
-abbrev pub IsCommodityText : List ℕ → Type 0
-IsCommodityText text = IsUtf8 text × IsTrue (is_commodity text)
-
-abbrev pub IsLabelText : List ℕ → Type 0
-IsLabelText text = IsUtf8 text × IsTrue (is_label text)
+-- ---- texts
 
 -- the text of a label, which is empty for none
 abbrev pub label_text : Option (List ℕ) → List ℕ
@@ -22,7 +13,7 @@ label_text (Some label) = label
 
 abbrev pub IsLabelOrNone : Option (List ℕ) → Type 0
 IsLabelOrNone None = ⊤
-IsLabelOrNone (Some label) = IsLabelText label
+IsLabelOrNone (Some label) = IsName is_label label
 
 -- ---- numbers
 

@@ -8,15 +8,16 @@ ghost use Rattle.sqlite_value.specs.Order.{column};
 ghost use Rattle.sqlite_value.specs.Value.{owned};
 ghost use Rattle.lot_base.specs.Day.{IsDayNumber};
 ghost use Rattle.lot_num.specs.Amount.{IsRate, IsUnits};
-ghost use Rattle.lot_booking.specs.Method.{word_of};
-ghost use Rattle.lot_table.specs.Cell.{IsAccountText, IsCommodityText, IsLabelText, IsLabelOrNone, IsDayOrNone, IsOrdinal, IsPlace, IsSum, label_text};
+ghost use Rattle.lot_cost.specs.Method.{word_of};
+ghost use Rattle.lot_base.specs.Name.{IsName, is_account, is_commodity, is_label};
+ghost use Rattle.lot_table.specs.Cell.{IsLabelOrNone, IsDayOrNone, IsOrdinal, IsPlace, IsSum, label_text};
 
 use crate::any_text::AnyText;
 use crate::fault::Fault;
 use crate::ordinal::Ordinal;
 use crate::sum::Sum;
 use lot_base::{Account, Commodity, Day, Label};
-use lot_booking::Method;
+use lot_cost::Method;
 use lot_num::{Rate, Units};
 use sqlite::Row;
 use sqlite::types::ValueRef;
@@ -119,7 +120,7 @@ impl Cell for Rate {
 impl Cell for Account {
     ghost cell = { Text };
 
-    ghost IsGood = { IsAccountText };
+    ghost IsGood = { IsName is_account };
 
     fn to_cell(&self) -> ValueRef<'_> {
         ValueRef::Text(self.as_str().as_bytes())
@@ -134,7 +135,7 @@ impl Cell for Account {
 impl Cell for Commodity {
     ghost cell = { Text };
 
-    ghost IsGood = { IsCommodityText };
+    ghost IsGood = { IsName is_commodity };
 
     fn to_cell(&self) -> ValueRef<'_> {
         ValueRef::Text(self.as_str().as_bytes())
@@ -149,7 +150,7 @@ impl Cell for Commodity {
 impl Cell for Label {
     ghost cell = { Text };
 
-    ghost IsGood = { IsLabelText };
+    ghost IsGood = { IsName is_label };
 
     fn to_cell(&self) -> ValueRef<'_> {
         ValueRef::Text(self.as_str().as_bytes())

@@ -1,17 +1,8 @@
-//! Ledger text: which commands it says.
+//! Ledger text, both ways: which commands a text says (`read`), and the text that says a command (`print`).
 //!
-//! - `reader`: the commands of a text, or its first faulty line.
-//! - `line`: what one line says.
-//! - `statement`: what a line may say, and why nothing is added for it.
-//! - `fault`: what is wrong with a text, and with a line.
-//! - `laws`: laws of the definitions that the contract of `read` cites.
+//! It passes on the public names of two crates, so that a caller has them in one place: `lot_read` reads, and `lot_print` prints
+//! and says that what is printed reads back. Their definitions and laws stand there.
 #![tactic(auto)]
 
-mod fault;
-pub mod laws;
-mod line;
-mod reader;
-mod statement;
-
-pub use fault::{LineFault, TextFault};
-pub use reader::read;
+pub use lot_print::print;
+pub use lot_read::{LineFault, TextFault, read};

@@ -18,7 +18,7 @@ use Rattle.lot_base.proofs.MapLemmas.{found_by_order, keys_sorted, none_below}
 use Rattle.lot_base.proofs.OptionLemmas.{or_none}
 use Rattle.lot_inv.specs.Inventory.{Held, Position as Place, position_cmp as place_cmp, non_zero, units_at}
 use Rattle.lot_inv.specs.Zeros.{HasNoZeros}
-use Rattle.lot_inv.proofs.InventoryLemmas.{eq_then, is_equal}
+use Rattle.lot_cost.proofs.OrderLemmas.{eq_then, is_equal}
 use Rattle.lot_book.specs.declared.holding.Holding.{Holding}
 use Rattle.lot_book.specs.declared.leg.Position.{Position}
 use Rattle.lot_book.specs.Facts.{Facts}

@@ -18,7 +18,7 @@ use Rattle.std.proofs.lemmas.Map.Views.{All-contains_from_tree_list}
 use Rattle.std.proofs.lemmas.Map.Lookups.{CmpEqualImpliesEq, exact_bytes}
 use Rattle.lot_base.specs.Text.{text_cmp}
 use Rattle.lot_base.proofs.OrderLemmas.{equal_parts}
-use Rattle.lot_inv.proofs.InventoryLemmas.{is_equal}
+use Rattle.lot_cost.proofs.OrderLemmas.{is_equal}
 use Rattle.lot_command.specs.declared.command.Command.{Command}
 use Rattle.lot_book.specs.declared.change.Pair.{Pair}
 use Rattle.lot_view.specs.declared.touched.Touched.{Touched}

@@ -13,7 +13,7 @@ use Rattle.lot_base.specs.Text.{same_text, text_cmp}
 use Rattle.std.proofs.lemmas.Map.Keys.{sorted_head}
 use Rattle.lot_base.proofs.MapLemmas.{none_below}
 use Rattle.lot_base.proofs.TextLemmas.{one_text, same_text-ordered}
-use Rattle.lot_inv.proofs.InventoryLemmas.{eq_then}
+use Rattle.lot_cost.proofs.OrderLemmas.{eq_then}
 use Rattle.lot_command.specs.declared.command.Opening.{Opening}
 use Rattle.lot_book.specs.declared.change.Pair.{Pair}
 use Rattle.lot_inv.specs.Inventory.{Held, Position, added, units_at, with_units}

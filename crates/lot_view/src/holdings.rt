@@ -5,7 +5,7 @@ ghost use Rattle.lot_view.specs.Holdings.{entries_in};
 
 use lot_base::{Account, Commodity};
 use lot_book::Holding;
-use lot_inv::LotKey;
+use lot_cost::LotKey;
 use lot_num::Units;
 use std::alloc::AllocError;
 

@@ -1,9 +1,11 @@
-//! The book in the file that the words name.
+//! The book that the words name.
 
-use lot_serve::{Served, serve};
-use lot_words::Action;
-use sqlite::{Connection, Error, ErrorCode};
-use std::io::Write;
+ghost use Rattle.std.specs.Prelude.{◌≡◌, None, false};
+
+use crate::output::Output;
+use crate::{STOPPED, out_of_memory};
+use lot_cli::{Action, Served, serve};
+use sqlite::{Alter, Connection, Error, ErrorCode, File, FileStore};
 use std::path::Path;
 use std::{fs, io};
 
@@ -11,50 +13,79 @@ use std::{fs, io};
 /// fault is greater.
 const REFUSED: u8 = 1;
 
-/// The status where the file can't be opened, or memory ends.
-const STOPPED: u8 = 4;
-
-/// Does what an action asks for on the book in the file of that path, and returns the status of the program.
-///
-/// The file is opened before anything is read. Where it can't be opened, one line says so.
-pub fn serve_file<W: Write>(rt: &HostRuntime, action: &Action, path: &str, output: &mut W) -> u8 {
-    match Connection::open(rt, path) {
-        Ok(conn) => {
-            let Served { status, conn } = serve(rt.alloc(), action, &mut rt.reader(), output, conn);
-            if status <= REFUSED {
-                // Commits are safe in the log beside the file, also where it can't be copied into the file.
-                let _ = conn.close();
-            }
-            status
-        }
-        Err(error) => unopened(rt, path, error),
-    }
+/// Does what an action asks for, and returns the status of the program.
+pub fn act(rt: &HostRuntime, action: &Action) -> u8 {
+    let mut output = match action {
+        Action::Post { .. } => Output::of_replies(rt, "commands"),
+        Action::Import { .. } => Output::of_replies(rt, "rows"),
+        _ => Output::of_text(rt),
+    };
+    let status = match action {
+        Action::Check => serve_nothing(rt, action, &mut output),
+        Action::Init { book } => serve_file(rt, action, book.as_str(), &mut output),
+        Action::Post { book, .. }
+        | Action::Import { book, .. }
+        | Action::Holdings { book, .. }
+        | Action::Gains { book, .. }
+        | Action::Journal { book } => serve_existing(rt, action, book.as_str(), &mut output),
+    };
+    output.end();
+    status
 }
 
 /// Does what an action asks for on the book that is in the file of that path; where there is none, on an empty database of
 /// which nothing stays.
-pub fn serve_existing<W: Write>(
-    rt: &HostRuntime,
-    action: &Action,
-    path: &str,
-    output: &mut W,
-) -> u8 {
-    if !is_missing(rt, path) {
-        return serve_file(rt, action, path, output);
+fn serve_existing(rt: &HostRuntime, action: &Action, path: &str, output: &mut Output<'_>) -> u8 {
+    if is_missing(rt, path) {
+        serve_nothing(rt, action, output)
+    } else {
+        serve_file(rt, action, path, output)
     }
+}
+
+/// Does what an action asks for on the book in the file of that path.
+///
+/// The file is opened before anything is read. Where it can't be opened, one line says so.
+fn serve_file(rt: &HostRuntime, action: &Action, path: &str, output: &mut Output<'_>) -> u8 {
+    match Connection::open(rt, path) {
+        Ok(conn) => closed(served(rt, action, output, conn)),
+        Err(error) => unopened(rt, path, error),
+    }
+}
+
+/// Closes the file of an action that ran to its end, and returns the status.
+fn closed(served: Served<FileStore<File>>) -> u8 {
+    let Served { status, conn } = served;
+    if status <= REFUSED {
+        // Commits are safe in the log beside the file, also where it can't be copied into the file.
+        let _ = conn.close();
+    }
+    status
+}
+
+/// Does what an action asks for on an empty database in memory.
+fn serve_nothing(rt: &HostRuntime, action: &Action, output: &mut Output<'_>) -> u8 {
     match Connection::open_in_memory(rt.alloc()) {
         Ok(conn) => {
-            let Served { status, conn: _ } = serve(
-                rt.alloc(),
-                action,
-                &mut rt.reader(),
-                output,
-                conn,
-            );
+            let Served { status, conn: _ } = served(rt, action, output, conn);
             status
         }
         Err(_) => out_of_memory(rt),
     }
+}
+
+/// Does what an action asks for on the book that the connection leads to, with standard input. All that `serve` says is left out
+/// here, so that its callers are proved without it.
+fn served<S: Alter>(
+    rt: &HostRuntime,
+    action: &Action,
+    output: &mut Output<'_>,
+    conn: Connection<S>,
+) -> Served<S>
+    requires outside { conn.in_transaction ≡ false }
+    requires unlimited { conn.step_limit ≡ None }
+{
+    serve(rt.alloc(), action, &mut rt.reader(), output, conn)
 }
 
 /// Returns whether there is no file of that path in a folder that is there.
@@ -69,7 +100,7 @@ fn has_folder(rt: &HostRuntime, path: &str) -> bool {
     match Path::new(path).parent() {
         // A name alone is one in the folder in which the program runs.
         Some(folder) if !folder.as_str().is_empty() => {
-            fs::metadata(rt, folder).is_ok_and(|found| found.is_dir())
+            matches!(fs::metadata(rt, folder), Ok(found) if found.is_dir())
         }
         _ => !path.is_empty(),
     }
@@ -82,11 +113,5 @@ fn unopened(rt: &HostRuntime, path: &str, error: Error) -> u8 {
     }
     let _ = println!(rt; "fault open");
     let _ = eprintln!(rt; "lotbook: {path}: {error}");
-    STOPPED
-}
-
-/// Reports that memory ended.
-fn out_of_memory(rt: &HostRuntime) -> u8 {
-    let _ = println!(rt; "fault Memory");
     STOPPED
 }

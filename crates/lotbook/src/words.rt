@@ -1,35 +1,29 @@
 //! The words of the program.
 
-use lot_words::{Action, WordsFault, parse_words};
+use crate::{STOPPED, out_of_memory};
+use lot_cli::{Action, WordsFault, parse_words};
 use std::env;
 use std::io::{self, ErrorKind};
 
-/// What the words of the program come to.
-pub enum Asked {
-    /// They ask for an action.
-    Action(Action),
-    /// They are answered, and the program ends with this status.
-    Answered(u8),
-}
-
-/// The status where help was shown.
-const HELPED: u8 = 0;
+/// The status where help or the version was shown.
+const SHOWN: u8 = 0;
 
 /// The status of words that can't be used.
 const UNUSABLE: u8 = 2;
 
-/// The status where the output can't be written, or memory ends.
-const STOPPED: u8 = 4;
-
-/// Returns what the words ask for. Help that is asked for is shown, and words that can't be used are reported.
-pub fn understand(rt: &HostRuntime) -> Asked {
-    let words = match words(rt) {
-        Ok(words) => words,
-        Err(error) => return Asked::Answered(unread(rt, error.kind())),
-    };
-    match parse_words(rt.alloc(), &words) {
-        Ok(action) => Asked::Action(action),
-        Err(fault) => Asked::Answered(answer(rt, &fault)),
+/// Returns the action that the words ask for; else the status of the program, once help or the version was shown, or words
+/// that can't be used were reported.
+pub fn understand(rt: &HostRuntime) -> Result<Action, u8> {
+    match words(rt) {
+        Ok(words) => match parse_words(rt.alloc(), &words) {
+            Ok(action) => Ok(action),
+            Err(fault) => Err(answer(rt, &fault)),
+        },
+        Err(error) if error.kind() == ErrorKind::OutOfMemory => Err(out_of_memory(rt)),
+        Err(_) => {
+            let _ = eprintln!(rt; "error: a word isn't UTF-8");
+            Err(UNUSABLE)
+        }
     }
 }
 
@@ -38,44 +32,18 @@ fn words(rt: &HostRuntime) -> io::Result<Vec<String>> {
     Ok(env::args(rt)?.collect(rt.alloc())?)
 }
 
-/// Reports words that can't be read.
-fn unread(rt: &HostRuntime, kind: ErrorKind) -> u8 {
-    if kind == ErrorKind::OutOfMemory {
-        return out_of_memory(rt);
-    }
-    let _ = eprintln!(rt; "error: a word isn't UTF-8");
-    UNUSABLE
-}
-
-/// Shows help, or reports why words can't be used.
+/// Shows help or the version, or reports why words can't be used, and returns the status.
 fn answer(rt: &HostRuntime, fault: &WordsFault) -> u8 {
     match fault {
-        WordsFault::Usage(error) => {
-            let printed = error.print(rt);
-            if error.use_stderr() {
-                UNUSABLE
-            } else {
-                after_help(&printed)
-            }
-        }
+        WordsFault::Usage(error) => match error.print(rt) {
+            _ if error.use_stderr() => UNUSABLE,
+            Ok(()) => SHOWN,
+            Err(_) => STOPPED,
+        },
         WordsFault::BadValue(option) => {
             let _ = eprintln!(rt; "fault U2 BadValue {option}");
             UNUSABLE
         }
         WordsFault::Memory => out_of_memory(rt),
     }
-}
-
-/// Returns the status after help was printed.
-fn after_help(printed: &io::Result<()>) -> u8 {
-    match printed {
-        Ok(()) => HELPED,
-        Err(_) => STOPPED,
-    }
-}
-
-/// Reports that memory ended.
-fn out_of_memory(rt: &HostRuntime) -> u8 {
-    let _ = println!(rt; "fault Memory");
-    STOPPED
 }

@@ -2,7 +2,7 @@ ghost use Rattle.lot_booking.specs.Order.{highest_first};
 ghost use Rattle.lot_booking.specs.OrderLaws.{highest_is_order};
 
 use crate::order::LotOrder;
-use lot_inv::LotKey;
+use lot_cost::LotKey;
 use std::cmp::Ordering;
 
 /// The lot of the highest cost first: by number descending, then by day, currency and label, each ascending, no label

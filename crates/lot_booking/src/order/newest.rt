@@ -2,7 +2,7 @@ ghost use Rattle.lot_booking.specs.Order.{newest_first};
 ghost use Rattle.lot_booking.specs.OrderLaws.{newest_is_order};
 
 use crate::order::LotOrder;
-use lot_inv::LotKey;
+use lot_cost::LotKey;
 use std::cmp::Ordering;
 
 /// The newest lot first: by day descending, then by currency, number and label, each ascending, no label before every

@@ -2,7 +2,7 @@ ghost use Rattle.lot_booking.specs.Order.{oldest_first};
 ghost use Rattle.lot_booking.specs.OrderLaws.{oldest_is_order};
 
 use crate::order::LotOrder;
-use lot_inv::LotKey;
+use lot_cost::LotKey;
 use std::cmp::Ordering;
 
 /// The oldest lot first: by day, then by currency, number and label, each ascending, no label before every label.

@@ -7,8 +7,7 @@ ghost use Rattle.lot_command.specs.Canonical.{parts_text, given, money, rate_tex
 use crate::price::Price;
 use crate::transaction::{Amount, Posting};
 use lot_base::{Commodity, Day, Label};
-use lot_booking::Cost;
-use lot_inv::CostSpec;
+use lot_cost::{Cost, CostSpec};
 use lot_num::Rate;
 use std::alloc::{AllocError, Global};
 

@@ -1,7 +1,7 @@
 -- One more leg adds what it weighs, which stays in range.
 use Rattle.std.proofs.Common.{◌+◌, ℤ, ◌+ℤ◌, ◌≡◌, ◌∙◌, pos, ◌*ℤ◌, neg_ℤ, ◌<◌, length, get_or, ap, sym, arith}
 use Rattle.lot_num.specs.Amount.{IsWide}
-use Rattle.lot_inv.specs.declared.lot_key.LotKey.{LotKey}
+use Rattle.lot_cost.specs.declared.lot_key.LotKey.{LotKey}
 use Rattle.lot_book.proofs.GainLemmas.{cost_in_range, cost_within}
 use Rattle.lot_book.proofs.GainSums.{sum_over_more}
 use Rattle.lot_book.proofs.gain.cost.Goals as goal

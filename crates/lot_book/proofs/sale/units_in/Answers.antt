@@ -1,7 +1,7 @@
 -- One more leg adds its units.
 use Rattle.std.proofs.Common.{ℤ, arith}
 use Rattle.std.proofs.lemmas.Int.{ints}
-use Rattle.lot_inv.specs.declared.lot_key.LotKey.{LotKey}
+use Rattle.lot_cost.specs.declared.lot_key.LotKey.{LotKey}
 use Rattle.lot_book.proofs.GainSums.{sum_over_more}
 use Rattle.lot_book.proofs.sale.units_in.Goals as goal
 

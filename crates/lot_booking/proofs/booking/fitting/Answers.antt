@@ -3,7 +3,7 @@ use Rattle.std.proofs.Common.{◌≡◌, true, ℤ, filter, sym, subst, ap, ◌�
 use Rattle.std.specs.List.{AllByRecursion}
 use Rattle.std.proofs.lemmas.Fn.{filter_same}
 use Rattle.lot_inv.specs.Inventory.{other_sign}
-use Rattle.lot_inv.specs.declared.lot_key.LotKey.{LotKey}
+use Rattle.lot_cost.specs.declared.lot_key.LotKey.{LotKey}
 use Rattle.lot_booking.specs.Choice.{HaveDistinctKeys}
 use Rattle.lot_booking.proofs.BookLemmas.{each_passes}
 use Rattle.lot_booking.proofs.ChoiceLemmas.{distinct_among}

@@ -4,13 +4,13 @@ use Rattle.std.specs.Prelude.{◌==◌}
 use Rattle.std.specs.List.{AllByRecursion}
 use Rattle.std.proofs.lemmas.Fn.{filter_same}
 use Rattle.lot_inv.specs.Inventory.{matching, other_sign}
-use Rattle.lot_inv.specs.declared.lot_key.LotKey.{LotKey}
+use Rattle.lot_cost.specs.declared.lot_key.LotKey.{LotKey}
 use Rattle.lot_booking.specs.Booking.{fitting, with_number}
 use Rattle.lot_booking.specs.Choice.{HaveDistinctKeys}
 use Rattle.lot_booking.proofs.BookLemmas.{each_passes}
 use Rattle.std.specs.Ordering.{eq_by_cmp}
 use Rattle.std.proofs.lemmas.Map.Made.{IsDistinct-keys_filter}
-use Rattle.lot_inv.specs.LotKey.{lot_cmp}
+use Rattle.lot_cost.specs.LotKey.{lot_cmp}
 use Rattle.lot_booking.proofs.NumberLemmas.{fitting-with_number, none_fits, with_no_number}
 use Rattle.lot_booking.proofs.booking.fitting_at.Goals as goal
 use Rattle.lot_booking.proofs.booking.fitting_at.Goals.{in-Some, in_default}

@@ -1,7 +1,7 @@
 -- Each lot gives what it can of what is still to be taken.
 use Rattle.std.proofs.Common.{rules, arith, ◌≡◌, ◌∙◌, ◌++◌, [], ◌∷◌, ℤ, sym, ap, unsigned_abs}
 use Rattle.std.specs.Prelude.{min}
-use Rattle.lot_inv.specs.declared.lot_key.LotKey.{LotKey}
+use Rattle.lot_cost.specs.declared.lot_key.LotKey.{LotKey}
 use Rattle.lot_booking.proofs.ChoiceLemmas.{held_in-cons}
 use Rattle.lot_booking.proofs.TakeLemmas.{all_after_none, all_after_some, left_after}
 use Rattle.lot_booking.proofs.choice.in_turn.Goals as goal

@@ -1,7 +1,7 @@
 -- The walk along the lots in the order is the choice.
 use Rattle.std.proofs.Common.{rules, arith, ◌≡◌, ◌≤◌, ◌<◌, ℤ, Vec, Global, unsigned_abs}
 use Rattle.std.proofs.lemmas.List.Sorted.{answers_always}
-use Rattle.lot_inv.specs.declared.lot_key.LotKey.{LotKey}
+use Rattle.lot_cost.specs.declared.lot_key.LotKey.{LotKey}
 use Rattle.lot_booking.specs.Choice.{InTurn, Takes, held_in}
 use Rattle.lot_booking.specs.Way.{walked}
 use Rattle.lot_booking.proofs.ChoiceLemmas.{held_in-permuted, no_choice-from_less}

@@ -8,7 +8,7 @@ use Rattle.std.specs.Option.{option_copied_mut, option_cmp}
 use Rattle.std.specs.Ordering.{is_eq}
 use Rattle.lot_base.specs.Text.{text_cmp}
 use Rattle.lot_inv.specs.Inventory.{non_zero}
-use Rattle.lot_inv.specs.LotKey.{lot_cmp}
+use Rattle.lot_cost.specs.LotKey.{lot_cmp}
 use Rattle.lot_inv.proofs.SetLemmas.{on_err, found_changed, found_alike, changes_inserted, none_empty, set_nothing, something_set}
 use Rattle.lot_inv.proofs.inventory.set.Goals as goal
 

@@ -1,16 +1,18 @@
 -- The legs are those at the lots that the posting comes to; they move as much as the posting.
 use Rattle.std.proofs.Common.{◌≡◌, ◌++◌, ◌∷◌, [], Bool, List, ℤ, sym, ap, subst, ◌∙◌, arith}
 use Rattle.std.proofs.lemmas.Result.{err_from_is_err_and}
-use Rattle.lot_inv.specs.declared.lot_key.LotKey.{LotKey}
+use Rattle.lot_cost.specs.declared.lot_key.LotKey.{LotKey}
 use Rattle.lot_booking.specs.Booking.{ComesTo, Legs}
 use Rattle.lot_booking.specs.Choice.{held_in}
 use Rattle.lot_posting.specs.declared.draft.Draft.{Draft}
 use Rattle.lot_book.specs.declared.leg.Leg.{Leg}
 use Rattle.lot_book.specs.Booking.{Booked, braced, line_of}
 use Rattle.lot_book.specs.Leg.{legs_at_lots, units_moved}
-use Rattle.lot_posting.specs.Posting.{Books, lots_in_legs}
+use Rattle.lot_book.specs.Sale.{lots_in_legs}
+use Rattle.lot_posting.specs.Posting.{Books}
 use Rattle.lot_view.specs.View.{known}
-use Rattle.lot_posting.proofs.PostingLemmas.{AreLegsOf-taken, books, has_lots, held_in-legs, lots_in_legs-lots, no_sale, one_sale, stops_with, units_moved-lots}
+use Rattle.lot_book.proofs.SaleLemmas.{lots_in_legs-lots}
+use Rattle.lot_posting.proofs.PostingLemmas.{AreLegsOf-taken, books, has_lots, held_in-legs, no_sale, one_sale, stops_with, units_moved-lots}
 use Rattle.lot_posting.proofs.posting.book_at_cost.Goals as goal
 use Rattle.lot_posting.proofs.posting.book_at_cost.Goals.{then-reduces+in_ok-sale+in_ok-push, else-reduces}
 

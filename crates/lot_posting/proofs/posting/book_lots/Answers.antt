@@ -3,8 +3,8 @@ use Rattle.std.proofs.Common.{◌≡◌, Option, Some, Result, Ok, Err, refl, sy
 use Rattle.std.specs.Result.{IfOk, IfErr}
 use Rattle.lot_inv.specs.Inventory.{Held, lots_of}
 use Rattle.lot_booking.specs.declared.booking.Booked.{Booked}
-use Rattle.lot_booking.specs.declared.cost.Cost.{Cost}
-use Rattle.lot_booking.specs.declared.method.Method.{Method}
+use Rattle.lot_cost.specs.declared.cost.Cost.{Cost}
+use Rattle.lot_cost.specs.declared.method.Method.{Method}
 use Rattle.lot_booking.specs.Booking.{Braced, ComesTo, Legs, Outcome, Refused as Rejected, posting_of}
 use Rattle.lot_booking.proofs.SameLots.{same_outcome}
 use Rattle.lot_book.specs.declared.refusal.Stop.{Stop}

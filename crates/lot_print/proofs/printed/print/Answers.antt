@@ -2,7 +2,7 @@ use Rattle.std.proofs.Common.{◌≡◌, ℕ, List, [], ◌∷◌, sym, subst}
 use Rattle.std.specs.String.{string_bytes}
 use Rattle.std.proofs.lemmas.Result.{IfOk-weaker}
 use Rattle.lot_command.specs.Canonical.{canonical}
-use Rattle.lot_text.specs.Text.{Reads}
+use Rattle.lot_read.specs.Text.{Reads}
 use Rattle.lot_print.proofs.ReadLemmas.{command_reads}
 use Rattle.lot_print.proofs.printed.print.Goals as goal
 

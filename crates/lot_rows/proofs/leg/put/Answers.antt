@@ -1,5 +1,5 @@
 use Rattle.std.proofs.Common.{pos}
-use Rattle.lot_inv.specs.declared.lot_key.LotKey.{LotKey}
+use Rattle.lot_cost.specs.declared.lot_key.LotKey.{LotKey}
 use Rattle.lot_table.proofs.CastLemmas.{bound_maybe_int, bound_maybe_text}
 use Rattle.lot_table.specs.Cell.{label_text}
 use Rattle.sqlite.specs.Held.{state}

@@ -7,8 +7,8 @@ use Rattle.lot_book.specs.declared.refusal.Stop.TheVariants.{Refused}
 use Rattle.lot_laws.proofs.RecordedBook.{room_where_decided}
 use Rattle.lot_ledger.specs.Decide.{Comes}
 use Rattle.lot_ledger.specs.declared.decision.Outcome.TheVariants.{Accept, Repeat}
-use Rattle.lot_look.specs.Kept.{IsOf, Keeps, seen}
-use Rattle.lot_record.specs.Writes.{writes_of}
+use Rattle.lot_load.specs.Kept.{IsOf, Keeps, seen}
+use Rattle.lot_write.specs.Writes.{writes_of}
 use Rattle.lot_store.specs.Apply.{store_fault_of}
 use Rattle.lot_store.specs.declared.fault.StoreFault.TheVariants.{Device}
 use Rattle.lot_store.proofs.ApplyLemmas.{LooksOn, accepts, fails, refused, refused_number, refuses, repeats}

@@ -2,7 +2,7 @@ use Rattle.std.proofs.Common.{◌≡◌, ◌∙◌, ◌⊎◌, Err, ap, rules, s
 use Rattle.std.proofs.lemmas.Result.{err_from_is_err_and}
 use Rattle.sqlite.specs.Held.{state}
 use Rattle.sqlite.specs.State.{HasCleanDisk}
-use Rattle.lot_record.specs.Call.{Stops}
+use Rattle.lot_write.specs.Call.{Stops}
 use Rattle.lot_table.specs.Statement.{DiskFailed}
 use Rattle.lot_store.specs.declared.fault.StoreFault.TheVariants.{Device}
 use Rattle.lot_store.proofs.CommitLemmas.{of_device, refused_undone}

@@ -2,7 +2,7 @@ use Rattle.std.proofs.Common.{◌≡◌, [], OnOk, arith, rules, subst}
 use Rattle.sqlite.specs.Held.{state}
 use Rattle.sqlite.specs.State.{HasCleanDisk, Survives}
 use Rattle.sqlite.specs.Tree.{Trees}
-use Rattle.lot_filed.specs.StandFor.{Left, Stands}
+use Rattle.lot_stored.specs.StandFor.{Left, Stands}
 use Rattle.lot_table.specs.Shape.{schema_of}
 use Rattle.lot_table.proofs.BookLemmas.{on_ok}
 use Rattle.lot_store.proofs.ApplyLemmas.{stands_along}

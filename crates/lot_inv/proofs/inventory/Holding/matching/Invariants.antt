@@ -1,6 +1,6 @@
 use Rattle.std.proofs.Common.{◌≡◌, ◌++◌, filter, ℤ}
-use Rattle.lot_inv.specs.CostSpec.{fits}
-use Rattle.lot_inv.specs.declared.lot_key.LotKey.{LotKey}
+use Rattle.lot_cost.specs.CostSpec.{fits}
+use Rattle.lot_cost.specs.declared.lot_key.LotKey.{LotKey}
 use Rattle.lot_inv.proofs.inventory.Holding.matching.Given as goal
 
 -- the fitting lots so far and those of what is left are those of all

@@ -1,7 +1,7 @@
 -- A lot that is set leaves the others as they were.
 use Rattle.std.specs.BTreeMap.{get}
 use Rattle.std.specs.Ordering.{is_eq}
-use Rattle.lot_inv.specs.LotKey.{lot_cmp}
+use Rattle.lot_cost.specs.LotKey.{lot_cmp}
 use Rattle.lot_inv.proofs.SetLemmas.{kept_when_set}
 use Rattle.lot_inv.proofs.inventory.Holding.set.Goals as goal
 

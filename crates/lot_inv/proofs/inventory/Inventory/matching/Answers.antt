@@ -4,9 +4,9 @@ use Rattle.std.proofs.Common.{subst}
 use Rattle.std.specs.List.Sorted.{IsStrictlySortedBy}
 use Rattle.std.specs.Map.{keys_of}
 use Rattle.std.proofs.lemmas.Result.{IfOk-weaker}
-use Rattle.lot_inv.specs.CostSpec.{fits}
-use Rattle.lot_inv.specs.declared.lot_key.LotKey.{LotKey}
-use Rattle.lot_inv.specs.LotKey.{lot_cmp}
+use Rattle.lot_cost.specs.CostSpec.{fits}
+use Rattle.lot_cost.specs.declared.lot_key.LotKey.{LotKey}
+use Rattle.lot_cost.specs.LotKey.{lot_cmp}
 use Rattle.lot_inv.proofs.InventoryLemmas.{lots_seen, lots_at}
 use Rattle.lot_inv.proofs.LawLemmas.{sorted_matching}
 use Rattle.lot_inv.proofs.inventory.Inventory.matching.Goals as goal

@@ -2,7 +2,7 @@
 use Rattle.std.proofs.Common.{◌≢◌, [], ℤ, List, OnErr, option_copied, refl, sym, subst, ap, ◌∙◌}
 use Rattle.std.specs.List.Sorted.{IsStrictlySortedBy}
 use Rattle.std.proofs.lemmas.Result.{IfOk-weaker}
-use Rattle.lot_inv.specs.declared.lot_key.LotKey.{LotKey}
+use Rattle.lot_cost.specs.declared.lot_key.LotKey.{LotKey}
 use Rattle.lot_inv.proofs.InventoryLemmas.{holding_seen, lots_at, lots_seen}
 use Rattle.lot_inv.proofs.OnlyLotsLemmas.{only-with_lots}
 use Rattle.lot_inv.proofs.inventory.Inventory.only_lots.Goals as goal

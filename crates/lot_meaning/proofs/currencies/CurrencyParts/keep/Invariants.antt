@@ -1,6 +1,6 @@
 -- Those that are kept are the first ones.
 use Rattle.std.proofs.Common.{◌≡◌, map, take}
-use Rattle.lot_form.specs.Head.{seen_text}
+use Rattle.lot_form.specs.Header.{seen_text}
 use Rattle.lot_meaning.proofs.currencies.CurrencyParts.keep.Given as goal
 
 abbrev pub invariant-loop-word : goal.invariant-loop-word

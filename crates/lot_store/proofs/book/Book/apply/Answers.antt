@@ -1,6 +1,6 @@
 use Rattle.sqlite.specs.Held.{state}
 use Rattle.std.specs.Prelude.{None}
-use Rattle.lot_look.specs.Kept.{IsOf}
+use Rattle.lot_load.specs.Kept.{IsOf}
 use Rattle.lot_store.proofs.ApplyLemmas.{with_nothing}
 use Rattle.lot_store.proofs.book.Book.apply.Goals as goal
 

@@ -1,7 +1,7 @@
 use Rattle.std.proofs.Common.{◌∙◌, sym}
 use Rattle.std.proofs.lemmas.Result.{err_from_is_err_and}
 use Rattle.sqlite.specs.Held.{state}
-use Rattle.lot_look.specs.Kept.{IsOf}
+use Rattle.lot_load.specs.Kept.{IsOf}
 use Rattle.lot_store.proofs.RunLemmas.{reply_cut, reply_stops}
 use Rattle.lot_store.proofs.book.Book.reply.Goals as goal
 

@@ -1,6 +1,6 @@
 use Rattle.std.proofs.Common.{◌≡◌, ◌∙◌, ◌+◌, ◌∷◌, [], None, arith, length, refl, subst, sym}
 use Rattle.sqlite.specs.Held.{state}
-use Rattle.lot_look.specs.Kept.{IsOf}
+use Rattle.lot_load.specs.Kept.{IsOf}
 use Rattle.lot_store.specs.Run.{StopsWith}
 use Rattle.lot_store.proofs.RunLemmas.{SoFar, few_refused, ready_fault, ready_ok, reply_usable, run_completes, run_ends, run_needs_reopening, so_far_next, so_far_none, spent_if}
 use Rattle.lot_store.proofs.book.Book.run.Goals as goal

@@ -1,6 +1,6 @@
 use Rattle.std.proofs.Common.{◌≡◌}
 use Rattle.sqlite.specs.Held.{state}
-use Rattle.lot_look.specs.Kept.{IsOf}
+use Rattle.lot_load.specs.Kept.{IsOf}
 use Rattle.lot_store.specs.declared.book.Condition.TheVariants.{Ready}
 use Rattle.lot_store.proofs.RunLemmas.{SoFar}
 use Rattle.lot_store.proofs.book.Book.run.Given as goal

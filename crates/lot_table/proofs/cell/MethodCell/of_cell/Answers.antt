@@ -1,4 +1,4 @@
-use Rattle.lot_booking.specs.Method.{word_of}
+use Rattle.lot_cost.specs.Method.{word_of}
 use Rattle.lot_table.proofs.CellLemmas.{word_is_utf8}
 use Rattle.lot_table.proofs.cell.MethodCell.of_cell.Goals as goal
 

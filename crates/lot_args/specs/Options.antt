@@ -1,0 +1,69 @@
+-- The values of options, and which of them are outside their rules.
+use Rattle.std.specs.Prelude.{if◌then◌else◌, ℤ, Bool, true, not, is_some, List, [], ◌∷◌, Option, codes, find, option_and_then, unwrap_or}
+use Rattle.std.specs.Str.{bytes_eq}
+use Rattle.std.specs.Option.{option_map_or}
+use Rattle.clap.specs.Words.{Row, Text, first_of}
+use Rattle.lot_base.specs.Day.{named_day}
+use Rattle.lot_base.specs.Name.{is_account}
+use Rattle.lot_args.specs.Batch.{is_batch}
+use Rattle.lot_args.specs.declared.fault.BadOption.{BadOption}
+use Rattle.lot_args.specs.declared.fault.BadOption.TheVariants.{Batch, Invest, Cash, Fees, Gains, Day, First, Last}
+
+-- ---- values
+
+-- the value of an option, empty where there is none
+abbrev pub value_of : Text → List Row → Text
+value_of name rows = unwrap_or (first_of name rows) []
+
+-- the day that the value of an option names, where it is given
+abbrev pub day_of : Text → List Row → Option ℤ
+day_of name rows = option_and_then named_day (first_of name rows)
+
+-- ---- rules
+
+-- the option without its dashes
+abbrev pub name_of : BadOption → Text
+name_of Batch = codes "batch"
+name_of Invest = codes "invest"
+name_of Cash = codes "cash"
+name_of Fees = codes "fees"
+name_of Gains = codes "gains"
+name_of Day = codes "day"
+name_of First = codes "first"
+name_of Last = codes "last"
+
+-- whether the value of an account option is within its rule
+abbrev pub has_account : Text → List Row → Bool
+has_account name rows = is_account (value_of name rows)
+
+-- whether that of a day option is, which need not be given
+abbrev pub has_day : Text → List Row → Bool
+has_day name rows = option_map_or (λ text. is_some (named_day text)) (first_of name rows) true
+
+-- whether the value of the option is within its rule
+abbrev pub is_good : List Row → BadOption → Bool
+is_good rows Batch = is_batch (value_of (codes "batch") rows)
+is_good rows Invest = has_account (codes "invest") rows
+is_good rows Cash = has_account (codes "cash") rows
+is_good rows Fees = has_account (codes "fees") rows
+is_good rows Gains = has_account (codes "gains") rows
+is_good rows Day = has_day (codes "day") rows
+is_good rows First = has_day (codes "first") rows
+is_good rows Last = has_day (codes "last") rows
+
+-- ---- the first bad one
+
+abbrev pub account_options : List BadOption
+account_options = Invest ∷ Cash ∷ Fees ∷ Gains ∷ []
+
+-- the options of a word whose values have a rule of ours, in the order of the table of words in docs/RULES.md
+abbrev pub options_of : Text → List BadOption
+options_of word =
+    if bytes_eq word (codes "post") then Batch ∷ []
+    else (if bytes_eq word (codes "import") then Batch ∷ account_options
+    else (if bytes_eq word (codes "holdings") then Day ∷ []
+    else (if bytes_eq word (codes "gains") then First ∷ Last ∷ [] else [])))
+
+-- the first of the options whose value is outside its rule
+abbrev pub first_bad : List Row → List BadOption → Option BadOption
+first_bad rows = find (λ option. not (is_good rows option))

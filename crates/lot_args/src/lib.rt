@@ -1,0 +1,26 @@
+//! What the words of the program ask for (docs/RULES.md, The program).
+//!
+//! - `action`: what can be asked for.
+//! - `batch`: the names of batches.
+//! - `start`: the numbers at which a run may start.
+//! - `program`: the words that there are, with their help; `options`: their options.
+//! - `words`: from words to an action (`parse_words`); `values`: what the values of options say.
+//! - `fault`: why words name no action.
+//! - `laws`: what holds of the definitions that the contracts cite.
+#![tactic(auto)]
+
+mod action;
+mod batch;
+mod fault;
+pub mod laws;
+mod options;
+mod program;
+mod start;
+mod values;
+mod words;
+
+pub use action::Action;
+pub use batch::Batch;
+pub use fault::{BadOption, WordsFault};
+pub use start::Start;
+pub use words::parse_words;

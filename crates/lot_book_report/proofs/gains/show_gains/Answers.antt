@@ -1,0 +1,227 @@
+use Rattle.std.proofs.Common.{◌∙◌, [], ap, map, Err, Ok, None, Some, arith, refl, rules}
+use Rattle.std.proofs.lemmas.Result.{err_from_is_err_and}
+use Rattle.lot_book.specs.Sale.{SaleParts}
+use Rattle.lot_report.specs.Gains.{HasTaken, IsEnd, fits, is_spent, sale_lines}
+use Rattle.lot_book_report.proofs.FeedLemmas.{fed_none, feeds_more, rows_whole, shows_cut, shows_cut_at_end, shows_short, shows_stopped, shows_whole, some_cut, some_cut_at_end, some_stopped, some_whole}
+use Rattle.lot_book_report.proofs.GainLemmas.{all_rows_shown, all_shown}
+use Rattle.lot_book_report.proofs.ReadLemmas.{handed, handed_holds, handed_tables, is_failure, is_false, never_both, reads_cut, reads_from, reads_short, reads_whole, stops, usable, walked_out, walks_on}
+use Rattle.lot_book_report.specs.declared.fault.ShowFault.TheVariants.{Row as AtRow, Walk as AtWalk}
+use Rattle.lot_walk.specs.Gains.{AreSalesWithin, HasLegs, IsBehindSales}
+use Rattle.lot_store.specs.declared.fault.StoreFault.TheVariants.{Memory}
+use Rattle.lot_store.specs.declared.walk.WalkFault.TheVariants.{Failed}
+use Rattle.lot_book_report.proofs.gains.show_gains.Goals as goal
+
+pub sales-init : goal.sales-init
+sales-init g c = record {
+  same_book = refl;
+  reading = reads_from g.S.Store c.args.book.now c.gains-walk.result c.gains-walk.ensures.going c.gains-walk.ensures.same;
+  usable = λ below. absurd (omega arith);
+  fresh = c.new-report.ensures.spent;
+  feeds = record {
+    given = [];
+    gave = record { of_book = λ clean. c.gains-walk.ensures.begun; of_rows = λ clean. c.gains-walk.ensures.rows };
+    good = tt;
+    has = fed_none (λ (sale : SaleParts). sale) sale_lines fits HasTaken IsEnd (g.W.Write.contents c.args.writer.now) c.new-report.result.progress c.new-report.ensures.fed;
+  };
+}
+
+pub returns-in_err-sale-clause-shows : goal.returns-in_err-sale-clause-shows
+returns-in_err-sale-clause-shows g c =
+    let fault = err_from_is_err_and c.from_residual.result c.from_residual.ensures.1 in
+    let loop = c.sales.invariant in
+    let before = c.sales.walk in
+    let after = c.next.new.self in
+    let walks = c.in_err-sale.ensures.walks in
+    let failure = is_failure g.S.Store (λ (sale : SaleParts). sale) HasLegs AreSalesWithin IsBehindSales c.args.book.now before after loop.reading c.in_err-sale.field-0.0 walks in
+    rw (fault.1, fault.2, failure.1)
+    (handed_holds g.S.Store c.args.book.now after.book.now _ _ (search rules)
+    (all_shown g.S.Store c.args.book.now _ (c.args.first, c.args.last) (g.W.Write.contents c.args.writer.now) (g.W.Write.contents c.sales.writer) (Err (AtWalk (Failed failure.0)))
+    (shows_stopped before _ c.sales.report.progress loop.feeds after c.in_err-sale.field-0.0 walks failure.0)))
+
+pub returns-in_err-sale-clause-lines : goal.returns-in_err-sale-clause-lines
+returns-in_err-sale-clause-lines g c =
+    let fault = err_from_is_err_and c.from_residual.result c.from_residual.ensures.1 in
+    let loop = c.sales.invariant in
+    let failure = is_failure g.S.Store (λ (sale : SaleParts). sale) HasLegs AreSalesWithin IsBehindSales c.args.book.now c.sales.walk c.next.new.self loop.reading c.in_err-sale.field-0.0 c.in_err-sale.ensures.walks in
+    rw (fault.1, fault.2, failure.1) (some_stopped c.sales.walk _ c.sales.report.progress loop.feeds failure.0)
+
+pub returns-in_err-sale-clause-rows : goal.returns-in_err-sale-clause-rows
+returns-in_err-sale-clause-rows g c =
+    let fault = err_from_is_err_and c.from_residual.result c.from_residual.ensures.1 in rw fault.1 (record { holds = λ clean tables has. tt })
+
+pub returns-in_err-sale-clause-reads : goal.returns-in_err-sale-clause-reads
+returns-in_err-sale-clause-reads g c =
+    let fault = err_from_is_err_and c.from_residual.result c.from_residual.ensures.1 in
+    let loop = c.sales.invariant in
+    rw (fault.1, fault.2)
+    (handed g.S.Store c.args.book.now c.next.new.self.book.now _ (Err _) (search rules)
+    (stops g.S.Store (λ (sale : SaleParts). sale) HasLegs AreSalesWithin IsBehindSales c.args.book.now c.sales.walk c.next.new.self loop.reading c.in_err-sale.field-0.0
+    (λ clean entries stands. ((c.args.first, c.args.last), loop.feeds.given, loop.feeds.gave.of_book clean entries stands))
+    c.in_err-sale.ensures.walks))
+
+pub returns-in_err-end-clause-shows : goal.returns-in_err-end-clause-shows
+returns-in_err-end-clause-shows g c =
+    let fault = err_from_is_err_and c.from_residual-in_err-end.result c.from_residual-in_err-end.ensures.1 in
+    let loop = c.sales.invariant in
+    let feeds = loop.feeds in
+    let after = c.next.new.self in
+    let walks = rw c.in_default.is at c.in_ok-sale.ensures.walks in
+    let spent = c.in_err-end.ensures.spent in
+    rw (fault.1, fault.2)
+    (handed_holds g.S.Store c.args.book.now after.book.now _ _ (search rules)
+    (all_shown g.S.Store c.args.book.now _ (c.args.first, c.args.last) (g.W.Write.contents c.args.writer.now) (g.W.Write.contents c.end.new.writer) (Err (AtRow c.in_err-end.field-0.0))
+    (shows_cut_at_end c.sales.walk _ c.sales.report.progress feeds after _ c.in_err-end.field-0.0
+    (λ is. never_both (is_spent c.sales.report) loop.fresh (spent.0 (ap Err is)))
+    (c.in_err-end.ensures.text (map (λ (sale : SaleParts). sale) feeds.given) _ feeds.has.fed feeds.has.written) walks)))
+
+pub returns-in_err-end-clause-lines : goal.returns-in_err-end-clause-lines
+returns-in_err-end-clause-lines g c =
+    let fault = err_from_is_err_and c.from_residual-in_err-end.result c.from_residual-in_err-end.ensures.1 in
+    let loop = c.sales.invariant in
+    let feeds = loop.feeds in
+    let spent = c.in_err-end.ensures.spent in
+    rw (fault.1, fault.2)
+    (some_cut_at_end c.sales.walk _ c.sales.report.progress feeds c.next.new.self _ c.in_err-end.field-0.0
+    (λ is. never_both (is_spent c.sales.report) loop.fresh (spent.0 (ap Err is)))
+    (c.in_err-end.ensures.text (map (λ (sale : SaleParts). sale) feeds.given) _ feeds.has.fed feeds.has.written))
+
+pub returns-in_err-end-clause-rows : goal.returns-in_err-end-clause-rows
+returns-in_err-end-clause-rows g c =
+    let fault = err_from_is_err_and c.from_residual-in_err-end.result c.from_residual-in_err-end.ensures.1 in rw fault.1 (record { holds = λ clean tables has. tt })
+
+pub returns-in_err-end-clause-reads : goal.returns-in_err-end-clause-reads
+returns-in_err-end-clause-reads g c =
+    let fault = err_from_is_err_and c.from_residual-in_err-end.result c.from_residual-in_err-end.ensures.1 in
+    let loop = c.sales.invariant in
+    let before = c.sales.walk in
+    let after = c.next.new.self in
+    let walks = rw c.in_default.is at c.in_ok-sale.ensures.walks in
+    let spent = c.in_err-end.ensures.spent in
+    rw (fault.1, fault.2)
+    (handed g.S.Store c.args.book.now after.book.now _ (Err _) (search rules)
+    (reads_cut g.S.Store c.args.book.now after.book.now c.in_err-end.field-0.0
+    (λ is. never_both (is_spent c.sales.report) loop.fresh (spent.0 (ap Err is)))
+    (walked_out g.S.Store (λ (sale : SaleParts). sale) HasLegs AreSalesWithin IsBehindSales c.args.book.now before after loop.reading walks)
+    (usable g.S.Store (λ (sale : SaleParts). sale) HasLegs AreSalesWithin IsBehindSales c.args.book.now before after loop.reading None walks)))
+
+pub returns-in_default-clause-shows : goal.returns-in_default-clause-shows
+returns-in_default-clause-shows g c =
+    let loop = c.sales.invariant in
+    let feeds = loop.feeds in
+    let after = c.next.new.self in
+    let walks = rw c.in_default.is at c.in_ok-sale.ensures.walks in
+    handed_holds g.S.Store c.args.book.now after.book.now _ _ (search rules)
+    (all_shown g.S.Store c.args.book.now _ (c.args.first, c.args.last) (g.W.Write.contents c.args.writer.now) (g.W.Write.contents c.end.new.writer) (Ok tt)
+    (shows_whole c.sales.walk _ c.sales.report.progress feeds after _ tt
+    (c.in_ok-end.ensures.text (map (λ (sale : SaleParts). sale) feeds.given) _ feeds.has.fed feeds.has.written) walks))
+
+pub returns-in_default-clause-lines : goal.returns-in_default-clause-lines
+returns-in_default-clause-lines g c =
+    let feeds = c.sales.invariant.feeds in
+    some_whole c.sales.walk _ c.sales.report.progress feeds c.next.new.self _ tt
+    (c.in_ok-end.ensures.text (map (λ (sale : SaleParts). sale) feeds.given) _ feeds.has.fed feeds.has.written)
+
+pub returns-in_default-clause-rows : goal.returns-in_default-clause-rows
+returns-in_default-clause-rows g c =
+    let feeds = c.sales.invariant.feeds in
+    let after = c.next.new.self in
+    let walks = rw c.in_default.is at c.in_ok-sale.ensures.walks in
+    let rows = rw c.in_default.is at c.in_ok-sale.ensures.rows in
+    handed_tables g.S.Store c.args.book.now after.book.now _ _ (search rules)
+    (all_rows_shown g.S.Store c.args.book.now after.book.now (c.args.first, c.args.last) _ _
+    (rows_whole c.sales.walk _ c.sales.report.progress feeds after _ tt
+    (c.in_ok-end.ensures.text (map (λ (sale : SaleParts). sale) feeds.given) _ feeds.has.fed feeds.has.written) walks rows))
+
+pub returns-in_default-clause-reads : goal.returns-in_default-clause-reads
+returns-in_default-clause-reads g c =
+    let loop = c.sales.invariant in
+    let before = c.sales.walk in
+    let after = c.next.new.self in
+    let walks = rw c.in_default.is at c.in_ok-sale.ensures.walks in
+    handed g.S.Store c.args.book.now after.book.now _ (Ok tt) (search rules)
+    (reads_whole g.S.Store c.args.book.now after.book.now tt
+    (walked_out g.S.Store (λ (sale : SaleParts). sale) HasLegs AreSalesWithin IsBehindSales c.args.book.now before after loop.reading walks)
+    (usable g.S.Store (λ (sale : SaleParts). sale) HasLegs AreSalesWithin IsBehindSales c.args.book.now before after loop.reading None walks))
+
+pub returns-in_err-row-clause-shows : goal.returns-in_err-row-clause-shows
+returns-in_err-row-clause-shows g c =
+    let fault = err_from_is_err_and c.from_residual-in_err-row.result c.from_residual-in_err-row.ensures.1 in
+    let loop = c.sales.invariant in
+    let feeds = loop.feeds in
+    let after = c.next.new.self in
+    let walks = rw c.in-Some.is at c.in_ok-sale.ensures.walks in
+    let rows = rw c.in-Some.is at c.in_ok-sale.ensures.rows in
+    let spent = c.in_err-row.ensures.spent in
+    rw (fault.1, fault.2)
+    (handed_holds g.S.Store c.args.book.now after.book.now _ _ (search rules)
+    (all_shown g.S.Store c.args.book.now _ (c.args.first, c.args.last) (g.W.Write.contents c.args.writer.now) (g.W.Write.contents c.row.new.writer) (Err (AtRow c.in_err-row.field-0.0))
+    (shows_cut c.sales.walk _ c.sales.report.progress feeds after _ c.row.new.self.progress c.in-Some.sale c.in-Some.sale c.in_err-row.field-0.0
+    (λ is. never_both (is_spent c.sales.report) loop.fresh (spent.0 (ap Err is))) refl
+    (c.in_err-row.ensures.text (map (λ (sale : SaleParts). sale) feeds.given) _ feeds.has.fed feeds.has.written) walks rows)))
+
+pub returns-in_err-row-clause-lines : goal.returns-in_err-row-clause-lines
+returns-in_err-row-clause-lines g c =
+    let fault = err_from_is_err_and c.from_residual-in_err-row.result c.from_residual-in_err-row.ensures.1 in
+    let loop = c.sales.invariant in
+    let feeds = loop.feeds in
+    let spent = c.in_err-row.ensures.spent in
+    rw (fault.1, fault.2)
+    (some_cut c.sales.walk _ c.sales.report.progress feeds c.next.new.self _ c.row.new.self.progress c.in-Some.sale c.in-Some.sale c.in_err-row.field-0.0
+    (λ is. never_both (is_spent c.sales.report) loop.fresh (spent.0 (ap Err is))) refl
+    (c.in_err-row.ensures.text (map (λ (sale : SaleParts). sale) feeds.given) _ feeds.has.fed feeds.has.written))
+
+pub returns-in_err-row-clause-rows : goal.returns-in_err-row-clause-rows
+returns-in_err-row-clause-rows g c =
+    let fault = err_from_is_err_and c.from_residual-in_err-row.result c.from_residual-in_err-row.ensures.1 in rw fault.1 (record { holds = λ clean tables has. tt })
+
+pub returns-in_err-row-clause-reads : goal.returns-in_err-row-clause-reads
+returns-in_err-row-clause-reads g c =
+    let fault = err_from_is_err_and c.from_residual-in_err-row.result c.from_residual-in_err-row.ensures.1 in
+    let loop = c.sales.invariant in
+    let before = c.sales.walk in
+    let after = c.next.new.self in
+    let walks = rw c.in-Some.is at c.in_ok-sale.ensures.walks in
+    let on = walks_on g.S.Store (λ (sale : SaleParts). sale) HasLegs AreSalesWithin IsBehindSales c.args.book.now before after loop.reading c.in-Some.sale walks in
+    let spent = c.in_err-row.ensures.spent in
+    rw (fault.1, fault.2)
+    (handed g.S.Store c.args.book.now after.book.now _ (Err _) (search rules)
+    (reads_cut g.S.Store c.args.book.now after.book.now c.in_err-row.field-0.0
+    (λ is. never_both (is_spent c.sales.report) loop.fresh (spent.0 (ap Err is))) on.read
+    (usable g.S.Store (λ (sale : SaleParts). sale) HasLegs AreSalesWithin IsBehindSales c.args.book.now before after loop.reading (Some c.in-Some.sale) walks)))
+
+pub sales-preserved : goal.sales-preserved
+sales-preserved g c =
+    let loop = c.sales.invariant in
+    let feeds = loop.feeds in
+    let before = c.sales.walk in
+    let after = c.next.new.self in
+    let walks = rw c.in-Some.is at c.in_ok-sale.ensures.walks in
+    let rows = rw c.in-Some.is at c.in_ok-sale.ensures.rows in
+    record {
+      same_book = c.in_ok-sale.ensures.same_reference ∙ loop.same_book;
+      reading = walks_on g.S.Store (λ (sale : SaleParts). sale) HasLegs AreSalesWithin IsBehindSales c.args.book.now before after loop.reading c.in-Some.sale walks;
+      usable = λ below. usable g.S.Store (λ (sale : SaleParts). sale) HasLegs AreSalesWithin IsBehindSales c.args.book.now before after loop.reading (Some c.in-Some.sale) walks;
+      fresh = is_false (is_spent c.row.new.self) c.in_ok-row.ensures.after.1;
+      feeds = feeds_more before _ c.sales.report.progress feeds after _ c.row.new.self.progress c.in-Some.sale c.in-Some.sale tt refl walks rows
+          (c.in_ok-row.ensures.text (map (λ (sale : SaleParts). sale) feeds.given) _ feeds.has.fed feeds.has.written);
+    }
+
+pub returns-clause-shows : goal.returns-clause-shows
+returns-clause-shows g c =
+    let loop = c.sales.invariant in
+    rw c.from.ensures
+    (handed_holds g.S.Store c.args.book.now c.sales.walk.book.now _ _ (search rules)
+    (all_shown g.S.Store c.args.book.now _ (c.args.first, c.args.last) (g.W.Write.contents c.args.writer.now) (g.W.Write.contents c.sales.writer) (Err (AtWalk (Failed Memory)))
+    (shows_short c.sales.walk _ c.sales.report.progress loop.feeds Memory)))
+
+pub returns-clause-lines : goal.returns-clause-lines
+returns-clause-lines g c =
+    let loop = c.sales.invariant in
+    rw c.from.ensures (some_stopped c.sales.walk _ c.sales.report.progress loop.feeds Memory)
+
+pub returns-clause-reads : goal.returns-clause-reads
+returns-clause-reads g c =
+    let loop = c.sales.invariant in
+    rw c.from.ensures
+    (handed g.S.Store c.args.book.now c.sales.walk.book.now _ (Err _) (search rules)
+    (reads_short g.S.Store c.args.book.now c.sales.walk.book.now loop.reading.read (loop.usable (omega arith))))

@@ -1,0 +1,19 @@
+-- The sales that the walk has given are fed to the report, and the book was read without a fault.
+use Rattle.std.proofs.Common.{◌≡◌, ◌≢◌, ◌<◌, IsFalse}
+use Rattle.lot_book.specs.Sale.{SaleParts}
+use Rattle.lot_report.specs.Gains.{HasTaken, IsEnd, fits, is_spent, sale_lines}
+use Rattle.lot_book_report.proofs.FeedLemmas.{Feeds}
+use Rattle.lot_book_report.proofs.ReadLemmas.{IsReading}
+use Rattle.lot_walk.specs.Gains.{AreAllSaleRows, AreSalesWithin, HasLegs, IsBehindSaleRows, IsBehindSales}
+use Rattle.lot_store.specs.declared.book.Condition.TheVariants.{NeedsReopen}
+use Rattle.lot_book_report.proofs.gains.show_gains.Given as goal
+
+abbrev pub invariant-sales : goal.invariant-sales
+invariant-sales g l = record {
+  same_book : l.walk.book.ghost_name ≡ l.initial.walk.book.ghost_name;
+  reading : IsReading g.S.Store l.fn.book l.walk;
+  usable : 0 < l.counter → l.fn.book.condition ≢ NeedsReopen;
+  fresh : IsFalse (is_spent l.report);
+  feeds : Feeds g.S.Store HasLegs AreSalesWithin IsBehindSales AreAllSaleRows IsBehindSaleRows (λ (sale : SaleParts). sale) sale_lines fits HasTaken IsEnd
+      l.fn.book (l.fn.first, l.fn.last) (g.W.Write.contents l.fn.writer) l.walk (g.W.Write.contents l.writer) l.report.progress;
+}

@@ -1,0 +1,220 @@
+use Rattle.std.proofs.Common.{◌∙◌, [], ap, map, Err, Ok, None, Some, arith, refl, rules}
+use Rattle.std.proofs.lemmas.Result.{err_from_is_err_and}
+use Rattle.lot_report.specs.Holdings.{HasTaken, IsEnd, fits, is_spent, row_lines}
+use Rattle.lot_book_report.proofs.FeedLemmas.{fed_none, feeds_more, rows_whole, shows_cut, shows_cut_at_end, shows_short, shows_stopped, shows_whole, some_cut, some_cut_at_end, some_stopped, some_whole}
+use Rattle.lot_book_report.proofs.HoldingLemmas.{all_rows_shown}
+use Rattle.lot_book_report.proofs.ReadLemmas.{handed, handed_holds, handed_tables, is_failure, is_false, never_both, reads_cut, reads_from, reads_short, reads_whole, stops, usable, walked_out, walks_on}
+use Rattle.lot_book_report.specs.Holdings.{valued_with}
+use Rattle.lot_walk.specs.Holdings.{AreHoldings, IsAnyHolding, IsBehindHoldings, shown_holding}
+use Rattle.lot_store.specs.declared.fault.StoreFault.TheVariants.{Memory}
+use Rattle.lot_book_report.proofs.holdings.write_holdings.Goals as goal
+
+pub holdings-init : goal.holdings-init
+holdings-init g c = record {
+  same_book = refl;
+  reading = reads_from g.S.Store c.args.book.now c.holdings-walk.result c.holdings-walk.ensures.going c.holdings-walk.ensures.same;
+  usable = λ below. absurd (omega arith);
+  fresh = c.new-report.ensures.spent;
+  feeds = record {
+    given = [];
+    gave = record { of_book = λ clean. c.holdings-walk.ensures.begun; of_rows = λ clean. c.holdings-walk.ensures.rows };
+    good = tt;
+    has = fed_none (valued_with c.args.prices.now) row_lines fits HasTaken IsEnd (g.W.Write.contents c.args.writer.now) c.new-report.result.progress c.new-report.ensures.fed;
+  };
+}
+
+pub returns-in_err-holding-clause-shows : goal.returns-in_err-holding-clause-shows
+returns-in_err-holding-clause-shows g c =
+    let fault = err_from_is_err_and c.from_residual.result c.from_residual.ensures.1 in
+    let loop = c.holdings.invariant in
+    let before = c.holdings.walk in
+    let after = c.next.new.self in
+    let walks = c.in_err-holding.ensures.walks in
+    let failure = is_failure g.S.Store shown_holding IsAnyHolding AreHoldings IsBehindHoldings c.args.book.now before after loop.reading c.in_err-holding.field-0.0 walks in
+    rw (fault.1, fault.2, failure.1)
+    (handed_holds g.S.Store c.args.book.now after.book.now _ _ (search rules)
+    (shows_stopped before _ c.holdings.report.progress loop.feeds after c.in_err-holding.field-0.0 walks failure.0))
+
+pub returns-in_err-holding-clause-lines : goal.returns-in_err-holding-clause-lines
+returns-in_err-holding-clause-lines g c =
+    let fault = err_from_is_err_and c.from_residual.result c.from_residual.ensures.1 in
+    let loop = c.holdings.invariant in
+    let failure = is_failure g.S.Store shown_holding IsAnyHolding AreHoldings IsBehindHoldings c.args.book.now c.holdings.walk c.next.new.self loop.reading c.in_err-holding.field-0.0 c.in_err-holding.ensures.walks in
+    rw (fault.1, fault.2, failure.1) (some_stopped c.holdings.walk _ c.holdings.report.progress loop.feeds failure.0)
+
+pub returns-in_err-holding-clause-rows : goal.returns-in_err-holding-clause-rows
+returns-in_err-holding-clause-rows g c =
+    let fault = err_from_is_err_and c.from_residual.result c.from_residual.ensures.1 in rw fault.1 (record { holds = λ clean tables has. tt })
+
+pub returns-in_err-holding-clause-reads : goal.returns-in_err-holding-clause-reads
+returns-in_err-holding-clause-reads g c =
+    let fault = err_from_is_err_and c.from_residual.result c.from_residual.ensures.1 in
+    let loop = c.holdings.invariant in
+    rw (fault.1, fault.2)
+    (handed g.S.Store c.args.book.now c.next.new.self.book.now _ (Err _) (search rules)
+    (stops g.S.Store shown_holding IsAnyHolding AreHoldings IsBehindHoldings c.args.book.now c.holdings.walk c.next.new.self loop.reading c.in_err-holding.field-0.0
+    (λ clean entries stands. (tt, loop.feeds.given, loop.feeds.gave.of_book clean entries stands))
+    c.in_err-holding.ensures.walks))
+
+pub returns-in_err-end-clause-shows : goal.returns-in_err-end-clause-shows
+returns-in_err-end-clause-shows g c =
+    let fault = err_from_is_err_and c.from_residual-in_err-end.result c.from_residual-in_err-end.ensures.1 in
+    let loop = c.holdings.invariant in
+    let feeds = loop.feeds in
+    let after = c.next.new.self in
+    let walks = rw c.in_default.is at c.in_ok-holding.ensures.walks in
+    let spent = c.in_err-end.ensures.spent in
+    rw (fault.1, fault.2)
+    (handed_holds g.S.Store c.args.book.now after.book.now _ _ (search rules)
+    (shows_cut_at_end c.holdings.walk _ c.holdings.report.progress feeds after _ c.in_err-end.field-0.0
+    (λ is. never_both (is_spent c.holdings.report) loop.fresh (spent.0 (ap Err is)))
+    (c.in_err-end.ensures.text (map (valued_with c.args.prices.now) feeds.given) _ feeds.has.fed feeds.has.written) walks))
+
+pub returns-in_err-end-clause-lines : goal.returns-in_err-end-clause-lines
+returns-in_err-end-clause-lines g c =
+    let fault = err_from_is_err_and c.from_residual-in_err-end.result c.from_residual-in_err-end.ensures.1 in
+    let loop = c.holdings.invariant in
+    let feeds = loop.feeds in
+    let spent = c.in_err-end.ensures.spent in
+    rw (fault.1, fault.2)
+    (some_cut_at_end c.holdings.walk _ c.holdings.report.progress feeds c.next.new.self _ c.in_err-end.field-0.0
+    (λ is. never_both (is_spent c.holdings.report) loop.fresh (spent.0 (ap Err is)))
+    (c.in_err-end.ensures.text (map (valued_with c.args.prices.now) feeds.given) _ feeds.has.fed feeds.has.written))
+
+pub returns-in_err-end-clause-rows : goal.returns-in_err-end-clause-rows
+returns-in_err-end-clause-rows g c =
+    let fault = err_from_is_err_and c.from_residual-in_err-end.result c.from_residual-in_err-end.ensures.1 in rw fault.1 (record { holds = λ clean tables has. tt })
+
+pub returns-in_err-end-clause-reads : goal.returns-in_err-end-clause-reads
+returns-in_err-end-clause-reads g c =
+    let fault = err_from_is_err_and c.from_residual-in_err-end.result c.from_residual-in_err-end.ensures.1 in
+    let loop = c.holdings.invariant in
+    let before = c.holdings.walk in
+    let after = c.next.new.self in
+    let walks = rw c.in_default.is at c.in_ok-holding.ensures.walks in
+    let spent = c.in_err-end.ensures.spent in
+    rw (fault.1, fault.2)
+    (handed g.S.Store c.args.book.now after.book.now _ (Err _) (search rules)
+    (reads_cut g.S.Store c.args.book.now after.book.now c.in_err-end.field-0.0
+    (λ is. never_both (is_spent c.holdings.report) loop.fresh (spent.0 (ap Err is)))
+    (walked_out g.S.Store shown_holding IsAnyHolding AreHoldings IsBehindHoldings c.args.book.now before after loop.reading walks)
+    (usable g.S.Store shown_holding IsAnyHolding AreHoldings IsBehindHoldings c.args.book.now before after loop.reading None walks)))
+
+pub returns-in_default-clause-shows : goal.returns-in_default-clause-shows
+returns-in_default-clause-shows g c =
+    let loop = c.holdings.invariant in
+    let feeds = loop.feeds in
+    let after = c.next.new.self in
+    let walks = rw c.in_default.is at c.in_ok-holding.ensures.walks in
+    handed_holds g.S.Store c.args.book.now after.book.now _ _ (search rules)
+    (shows_whole c.holdings.walk _ c.holdings.report.progress feeds after _ tt
+    (c.in_ok-end.ensures.text (map (valued_with c.args.prices.now) feeds.given) _ feeds.has.fed feeds.has.written) walks)
+
+pub returns-in_default-clause-lines : goal.returns-in_default-clause-lines
+returns-in_default-clause-lines g c =
+    let feeds = c.holdings.invariant.feeds in
+    some_whole c.holdings.walk _ c.holdings.report.progress feeds c.next.new.self _ tt
+    (c.in_ok-end.ensures.text (map (valued_with c.args.prices.now) feeds.given) _ feeds.has.fed feeds.has.written)
+
+pub returns-in_default-clause-rows : goal.returns-in_default-clause-rows
+returns-in_default-clause-rows g c =
+    let feeds = c.holdings.invariant.feeds in
+    let after = c.next.new.self in
+    let walks = rw c.in_default.is at c.in_ok-holding.ensures.walks in
+    let rows = rw c.in_default.is at c.in_ok-holding.ensures.rows in
+    handed_tables g.S.Store c.args.book.now after.book.now _ _ (search rules)
+    (all_rows_shown g.S.Store c.args.book.now after.book.now c.args.prices.now _ _
+    (rows_whole c.holdings.walk _ c.holdings.report.progress feeds after _ tt
+    (c.in_ok-end.ensures.text (map (valued_with c.args.prices.now) feeds.given) _ feeds.has.fed feeds.has.written) walks rows))
+
+pub returns-in_default-clause-reads : goal.returns-in_default-clause-reads
+returns-in_default-clause-reads g c =
+    let loop = c.holdings.invariant in
+    let before = c.holdings.walk in
+    let after = c.next.new.self in
+    let walks = rw c.in_default.is at c.in_ok-holding.ensures.walks in
+    handed g.S.Store c.args.book.now after.book.now _ (Ok tt) (search rules)
+    (reads_whole g.S.Store c.args.book.now after.book.now tt
+    (walked_out g.S.Store shown_holding IsAnyHolding AreHoldings IsBehindHoldings c.args.book.now before after loop.reading walks)
+    (usable g.S.Store shown_holding IsAnyHolding AreHoldings IsBehindHoldings c.args.book.now before after loop.reading None walks))
+
+pub returns-in_err-row-clause-shows : goal.returns-in_err-row-clause-shows
+returns-in_err-row-clause-shows g c =
+    let fault = err_from_is_err_and c.from_residual-in_err-row.result c.from_residual-in_err-row.ensures.1 in
+    let loop = c.holdings.invariant in
+    let feeds = loop.feeds in
+    let after = c.next.new.self in
+    let walks = rw c.in-Some.is at c.in_ok-holding.ensures.walks in
+    let rows = rw c.in-Some.is at c.in_ok-holding.ensures.rows in
+    let spent = c.in_err-row.ensures.spent in
+    rw (fault.1, fault.2)
+    (handed_holds g.S.Store c.args.book.now after.book.now _ _ (search rules)
+    (shows_cut c.holdings.walk _ c.holdings.report.progress feeds after _ c.row.new.self.progress c.in-Some.holding c.valued.result c.in_err-row.field-0.0
+    (λ is. never_both (is_spent c.holdings.report) loop.fresh (spent.0 (ap Err is))) c.valued.ensures
+    (c.in_err-row.ensures.text (map (valued_with c.args.prices.now) feeds.given) _ feeds.has.fed feeds.has.written) walks rows))
+
+pub returns-in_err-row-clause-lines : goal.returns-in_err-row-clause-lines
+returns-in_err-row-clause-lines g c =
+    let fault = err_from_is_err_and c.from_residual-in_err-row.result c.from_residual-in_err-row.ensures.1 in
+    let loop = c.holdings.invariant in
+    let feeds = loop.feeds in
+    let spent = c.in_err-row.ensures.spent in
+    rw (fault.1, fault.2)
+    (some_cut c.holdings.walk _ c.holdings.report.progress feeds c.next.new.self _ c.row.new.self.progress c.in-Some.holding c.valued.result c.in_err-row.field-0.0
+    (λ is. never_both (is_spent c.holdings.report) loop.fresh (spent.0 (ap Err is))) c.valued.ensures
+    (c.in_err-row.ensures.text (map (valued_with c.args.prices.now) feeds.given) _ feeds.has.fed feeds.has.written))
+
+pub returns-in_err-row-clause-rows : goal.returns-in_err-row-clause-rows
+returns-in_err-row-clause-rows g c =
+    let fault = err_from_is_err_and c.from_residual-in_err-row.result c.from_residual-in_err-row.ensures.1 in rw fault.1 (record { holds = λ clean tables has. tt })
+
+pub returns-in_err-row-clause-reads : goal.returns-in_err-row-clause-reads
+returns-in_err-row-clause-reads g c =
+    let fault = err_from_is_err_and c.from_residual-in_err-row.result c.from_residual-in_err-row.ensures.1 in
+    let loop = c.holdings.invariant in
+    let before = c.holdings.walk in
+    let after = c.next.new.self in
+    let walks = rw c.in-Some.is at c.in_ok-holding.ensures.walks in
+    let on = walks_on g.S.Store shown_holding IsAnyHolding AreHoldings IsBehindHoldings c.args.book.now before after loop.reading c.in-Some.holding walks in
+    let spent = c.in_err-row.ensures.spent in
+    rw (fault.1, fault.2)
+    (handed g.S.Store c.args.book.now after.book.now _ (Err _) (search rules)
+    (reads_cut g.S.Store c.args.book.now after.book.now c.in_err-row.field-0.0
+    (λ is. never_both (is_spent c.holdings.report) loop.fresh (spent.0 (ap Err is))) on.read
+    (usable g.S.Store shown_holding IsAnyHolding AreHoldings IsBehindHoldings c.args.book.now before after loop.reading (Some c.in-Some.holding) walks)))
+
+pub holdings-preserved : goal.holdings-preserved
+holdings-preserved g c =
+    let loop = c.holdings.invariant in
+    let feeds = loop.feeds in
+    let before = c.holdings.walk in
+    let after = c.next.new.self in
+    let walks = rw c.in-Some.is at c.in_ok-holding.ensures.walks in
+    let rows = rw c.in-Some.is at c.in_ok-holding.ensures.rows in
+    record {
+      same_book = c.in_ok-holding.ensures.same_reference ∙ loop.same_book;
+      reading = walks_on g.S.Store shown_holding IsAnyHolding AreHoldings IsBehindHoldings c.args.book.now before after loop.reading c.in-Some.holding walks;
+      usable = λ below. usable g.S.Store shown_holding IsAnyHolding AreHoldings IsBehindHoldings c.args.book.now before after loop.reading (Some c.in-Some.holding) walks;
+      fresh = is_false (is_spent c.row.new.self) c.in_ok-row.ensures.after.1;
+      feeds = feeds_more before _ c.holdings.report.progress feeds after _ c.row.new.self.progress c.in-Some.holding c.valued.result tt c.valued.ensures walks rows
+          (c.in_ok-row.ensures.text (map (valued_with c.args.prices.now) feeds.given) _ feeds.has.fed feeds.has.written);
+    }
+
+pub returns-clause-shows : goal.returns-clause-shows
+returns-clause-shows g c =
+    let loop = c.holdings.invariant in
+    rw c.from.ensures
+    (handed_holds g.S.Store c.args.book.now c.holdings.walk.book.now _ _ (search rules)
+    (shows_short c.holdings.walk _ c.holdings.report.progress loop.feeds Memory))
+
+pub returns-clause-lines : goal.returns-clause-lines
+returns-clause-lines g c =
+    let loop = c.holdings.invariant in
+    rw c.from.ensures (some_stopped c.holdings.walk _ c.holdings.report.progress loop.feeds Memory)
+
+pub returns-clause-reads : goal.returns-clause-reads
+returns-clause-reads g c =
+    let loop = c.holdings.invariant in
+    rw c.from.ensures
+    (handed g.S.Store c.args.book.now c.holdings.walk.book.now _ (Err _) (search rules)
+    (reads_short g.S.Store c.args.book.now c.holdings.walk.book.now loop.reading.read (loop.usable (omega arith))))

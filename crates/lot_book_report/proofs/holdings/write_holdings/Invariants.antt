@@ -1,0 +1,19 @@
+-- The holdings that the walk has given are fed to the report, and the book was read without a fault.
+use Rattle.std.proofs.Common.{◌≡◌, ◌≢◌, ◌<◌, IsFalse}
+use Rattle.lot_report.specs.Holdings.{HasTaken, IsEnd, fits, is_spent, row_lines}
+use Rattle.lot_book_report.proofs.FeedLemmas.{Feeds}
+use Rattle.lot_book_report.proofs.ReadLemmas.{IsReading}
+use Rattle.lot_book_report.specs.Holdings.{valued_with}
+use Rattle.lot_walk.specs.Holdings.{AreAllHoldingRows, AreHoldings, IsAnyHolding, IsBehindHoldingRows, IsBehindHoldings}
+use Rattle.lot_store.specs.declared.book.Condition.TheVariants.{NeedsReopen}
+use Rattle.lot_book_report.proofs.holdings.write_holdings.Given as goal
+
+abbrev pub invariant-holdings : goal.invariant-holdings
+invariant-holdings g l = record {
+  same_book : l.walk.book.ghost_name ≡ l.initial.walk.book.ghost_name;
+  reading : IsReading g.S.Store l.fn.book l.walk;
+  usable : 0 < l.counter → l.fn.book.condition ≢ NeedsReopen;
+  fresh : IsFalse (is_spent l.report);
+  feeds : Feeds g.S.Store IsAnyHolding AreHoldings IsBehindHoldings AreAllHoldingRows IsBehindHoldingRows (valued_with l.prices) row_lines fits HasTaken IsEnd
+      l.fn.book tt (g.W.Write.contents l.fn.writer) l.walk (g.W.Write.contents l.writer) l.report.progress;
+}

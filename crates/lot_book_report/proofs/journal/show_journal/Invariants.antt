@@ -1,0 +1,16 @@
+-- The entries that the walk has given are written, and the book was read without a fault.
+use Rattle.std.proofs.Common.{◌≡◌, ◌≢◌, ◌<◌, IsFalse}
+use Rattle.lot_report.specs.Journal.{is_spent}
+use Rattle.lot_book_report.proofs.JournalLemmas.{HasWritten}
+use Rattle.lot_book_report.proofs.ReadLemmas.{IsReading}
+use Rattle.lot_store.specs.declared.book.Condition.TheVariants.{NeedsReopen}
+use Rattle.lot_book_report.proofs.journal.show_journal.Given as goal
+
+abbrev pub invariant-entries : goal.invariant-entries
+invariant-entries g l = record {
+  same_book : l.walk.book.ghost_name ≡ l.initial.walk.book.ghost_name;
+  reading : IsReading g.S.Store l.fn.book l.walk;
+  usable : 0 < l.counter → l.fn.book.condition ≢ NeedsReopen;
+  fresh : IsFalse (is_spent l.journal);
+  written : HasWritten g.S.Store l.fn.book (g.W.Write.contents l.fn.writer) l.walk (g.W.Write.contents l.writer);
+}

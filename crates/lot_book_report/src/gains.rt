@@ -1,0 +1,42 @@
+ghost use Rattle.lot_book_report.specs.Gains.{ShowsAllSales, ShowsGains, ShowsSomeGains};
+ghost use Rattle.lot_book_report.specs.Show.{HoldsOfBook, HoldsOfTables, ReadsBook};
+
+use crate::fault::ShowFault;
+use lot_base::Day;
+use lot_report::Gains;
+use lot_store::{Book, StoreFault};
+use sqlite::Alter;
+use std::alloc::Global;
+use std::io::Write;
+
+/// Writes what the sales of a book gained from the first day to the last, both included, each sale as it is read. Without a
+/// day that end of the range is open. Nothing is flushed.
+///
+/// Where the book stops, the sales before are written, and nothing behind them, no totals. Where the report does, what
+/// `Gains` of `lot_report` writes at such a fault is; the book can be used on then. Where it ends well all rows of sales on
+/// those days are written, whatever the tables stand for.
+pub fn show_gains<S: Alter, W: Write>(
+    alloc: Global,
+    book: &mut Book<S>,
+    first: Option<Day>,
+    last: Option<Day>,
+    writer: &mut W,
+) -> Result<(), ShowFault>
+    ensures shows { HoldsOfBook S.Store book.old book.new
+        (λ entries. ShowsGains entries (first, last) (W.contents writer.old) (W.contents writer.new) result) }
+    ensures lines { ShowsSomeGains (W.contents writer.old) (W.contents writer.new) result }
+    ensures rows { HoldsOfTables S.Store book.old book.new
+        (λ tables. ShowsAllSales tables (first, last) (W.contents writer.old) (W.contents writer.new) result) }
+    ensures reads { ReadsBook S.Store book.old book.new result }
+{
+    let mut report = Gains::new(alloc);
+    let mut walk = book.gains(first, last);
+    'sales: for _ in 0..u64::MAX {
+        let Some(sale) = walk.next()? else {
+            return Ok(report.end(writer)?);
+        };
+        report.row(&sale, writer)?;
+    }
+    // No book has so many sales.
+    Err(ShowFault::from(StoreFault::Memory))
+}

@@ -1,0 +1,79 @@
+ghost use Rattle.std.specs.Prelude.{◌≡◌};
+ghost use Rattle.lot_book_report.specs.Holdings.{ShowsAllHoldings, ShowsAllWith, ShowsHoldings, ShowsSomeHoldings, ShowsWith, valued_with};
+ghost use Rattle.lot_book_report.specs.Show.{HoldsOfBook, HoldsOfTables, ReadsBook};
+
+use crate::fault::ShowFault;
+use crate::prices::DayPrices;
+use lot_base::Day;
+use lot_book::Holding;
+use lot_report::{Holdings, Valuation, ValuedHolding};
+use lot_store::{Book, StoreFault};
+use sqlite::Alter;
+use std::alloc::Global;
+use std::io::Write;
+
+/// Writes what a book holds, each row as it is read, and what its lots cost; with a day also what they are worth: each lot
+/// at the price of its commodity in the currency of its cost. Nothing is flushed.
+///
+/// Where the book stops, the rows before are written, and nothing behind them, no totals; at a fault of reading the prices,
+/// nothing is. Where the report stops, what `Holdings` of `lot_report` writes at such a fault is; the book can be used on
+/// then. Where it ends well all rows of plain units and of lots are written, at the prices that the rows of prices give,
+/// whatever the tables stand for.
+pub fn show_holdings<S: Alter, W: Write>(
+    alloc: Global,
+    book: &mut Book<S>,
+    day: Option<Day>,
+    writer: &mut W,
+) -> Result<(), ShowFault>
+    ensures shows { HoldsOfBook S.Store book.old book.new
+        (λ entries. ShowsHoldings entries day (W.contents writer.old) (W.contents writer.new) result) }
+    ensures lines { ShowsSomeHoldings (W.contents writer.old) (W.contents writer.new) result }
+    ensures rows { HoldsOfTables S.Store book.old book.new
+        (λ tables. ShowsAllHoldings tables day (W.contents writer.old) (W.contents writer.new) result) }
+    ensures reads { ReadsBook S.Store book.old book.new result }
+{
+    match day {
+        Some(day) => {
+            let prices = DayPrices::read(alloc, book, day)?;
+            write_holdings(alloc, book, &Some(prices), writer)
+        }
+        None => write_holdings(alloc, book, &None, writer),
+    }
+}
+
+/// Writes what a book holds, each lot with its value where there are prices.
+fn write_holdings<S: Alter, W: Write>(
+    alloc: Global,
+    book: &mut Book<S>,
+    prices: &Option<DayPrices>,
+    writer: &mut W,
+) -> Result<(), ShowFault>
+    ensures shows { HoldsOfBook S.Store book.old book.new
+        (λ entries. ShowsWith entries prices.now (W.contents writer.old) (W.contents writer.new) result) }
+    ensures lines { ShowsSomeHoldings (W.contents writer.old) (W.contents writer.new) result }
+    ensures rows { HoldsOfTables S.Store book.old book.new
+        (λ tables. ShowsAllWith tables prices.now (W.contents writer.old) (W.contents writer.new) result) }
+    ensures reads { ReadsBook S.Store book.old book.new result }
+{
+    let mut report = Holdings::new(alloc);
+    let mut walk = book.holdings();
+    'holdings: for _ in 0..u64::MAX {
+        let Some(holding) = walk.next()? else {
+            return Ok(report.end(writer)?);
+        };
+        report.row(&valued(prices, holding), writer)?;
+    }
+    // No book has so many holdings.
+    Err(ShowFault::from(StoreFault::Memory))
+}
+
+/// Returns a holding with its valuation.
+fn valued(prices: &Option<DayPrices>, holding: Holding) -> ValuedHolding
+    ensures { result ≡ valued_with prices.now holding }
+{
+    let valuation = match prices {
+        Some(prices) => prices.valuation(&holding),
+        None => Valuation::Unasked,
+    };
+    ValuedHolding { holding, valuation }
+}

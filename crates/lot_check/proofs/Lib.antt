@@ -1,0 +1,7 @@
+pub mod KeyLemmas
+pub mod RunLemmas
+pub mod FaultLemmas
+pub mod LawAnswersReports
+pub mod LawAnswers
+pub mod AnswerLemmas
+pub mod ReportLemmas

@@ -1,0 +1,165 @@
+-- What `check` writes for an input, and with which status it ends.
+use Rattle.std.specs.Prelude.{◌≡◌, ◌⊎◌, ℕ, ◌+◌, ◌<◌, ◌≤◌, List, [], ◌∷◌, ◌++◌, length}
+use Rattle.lot_stream.specs.declared.fault.Fault.{Fault}
+use Rattle.lot_stream.specs.declared.status.Status.{Status}
+use Rattle.lot_command.specs.declared.command.Command.{Command}
+use Rattle.lot_book.specs.declared.holding.Holding.{Holding}
+use Rattle.lot_book.specs.declared.verdict.Verdict.{Verdict}
+use Rattle.lot_read.specs.Text.{Reads, IsFaultAt}
+use Rattle.lot_read.specs.declared.fault.LineFault.{LineFault}
+use Rattle.lot_book.specs.Facts.{Entry}
+use Rattle.lot_book.specs.Holding.{ListsHoldings}
+use Rattle.lot_book.specs.Judged.{JudgesAll, numbered}
+use Rattle.lot_report.specs.Printed.{replies}
+use Rattle.lot_stream.specs.FaultLine.{fault_line}
+use Rattle.lot_check.specs.Key.{key_of}
+use Rattle.lot_report.specs.Holdings.{IsReport, IsReportToFault, AreFirstLines, AreKeptLines, unvalued}
+use Rattle.lot_report.specs.Written.{IsProperPrefixOf}
+use Rattle.lot_stream.specs.Input.{longest_input}
+use Rattle.lot_stream.specs.Status.{code_of, status_after}
+use Rattle.lot_book.specs.Recorded.{facts_in}
+
+-- ---- The status of replies.
+
+-- the status of a run of one command
+abbrev pub status_of_verdict : Verdict → Status
+status_of_verdict Verdict.Accepted = Status.Accepted
+status_of_verdict Verdict.Repeated = Status.Accepted
+status_of_verdict (Verdict.Refused refusal) = Status.Refused
+
+-- one refusal is enough for a run to count as refused
+abbrev pub status_of_replies : List Verdict → Status
+status_of_replies [] = Status.Accepted
+status_of_replies (verdict ∷ verdicts) = status_after (status_of_verdict verdict) (status_of_replies verdicts)
+
+-- ---- The whole answer.
+
+-- the commands of the input, judged in order on an empty book, each under the key of its number, come to these verdicts, and the book holds these rows
+pub record IsJudged (input : List ℕ) (verdicts : List Verdict) (rows : List Holding) : Type 0 where
+  pub short : length input ≤ longest_input
+  pub commands : List Command
+  pub book : List Entry
+  pub reads : Reads input commands
+  pub judged : JudgesAll [] (numbered key_of 1 commands) verdicts book
+  pub inventory : ListsHoldings (facts_in book) rows
+
+-- the one line that the input is too long
+abbrev pub IsTooLong : List ℕ → List ℕ → ℕ → Type 0
+IsTooLong input text status = (longest_input < length input) × (text ≡ fault_line Fault.TooLong) × (status ≡ 3)
+
+-- an input that no commands fit: one line reports the first faulty line and its fault
+abbrev pub IsNoText : List ℕ → List ℕ → ℕ → Type 0
+IsNoText input text status =
+    (length input ≤ longest_input) × (number : ℕ) × (fault : LineFault) × IsFaultAt input number fault
+    × (text ≡ fault_line (Fault.Text number fault)) × (status ≡ 3)
+
+-- the replies and the holdings
+abbrev pub IsWhole : List ℕ → List ℕ → ℕ → Type 0
+IsWhole input text status =
+    (verdicts : List Verdict) × (rows : List Holding) × (report : List ℕ) × IsJudged input verdicts rows
+    × IsReport (unvalued rows) report × (text ≡ replies 1 verdicts ++ report) × (status ≡ code_of (status_of_replies verdicts))
+
+-- the replies, the rows before the one with which a total leaves the range, and the line that reports it
+abbrev pub IsBroken : List ℕ → List ℕ → ℕ → Type 0
+IsBroken input text status =
+    (verdicts : List Verdict) × (rows : List Holding) × (report : List ℕ) × IsJudged input verdicts rows
+    × IsReportToFault (unvalued rows) report × (text ≡ replies 1 verdicts ++ (report ++ fault_line Fault.Range)) × (status ≡ 4)
+
+-- the text is the answer to the input, and the status goes with it
+abbrev pub IsAnswer : List ℕ → List ℕ → ℕ → Type 0
+IsAnswer input text status =
+    IsTooLong input text status ⊎ IsNoText input text status ⊎ IsWhole input text status ⊎ IsBroken input text status
+
+-- ---- Parts of the answer.
+
+-- the replies to the first commands
+abbrev pub AreReplies : List ℕ → List ℕ → Type 0
+AreReplies input text =
+    (done : List Command) × (rest : List Command) × (verdicts : List Verdict) × (book : List Entry)
+    × (length input ≤ longest_input) × Reads input (done ++ rest) × JudgesAll [] (numbered key_of 1 done) verdicts book × (text ≡ replies 1 verdicts)
+
+-- all replies, and the first lines of the report, each of them whole
+abbrev pub AreLines : List ℕ → List ℕ → Type 0
+AreLines input text =
+    (verdicts : List Verdict) × (rows : List Holding) × (lines : List ℕ)
+    × IsJudged input verdicts rows × AreFirstLines (unvalued rows) lines × (text ≡ replies 1 verdicts ++ lines)
+
+-- ---- Out of memory: whole lines of the answer, and then the line that reports it.
+
+-- while the input is read: nothing, and the line without a number
+abbrev pub RunsOutInReading : List ℕ → List ℕ → List ℕ → Type 0
+RunsOutInReading input kept last = (kept ≡ []) × (last ≡ fault_line Fault.Memory)
+
+-- the commands before the one of that number come to these verdicts, each on the book after those before it
+pub record IsJudgedBefore (input : List ℕ) (number : ℕ) (verdicts : List Verdict) : Type 0 where
+  pub short : length input ≤ longest_input
+  pub done : List Command
+  pub command : Command
+  pub rest : List Command
+  pub book : List Entry
+  pub reads : Reads input (done ++ command ∷ rest)
+  pub judged : JudgesAll [] (numbered key_of 1 done) verdicts book
+  pub numbered : number ≡ length verdicts + 1
+
+-- at a command: the replies to those before it, and the line with its number
+abbrev pub RunsOutAtCommand : List ℕ → List ℕ → List ℕ → Type 0
+RunsOutAtCommand input kept last =
+    (number : ℕ) × (verdicts : List Verdict) × IsJudgedBefore input number verdicts
+    × (kept ≡ replies 1 verdicts) × (last ≡ fault_line (Fault.MemoryAt number))
+
+-- before the report: all replies, and the line without a number
+abbrev pub RunsOutBeforeReport : List ℕ → List ℕ → List ℕ → Type 0
+RunsOutBeforeReport input kept last =
+    (commands : List Command) × (verdicts : List Verdict) × (book : List Entry)
+    × (length input ≤ longest_input) × Reads input commands × JudgesAll [] (numbered key_of 1 commands) verdicts book
+    × (kept ≡ replies 1 verdicts) × (last ≡ fault_line Fault.Memory)
+
+-- in the report: all replies and the lines of the report before, and the line without a number
+abbrev pub RunsOutInReport : List ℕ → List ℕ → List ℕ → Type 0
+RunsOutInReport input kept last =
+    (verdicts : List Verdict) × (rows : List Holding) × (lines : List ℕ) × IsJudged input verdicts rows
+    × AreKeptLines (unvalued rows) lines × (kept ≡ replies 1 verdicts ++ lines) × (last ≡ fault_line Fault.Memory)
+
+abbrev pub RunsOut : List ℕ → List ℕ → List ℕ → Type 0
+RunsOut input kept last =
+    RunsOutInReading input kept last ⊎ RunsOutAtCommand input kept last ⊎ RunsOutBeforeReport input kept last
+    ⊎ RunsOutInReport input kept last
+
+-- ---- What is written where the writer takes all of it.
+
+-- the reader failed: the one line that reports it
+abbrev pub IsUnread : List ℕ → ℕ → Type 0
+IsUnread text status = (text ≡ fault_line Fault.Read) × (status ≡ 3)
+
+-- memory ended before the answer was whole
+abbrev pub IsOutOfMemory : List ℕ → List ℕ → ℕ → Type 0
+IsOutOfMemory input text status = (kept : List ℕ) × (last : List ℕ) × RunsOut input kept last × (text ≡ kept ++ last) × (status ≡ 4)
+
+-- the answer, or what stands for it where the reader failed or memory ended, and the status that goes with it
+abbrev pub IsOutput : List ℕ → List ℕ → ℕ → Type 0
+IsOutput input text status = IsAnswer input text status ⊎ IsUnread text status ⊎ IsOutOfMemory input text status
+
+-- ---- What is written where the writer fails.
+
+-- what was being written when the writer failed: the replies to the first commands, all replies and the first lines of
+-- the report, or an output
+abbrev pub IsBegun : List ℕ → List ℕ → Type 0
+IsBegun input text = AreReplies input text ⊎ AreLines input text ⊎ ((status : ℕ) × IsOutput input text status)
+
+-- a prefix of that, but not all of it; nothing more
+abbrev pub IsCut : List ℕ → List ℕ → ℕ → Type 0
+IsCut input written status = (text : List ℕ) × IsBegun input text × IsProperPrefixOf written text × (status ≡ 4)
+
+-- all was written, and the writer failed to flush it
+abbrev pub IsUnflushed : List ℕ → List ℕ → ℕ → Type 0
+IsUnflushed input written status = ((before : ℕ) × IsOutput input written before) × (status ≡ 4)
+
+-- ---- The theorem.
+
+-- What is written for an input, and the status. The answer with its status; or the one line that the reader failed,
+-- with status 3; or, out of memory, with status 4, whole lines of the answer and the line that says at which command.
+-- Or, with status 4: the writer failed, and a prefix of that is written but not all of it; or all of it is written, and
+-- it failed to flush.
+abbrev pub IsOutcome : List ℕ → List ℕ → ℕ → Type 0
+IsOutcome input written status =
+    IsOutput input written status ⊎ IsCut input written status ⊎ IsUnflushed input written status

@@ -1,0 +1,143 @@
+//! The whole way: a text is read, its commands are judged on a fresh book, and the replies and the report are written.
+//!
+//! - `report`: what the book holds, as it is written.
+
+ghost use Rattle.std.specs.Prelude.{◌≡◌, ◌≤◌, ℕ, List, length, IfOk, IfSome, IsErrOf};
+ghost use Rattle.std.specs.Io.KnownBytes.{Appends};
+ghost use Rattle.lot_stream.specs.Status.{IsStatus};
+ghost use Rattle.lot_check.specs.Answer.{IsOutcome, status_of_verdict};
+ghost use Rattle.lot_stream.specs.Input.{longest_input};
+ghost use Rattle.lot_check.specs.Way.{Concludes, HasMeaning, JudgesKnown, Reaches, Replies, RunsCommands};
+ghost use Rattle.lot_stream.specs.declared.fault.Fault.TheVariants.{Memory};
+ghost use Rattle.lot_view.specs.View.{known};
+
+mod report;
+
+use lot_command::Command;
+use lot_ledger::{Outcome, Stop, Verdict, View, decide};
+use lot_report::{PrintFault, print_reply};
+use lot_stream::{Fault, Status, finish, print_fault, slurp};
+use lot_text::read;
+use report::print_holdings;
+use std::alloc::{AllocError, Global};
+use std::io::{Read, Write};
+
+/// Judges a ledger text on a fresh book: writes a reply to each of its commands, and then what the book holds.
+///
+/// The text is read to its end before the first command is judged, and where it can't be read or isn't ledger text, one
+/// line says so (docs/FORMATS.md, Printed texts). Returns the status of the program:
+///
+/// - 0 where all commands were accepted, 1 where some were refused;
+/// - 3 for a fault of the input: it can't be read, it is longer than 16 MiB, or isn't ledger text;
+/// - 4 where a total leaves its range, memory ends, or the writer fails.
+///
+/// Out of memory, whole lines are written and one more: without a number while the input is read and in the report, and
+/// with the number of the command at which it stopped in between. After a fault of the writer nothing more is written.
+/// When the reader or the writer fails, or memory ends, is shown by the tests alone.
+pub fn check<R: Read, W: Write>(alloc: Global, reader: &mut R, writer: &mut W) -> u8
+    ensures status { IsStatus result }
+    // Where the bytes of the reader are known: what is written, where it is known what the writer holds.
+    ensures answer { IfSome (R.remaining reader.old) (λ input. (written : List ℕ)
+        × Appends (W.contents writer.old) (W.contents writer.new) written × IsOutcome input written result) }
+{
+    let outcome = answer(alloc, reader, writer);
+    let concluded = conclude(writer, outcome);
+    finish(writer, concluded).code()
+}
+
+/// Reads, judges and writes, up to the end or the first fault, which isn't reported yet.
+fn answer<R: Read, W: Write>(alloc: Global, reader: &mut R, writer: &mut W) -> Result<Status, Fault>
+    ensures { IfSome (R.remaining reader.old) (λ input.
+        Reaches input (W.contents writer.old) (W.contents writer.new) result) }
+{
+    let text = slurp(alloc, reader)?;
+    answer_text(alloc, &text, writer)
+}
+
+/// The same for a text that was read.
+fn answer_text<W: Write>(alloc: Global, text: &[u8], writer: &mut W) -> Result<Status, Fault>
+    requires { length text.now ≤ longest_input }
+    ensures way { Reaches text.now (W.contents writer.old) (W.contents writer.new) result }
+    // Out of memory comes before a faulty line, never at one.
+    ensures memory { IsErrOf result Memory → HasMeaning text.now }
+{
+    let commands = read(alloc, text)?;
+    let (view, status) = run(alloc, commands, writer)?;
+    let rows = view.holdings()?;
+    print_holdings(alloc, rows, writer)?;
+    Ok(status)
+}
+
+/// Judges commands in their order on a fresh book, and writes a reply to each. Returns what is known of the book then.
+fn run<W: Write>(
+    alloc: Global,
+    commands: Vec<Command>,
+    writer: &mut W,
+) -> Result<(View, Status), Fault>
+    ensures { RunsCommands commands.items (W.contents writer.old) (W.contents writer.new) result }
+{
+    let mut view = View::new(alloc, 0);
+    let mut status = Status::Accepted;
+    for (index, command) in commands.into_iter().enumerate() {
+        let (next, replied) = reply(alloc, view, index + 1, &command, writer)?;
+        view = next;
+        status = status.and(replied);
+    }
+    Ok((view, status))
+}
+
+/// Judges the command of that number, and writes the reply.
+fn reply<W: Write>(
+    alloc: Global,
+    view: View,
+    number: usize,
+    command: &Command,
+    writer: &mut W,
+) -> Result<(View, Status), Fault>
+    ensures { Replies (known view) command.now number (W.contents writer.old) (W.contents writer.new) result }
+{
+    let Ok((view, verdict)) = judge(alloc, view, command) else {
+        return Err(Fault::MemoryAt { number });
+    };
+    match print_reply(writer, number, &verdict) {
+        Ok(()) => Ok((view, status_of_verdict(&verdict))),
+        Err(fault) => Err(Fault::at(number, fault)),
+    }
+}
+
+/// Returns the status of a run of one command.
+fn status_of_verdict(verdict: &Verdict) -> Status
+    ensures { result ≡ status_of_verdict verdict.now }
+{
+    match verdict {
+        Verdict::Accepted | Verdict::Repeated => Status::Accepted,
+        Verdict::Refused(_) => Status::Refused,
+    }
+}
+
+/// Judges a command on what is known of the book, and returns the verdict with what is known then: of an accepted command
+/// its entry is recorded. The error is out of memory; the view is then lost.
+fn judge(alloc: Global, view: View, command: &Command) -> Result<(View, Verdict), AllocError>
+    ensures { IfOk result (λ judged. JudgesKnown (known view) command.now judged.1 (known judged.0)) }
+{
+    match decide(alloc, &view, command) {
+        Ok(Outcome::Accept(change)) => Ok((view.record(command, &change)?, Verdict::Accepted)),
+        Ok(Outcome::Repeat) => Ok((view, Verdict::Repeated)),
+        Err(Stop::Refused(refusal)) => Ok((view, Verdict::Refused(refusal))),
+        Err(Stop::Memory) => Err(AllocError),
+    }
+}
+
+/// Reports a fault, if there was one: returns the status of a run that all is written of, or the fault of the writer.
+fn conclude<W: Write>(writer: &mut W, outcome: Result<Status, Fault>) -> Result<Status, PrintFault>
+    ensures { Concludes (W.contents writer.old) (W.contents writer.new) outcome result }
+{
+    match outcome {
+        Ok(status) => Ok(status),
+        Err(Fault::Write) => Err(PrintFault::Write),
+        Err(fault) => match print_fault(writer, fault) {
+            Ok(()) => Ok(fault.status()),
+            Err(cut) => Err(cut),
+        },
+    }
+}

@@ -1,0 +1,41 @@
+-- A row that comes again, and another one with its reference.
+use Rattle.std.proofs.Common.{◌≡◌, ◌≢◌, ◌∙◌, ap, subst, sym, ℕ, List, Some}
+use Rattle.lot_book.specs.Facts.{Entry, text_under}
+use Rattle.lot_book.specs.Judged.{JudgesOn}
+use Rattle.lot_book.specs.declared.refusal.Refusal.TheVariants.{KeyReused}
+use Rattle.lot_book.specs.declared.verdict.Verdict.{Verdict}
+use Rattle.lot_book.specs.declared.verdict.Verdict.TheVariants.{Accepted, Refused, Repeated}
+use Rattle.lot_command.specs.Canonical.{canonical}
+use Rattle.lot_command.specs.declared.command.Command.{Command}
+use Rattle.lot_command.specs.declared.key.Key.{Key}
+use Rattle.lot_import.proofs.DealLaws.{one_command, one_row_of}
+use Rattle.lot_import.specs.Deal.{IsCommandOf}
+use Rattle.lot_import.specs.Keyed.{IsKeyed}
+use Rattle.lot_import.specs.declared.accounts.Accounts.{Accounts}
+use Rattle.lot_import.specs.declared.row.Row.{Row}
+use Rattle.lot_laws.proofs.KeyLaws.{accepted_stands, is_refused, is_repeat}
+use Rattle.lot_print.proofs.ReadLemmas.{same_command}
+use Rattle.lot_command.specs.Sayable.{IsSayable}
+
+pub row_stands : (book after : List Entry) (source : List ℕ) (accounts : Accounts) (row : Row) (keyed : Key × Command)
+    → IsKeyed source accounts row keyed → JudgesOn book keyed.0 keyed.1 Accepted after → text_under after keyed.0 ≡ Some (canonical keyed.1)
+row_stands book after source accounts row keyed is judged =
+    accepted_stands book after keyed.0 keyed.1 judged
+
+pub row_repeats : (book after : List Entry) (source : List ℕ) (accounts : Accounts) (row : Row) (keyed again : Key × Command) (verdict : Verdict)
+    → IsKeyed source accounts row keyed → IsKeyed source accounts row again → text_under book keyed.0 ≡ Some (canonical keyed.1)
+    → JudgesOn book again.0 again.1 verdict after → (verdict ≡ Repeated) × (after ≡ book)
+row_repeats book after source accounts row keyed again verdict is more known judged =
+    is_repeat book after again.0 again.1 verdict
+    (ap (text_under book) (more.0 ∙ sym is.0) ∙ known ∙ ap (λ (c : Command). Some (canonical c)) (one_command accounts row keyed.1 again.1 is.1 more.1)) judged
+
+pub row_refused : (book after : List Entry) (source : List ℕ) (accounts : Accounts) (row other : Row) (keyed next : Key × Command) (verdict : Verdict)
+    → IsKeyed source accounts row keyed → IsKeyed source accounts other next → other.name ≡ row.name → other ≢ row
+    → IsSayable keyed.1 → IsSayable next.1 → text_under book keyed.0 ≡ Some (canonical keyed.1)
+    → JudgesOn book next.0 next.1 verdict after → (verdict ≡ Refused KeyReused) × (after ≡ book)
+row_refused book after source accounts row other keyed next verdict is more named apart said said_next known judged =
+    is_refused book after next.0 next.1 (canonical keyed.1) verdict
+    (ap (text_under book) (more.0 ∙ ap (λ (name : List ℕ). record { source = source; name = name }) named ∙ sym is.0) ∙ known)
+    (λ same. apart (one_row_of accounts other row next.1 more.1
+    (subst (λ (c : Command). IsCommandOf accounts row c) (same_command keyed.1 next.1 said said_next same) is.1)))
+    judged

@@ -1,0 +1,16 @@
+use Rattle.lot_cli.proofs.action.serve.Goals as goal
+
+pub returns-in-Post-clause-serves : goal.returns-in-Post-clause-serves
+returns-in-Post-clause-serves g c = rw c.in-Post.is c.post.ensures.posts
+
+pub returns-in-Import-clause-serves : goal.returns-in-Import-clause-serves
+returns-in-Import-clause-serves g c = rw c.in-Import.is c.import.ensures.imports
+
+pub returns-in-Holdings-clause-serves : goal.returns-in-Holdings-clause-serves
+returns-in-Holdings-clause-serves g c = rw c.in-Holdings.is c.write_report.ensures.reports
+
+pub returns-in-Gains-clause-serves : goal.returns-in-Gains-clause-serves
+returns-in-Gains-clause-serves g c = rw c.in-Gains.is c.write_report-in-Gains.ensures.reports
+
+pub returns-in-Journal-clause-serves : goal.returns-in-Journal-clause-serves
+returns-in-Journal-clause-serves g c = rw c.in-Journal.is c.write_report-in-Journal.ensures.reports

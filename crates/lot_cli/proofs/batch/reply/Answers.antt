@@ -1,7 +1,0 @@
-use Rattle.lot_cli.proofs.RunLemmas.{reply_stops}
-use Rattle.lot_view.specs.View.{known}
-use Rattle.lot_cli.proofs.batch.reply.Goals as goal
-
-pub returns-in-Err : goal.returns-in-Err
-returns-in-Err g c =
-    reply_stops (known c.args.view) (known c.in-Ok.view) c.args.command.now c.in-Ok.verdict c.args.number _ _ c.in-Err.fault c.at.result c.in-Ok.ensures c.in-Err.ensures.bytes c.at.ensures

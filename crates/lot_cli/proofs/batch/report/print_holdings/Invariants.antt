@@ -1,7 +1,0 @@
-use Rattle.lot_cli.proofs.ReportLemmas.{SoFar}
-use Rattle.lot_cli.proofs.batch.report.print_holdings.Given as goal
-
--- the rows so far were taken and written
-abbrev pub invariant-loop-holding : goal.invariant-loop-holding
-invariant-loop-holding g l =
-    SoFar l.fn.rows.items l.holding-iterator.rest.items l.report (g.W.Write.contents l.initial.writer) (g.W.Write.contents l.writer)

@@ -1,8 +1,0 @@
-use Rattle.lot_cli.proofs.RunLemmas.{RanSoFar}
-use Rattle.lot_cli.proofs.batch.run.Given as goal
-
--- the commands so far were judged and replied to
-abbrev pub invariant-loop-index : goal.invariant-loop-index
-invariant-loop-index g l =
-    RanSoFar l.fn.commands.items l.index-iterator.iter.rest.items l.index-iterator.count l.view l.status
-    (g.W.Write.contents l.initial.writer) (g.W.Write.contents l.writer)

@@ -1,0 +1,15 @@
+use Rattle.std.proofs.Common.{List, subst, ℕ}
+use Rattle.std.specs.Prelude.{codes, ◌++◌}
+use Rattle.lot_stream.specs.declared.status.Status.TheVariants.{Stopped}
+use Rattle.lot_report.specs.Printed.{line}
+use Rattle.lot_report.specs.Written.{WritesLine}
+use Rattle.lot_cli.specs.Reports.{report_line}
+use Rattle.lot_cli.proofs.HaltLemmas.{said}
+use Rattle.lot_cli.proofs.report.stopped.Goals as goal
+
+pub returns-clause-says : goal.returns-clause-says
+returns-clause-says g c =
+    said (report_line c.args.fault) Stopped _ (g.W.Write.contents c.print_line-printed.new.writer) _ c.print_line-printed.result c.tell.result
+    (subst (λ (name : List ℕ). WritesLine (g.W.Write.contents c.args.writer.now) (g.W.Write.contents c.print_line-printed.new.writer) c.print_line-printed.result (line (codes "fault " ++ name)))
+    c.name-name.ensures c.print_line-printed.ensures.bytes)
+    c.tell.ensures.kept c.tell.ensures.end

@@ -1,0 +1,22 @@
+use Rattle.std.proofs.Common.{◌∙◌, ap, subst, sym}
+use Rattle.sqlite.specs.Held.{state}
+use Rattle.lot_stream.specs.Status.{code_of}
+use Rattle.lot_cli.specs.Runs.{RunsOn}
+use Rattle.lot_cli.proofs.RunLemmas.{left_alone, runs_on}
+use Rattle.lot_cli.proofs.run.run.Goals as goal
+
+pub returns-in-Ok-clause-runs : goal.returns-in-Ok-clause-runs
+returns-in-Ok-clause-runs g c =
+    subst (λ conn. RunsOn c.args.commands.now c.args.from (state g.S.Store c.args.conn) (state g.S.Store conn) (g.W.Write.contents c.args.writer.now) (g.W.Write.contents c.run-end.new.writer) c.code.result)
+    (sym c.into_connection.ensures.same)
+    (runs_on c.args.commands.now c.args.from (state g.S.Store c.args.conn) (state g.S.Store c.in-Ok.book.conn) (state g.S.Store c.run-end.new.self.conn) _ _ c.in-Ok.book.condition c.run-end.new.self.condition c.run-end.result c.code.result
+    c.in-Ok.ensures.found c.in-Ok.ensures.same c.in-Ok.ensures.crash_ok c.in-Ok.ensures.ready c.run-end.ensures.runs
+    c.run-end.ensures.usable (c.code.ensures.value ∙ ap code_of c.status_of_run.ensures))
+
+pub returns-in-Err-clause-runs : goal.returns-in-Err-clause-runs
+returns-in-Err-clause-runs g c =
+    subst (λ conn. RunsOn c.args.commands.now c.args.from (state g.S.Store c.args.conn) (state g.S.Store conn) (g.W.Write.contents c.args.writer.now) (g.W.Write.contents c.halted.new.writer) c.halted.result.status)
+    (sym c.halted.ensures.same)
+    (left_alone c.args.commands.now c.args.from (state g.S.Store c.args.conn) (state g.S.Store c.in-Err.field-0.conn) _ _ c.in-Err.field-0.fault c.halted.result.status
+    c.in-Err.ensures.tells_err c.in-Err.ensures.refused c.in-Err.ensures.handed_back c.in-Err.ensures.undone c.in-Err.ensures.crash_err
+    c.halted.ensures.says)

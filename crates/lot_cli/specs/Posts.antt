@@ -1,0 +1,25 @@
+-- Ledger text that is posted to a book (docs/RULES.md, The program).
+use Rattle.std.specs.Prelude.{◌≡◌, ℕ, List, Option}
+use Rattle.sqlite.specs.State.{State}
+use Rattle.lot_command.specs.declared.command.Command.{Command}
+use Rattle.lot_command.specs.declared.key.Key.{Key}
+use Rattle.lot_cli.specs.Keyed.{keyed_from, post_source}
+use Rattle.lot_cli.specs.Runs.{RunsInput}
+use Rattle.lot_cli.specs.declared.fault.InputFault.{InputFault}
+use Rattle.lot_cli.specs.declared.fault.InputFault.TheVariants.{Unread, Text, Rows, Cash, Memory}
+use Rattle.lot_read.specs.Text.{IsFaultOf, Reads}
+
+-- the input is ledger text, and these are its commands from that number on, each under the key of its number in the batch
+abbrev pub TextMeans : List ℕ → ℕ → List ℕ → List (Key × Command) → Type 0
+TextMeans batch from input keyed = (commands : List Command) × Reads input commands × (keyed ≡ keyed_from (post_source batch) from commands)
+
+-- the input is no ledger text, and this is its first faulty line; or memory ends at a line before that
+abbrev pub IsFaultyText : List ℕ → InputFault → Type 0
+IsFaultyText input (Unread fault) = ⊥
+IsFaultyText input (Text fault) = IsFaultOf input fault
+IsFaultyText input (Rows fault) = ⊥
+IsFaultyText input (Cash fault) = ⊥
+IsFaultyText input Memory = ⊥
+
+abbrev pub Posts : List ℕ → ℕ → Option (List ℕ) → State → State → Option (List ℕ) → Option (List ℕ) → ℕ → Type 0
+Posts batch from = RunsInput (TextMeans batch from) IsFaultyText from

@@ -1,0 +1,94 @@
+-- A report of the book that is there: what is written, and what is left (docs/RULES.md, The program).
+use Rattle.std.specs.Prelude.{◌≡◌, ◌≢◌, ◌⊎◌, ℕ, Bool, true, false, List, ◌++◌, Option, Result, Ok, Err, codes}
+use Rattle.std.specs.Io.KnownBytes.{Keeps}
+use Rattle.sqlite.specs.State.{HasCleanDisk, State, Survives}
+use Rattle.lot_book.specs.Facts.{Entry}
+use Rattle.lot_stream.specs.Status.{code_of}
+use Rattle.lot_stream.specs.declared.status.Status.TheVariants.{Accepted, Stopped}
+use Rattle.lot_stored.specs.Rows.{entry_rows}
+use Rattle.lot_stored.specs.StandFor.{Stands}
+use Rattle.lot_page.specs.Cursor.{Stays}
+use Rattle.lot_report.specs.Printed.{line}
+use Rattle.lot_rows.specs.Tables.{Has, Tables}
+use Rattle.lot_cli.specs.Runs.{IsLeft, IsTaken}
+use Rattle.lot_cli.specs.Says.{Halts, Says}
+use Rattle.lot_cli.specs.declared.halt.Halt.TheVariants as halt
+use Rattle.lot_cli.specs.declared.report.Report.{Report}
+use Rattle.lot_cli.specs.declared.report.Report.TheVariants.{Holdings, Gains, Journal}
+use Rattle.lot_book_report.specs.Fault.{fault_name, is_of_writer}
+use Rattle.lot_book_report.specs.Gains.{ShowsAllSales, ShowsGains, ShowsSomeGains}
+use Rattle.lot_book_report.specs.Holdings.{ShowsAllHoldings, ShowsHoldings, ShowsSomeHoldings}
+use Rattle.lot_book_report.specs.Journal.{ShowsAllEntries, ShowsJournal, ShowsSomeJournal}
+use Rattle.lot_book_report.specs.Show.{UnlessStopped}
+use Rattle.lot_book_report.specs.declared.fault.ShowFault.{ShowFault}
+use Rattle.lot_book_report.specs.declared.fault.ShowFault.TheVariants.{Row as AtRow, Walk as AtWalk}
+use Rattle.lot_report.specs.declared.fault.RowFault.TheVariants.{Spent}
+use Rattle.lot_store.specs.Step.{LeavesTables}
+use Rattle.lot_store.specs.declared.fault.AdoptFault.{AdoptFault}
+use Rattle.lot_store.specs.declared.fault.StoreFault.TheVariants.{Damaged, Device, InDoubt, NeedsReopen}
+use Rattle.lot_store.specs.declared.walk.WalkFault.TheVariants.{Ended, Failed}
+use Rattle.lot_table.specs.Statement.{DiskFailed}
+
+-- ---- the end of a report
+
+-- the line that reports why a report ends before its end
+abbrev pub report_line : ShowFault → List ℕ
+report_line fault = line (codes "fault " ++ fault_name fault)
+
+-- what follows what was written of a report: nothing where the writer failed; else a line that reports the fault
+abbrev pub ConcludesFault : Bool → ShowFault → Option (List ℕ) → Option (List ℕ) → ℕ → Type 0
+ConcludesFault true fault shown written status = Keeps shown written × (status ≡ code_of Stopped)
+ConcludesFault false fault shown written status = Says (report_line fault) Stopped shown written status
+
+-- the same of any report: nothing follows a whole one, whose flush may fail
+abbrev pub Concludes : Result (Unit {0}) ShowFault → Option (List ℕ) → Option (List ℕ) → ℕ → Type 0
+Concludes (Ok done) shown written status = Keeps shown written × ((status ≡ code_of Accepted) ⊎ (status ≡ code_of Stopped))
+Concludes (Err fault) shown written status = ConcludesFault (is_of_writer fault) fault shown written status
+
+-- ---- the book
+
+-- The book is read for a report, which changes nothing: which faults end that, when, and what they leave. While the
+-- connection is open the tables and the last commit are as they were, and a crash leaves no more than before.
+pub record IsRead (old new : State) (shown : Result (Unit {0}) ShowFault) : Type 0 where
+  pub device : HasCleanDisk new → shown ≡ Err (AtWalk (Failed Device)) → DiskFailed old new
+  -- damage is found only where the tables stand for no book
+  pub damaged : HasCleanDisk new → shown ≡ Err (AtWalk (Failed Damaged)) → (entries : List Entry) → ¬ Stands old entries
+  pub reopened : shown ≢ Err (AtWalk (Failed NeedsReopen))
+  pub sure : shown ≢ Err (AtWalk (Failed InDoubt))
+  pub going : shown ≢ Err (AtWalk Ended)
+  pub unspent : shown ≢ Err (AtRow Spent)
+  pub same : HasCleanDisk new → UnlessStopped shown (Stays old new)
+  pub left : HasCleanDisk new → LeavesTables old new
+  pub crash : Survives old new (λ _. ⊥)
+
+-- ---- a report
+
+-- How much of a report of a book with these entries is written: of what it holds, with what its lots are worth on a day; of
+-- what its sales gained, from the first to the last day, both included; or of its entries.
+abbrev pub ShowsReport : Report → List Entry → Option (List ℕ) → Option (List ℕ) → Result (Unit {0}) ShowFault → Type 0
+ShowsReport (Holdings day) entries = ShowsHoldings entries day
+ShowsReport (Gains first last) entries = ShowsGains entries (first, last)
+ShowsReport Journal entries = ShowsJournal (entry_rows 1 entries)
+
+-- whatever the tables are, the report of some rows is written, or as much of it as its fault leaves
+abbrev pub ShowsSome : Report → Option (List ℕ) → Option (List ℕ) → Result (Unit {0}) ShowFault → Type 0
+ShowsSome (Holdings day) = ShowsSomeHoldings
+ShowsSome (Gains first last) = ShowsSomeGains
+ShowsSome Journal = ShowsSomeJournal
+
+-- Where no fault ends it, the report is that of all rows of its tables, whatever those stand for: of plain units and of lots,
+-- of the sales on the days of the range, or of the entries.
+abbrev pub ShowsAllRows : Report → Tables → Option (List ℕ) → Option (List ℕ) → Result (Unit {0}) ShowFault → Type 0
+ShowsAllRows (Holdings day) tables = ShowsAllHoldings tables day
+ShowsAllRows (Gains first last) tables = ShowsAllSales tables (first, last)
+ShowsAllRows Journal tables = ShowsAllEntries tables
+
+-- a report of the book that is there is written, as far as its fault lets it, and concluded; or the database isn't taken up
+abbrev pub Reports : Report → State → State → Option (List ℕ) → Option (List ℕ) → ℕ → Type 0
+Reports report old new before written status =
+    ((shown : Result (Unit {0}) ShowFault) × (mid : Option (List ℕ)) × IsTaken old new × IsRead old new shown
+    × (HasCleanDisk new → (entries : List Entry) → Stands old entries → ShowsReport report entries before mid shown)
+    × ShowsSome report before mid shown
+    × (HasCleanDisk new → (tables : Tables) → Has old tables → ShowsAllRows report tables before mid shown)
+    × Concludes shown mid written status)
+    ⊎ ((fault : AdoptFault) × IsLeft old new fault × Halts (halt.Adopt fault) before written status)

@@ -1,0 +1,81 @@
+-- What is run of an input on the book that is there (docs/RULES.md, The program).
+use Rattle.std.specs.Prelude.{◌≡◌, ◌≢◌, ◌⊎◌, ℕ, zero, suc, List, Option, Result, Err, Ok}
+use Rattle.sqlite.specs.State.{HasCleanDisk, State, Survives}
+use Rattle.lot_stream.specs.Status.{code_of}
+use Rattle.lot_stream.specs.declared.status.Status.{Status}
+use Rattle.lot_stream.specs.declared.status.Status.TheVariants.{Accepted, Refused, Stopped}
+use Rattle.lot_command.specs.declared.command.Command.{Command}
+use Rattle.lot_command.specs.declared.key.Key.{Key}
+use Rattle.lot_rows.specs.Tables.{Has, Tables}
+use Rattle.lot_cli.specs.Input.{Gives, GivesNone}
+use Rattle.lot_cli.specs.Says.{Halts}
+use Rattle.lot_cli.specs.declared.fault.InputFault.{InputFault}
+use Rattle.lot_cli.specs.declared.halt.Halt.TheVariants as halt
+use Rattle.lot_store.specs.Create.{IsHandedBack, TellsBook, TellsOf}
+use Rattle.lot_store.specs.Run.{RunsSession}
+use Rattle.lot_store.specs.declared.book.Ack.{Ack}
+use Rattle.lot_store.specs.declared.fault.AdoptFault.{AdoptFault}
+use Rattle.lot_store.specs.declared.fault.AdoptFault.TheVariants as adopt
+use Rattle.lot_store.specs.declared.fault.ApplyFault.{ApplyFault}
+use Rattle.lot_store.specs.declared.fault.ApplyFault.TheVariants as apply
+use Rattle.lot_store.specs.declared.fault.StoreFault.TheVariants.{NeedsReopen}
+use Rattle.lot_store.specs.declared.run.Ending.{Ending}
+use Rattle.lot_store.specs.declared.run.Ending.TheVariants as ending
+use Rattle.lot_store.specs.declared.run.RunEnd.{RunEnd}
+use Rattle.lot_table.specs.Book.{IsUndone}
+
+-- ---- the book
+
+-- nothing was asked of the database
+pub record IsUntouched (old new : State) : Type 0 where
+  pub now : new.now ≡ old.now
+  pub committed : new.committed ≡ old.committed
+  pub is_open : new.is_open ≡ old.is_open
+  pub crash : Survives old new (λ _. ⊥)
+
+-- The database isn't taken up as a book, for what its table `book` tells, or for why the database doesn't tell it. It is
+-- handed back as it was.
+pub record IsLeft (old new : State) (fault : AdoptFault) : Type 0 where
+  pub tells : HasCleanDisk new → TellsOf old new (Err fault)
+  pub told : HasCleanDisk new → fault ≢ adopt.Device → (tables : Tables) → Has old tables → TellsBook tables.book (Err fault)
+  pub handed_back : HasCleanDisk new → IsHandedBack old new
+  pub undone : HasCleanDisk new → IsUndone old new
+  pub crash : Survives old new (λ _. ⊥)
+
+-- the database is a book, as its table `book` tells
+abbrev pub IsTaken : State → State → Type 0
+IsTaken old new = HasCleanDisk new → (tables : Tables) → Has old tables → TellsBook tables.book (Ok tt)
+
+-- ---- commands
+
+-- the status of a run that ended so, of whose replies so many refuse: a fault goes before a refusal
+abbrev pub status_ending : Ending → ℕ → Status
+status_ending ending.Complete zero = Accepted
+status_ending ending.Complete (suc refused) = Refused
+status_ending (ending.Stopped fault) refused = Stopped
+status_ending ending.Output refused = Stopped
+
+abbrev pub status_of_run : RunEnd → Status
+status_of_run end = status_ending end.ending end.refused
+
+-- a run on a book that was just taken up never says that it needs reopening
+abbrev pub NeverReopens : Result Ack ApplyFault → Ending → Type 0
+NeverReopens answer end = (answer ≢ Err (apply.Failed NeedsReopen)) × (end ≢ ending.Stopped NeedsReopen)
+
+-- Commands, of which the first has that number, are run on the book that is there; or it isn't taken up. The answer is that to
+-- the command at which the writer failed.
+abbrev pub RunsOn : List (Key × Command) → ℕ → State → State → Option (List ℕ) → Option (List ℕ) → ℕ → Type 0
+RunsOn commands from old new before written status =
+    ((answer : Result Ack ApplyFault) × (end : RunEnd) × IsTaken old new × RunsSession commands from old new before written answer end
+    × NeverReopens answer end.ending × (status ≡ code_of (status_of_run end)))
+    ⊎ ((fault : AdoptFault) × IsLeft old new fault × Halts (halt.Adopt fault) before written status)
+
+-- ---- an input
+
+-- What is read gives no commands, and nothing is done to the book; or those that it gives are run. `Means` tells which
+-- commands an input gives, and `IsFaulty` which fault it has. The first of the commands has that number.
+abbrev pub RunsInput : (List ℕ → List (Key × Command) → Type 0) → (List ℕ → InputFault → Type 0)
+    → ℕ → Option (List ℕ) → State → State → Option (List ℕ) → Option (List ℕ) → ℕ → Type 0
+RunsInput Means IsFaulty from known old new before written status =
+    ((fault : InputFault) × GivesNone IsFaulty known fault × IsUntouched old new × Halts (halt.Input fault) before written status)
+    ⊎ ((keyed : List (Key × Command)) × Gives Means known keyed × RunsOn keyed from old new before written status)

@@ -1,0 +1,100 @@
+ghost use Rattle.std.specs.Prelude.{◌≡◌, None, false};
+ghost use Rattle.lot_stream.specs.Status.{IsStatus};
+ghost use Rattle.lot_cli.specs.Serve.{Makes, ReadsNothing, Serves};
+ghost use Rattle.sqlite.specs.Held.{state};
+
+use crate::halt::Halt;
+use crate::import::import;
+use crate::post::post;
+use crate::report::{Report, write_report};
+use crate::run::{halted, tell};
+use lot_args::Action;
+use lot_check::check;
+use lot_report::print_line;
+use lot_store::{HandedBack, create};
+use lot_stream::Status;
+use sqlite::{Alter, Connection};
+use std::alloc::Global;
+use std::io::{Read, Write};
+
+/// What an action comes to.
+pub struct Served<S: Alter> {
+    /// The status of the program.
+    pub status: u8,
+    /// The connection to the book, with every row as the action left it.
+    pub conn: Connection<S>,
+}
+
+/// Does what an action asks for on the book that the connection leads to.
+///
+/// - `init` makes a book and writes `book ready`; it reads nothing.
+/// - `post` reads all that the reader has as ledger text, and `import` as a broker file. Only then they take the book up, and
+///   apply the commands, or those of the rows, from the given number on, each in one commit, with a reply to each. A fault of
+///   the input changes nothing.
+/// - `holdings`, `gains` and `journal` take the book up and write the report, each row as it is read; they read no input and
+///   change nothing. Behind a report that ends before its end stands one line with the fault, unless the writer failed.
+/// - No words ask for a check, which leaves the book alone.
+///
+/// A fault is one line (docs/FORMATS.md, Faults). Returns the status of the program: 0 where all commands were accepted or
+/// repeated, the book was made, or the report is whole; 1 where some were refused; 3 for a fault of the input; 4 for a fault of the book, of the
+/// output or of memory, which goes before 1.
+pub fn serve<R: Read, W: Write, S: Alter>(
+    alloc: Global,
+    action: &Action,
+    reader: &mut R,
+    writer: &mut W,
+    conn: Connection<S>,
+) -> Served<S>
+    requires outside { conn.in_transaction ≡ false }
+    requires unlimited { conn.step_limit ≡ None }
+    ensures serves { Serves action.now (R.remaining reader.old) (state S.Store conn) (state S.Store result.conn)
+        (W.contents writer.old) (W.contents writer.new) result.status }
+    ensures unread { ReadsNothing action.now → reader.new ≡ reader.old }
+    ensures status { IsStatus result.status }
+{
+    match action {
+        Action::Check => Served {
+            status: check(alloc, reader, writer),
+            conn,
+        },
+        Action::Init { .. } => init(alloc, writer, conn),
+        Action::Post { batch, from, .. } => post(alloc, batch, *from, reader, writer, conn),
+        Action::Import {
+            batch,
+            accounts,
+            from,
+            ..
+        } => import(alloc, batch, accounts, *from, reader, writer, conn),
+        Action::Holdings { day, .. } => {
+            write_report(alloc, Report::Holdings { day: *day }, writer, conn)
+        }
+        Action::Gains { first, last, .. } => {
+            let asked = Report::Gains {
+                first: *first,
+                last: *last,
+            };
+            write_report(alloc, asked, writer, conn)
+        }
+        Action::Journal { .. } => write_report(alloc, Report::Journal, writer, conn),
+    }
+}
+
+/// Makes a book.
+fn init<W: Write, S: Alter>(alloc: Global, writer: &mut W, conn: Connection<S>) -> Served<S>
+    requires outside { conn.in_transaction ≡ false }
+    requires unlimited { conn.step_limit ≡ None }
+    ensures makes { Makes (state S.Store conn) (state S.Store result.conn)
+        (W.contents writer.old) (W.contents writer.new) result.status }
+    ensures status { IsStatus result.status }
+{
+    match create(alloc, conn) {
+        Ok(book) => {
+            let printed = print_line(writer, "book ready");
+            Served {
+                status: tell(writer, printed, Status::Accepted),
+                conn: book.into_connection(),
+            }
+        }
+        Err(HandedBack { fault, conn }) => halted(writer, Halt::Create(fault), conn),
+    }
+}

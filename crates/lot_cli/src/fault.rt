@@ -1,0 +1,176 @@
+ghost use Rattle.std.specs.Prelude.{◌≡◌};
+ghost use Rattle.lot_report.specs.Written.{WritesLine};
+ghost use Rattle.lot_cli.specs.HaltLine.{cash_line, cause_name, input_line, rows_line, status_of_cash, status_of_input, status_of_rows};
+
+use lot_import::{Cause, KeyedFault, RowsFault};
+use lot_report::{PrintFault, print_line};
+use lot_stream::{Fault, SlurpFault, Status, print_fault};
+use lot_text::TextFault;
+use std::alloc::AllocError;
+use std::io::Write;
+
+/// Why an input gives no commands.
+#[derive(Clone, Copy, Debug, PartialEq, Eq)]
+pub(crate) enum InputFault {
+    /// Not all of it is had.
+    Unread(SlurpFault),
+    /// It isn't ledger text.
+    Text(TextFault),
+    /// It has no rows of a broker file.
+    Rows(RowsFault),
+    /// The cash that one of its rows moves isn't units.
+    Cash(KeyedFault),
+    /// Out of memory.
+    Memory,
+}
+
+impl From<SlurpFault> for InputFault {
+    ghost use Rattle.std.specs.Prelude.{◌≡◌};
+    ghost use Rattle.lot_cli.specs.declared.fault.InputFault.TheVariants.{Unread};
+
+    ghost from_gives = { λ fault e. e ≡ Unread fault };
+
+    fn from(fault: SlurpFault) -> InputFault {
+        InputFault::Unread(fault)
+    }
+}
+
+impl From<TextFault> for InputFault {
+    ghost use Rattle.std.specs.Prelude.{◌≡◌};
+    ghost use Rattle.lot_cli.specs.declared.fault.InputFault.TheVariants.{Text};
+
+    ghost from_gives = { λ fault e. e ≡ Text fault };
+
+    fn from(fault: TextFault) -> InputFault {
+        InputFault::Text(fault)
+    }
+}
+
+impl From<RowsFault> for InputFault {
+    ghost use Rattle.std.specs.Prelude.{◌≡◌};
+    ghost use Rattle.lot_cli.specs.declared.fault.InputFault.TheVariants.{Rows};
+
+    ghost from_gives = { λ fault e. e ≡ Rows fault };
+
+    fn from(fault: RowsFault) -> InputFault {
+        InputFault::Rows(fault)
+    }
+}
+
+impl From<KeyedFault> for InputFault {
+    ghost use Rattle.std.specs.Prelude.{◌≡◌};
+    ghost use Rattle.lot_cli.specs.declared.fault.InputFault.TheVariants.{Cash};
+
+    ghost from_gives = { λ fault e. e ≡ Cash fault };
+
+    fn from(fault: KeyedFault) -> InputFault {
+        InputFault::Cash(fault)
+    }
+}
+
+impl From<AllocError> for InputFault {
+    ghost use Rattle.std.specs.Prelude.{◌≡◌};
+    ghost use Rattle.lot_cli.specs.declared.fault.InputFault.TheVariants.{Memory};
+
+    ghost from_gives = { λ _ e. e ≡ Memory };
+
+    fn from(_error: AllocError) -> InputFault {
+        InputFault::Memory
+    }
+}
+
+impl InputFault {
+    /// Returns how an action ends whose input has that fault.
+    pub fn status(self) -> Status
+        ensures { result ≡ status_of_input self }
+    {
+        match self {
+            InputFault::Unread(fault) => Fault::from(fault).status(),
+            InputFault::Text(fault) => Fault::from(fault).status(),
+            InputFault::Rows(fault) => status_of_rows(fault),
+            InputFault::Cash(fault) => status_of_cash(fault),
+            InputFault::Memory => Status::Stopped,
+        }
+    }
+}
+
+/// Writes the line that reports why an input gives no commands. It takes no memory, which may have ended.
+pub(crate) fn print_input_fault<W: Write>(
+    writer: &mut W,
+    fault: InputFault,
+) -> Result<(), PrintFault>
+    ensures { WritesLine (W.contents writer.old) (W.contents writer.new) result (input_line fault) }
+{
+    match fault {
+        InputFault::Unread(fault) => print_fault(writer, Fault::from(fault)),
+        InputFault::Text(fault) => print_fault(writer, Fault::from(fault)),
+        InputFault::Rows(fault) => print_rows_fault(writer, fault),
+        InputFault::Cash(fault) => print_cash_fault(writer, fault),
+        InputFault::Memory => print_line(writer, "fault Memory"),
+    }
+}
+
+fn status_of_rows(fault: RowsFault) -> Status
+    ensures { result ≡ status_of_rows fault }
+{
+    match fault {
+        RowsFault::Memory => Status::Stopped,
+        RowsFault::BadHeader | RowsFault::BadRow { .. } | RowsFault::TooManyRows => {
+            Status::BadInput
+        }
+    }
+}
+
+fn status_of_cash(fault: KeyedFault) -> Status
+    ensures { result ≡ status_of_cash fault }
+{
+    match fault {
+        KeyedFault::Memory => Status::Stopped,
+        KeyedFault::InexactAmount { .. } => Status::BadInput,
+    }
+}
+
+/// Writes the same of an input that has no rows.
+fn print_rows_fault<W: Write>(writer: &mut W, fault: RowsFault) -> Result<(), PrintFault>
+    ensures { WritesLine (W.contents writer.old) (W.contents writer.new) result (rows_line fault) }
+{
+    match fault {
+        RowsFault::BadHeader => print_line(writer, "fault header C1 BadHeader"),
+        RowsFault::BadRow { row, cause } => {
+            let name = cause_name(cause);
+            print_line(writer, format_args!("fault row {row} C2 BadRow {name}"))
+        }
+        RowsFault::TooManyRows => print_line(writer, "fault C3 TooManyRows"),
+        RowsFault::Memory => print_line(writer, "fault Memory"),
+    }
+}
+
+/// Writes the same of an input with a row that has no command.
+fn print_cash_fault<W: Write>(writer: &mut W, fault: KeyedFault) -> Result<(), PrintFault>
+    ensures { WritesLine (W.contents writer.old) (W.contents writer.new) result (cash_line fault) }
+{
+    match fault {
+        KeyedFault::InexactAmount { row } => {
+            print_line(writer, format_args!("fault row {row} C4 InexactAmount"))
+        }
+        KeyedFault::Memory => print_line(writer, "fault Memory"),
+    }
+}
+
+/// Returns the name of the cause by which a row is faulty.
+fn cause_name(cause: Cause) -> &'static str
+    ensures { result.now ≡ cause_name cause }
+{
+    match cause {
+        Cause::Length => "Length",
+        Cause::Ref => "Ref",
+        Cause::Date => "Date",
+        Cause::Action => "Action",
+        Cause::Symbol => "Symbol",
+        Cause::Units => "Units",
+        Cause::Price => "Price",
+        Cause::Currency => "Currency",
+        Cause::Fee => "Fee",
+        Cause::Lot => "Lot",
+    }
+}

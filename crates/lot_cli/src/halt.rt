@@ -1,0 +1,73 @@
+ghost use Rattle.std.specs.Prelude.{◌≡◌};
+ghost use Rattle.lot_report.specs.Written.{WritesLine};
+ghost use Rattle.lot_cli.specs.HaltLine.{adopt_name, create_name, halt_line, status_of_halt};
+
+use crate::fault::{InputFault, print_input_fault};
+use lot_report::{PrintFault, print_line};
+use lot_store::{AdoptFault, CreateFault};
+use lot_stream::Status;
+use std::io::Write;
+
+/// Why an action ends before its first command.
+#[derive(Clone, Copy, Debug, PartialEq, Eq)]
+pub(crate) enum Halt {
+    /// What was read gives no commands.
+    Input(InputFault),
+    /// The book isn't made.
+    Create(CreateFault),
+    /// The book isn't taken up.
+    Adopt(AdoptFault),
+}
+
+impl Halt {
+    /// Returns how an action ends that ends so.
+    pub fn status(self) -> Status
+        ensures { result ≡ status_of_halt self }
+    {
+        match self {
+            Halt::Input(fault) => fault.status(),
+            Halt::Create(_) | Halt::Adopt(_) => Status::Stopped,
+        }
+    }
+}
+
+/// Writes the line that reports why an action ended. It takes no memory, which may have ended.
+pub(crate) fn print_halt<W: Write>(writer: &mut W, halt: Halt) -> Result<(), PrintFault>
+    ensures { WritesLine (W.contents writer.old) (W.contents writer.new) result (halt_line halt) }
+{
+    match halt {
+        Halt::Input(fault) => print_input_fault(writer, fault),
+        Halt::Create(fault) => {
+            let name = create_name(fault);
+            print_line(writer, format_args!("fault {name}"))
+        }
+        Halt::Adopt(fault) => {
+            let name = adopt_name(fault);
+            print_line(writer, format_args!("fault {name}"))
+        }
+    }
+}
+
+/// Returns the code and the name of a fault of making a book.
+fn create_name(fault: CreateFault) -> &'static str
+    ensures { result.now ≡ create_name fault }
+{
+    match fault {
+        CreateFault::NotABook => "S1 NotABook",
+        CreateFault::Device => "S4 Device",
+        CreateFault::InDoubt => "S5 InDoubt",
+        CreateFault::Memory => "Memory",
+    }
+}
+
+/// Returns the code and the name of a fault of taking up a book.
+fn adopt_name(fault: AdoptFault) -> &'static str
+    ensures { result.now ≡ adopt_name fault }
+{
+    match fault {
+        AdoptFault::NotABook => "S1 NotABook",
+        AdoptFault::NewerEdition => "S2 NewerEdition",
+        AdoptFault::Device => "S4 Device",
+        AdoptFault::Memory => "Memory",
+    }
+}

@@ -1,0 +1,62 @@
+ghost use Rattle.std.specs.Prelude.{◌≡◌, ◌≤◌, IfErr, IfOk, None, false};
+ghost use Rattle.lot_stream.specs.Status.{IsStatus};
+ghost use Rattle.lot_cli.specs.Imports.{FileMeans, Imports, IsFaultyFile};
+ghost use Rattle.lot_cli.specs.Input.{Gives, GivesNone};
+ghost use Rattle.sqlite.specs.Held.{state};
+
+use crate::action::Served;
+use crate::fault::InputFault;
+use crate::halt::Halt;
+use crate::keyed::source;
+use crate::run::{halted, run};
+use lot_args::{Batch, Start};
+use lot_command::{Command, Key};
+use lot_import::{Accounts, keyed_commands, read_rows};
+use lot_stream::slurp;
+use sqlite::{Alter, Connection};
+use std::alloc::Global;
+use std::io::{Read, Write};
+
+/// Posts all that a reader has to accounts of the book that is there, as a broker file: its rows from that number on, each
+/// under the key of the row in the batch.
+///
+/// All is read, and each row is converted, before the book is taken up.
+pub(crate) fn import<R: Read, W: Write, S: Alter>(
+    alloc: Global,
+    batch: &Batch,
+    accounts: &Accounts,
+    from: Start,
+    reader: &mut R,
+    writer: &mut W,
+    conn: Connection<S>,
+) -> Served<S>
+    requires outside { conn.in_transaction ≡ false }
+    requires unlimited { conn.step_limit ≡ None }
+    ensures imports { Imports batch.now accounts.now from (R.remaining reader.old) (state S.Store conn) (state S.Store result.conn)
+        (W.contents writer.old) (W.contents writer.new) result.status }
+    ensures status { IsStatus result.status }
+{
+    let first = from.number() as usize;
+    match keyed_rows(alloc, batch, accounts, first, reader) {
+        Ok(commands) => run(alloc, &commands, first, writer, conn),
+        Err(fault) => halted(writer, Halt::Input(fault), conn),
+    }
+}
+
+/// Returns the commands of the rows of all that a reader has, from that number on, each under its key.
+fn keyed_rows<R: Read>(
+    alloc: Global,
+    batch: &Batch,
+    accounts: &Accounts,
+    from: usize,
+    reader: &mut R,
+) -> Result<Vec<(Key, Command)>, InputFault>
+    requires { 1 ≤ from }
+    ensures ok { IfOk result (λ keyed. Gives (FileMeans batch.now accounts.now from) (R.remaining reader.old) keyed.items) }
+    ensures err { IfErr result (GivesNone IsFaultyFile (R.remaining reader.old)) }
+{
+    let file = slurp(alloc, reader)?;
+    let rows = read_rows(alloc, &file)?;
+    let source = source(alloc, "import", batch)?;
+    Ok(keyed_commands(alloc, &source, accounts, from, &rows)?)
+}

@@ -1,0 +1,64 @@
+ghost use Rattle.std.specs.Prelude.{◌≡◌, ◌≤◌, IfOk, IsTrue, length};
+ghost use Rattle.lot_base.specs.Name.{is_label};
+ghost use Rattle.lot_cli.specs.Keyed.{keyed_from, numbered_key, post_source, source_of};
+
+use lot_args::Batch;
+use lot_base::Label;
+use lot_command::{Command, Key};
+use std::alloc::{AllocError, Global};
+
+/// Returns the commands of a batch from that number on, each under the key of its number. The first of the list has the
+/// number 1. The only error is out of memory.
+pub(crate) fn keyed(
+    alloc: Global,
+    batch: &Batch,
+    from: usize,
+    commands: Vec<Command>,
+) -> Result<Vec<(Key, Command)>, AllocError>
+    requires { 1 ≤ from }
+    ensures { IfOk result (λ keyed. keyed.items ≡ keyed_from (post_source batch.now) from commands.items) }
+{
+    let source = source(alloc, "post", batch)?;
+    let mut keyed = Vec::new(alloc);
+    for (index, command) in commands.into_iter().enumerate() {
+        let number = index + 1;
+        if number >= from {
+            let key = key(alloc, &source, number)?;
+            keyed.push((key, command))?;
+        }
+    }
+    Ok(keyed)
+}
+
+/// Returns where the commands of a batch come from that this word sends. The only error is out of memory.
+pub(crate) fn source(alloc: Global, word: &str, batch: &Batch) -> Result<Label, AllocError>
+    requires label { IsTrue (is_label word.now) }
+    requires short { length word.now ≤ 16 }
+    ensures { IfOk result (λ source. source ≡ source_of word.now batch.now) }
+{
+    let name = batch.as_str();
+    let text = format!(in alloc; "{word}:{name}")?;
+    label(alloc, text.as_str())
+}
+
+/// Returns the key of the command of that number.
+fn key(alloc: Global, source: &Label, number: usize) -> Result<Key, AllocError>
+    ensures { IfOk result (λ key. key ≡ numbered_key source.now number) }
+{
+    let name = format!(in alloc; "{number}")?;
+    Ok(Key {
+        source: source.copy()?,
+        name: label(alloc, name.as_str())?,
+    })
+}
+
+/// Returns the label of a text that is one. The only error is out of memory.
+fn label(alloc: Global, text: &str) -> Result<Label, AllocError>
+    requires { IsTrue (is_label text.now) }
+    ensures { IfOk result (λ label. label ≡ text.now) }
+{
+    match Label::new(alloc, text) {
+        Ok(label) => Ok(label),
+        Err(_) => Err(AllocError),
+    }
+}

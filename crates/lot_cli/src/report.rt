@@ -1,0 +1,105 @@
+//! Reports of the book that is there.
+ghost use Rattle.std.specs.Prelude.{◌≡◌, None, false};
+ghost use Rattle.lot_stream.specs.Status.{IsStatus};
+ghost use Rattle.lot_stream.specs.declared.status.Status.TheVariants.{Stopped};
+ghost use Rattle.lot_cli.specs.Reports.{Concludes, Reports, ShowsReport, ShowsAllRows, ShowsSome, report_line};
+ghost use Rattle.lot_cli.specs.Says.{Says};
+ghost use Rattle.lot_book_report.specs.Show.{HoldsOfBook, HoldsOfTables, ReadsBook};
+ghost use Rattle.sqlite.specs.Held.{state};
+
+use crate::action::Served;
+use crate::halt::Halt;
+use crate::run::{halted, tell};
+use lot_base::Day;
+use lot_book_report::{ShowFault, show_gains, show_holdings, show_journal};
+use lot_report::print_line;
+use lot_store::{Book, HandedBack, adopt};
+use lot_stream::Status;
+use sqlite::{Alter, Connection};
+use std::alloc::Global;
+use std::io::Write;
+
+/// A report of a book.
+#[derive(Clone, Copy, Debug, PartialEq, Eq)]
+pub(crate) enum Report {
+    /// What it holds, with what its lots are worth on the day, where one is given.
+    Holdings {
+        day: Option<Day>,
+    },
+    /// What its sales gained: those from the first to the last day, both included, where they are given.
+    Gains {
+        first: Option<Day>,
+        last: Option<Day>,
+    },
+    /// Its entries.
+    Journal,
+}
+
+/// Writes a report of the book that is there.
+pub(crate) fn write_report<W: Write, S: Alter>(
+    alloc: Global,
+    report: Report,
+    writer: &mut W,
+    conn: Connection<S>,
+) -> Served<S>
+    requires outside { conn.in_transaction ≡ false }
+    requires unlimited { conn.step_limit ≡ None }
+    ensures reports { Reports report (state S.Store conn) (state S.Store result.conn)
+        (W.contents writer.old) (W.contents writer.new) result.status }
+    ensures status { IsStatus result.status }
+{
+    match adopt(alloc, conn) {
+        Ok(mut book) => {
+            let shown = show(alloc, report, &mut book, writer);
+            Served {
+                status: conclude(writer, shown),
+                conn: book.into_connection(),
+            }
+        }
+        Err(HandedBack { fault, conn }) => halted(writer, Halt::Adopt(fault), conn),
+    }
+}
+
+/// Writes a report of a book, as far as its fault lets it. Nothing is flushed.
+fn show<W: Write, S: Alter>(
+    alloc: Global,
+    report: Report,
+    book: &mut Book<S>,
+    writer: &mut W,
+) -> Result<(), ShowFault>
+    ensures shows { HoldsOfBook S.Store book.old book.new
+        (λ entries. ShowsReport report entries (W.contents writer.old) (W.contents writer.new) result) }
+    ensures some { ShowsSome report (W.contents writer.old) (W.contents writer.new) result }
+    ensures rows { HoldsOfTables S.Store book.old book.new
+        (λ tables. ShowsAllRows report tables (W.contents writer.old) (W.contents writer.new) result) }
+    ensures reads { ReadsBook S.Store book.old book.new result }
+{
+    match report {
+        Report::Holdings { day } => show_holdings(alloc, book, day, writer),
+        Report::Gains { first, last } => show_gains(alloc, book, first, last, writer),
+        Report::Journal => show_journal(book, writer),
+    }
+}
+
+/// Ends a report: flushes it where it is whole, else reports why it isn't. A writer that failed is asked for nothing more.
+/// Returns the status of the program.
+fn conclude<W: Write>(writer: &mut W, shown: Result<(), ShowFault>) -> u8
+    ensures concludes { Concludes shown (W.contents writer.old) (W.contents writer.new) result }
+    ensures status { IsStatus result }
+{
+    match shown {
+        Ok(()) => tell(writer, Ok(()), Status::Accepted),
+        Err(fault) if fault.is_of_writer() => Status::Stopped.code(),
+        Err(fault) => stopped(writer, fault),
+    }
+}
+
+/// Reports why a report ends before its end, and returns the status of the program.
+fn stopped<W: Write>(writer: &mut W, fault: ShowFault) -> u8
+    ensures says { Says (report_line fault) Stopped (W.contents writer.old) (W.contents writer.new) result }
+    ensures status { IsStatus result }
+{
+    let name = fault.name();
+    let printed = print_line(writer, format_args!("fault {name}"));
+    tell(writer, printed, Status::Stopped)
+}

@@ -1,0 +1,85 @@
+//! What is run of an input on the book that is there.
+ghost use Rattle.std.specs.Prelude.{◌≡◌, ◌+◌, ◌<◌, ◌^◌, None, false, length};
+ghost use Rattle.lot_stream.specs.Status.{IsStatus};
+ghost use Rattle.lot_cli.specs.Runs.{RunsOn, status_of_run};
+ghost use Rattle.lot_cli.specs.Says.{Finishes, Halts};
+ghost use Rattle.std.specs.Io.KnownBytes.{Keeps};
+ghost use Rattle.sqlite.specs.Held.{state};
+
+use crate::action::Served;
+use crate::halt::{Halt, print_halt};
+use lot_command::{Command, Key};
+use lot_report::PrintFault;
+use lot_store::{Ending, HandedBack, RunEnd, adopt};
+use lot_stream::{Status, finish};
+use sqlite::{Alter, Connection};
+use std::alloc::Global;
+use std::io::Write;
+
+/// Takes up the book that is there and runs commands on it, the first of which has that number.
+pub(crate) fn run<W: Write, S: Alter>(
+    alloc: Global,
+    commands: &[(Key, Command)],
+    from: usize,
+    writer: &mut W,
+    conn: Connection<S>,
+) -> Served<S>
+    requires outside { conn.in_transaction ≡ false }
+    requires unlimited { conn.step_limit ≡ None }
+    requires numbers { length commands.now + from < 2 ^ 64 }
+    ensures runs { RunsOn commands.now from (state S.Store conn) (state S.Store result.conn)
+        (W.contents writer.old) (W.contents writer.new) result.status }
+    ensures status { IsStatus result.status }
+{
+    match adopt(alloc, conn) {
+        Ok(mut book) => {
+            let end = book.run(commands, from, writer);
+            Served {
+                status: status_of_run(end).code(),
+                conn: book.into_connection(),
+            }
+        }
+        Err(HandedBack { fault, conn }) => halted(writer, Halt::Adopt(fault), conn),
+    }
+}
+
+/// Returns the status of a run that ended so.
+fn status_of_run(end: RunEnd) -> Status
+    ensures { result ≡ status_of_run end }
+{
+    match end.ending {
+        Ending::Complete if end.refused == 0 => Status::Accepted,
+        Ending::Complete => Status::Refused,
+        Ending::Stopped(_) | Ending::Output => Status::Stopped,
+    }
+}
+
+/// Reports why an action ends before its first command, and hands the connection on.
+pub(crate) fn halted<W: Write, S: Alter>(
+    writer: &mut W,
+    halt: Halt,
+    conn: Connection<S>,
+) -> Served<S>
+    ensures says { Halts halt (W.contents writer.old) (W.contents writer.new) result.status }
+    ensures same { result.conn ≡ conn }
+    ensures status { IsStatus result.status }
+{
+    let printed = print_halt(writer, halt);
+    Served {
+        status: tell(writer, printed, halt.status()),
+        conn,
+    }
+}
+
+/// Flushes a line that was printed of an action that ends with that status. Returns the status of the program: where the
+/// writer failed, the action is stopped.
+pub(crate) fn tell<W: Write>(writer: &mut W, printed: Result<(), PrintFault>, status: Status) -> u8
+    ensures kept { Keeps (W.contents writer.old) (W.contents writer.new) }
+    ensures end { Finishes printed status result }
+    ensures status { IsStatus result }
+{
+    match printed {
+        Ok(()) => finish(writer, Ok(status)).code(),
+        Err(_) => Status::Stopped.code(),
+    }
+}

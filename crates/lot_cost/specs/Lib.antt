@@ -1,0 +1,3 @@
+pub mod CostSpec
+pub mod LotKey
+pub mod Method

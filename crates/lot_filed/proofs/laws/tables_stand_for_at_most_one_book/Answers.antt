@@ -1,6 +1,0 @@
--- By the rows of its entries, and the one outcome of each step.
-use Rattle.lot_filed.proofs.OneBookLemmas.{one_book}
-use Rattle.lot_filed.proofs.laws.tables_stand_for_at_most_one_book.Goals as goal
-
-pub returns : goal.returns
-returns c = one_book

@@ -1,0 +1,186 @@
+ghost use Rattle.std.specs.Prelude.{◌≡◌, ◌≢◌, ◌⊎◌, ℕ, List, [], None, Some, MatchOption, MatchResult, Ok, Err, IfOk, OnErr, IsErrOf, map, option_map};
+ghost use Rattle.lot_form.specs.Form.{Directive, IsHeader, IsUnknown};
+ghost use Rattle.lot_form.specs.Header.{closing_of, currencies_at, declaring_of, directive_of, directive_seen, fitting, header_of, header_seen, last_text, named, notes_of, notes_seen, opening_of, quoting_of, seen_text, transaction_of};
+
+use crate::fault::FormFault;
+use crate::form::{CurrencyWords, DirectiveForm, HeaderForm, NotesForm};
+use crate::take::{comma, is_end, last_word, number, text, word};
+use arrayvec::ArrayVec;
+use lot_command::Flag;
+use lot_token::{Mark, Token, Tokens};
+
+/// Returns the parts of a line that isn't indented, by its tokens (docs/FORMATS.md, Forms).
+///
+/// The error is `UnknownDirective` where the first token is no date or the second is no directive, and where there is no
+/// token, else `Syntax` where the tokens have none of the forms.
+pub fn header<'a>(tokens: &Tokens<'a>) -> Result<HeaderForm<'a>, FormFault>
+    ensures is { IfOk result (λ form. IsHeader tokens.now form.day.now (directive_seen form.directive)) }
+    ensures unknown { IsErrOf result FormFault.UnknownDirective → (tokens.now ≡ []) ⊎ IsUnknown tokens.now }
+    ensures known { IsErrOf result FormFault.Syntax → IsUnknown tokens.now → ⊥ }
+    ensures some { IsErrOf result FormFault.Syntax → tokens.now ≢ [] }
+    ensures none { OnErr result ((day : List ℕ) (directive : Directive) → IsHeader tokens.now day directive → ⊥) }
+{
+    written(tokens)
+}
+
+/// Returns the same, by the tokens from the first on.
+#[tactic(auto, unfolding(crate::specs::Header::header_of))]
+fn written<'a>(tokens: &Tokens<'a>) -> Result<HeaderForm<'a>, FormFault>
+    ensures { MatchResult result (λ header. header_of tokens.now ≡ Ok (header_seen header)) (λ fault. header_of tokens.now ≡ Err fault) }
+{
+    match tokens.split_first() {
+        Some((Token::Date(day), rest)) => match directive(&rest) {
+            Ok(directive) => Ok(HeaderForm { day, directive }),
+            Err(fault) => Err(fault),
+        },
+        _ => Err(FormFault::UnknownDirective),
+    }
+}
+
+/// Returns what is done on a day, by the tokens behind the day.
+#[tactic(auto, unfolding(crate::specs::Header::directive_of))]
+fn directive<'a>(tokens: &Tokens<'a>) -> Result<DirectiveForm<'a>, FormFault>
+    ensures { MatchResult result (λ form. directive_of tokens.now ≡ Ok (directive_seen form)) (λ fault. directive_of tokens.now ≡ Err fault) }
+{
+    match tokens.split_first() {
+        None => Err(FormFault::Syntax),
+        Some((Token::Word(word), rest)) => named(word, &rest),
+        Some((Token::Mark(Mark::Star), rest)) => fitting(transaction(Flag::Complete, &rest)),
+        Some((Token::Mark(Mark::Exclamation), rest)) => {
+            fitting(transaction(Flag::Incomplete, &rest))
+        }
+        Some(_) => Err(FormFault::UnknownDirective),
+    }
+}
+
+/// Returns the directive of that word, by the tokens behind it.
+#[tactic(auto, unfolding(crate::specs::Header::named))]
+fn named<'a>(word: &str, rest: &Tokens<'a>) -> Result<DirectiveForm<'a>, FormFault>
+    ensures { MatchResult result (λ form. named word.now rest.now ≡ Ok (directive_seen form)) (λ fault. named word.now rest.now ≡ Err fault) }
+{
+    match word {
+        "open" => fitting(opening(rest)),
+        "close" => fitting(closing(rest)),
+        "commodity" => fitting(declaring(rest)),
+        "price" => fitting(quoting(rest)),
+        "txn" => fitting(transaction(Flag::Complete, rest)),
+        _ => Err(FormFault::UnknownDirective),
+    }
+}
+
+/// Returns the form, or `Syntax` where there is none.
+fn fitting(form: Option<DirectiveForm<'_>>) -> Result<DirectiveForm<'_>, FormFault>
+    ensures { MatchResult result (λ made. fitting (option_map directive_seen form.entry) ≡ Ok (directive_seen made)) (λ fault. fitting (option_map directive_seen form.entry) ≡ Err fault) }
+{
+    match form {
+        Some(form) => Ok(form),
+        None => Err(FormFault::Syntax),
+    }
+}
+
+/// Returns an opening: an account, its currencies, and a method where there is one.
+#[tactic(auto, unfolding(crate::specs::Header::opening_of))]
+fn opening<'a>(tokens: &Tokens<'a>) -> Option<DirectiveForm<'a>>
+    ensures { opening_of tokens.now ≡ option_map directive_seen result }
+{
+    let (account, rest) = word(tokens)?;
+    let (currencies, rest) = currencies(rest)?;
+    let method = last_text(&rest)?;
+    Some(DirectiveForm::Opening(account, currencies, method))
+}
+
+/// Returns the currencies at the front and the tokens behind them. There are at most 64.
+#[tactic(auto, unfolding(crate::specs::Header::currencies_at))]
+fn currencies<'a>(tokens: Tokens<'a>) -> Option<(CurrencyWords<'a>, Tokens<'a>)>
+    ensures { MatchOption result (currencies_at tokens.entry ≡ None) (λ found. currencies_at tokens.entry ≡ Some (map seen_text found.0.items, found.1)) }
+{
+    let mut currencies = ArrayVec::new();
+    let Some((first, mut rest)) = word(&tokens) else {
+        return Some((currencies, tokens));
+    };
+    currencies.push(first);
+    while let Some(behind) = comma(&rest) {
+        let (next, after) = word(&behind)?;
+        if currencies.is_full() {
+            return None;
+        }
+        currencies.push(next);
+        rest = after;
+    }
+    Some((currencies, rest))
+}
+
+/// Returns the text at the end of a line, where there is one.
+fn last_text<'a>(tokens: &Tokens<'a>) -> Option<Option<&'a str>>
+    ensures { last_text tokens.now ≡ option_map (λ text. option_map seen_text text) result }
+{
+    if is_end(tokens) {
+        return Some(None);
+    }
+    let (text, rest) = text(tokens)?;
+    if is_end(&rest) {
+        Some(Some(text))
+    } else {
+        None
+    }
+}
+
+/// Returns a closing: an account.
+#[tactic(auto, unfolding(crate::specs::Header::closing_of))]
+fn closing<'a>(tokens: &Tokens<'a>) -> Option<DirectiveForm<'a>>
+    ensures { closing_of tokens.now ≡ option_map directive_seen result }
+{
+    Some(DirectiveForm::Closing(last_word(tokens)?))
+}
+
+/// Returns a declaring: a commodity.
+#[tactic(auto, unfolding(crate::specs::Header::declaring_of))]
+fn declaring<'a>(tokens: &Tokens<'a>) -> Option<DirectiveForm<'a>>
+    ensures { declaring_of tokens.now ≡ option_map directive_seen result }
+{
+    Some(DirectiveForm::Declaring(last_word(tokens)?))
+}
+
+/// Returns a quoting: a base, a rate and a quote.
+#[tactic(auto, unfolding(crate::specs::Header::quoting_of))]
+fn quoting<'a>(tokens: &Tokens<'a>) -> Option<DirectiveForm<'a>>
+    ensures { quoting_of tokens.now ≡ option_map directive_seen result }
+{
+    let (base, rest) = word(tokens)?;
+    let (rate, rest) = number(&rest)?;
+    let quote = last_word(&rest)?;
+    Some(DirectiveForm::Quoting(base, rate, quote))
+}
+
+/// Returns a transaction with that flag, and with notes where there are such.
+#[tactic(auto, unfolding(crate::specs::Header::transaction_of))]
+fn transaction<'a>(flag: Flag, tokens: &Tokens<'a>) -> Option<DirectiveForm<'a>>
+    ensures { transaction_of flag tokens.now ≡ option_map directive_seen result }
+{
+    Some(DirectiveForm::Transaction(flag, notes(tokens)?))
+}
+
+/// Returns the notes at the end of a line: one is the narration, two are payee and narration.
+fn notes<'a>(tokens: &Tokens<'a>) -> Option<Option<NotesForm<'a>>>
+    ensures { notes_of tokens.now ≡ option_map (λ notes. option_map notes_seen notes) result }
+{
+    if is_end(tokens) {
+        return Some(None);
+    }
+    let (first, rest) = text(tokens)?;
+    if is_end(&rest) {
+        return Some(Some(NotesForm {
+            payee: None,
+            narration: first,
+        }));
+    }
+    let (second, rest) = text(&rest)?;
+    if is_end(&rest) {
+        Some(Some(NotesForm {
+            payee: Some(first),
+            narration: second,
+        }))
+    } else {
+        None
+    }
+}

@@ -1,0 +1,41 @@
+-- One more is known; at the end all are.
+use Rattle.std.specs.Prelude.{◌≡◌, List, [], ◌∷◌, ℕ}
+use Rattle.std.proofs.Common.{subst}
+use Rattle.sqlite.specs.Held.{state}
+use Rattle.lot_book.specs.Recorded.{facts_in}
+use Rattle.lot_load.specs.Known.{KnowsStanding}
+use Rattle.lot_load.proofs.LearnLemmas.{IsLeft, standing_stays, left_more, left_none}
+use Rattle.lot_load.proofs.ReadLemmas.{reads_as, reads_next, tells}
+use Rattle.lot_view.specs.View.{known}
+use Rattle.lot_load.proofs.account.learn_accounts.Goals as goal
+
+pub loop-account-preserved : goal.loop-account-preserved
+loop-account-preserved g c =
+    let first = state g.S.Store c.args.conn.now in
+    let mid = state g.S.Store c.loop-account.conn in
+    let new = state g.S.Store c.learn_account.new.conn in
+    let keys : List (List ℕ) = c.args.accounts.now.keys in
+    let left : List (List ℕ) = c.loop-account.account-iterator in
+    let rest : List (List ℕ) = c.next.new.self in
+    let key : List ℕ = c.in-Some.account.now in
+    let turn : left ≡ key ∷ rest = c.in-Some.ensures.steps in
+    reads_next _ _ _ (λ entries. IsLeft KnowsStanding keys left (facts_in entries) (known c.args.view.now) (known c.loop-account.view)) _
+    first mid new c.in_ok-learn_account.field-0 c.loop-account.invariant c.in_ok-learn_account.ensures.teaches
+    (λ tables entries book stand was good says.
+    left_more KnowsStanding standing_stays keys rest key (facts_in entries) (known c.args.view.now) (known c.loop-account.view) (known c.learn_account.new.view)
+    (subst (λ (l : List (List ℕ)). IsLeft KnowsStanding keys l (facts_in entries) (known c.args.view.now) (known c.loop-account.view)) turn was)
+    (says entries book stand))
+
+pub returns : goal.returns
+returns g c =
+    let first = state g.S.Store c.args.conn.now in
+    let now = state g.S.Store c.loop-account.conn in
+    let keys : List (List ℕ) = c.args.accounts.now.keys in
+    let left : List (List ℕ) = c.loop-account.account-iterator in
+    let none : left ≡ [] = c.in-None.ensures.steps.0 in record {
+      teaches = tells _ first now tt
+          (reads_as (λ entries. IsLeft KnowsStanding keys left (facts_in entries) (known c.args.view.now) (known c.loop-account.view)) _ first now c.loop-account.invariant
+          (λ tables entries book stand was.
+          left_none KnowsStanding keys (facts_in entries) (known c.args.view.now) (known c.loop-account.view)
+          (subst (λ (l : List (List ℕ)). IsLeft KnowsStanding keys l (facts_in entries) (known c.args.view.now) (known c.loop-account.view)) none was)));
+    }

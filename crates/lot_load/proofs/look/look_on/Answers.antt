@@ -1,0 +1,43 @@
+-- The text, what is kept or begun with, and what is learned agree with the book.
+use Rattle.std.specs.Prelude.{◌≡◌, List, ℕ, Option, option_map}
+use Rattle.std.specs.String.{string_bytes}
+use Rattle.std.proofs.Common.{ap, ◌∙◌}
+use Rattle.sqlite.specs.Held.{state}
+use Rattle.lot_book.specs.Facts.{Facts, text_under}
+use Rattle.lot_load.specs.Kept.{IsOf, Keeps, seen}
+use Rattle.lot_load.proofs.KeptLemmas.{keeps_turned}
+use Rattle.lot_load.proofs.ReadLemmas.{HasRead, reads_first, reads_next, tells}
+use Rattle.lot_load.proofs.RowLemmas.{looked}
+use Rattle.lot_load.proofs.look.look_on.Goals as goal
+
+pub returns : goal.returns
+returns g c =
+    let old = state g.S.Store c.args.conn.now in
+    let read = state g.S.Store c.find_text.new.conn in
+    let counted = state g.S.Store c.begin.new.conn in
+    let new = state g.S.Store c.learn_lacking.new.conn in
+    let key = c.args.key.now in
+    let command = c.args.command.now in
+    let kept = c.args.kept in
+    let text : Option (List ℕ) = option_map string_bytes c.in_ok-text.text in
+    let begun = c.in_ok-kept.kept in
+    let turned = c.turn_to.new.self in
+    let t = c.in_ok-touched.touched in
+    let one : HasRead (λ entries. text ≡ text_under entries key) old read =
+    reads_first _ _ _ (λ entries. text ≡ text_under entries key) old read c.in_ok-text.text c.in_ok-text.ensures.tells
+    (λ tables entries book stand good is. is entries book stand) in
+    let two : HasRead (λ entries. (text ≡ text_under entries key) × (IsOf kept entries → Keeps begun entries)) old counted =
+    reads_next _ _ _ (λ entries. text ≡ text_under entries key) (λ entries. (text ≡ text_under entries key) × (IsOf kept entries → Keeps begun entries))
+    old read counted begun one c.in_ok-kept.ensures.tells
+    (λ tables entries book stand was good is. (was, is entries book stand)) in record {
+      looks = tells _ old new _
+          (reads_next _ _ _ (λ entries. (text ≡ text_under entries key) × (IsOf kept entries → Keeps begun entries)) _
+          old counted new c.in_ok-learn_lacking.field-0 two c.in_ok-learn_lacking.ensures.tells
+          (λ tables entries book stand was good is of.
+          let covers = is entries book stand (keeps_turned begun turned text entries c.turn_to.ensures.seen c.turn_to.ensures.whole (was.1 of)) in (
+            covers.keeps,
+            looked entries key command t (seen c.learn_lacking.new.kept) c.in_ok-touched.ensures.accounts c.in_ok-touched.ensures.declared
+                c.in_ok-touched.ensures.pairs c.in_ok-touched.ensures.plain covers.keeps.count
+                (covers.text ∙ ap (λ (f : Facts). f.text) c.turn_to.ensures.seen ∙ was.0) covers.knows,
+          )));
+    }

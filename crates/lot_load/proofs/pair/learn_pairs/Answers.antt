@@ -1,0 +1,42 @@
+-- One more is known; at the end all are.
+use Rattle.std.specs.Prelude.{◌≡◌, List, [], ◌∷◌}
+use Rattle.std.proofs.Common.{subst}
+use Rattle.sqlite.specs.Held.{state}
+use Rattle.lot_book.specs.Recorded.{facts_in}
+use Rattle.lot_book.specs.declared.change.Pair.{Pair}
+use Rattle.lot_load.specs.Known.{KnowsPair}
+use Rattle.lot_load.proofs.LearnLemmas.{IsLeft, pair_stays, left_more, left_none}
+use Rattle.lot_load.proofs.ReadLemmas.{reads_as, reads_next, tells}
+use Rattle.lot_view.specs.View.{known}
+use Rattle.lot_load.proofs.pair.learn_pairs.Goals as goal
+
+pub loop-pair-preserved : goal.loop-pair-preserved
+loop-pair-preserved g c =
+    let first = state g.S.Store c.args.conn.now in
+    let mid = state g.S.Store c.loop-pair.conn in
+    let new = state g.S.Store c.learn_pair.new.conn in
+    let keys : List Pair = c.args.pairs.now.keys in
+    let left : List Pair = c.loop-pair.pair-iterator in
+    let rest : List Pair = c.next.new.self in
+    let key : Pair = c.in-Some.pair.now in
+    let turn : left ≡ key ∷ rest = c.in-Some.ensures.steps in
+    reads_next _ _ _ (λ entries. IsLeft KnowsPair keys left (facts_in entries) (known c.args.view.now) (known c.loop-pair.view)) _
+    first mid new c.in_ok-learn_pair.field-0 c.loop-pair.invariant c.in_ok-learn_pair.ensures.teaches
+    (λ tables entries book stand was good says.
+    left_more KnowsPair pair_stays keys rest key (facts_in entries) (known c.args.view.now) (known c.loop-pair.view) (known c.learn_pair.new.view)
+    (subst (λ (l : List Pair). IsLeft KnowsPair keys l (facts_in entries) (known c.args.view.now) (known c.loop-pair.view)) turn was)
+    (says entries book stand))
+
+pub returns : goal.returns
+returns g c =
+    let first = state g.S.Store c.args.conn.now in
+    let now = state g.S.Store c.loop-pair.conn in
+    let keys : List Pair = c.args.pairs.now.keys in
+    let left : List Pair = c.loop-pair.pair-iterator in
+    let none : left ≡ [] = c.in-None.ensures.steps.0 in record {
+      teaches = tells _ first now tt
+          (reads_as (λ entries. IsLeft KnowsPair keys left (facts_in entries) (known c.args.view.now) (known c.loop-pair.view)) _ first now c.loop-pair.invariant
+          (λ tables entries book stand was.
+          left_none KnowsPair keys (facts_in entries) (known c.args.view.now) (known c.loop-pair.view)
+          (subst (λ (l : List Pair). IsLeft KnowsPair keys l (facts_in entries) (known c.args.view.now) (known c.loop-pair.view)) none was)));
+    }

@@ -1,0 +1,51 @@
+-- The row has the plain units; without one there are none.
+use Rattle.std.specs.Prelude.{None}
+use Rattle.std.proofs.Common.{sym, ◌∙◌}
+use Rattle.sqlite.specs.Held.{state}
+use Rattle.lot_book.specs.Recorded.{facts_in}
+use Rattle.lot_table.specs.Rows.{has_key}
+use Rattle.lot_view.specs.View.{known}
+use Rattle.lot_load.proofs.ReadLemmas.{fails_first, passes, reads_first, tells}
+use Rattle.lot_stored.specs.Rows.{pair_key}
+use Rattle.lot_rows.specs.Plain.{IsPlainRow, plain_cells}
+use Rattle.lot_load.specs.Known.{KnowsAt, Learns}
+use Rattle.lot_load.proofs.PutLemmas.{no_units}
+use Rattle.lot_load.proofs.RowLemmas.{good_filtered}
+use Rattle.lot_stored.proofs.HeldLemmas.{plain_found, plain_missing}
+use Rattle.lot_load.proofs.pair.learn_units.Goals as goal
+
+pub returns-in_err-row : goal.returns-in_err-row
+returns-in_err-row g c =
+    let old = state g.S.Store c.args.conn.now in
+    let new = state g.S.Store c.find.new.conn in
+    let pair = c.args.pair.now in record {
+      teaches = passes _ old new c.in_err-row.field-0.0 c.from_residual.result c.from_residual.ensures.1
+          (fails_first _ _ _ _ old new c.in_err-row.field-0.0 c.in_err-row.ensures.finds
+          (λ tables entries book stand. good_filtered IsPlainRow (λ row. has_key 2 (pair_key pair.account pair.commodity) (plain_cells row)) tables.plain stand.good.plain));
+    }
+
+pub returns-in_ok-hold : goal.returns-in_ok-hold
+returns-in_ok-hold g c =
+    let old = state g.S.Store c.args.conn.now in
+    let new = state g.S.Store c.find.new.conn in
+    let account = c.args.pair.now.account in
+    let commodity = c.args.pair.now.commodity in record {
+      teaches = tells _ old new tt
+          (reads_first _ _ _ (λ entries. Learns (KnowsAt account (commodity, None)) (facts_in entries) (known c.args.view.now) (known c.hold.new.view)) old new
+          c.in_ok-row.field-0 c.in_ok-row.ensures.finds
+          (λ tables entries book stand good is.
+          c.in_ok-hold.ensures.learns (facts_in entries) (plain_found tables entries stand account commodity c.in-Some.row (sym is ∙ c.in-Some.is))));
+    }
+
+pub returns-in_default : goal.returns-in_default
+returns-in_default g c =
+    let old = state g.S.Store c.args.conn.now in
+    let new = state g.S.Store c.find.new.conn in
+    let account = c.args.pair.now.account in
+    let commodity = c.args.pair.now.commodity in record {
+      teaches = tells _ old new tt
+          (reads_first _ _ _ (λ entries. Learns (KnowsAt account (commodity, None)) (facts_in entries) (known c.args.view.now) (known c.args.view.now)) old new
+          c.in_ok-row.field-0 c.in_ok-row.ensures.finds
+          (λ tables entries book stand good is.
+          no_units account (commodity, None) (facts_in entries) (known c.args.view.now) (plain_missing tables entries stand account commodity (sym is ∙ c.in_default.is))));
+    }

@@ -1,0 +1,75 @@
+ghost use Rattle.std.specs.Prelude.{◌≡◌, ◌<◌, [], ◌∷◌, ◌++◌, IfOk, List, length, option_map};
+ghost use Rattle.std.specs.String.{string_bytes};
+ghost use Rattle.lot_book.specs.Agree.{Agrees};
+ghost use Rattle.lot_book.specs.Book.{IsBook, entry_of};
+ghost use Rattle.lot_book.specs.Change.{IsAcceptedWith};
+ghost use Rattle.lot_book.specs.Facts.{Entry, facts_of};
+ghost use Rattle.lot_book.specs.Refusals.{most_entries};
+ghost use Rattle.lot_command.specs.declared.key.Key.{Key};
+ghost use Rattle.lot_load.specs.Kept.{Keeps, seen};
+ghost use Rattle.lot_load.specs.Known.{turned_to};
+
+use lot_book::Change;
+use lot_command::Command;
+use lot_view::{Touched, View};
+use std::alloc::{AllocError, Global};
+use std::collections::BTreeSet;
+
+/// What is known of a book between commands: a view that holds nothing but what the book says, and the things of which it
+/// knows all that the book says.
+///
+/// It grows with the accounts and commodities that the commands touch, and with what is held there.
+#[derive(Drop)]
+pub struct Kept {
+    pub(crate) view: View,
+    /// What the view knows whole.
+    pub(crate) whole: Touched,
+}
+
+impl Kept {
+    /// Returns what is known of a book with so many entries of which nothing else is.
+    pub(crate) fn new(alloc: Global, entries: u32) -> Kept
+        ensures { (book : List Entry) → entries ≡ length book → Keeps result book }
+    {
+        let whole = Touched {
+            accounts: BTreeSet::new(alloc),
+            declared: BTreeSet::new(alloc),
+            pairs: BTreeSet::new(alloc),
+            plain: BTreeSet::new(alloc),
+        };
+        Kept {
+            view: View::new(alloc, entries),
+            whole,
+        }
+    }
+
+    /// Puts the text that stands under the next command's key, or that there is none.
+    pub(crate) fn turn_to(&mut self, text: Option<String>)
+        ensures seen { seen self.new ≡ turned_to (option_map string_bytes text) (seen self.old) }
+        ensures whole { self.new.whole ≡ self.old.whole }
+    {
+        match text {
+            Some(text) => self.view.put_text(text),
+            None => self.view.clear_text(),
+        }
+    }
+
+    /// Returns the view, to judge a command on.
+    pub fn view(&self) -> &View
+        ensures { result.now ≡ self.now.view }
+    {
+        &self.view
+    }
+
+    /// Records an accepted command and what it changes. The error is out of memory; what was known is then lost.
+    pub fn record(self, command: &Command, change: &Change) -> Result<Kept, AllocError>
+        requires { (seen self).entries < most_entries }
+        ensures { IfOk result (λ after. (entries : List Entry) (key : Key) → IsBook entries → Keeps self entries
+            → Agrees (seen self) (facts_of entries key) command.now → IsAcceptedWith (seen self) command.now change.now
+            → Keeps after (entries ++ entry_of key command.now change.now.legs ∷ [])) }
+    {
+        let Kept { view, whole } = self;
+        let view = view.record(command, change)?;
+        Ok(Kept { view, whole })
+    }
+}

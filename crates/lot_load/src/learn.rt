@@ -1,0 +1,52 @@
+ghost use Rattle.std.specs.Prelude.{IsTrue};
+ghost use Rattle.lot_load.specs.Kept.{Covers, Keeps};
+ghost use Rattle.lot_load.specs.Known.{KnowsTouched};
+ghost use Rattle.lot_load.specs.Tells.{Teaches, Tells};
+ghost use Rattle.lot_view.specs.View.{known};
+ghost use Rattle.sqlite.specs.Held.{state};
+ghost use Rattle.sqlite.specs.State.{HasCleanDisk};
+
+use crate::account::learn_accounts;
+use crate::commodity::learn_commodities;
+use crate::kept::Kept;
+use crate::pair::learn_pairs;
+use crate::plain::learn_all_plain;
+use crate::whole::{add, lacking};
+use lot_table::Fault;
+use lot_view::{Touched, View};
+use sqlite::{Alter, Connection};
+use std::alloc::Global;
+
+/// Puts what there is in the book of what a command looks at and isn't known whole yet. Then it is.
+pub(crate) fn learn_lacking<S: Alter>(
+    alloc: Global,
+    conn: &mut Connection<S>,
+    touched: Touched,
+    kept: &mut Kept,
+) -> Result<(), Fault>
+    requires { HasCleanDisk (state S.Store conn.old) → IsTrue (state S.Store conn.old).is_open }
+    ensures tells { Tells (λ _ entries. Keeps kept.old entries → Covers touched entries kept.old kept.new)
+        (state S.Store conn.old) (state S.Store conn.new) result }
+{
+    let lacking = lacking(touched, &kept.whole);
+    learn_touched(alloc, conn, &lacking, &mut kept.view)?;
+    add(&mut kept.whole, lacking)?;
+    Ok(())
+}
+
+/// Puts what there is in the book of what a command looks at.
+fn learn_touched<S: Alter>(
+    alloc: Global,
+    conn: &mut Connection<S>,
+    touched: &Touched,
+    view: &mut View,
+) -> Result<(), Fault>
+    requires { HasCleanDisk (state S.Store conn.old) → IsTrue (state S.Store conn.old).is_open }
+    ensures teaches { Teaches (KnowsTouched touched.now) (known view.old) (known view.new)
+        (state S.Store conn.old) (state S.Store conn.new) result }
+{
+    learn_accounts(alloc, conn, &touched.accounts, view)?;
+    learn_commodities(alloc, conn, &touched.declared, view)?;
+    learn_pairs(alloc, conn, &touched.pairs, view)?;
+    learn_all_plain(alloc, conn, &touched.plain, view)
+}

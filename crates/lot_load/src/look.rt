@@ -1,0 +1,62 @@
+ghost use Rattle.std.specs.Prelude.{IsTrue, List};
+ghost use Rattle.lot_book.specs.Agree.{Agrees};
+ghost use Rattle.lot_book.specs.Book.{IsBook};
+ghost use Rattle.lot_book.specs.Facts.{Entry, facts_of};
+ghost use Rattle.lot_stored.specs.StandFor.{AreOfBook, StandFor};
+ghost use Rattle.lot_load.specs.Kept.{IsOf, Keeps, seen};
+ghost use Rattle.lot_load.specs.Tells.{Tells};
+ghost use Rattle.lot_rows.specs.Tables.{layout};
+ghost use Rattle.lot_table.specs.Book.{always};
+ghost use Rattle.lot_table.specs.Call.{Answers};
+ghost use Rattle.sqlite.specs.Held.{state};
+ghost use Rattle.sqlite.specs.State.{HasCleanDisk};
+
+use crate::entry::{count, find_text};
+use crate::kept::Kept;
+use crate::learn::learn_lacking;
+use lot_command::{Command, Key};
+use lot_table::Fault;
+use lot_view::touches;
+use sqlite::{Alter, Connection};
+use std::alloc::Global;
+
+/// Returns what is known of a book once it is looked at for a command with a key.
+///
+/// It reads the text under the key, and of what the command touches the rows that aren't known yet, each by its key; where
+/// nothing is kept also the number of entries. The error is `Damaged` only where the tables stand for no book, whatever is
+/// kept.
+pub fn look_on<S: Alter>(
+    alloc: Global,
+    conn: &mut Connection<S>,
+    kept: Option<Kept>,
+    key: &Key,
+    command: &Command,
+) -> Result<Kept, Fault>
+    ensures looks { Answers layout
+        (λ now tables. (entries : List Entry) → IsBook entries → StandFor tables entries → IsOf kept entries
+        → Keeps now entries × Agrees (seen now) (facts_of entries key.now) command.now)
+        always AreOfBook (state S.Store conn.old) (state S.Store conn.new) result }
+{
+    let text = find_text(alloc, conn, key)?;
+    let mut kept = begin(alloc, conn, kept)?;
+    kept.turn_to(text);
+    let touched = touches(alloc, command)?;
+    learn_lacking(alloc, conn, touched, &mut kept)?;
+    Ok(kept)
+}
+
+/// Returns what is kept, or else what is known once the entries are counted.
+fn begin<S: Alter>(
+    alloc: Global,
+    conn: &mut Connection<S>,
+    kept: Option<Kept>,
+) -> Result<Kept, Fault>
+    requires { HasCleanDisk (state S.Store conn.old) → IsTrue (state S.Store conn.old).is_open }
+    ensures tells { Tells (λ begun entries. IsOf kept entries → Keeps begun entries)
+        (state S.Store conn.old) (state S.Store conn.new) result }
+{
+    match kept {
+        Some(kept) => Ok(kept),
+        None => Ok(Kept::new(alloc, count(alloc, conn)?)),
+    }
+}

@@ -1,0 +1,93 @@
+ghost use Rattle.std.specs.Prelude.{◌≡◌, ℕ, Bool, true, false, List, IfOk, IfErr};
+ghost use Rattle.lot_read.specs.Line.{IsFaulty, IsReadable, is_heading, is_indented};
+ghost use Rattle.lot_read.specs.Reading.{GivesStatement, IsLineOf, may_post};
+
+use crate::fault::LineFault;
+use crate::statement::{Statement, StatementFault};
+use lot_token::Tokens;
+use std::alloc::Global;
+use std::str;
+
+/// Where a line stands.
+#[derive(Clone, Copy)]
+pub(crate) enum Place {
+    /// Behind a transaction, of which it may be the next posting.
+    InTransaction,
+    /// Behind another command, or before all of them.
+    Elsewhere,
+}
+
+/// The most bytes of a line (`longest_line` of the definitions).
+const LONGEST_LINE: usize = 4_096;
+
+/// Returns what a line says, given without its line end, or nothing where it is skipped (docs/FORMATS.md, Forms). The error is
+/// out of memory, or what is wrong with the line (docs/FORMATS.md, Order of faults).
+pub(crate) fn statement(
+    alloc: Global,
+    line: &[u8],
+    place: Place,
+) -> Result<Option<Statement>, StatementFault>
+    ensures { GivesStatement (may_post place) line.now result }
+{
+    let text = readable(line)?;
+    if is_heading(text) {
+        return Ok(None);
+    }
+    let tokens = Tokens::new(text)?;
+    if tokens.split_first().is_none() {
+        return Ok(None);
+    }
+    if !is_indented(text) {
+        return command(alloc, &tokens);
+    }
+    match place {
+        Place::InTransaction => posting(alloc, &tokens),
+        Place::Elsewhere => Err(StatementFault::Line(LineFault::Syntax)),
+    }
+}
+
+/// Returns the text of a line, or `NotUtf8`, or `TooLong` for more than 4,096 bytes.
+fn readable(line: &[u8]) -> Result<&str, LineFault>
+    ensures text { IfOk result (λ text. text.now ≡ line.now) }
+    ensures readable { IfOk result (λ _. IsReadable line.now) }
+    ensures fault { IfErr result (λ fault. (may_post : Bool) → IsFaulty may_post line.now fault) }
+{
+    match str::from_utf8(line) {
+        Err(_) => Err(LineFault::NotUtf8),
+        Ok(_) if line.len() > LONGEST_LINE => Err(LineFault::TooLong),
+        Ok(text) => Ok(text),
+    }
+}
+
+fn is_heading(line: &str) -> bool
+    ensures { result ≡ is_heading line.now }
+{
+    matches!(line.as_bytes(), [b'*', ..])
+}
+
+/// Returns whether a line begins with a space or a tab, as a posting does.
+fn is_indented(line: &str) -> bool
+    ensures { result ≡ is_indented line.now }
+{
+    matches!(line.as_bytes(), [b' ' | b'\t', ..])
+}
+
+/// Returns the command that begins on a line that isn't indented, by its tokens, of which there are some.
+fn command(alloc: Global, tokens: &Tokens<'_>) -> Result<Option<Statement>, StatementFault>
+    ensures { (may_post : Bool) (line : List ℕ) → IsLineOf false tokens.now line → GivesStatement may_post line result }
+{
+    let form = lot_form::header(tokens)?;
+    let command = lot_meaning::command(alloc, &form)?;
+    Ok(Some(Statement::Begins(command)))
+}
+
+/// Returns the posting on an indented line, by its tokens, of which there are some.
+fn posting(alloc: Global, tokens: &Tokens<'_>) -> Result<Option<Statement>, StatementFault>
+    ensures { (line : List ℕ) → IsLineOf true tokens.now line → GivesStatement true line result }
+{
+    let Some(form) = lot_form::posting(tokens) else {
+        return Err(StatementFault::Line(LineFault::Syntax));
+    };
+    let posting = lot_meaning::posting(alloc, &form)?;
+    Ok(Some(Statement::Posts(posting)))
+}

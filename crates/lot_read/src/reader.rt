@@ -1,0 +1,76 @@
+ghost use Rattle.std.specs.Prelude.{◌≡◌, ◌++◌, ◌∷◌, [], IsTrue, IfOk, IfErr, OnOk};
+ghost use Rattle.lot_read.specs.Reading.{Continues, Posted, Stops, may_post, of_line};
+ghost use Rattle.lot_read.specs.Text.{IsFaultOf, Reads, takes_posting};
+
+use crate::fault::TextFault;
+use crate::line::{Place, statement};
+use crate::statement::{Statement, StatementFault};
+use lot_command::{Command, Posting};
+use lot_token::Lines;
+use std::alloc::{AllocFailed, Global};
+
+/// Returns the commands that a ledger text says (docs/FORMATS.md, Ledger text), or its first faulty line with the fault, or out
+/// of memory.
+pub fn read(alloc: Global, text: &[u8]) -> Result<Vec<Command>, TextFault>
+    ensures commands { IfOk result (λ commands. Reads text.now commands.items) }
+    ensures fault { IfErr result (λ fault. IsFaultOf text.now fault) }
+{
+    let mut commands = Vec::new(alloc);
+    let mut number = 0u64;
+    for line in Lines::new(text) {
+        number += 1;
+        if let Err(fault) = take(alloc, &mut commands, line) {
+            return Err(at_line(number, fault));
+        }
+    }
+    Ok(commands)
+}
+
+/// Returns the fault of a text for that of a line.
+fn at_line(line: u64, fault: StatementFault) -> TextFault
+    ensures { result ≡ of_line line fault }
+{
+    match fault {
+        StatementFault::Line(fault) => TextFault::Line { line, fault },
+        StatementFault::Memory => TextFault::Memory { line },
+    }
+}
+
+/// Adds what the next line says to the commands so far.
+fn take(alloc: Global, commands: &mut Vec<Command>, line: &[u8]) -> Result<(), StatementFault>
+    ensures ok { OnOk result (Continues line.now commands.old.items commands.new.items) }
+    ensures fault { IfErr result (λ fault. Stops line.now commands.old.items fault) }
+{
+    match statement(alloc, line, place_behind(commands))? {
+        None => Ok(()),
+        Some(Statement::Begins(command)) => Ok(commands.push(command)?),
+        Some(Statement::Posts(posting)) => Ok(post(commands, posting)?),
+    }
+}
+
+/// Returns where the line behind these commands stands.
+fn place_behind(commands: &[Command]) -> Place
+    ensures { may_post result ≡ takes_posting commands.now }
+{
+    let Some(last) = commands.last() else {
+        return Place::Elsewhere;
+    };
+    match last {
+        Command::Transaction(_) => Place::InTransaction,
+        _ => Place::Elsewhere,
+    }
+}
+
+/// Appends a posting to the last command, which is a transaction.
+fn post(commands: &mut Vec<Command>, posting: Posting) -> Result<(), AllocFailed<Posting>>
+    requires { IsTrue (takes_posting commands.old.items) }
+    ensures { OnOk result (Posted posting commands.old.items commands.new.items) }
+{
+    let Some(last) = commands.last_mut() else {
+        unreachable!()
+    };
+    match last {
+        Command::Transaction(transaction) => transaction.postings.push(posting),
+        _ => unreachable!(),
+    }
+}

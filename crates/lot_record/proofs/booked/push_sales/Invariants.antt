@@ -1,6 +1,0 @@
-use Rattle.std.proofs.Common.{◌≡◌, ◌++◌, take}
-use Rattle.lot_record.specs.Writes.{sales_written}
-use Rattle.lot_record.proofs.booked.push_sales.Given as goal
-
-abbrev pub invariant-loop-posting : goal.invariant-loop-posting
-invariant-loop-posting l = l.writes.items ≡ l.fn.writes.items ++ sales_written l.number (take l.posting-index l.sales)

@@ -1,8 +1,0 @@
-use Rattle.lot_serve.specs.Imports.{FileMeans, IsFaultyFile}
-use Rattle.lot_serve.proofs.InputLemmas.{runs_given}
-use Rattle.lot_serve.proofs.import.import.Goals as goal
-
-pub returns-in-Ok-clause-imports : goal.returns-in-Ok-clause-imports
-returns-in-Ok-clause-imports g c =
-    runs_given (FileMeans c.args.batch.now c.args.accounts.now) IsFaultyFile c.args.from _ _ _ c.run.result.status _ _ c.number-first.result c.in-Ok.commands.items c.deref.result.now
-    c.number-first.ensures.value c.deref.ensures.value c.in-Ok.ensures.ok c.run.ensures.runs

@@ -1,5 +1,0 @@
-use Rattle.lot_serve.proofs.KeyedLemmas.{import_is_label}
-use Rattle.lot_serve.proofs.import.keyed_rows.Goals as goal
-
-pub source-requires-clause-label : goal.source-requires-clause-label
-source-requires-clause-label g c = import_is_label

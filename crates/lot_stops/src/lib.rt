@@ -1,0 +1,8 @@
+//! Tests of the actions that name a book, over disks that stop. They stand above all libraries, and apart from other tests, which
+//! need no database.
+//!
+//! - `stops`: the log, or the database's file, fails at each of its calls.
+#![tactic(auto)]
+
+#[cfg(test)]
+mod stops;

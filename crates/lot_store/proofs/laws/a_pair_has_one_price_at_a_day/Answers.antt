@@ -1,6 +1,0 @@
--- Of two days with a rate the later one is the last.
-use Rattle.lot_store.proofs.LawLemmas.{one_price}
-use Rattle.lot_store.proofs.laws.a_pair_has_one_price_at_a_day.Goals as goal
-
-pub returns : goal.returns
-returns c = one_price

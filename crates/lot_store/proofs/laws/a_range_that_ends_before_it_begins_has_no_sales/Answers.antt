@@ -1,6 +1,0 @@
--- No day is in the range.
-use Rattle.lot_store.proofs.SaleLawLemmas.{none_within}
-use Rattle.lot_store.proofs.laws.a_range_that_ends_before_it_begins_has_no_sales.Goals as goal
-
-pub returns : goal.returns
-returns c = none_within

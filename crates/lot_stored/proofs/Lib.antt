@@ -1,0 +1,9 @@
+pub mod OrderLemmas
+pub mod LookupLemmas
+pub mod KeyLemmas
+pub mod KeptLemmas
+pub mod OneTablesLemmas
+pub mod BookedLemmas
+pub mod HeldLemmas
+pub mod KnownLemmas
+pub mod NumberLemmas

@@ -1,0 +1,41 @@
+-- What is made of the bytes of a reader, call by call (docs/RULES.md, Limits).
+use Rattle.std.specs.Prelude.{◌≡◌, ◌≢◌, ℕ, ◌+◌, ◌<◌, ◌≤◌, List, ◌++◌, length, take, Result, Ok, Err}
+use Rattle.std.specs.IoError.{error_kind}
+use Rattle.std.specs.declared.io.Error.{Error}
+use Rattle.std.specs.declared.io.ErrorKind.{ErrorKind}
+use Rattle.lot_stream.specs.declared.input.Progress.{Progress}
+use Rattle.lot_stream.specs.declared.input.Progress.TheVariants.{Ended, Goes}
+use Rattle.lot_stream.specs.declared.input.SlurpFault.{SlurpFault}
+use Rattle.lot_stream.specs.declared.input.SlurpFault.TheVariants.{Read, TooLong, Memory}
+
+-- the most bytes that an input may have: 16 MiB
+abbrev pub longest_input : ℕ
+longest_input = 16777216
+
+-- how many bytes a reader is asked for at a time
+abbrev pub chunk_size : ℕ
+chunk_size = 65536
+
+-- What one call of `read` comes to, which gave its bytes at the start of the chunk: the bytes so far, those after it,
+-- and whether the reader is at its end.
+-- A call that gave nothing ends the input. One that was interrupted is tried again, and one that failed otherwise is a
+-- fault of the reader. The bytes that it gave are kept, where there is memory for them; they are too many if that is
+-- more than the limit, and not otherwise.
+abbrev pub TakesIn : List ℕ → List ℕ → Result ℕ Error → List ℕ → Result Progress SlurpFault → Type 0
+TakesIn bytes chunk (Ok count) after (Ok Ended) = (count ≡ 0) × (after ≡ bytes)
+TakesIn bytes chunk (Ok count) after (Ok Goes) =
+    (0 < count) × (length bytes + count ≤ longest_input) × (after ≡ bytes ++ take count chunk)
+TakesIn bytes chunk (Ok count) after (Err Read) = ⊥
+TakesIn bytes chunk (Ok count) after (Err TooLong) = longest_input < length bytes + count
+TakesIn bytes chunk (Ok count) after (Err Memory) = (0 < count) × (length bytes + count ≤ longest_input)
+TakesIn bytes chunk (Err error) after (Ok Ended) = ⊥
+TakesIn bytes chunk (Err error) after (Ok Goes) = (error_kind error ≡ ErrorKind.Interrupted) × (after ≡ bytes)
+TakesIn bytes chunk (Err error) after (Err Read) = error_kind error ≢ ErrorKind.Interrupted
+TakesIn bytes chunk (Err error) after (Err TooLong) = ⊥
+TakesIn bytes chunk (Err error) after (Err Memory) = ⊥
+
+-- how many bytes were taken from the reader before the fault
+abbrev pub TookBefore : SlurpFault → ℕ → Type 0
+TookBefore Read count = count ≤ longest_input
+TookBefore TooLong count = (longest_input < count) × (count ≤ longest_input + chunk_size)
+TookBefore Memory count = count ≤ longest_input

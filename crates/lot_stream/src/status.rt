@@ -1,0 +1,62 @@
+ghost use Rattle.std.specs.Prelude.{◌≡◌};
+ghost use Rattle.std.specs.Io.KnownBytes.{Keeps};
+ghost use Rattle.lot_stream.specs.Status.{Ends, IsStatus, after_flush, code_of, status_after};
+
+use lot_report::PrintFault;
+use std::io::{self, Write};
+
+/// How a run ended.
+#[derive(Clone, Copy, Debug, PartialEq, Eq)]
+pub enum Status {
+    /// Every command was accepted or repeated.
+    Accepted,
+    /// Some command was refused.
+    Refused,
+    /// The input can't be read, or isn't ledger text.
+    BadInput,
+    /// The report, the output or memory stopped it.
+    Stopped,
+}
+
+impl Status {
+    /// Returns the status of two runs, one after the other, neither of which met a fault.
+    pub fn and(self, next: Status) -> Status
+        ensures { result ≡ status_after self next }
+    {
+        if self == Status::Accepted { next } else { self }
+    }
+
+    /// Returns the number with which the program ends.
+    pub fn code(self) -> u8
+        ensures value { result ≡ code_of self }
+        ensures status { IsStatus result }
+    {
+        match self {
+            Status::Accepted => 0,
+            Status::Refused => 1,
+            Status::BadInput => 3,
+            Status::Stopped => 4,
+        }
+    }
+}
+
+/// Flushes what was written, where that is all, and returns the status then.
+pub fn finish<W: Write>(writer: &mut W, concluded: Result<Status, PrintFault>) -> Status
+    ensures kept { Keeps (W.contents writer.old) (W.contents writer.new) }
+    ensures end { Ends concluded result }
+{
+    match concluded {
+        Ok(status) => after_flush(status, writer.flush()),
+        Err(_) => Status::Stopped,
+    }
+}
+
+/// Returns the status of a run that ends with that one, after the call of `flush`: one that fails stops the run.
+fn after_flush(status: Status, outcome: io::Result<()>) -> Status
+    ensures { result ≡ after_flush status outcome }
+{
+    match outcome {
+        Ok(()) => status,
+        Err(_) => Status::Stopped,
+    }
+}

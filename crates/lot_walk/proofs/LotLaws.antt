@@ -1,0 +1,146 @@
+-- What was bought into a lot is taken by the sales of a book, or held.
+use Rattle.std.specs.Prelude.{◌≡◌, ℕ, suc, true, cond, List, [], ◌∷◌, ◌++◌, length, map, filter, Option, None, Some, ℤ, pos, ◌+ℤ◌}
+use Rattle.std.specs.FinMap.{empty}
+use Rattle.std.specs.Option.{unwrap_or}
+use Rattle.std.proofs.Common.{refl, sym, ap, ◌∙◌}
+use Rattle.std.proofs.Math.IntN.{+ℤ_idr}
+use Rattle.std.proofs.lemmas.Grind.{flat_map-append}
+use Rattle.std.proofs.lemmas.List.Elements.{filter-append}
+use Rattle.lot_cost.specs.declared.lot_key.LotKey.{LotKey}
+use Rattle.lot_inv.specs.Inventory.{non_zero}
+use Rattle.lot_inv.proofs.LotLemmas.{get-with_units_here, units_at-set}
+use Rattle.lot_command.specs.declared.command.Command.{Command}
+use Rattle.lot_command.specs.declared.command.Command.TheVariants.{Opening, Closing, Declaring, Quoting, Transaction}
+use Rattle.lot_command.specs.declared.transaction.Amount.{Amount}
+use Rattle.lot_command.specs.declared.transaction.Posting.{Posting}
+use Rattle.lot_book.specs.declared.holding.Holding.{Holding}
+use Rattle.lot_book.specs.declared.leg.Leg.{Leg}
+use Rattle.lot_book.specs.declared.leg.Position.{Position}
+use Rattle.lot_book.specs.Booking.{All, Booked, BooksAll, IsBooked, Line, legs_in, line_of}
+use Rattle.lot_book.specs.Facts.{Entry, Facts, facts_of, legs_of}
+use Rattle.lot_book.specs.Leg.{legs_at_lots, leg_at, same_position, sum_at}
+use Rattle.lot_book.specs.Sale.{SaleParts, AreSales, lots_in_legs, sales_in, sales_of}
+use Rattle.lot_book.proofs.CaseLemmas.{by_bool}
+use Rattle.lot_book.proofs.SumLemmas.{sum_where-cons}
+use Rattle.lot_laws.specs.Laws.{BooksCommand, BooksEntries, bought_into, lot_at, sold_of}
+use Rattle.lot_laws.proofs.LawBooks.{over_booked}
+use Rattle.lot_laws.proofs.LawLeft.{sum_at-append, sum_if, sum_is_bought_and_sold}
+use Rattle.lot_laws.proofs.LawLots.{total, total-append}
+use Rattle.lot_laws.proofs.LawSales.{booked_sale}
+use Rattle.lot_laws.proofs.StepLemmas.{books_one}
+use Rattle.lot_stored.specs.Kept.{SalesBehind, SalesOf}
+use Rattle.lot_book.proofs.SaleLemmas.{lots_in_legs-lots}
+use Rattle.lot_walk.specs.Holdings.{IsHoldings}
+use Rattle.lot_walk.specs.Sold.{left_of, taken_by, taken_of}
+use Rattle.lot_walk.proofs.LawLemmas.{holding_is_sum}
+
+module _ (lot : Position) where
+  -- ---- A posting.
+
+  -- what legs at lots of an account put there
+  abbrev lots_there : List ℕ → List ℕ → List (LotKey × ℤ) → ℤ
+  lots_there account commodity lots = total (λ (leg : LotKey × ℤ). leg.1) (filter (λ (leg : LotKey × ℤ). same_position lot (lot_at account commodity leg.0)) lots)
+
+  legs_there : (entry posting place : ℕ) (account commodity : List ℕ) (lots : List (LotKey × ℤ))
+      → sum_at (legs_at_lots entry posting account commodity place lots) lot ≡ lots_there account commodity lots
+  legs_there entry posting place account commodity [] = refl
+  legs_there entry posting place account commodity (first ∷ lots) =
+      let here = same_position lot (lot_at account commodity first.0) in
+      sum_where-cons (λ (leg : Leg). same_position lot leg.position) (λ (leg : Leg). leg.units)
+      (leg_at entry posting place account commodity (Some first.0) first.1) (legs_at_lots entry posting account commodity (suc place) lots)
+      ∙ ap (λ z. cond here (first.1 +ℤ z) z) (legs_there entry posting (suc place) account commodity lots)
+      ∙ sym (sum_where-cons (λ (leg : LotKey × ℤ). same_position lot (lot_at account commodity leg.0)) (λ (leg : LotKey × ℤ). leg.1) first lots)
+
+  abbrev taken : ℕ × SaleParts → ℤ
+  taken sale = taken_by lot sale.1
+
+  sale_takes : (day : ℤ) (line : Line) (booked : Booked) → IsBooked line booked → booked.reduces ≡ true
+      → sum_at booked.legs lot ≡ lots_there booked.account booked.amount.commodity (lots_in_legs booked.legs)
+  sale_takes day line booked is sells =
+      let sale = booked_sale line booked is sells in
+      let lots = sale.0 in
+      ap (λ legs. sum_at legs lot) sale.2
+      ∙ legs_there line.entry line.place 0 line.account line.amount.commodity lots
+      ∙ ap (λ account. lots_there account line.amount.commodity lots) (sym is.account)
+      ∙ ap (λ (amount : Amount). lots_there booked.account amount.commodity lots) (sym is.amount)
+      ∙ ap (lots_there booked.account booked.amount.commodity)
+      (sym (ap lots_in_legs sale.2 ∙ lots_in_legs-lots line.entry line.place line.account line.amount.commodity 0 lots))
+
+  posting_takes : (day : ℤ) (line : Line) (booked : Booked) → IsBooked line booked
+      → cond booked.reduces (sum_at booked.legs lot) (pos 0) ≡ total taken (sales_of day booked)
+  posting_takes day line booked is = by_bool booked.reduces
+      (λ e. rw e (sale_takes day line booked is e ∙ sym (+ℤ_idr (lots_there booked.account booked.amount.commodity (lots_in_legs booked.legs)))))
+      (λ e. rw e refl)
+
+  -- ---- A transaction.
+
+  sales_take : (facts : Facts) (day : ℤ) (postings : List Posting) (booked : List Booked) → BooksAll facts day [] 1 postings (All booked)
+      → sold_of booked lot ≡ total taken (sales_in day booked)
+  sales_take facts day postings booked books =
+      over_booked facts day (λ before postings booked. sold_of booked lot ≡ total taken (sales_in day booked))
+      (λ before. refl)
+      (λ before other postings booked rest. rest)
+      (λ before place other amount postings first more is rest.
+      sum_if first.reduces first (filter (λ (b : Booked). b.reduces) more) lot
+      ∙ ap (λ z. z +ℤ sold_of more lot) (posting_takes day (line_of facts day before place other amount) first is)
+      ∙ ap (λ z. total taken (sales_of day first) +ℤ z) rest
+      ∙ sym (total-append taken (sales_of day first) (sales_in day more)))
+      1 postings [] booked books
+
+  none_takes : (booked : List Booked) (sales : List (ℕ × SaleParts)) → booked ≡ [] → sales ≡ [] → sold_of booked lot ≡ total taken sales
+  none_takes booked sales e g = ap (λ (bs : List Booked). sold_of bs lot) e ∙ sym (ap (total taken) g)
+
+  command_takes : (facts : Facts) (command : Command) (legs : List Leg) (booked : List Booked) (sales : List (ℕ × SaleParts))
+      → BooksCommand facts command legs booked → AreSales facts command sales → sold_of booked lot ≡ total taken sales
+  command_takes facts (Opening o) legs booked sales h are = none_takes booked sales h.1 are
+  command_takes facts (Closing c) legs booked sales h are = none_takes booked sales h.1 are
+  command_takes facts (Declaring d) legs booked sales h are = none_takes booked sales h.1 are
+  command_takes facts (Quoting q) legs booked sales h are = none_takes booked sales h.1 are
+  command_takes facts (Transaction t) legs booked sales h are =
+      let one : All booked ≡ All are.0 = books_one facts t.day [] 1 t.postings (All booked) (All are.0) h.1 are.1 in
+      let same : booked ≡ are.0 = cc in
+      sales_take facts t.day t.postings booked h.1
+      ∙ ap (λ (bs : List Booked). total taken (sales_in t.day bs)) same
+      ∙ sym (ap (total taken) are.2)
+
+  -- ---- A book.
+
+  numbered : (number : ℕ) (sales : List (ℕ × SaleParts)) → total taken sales ≡ taken_of (map (λ (sale : ℕ × SaleParts). (number, sale)) sales) lot
+  numbered number [] = refl
+  numbered number (sale ∷ sales) = ap (λ z. taken sale +ℤ z) (numbered number sales)
+
+  sold-append : (booked more : List Booked) → sold_of (booked ++ more) lot ≡ sold_of booked lot +ℤ sold_of more lot
+  sold-append booked more =
+      let sells = λ (b : Booked). b.reduces in
+      ap (λ (bs : List Booked). sum_at (legs_in bs) lot) (filter-append sells booked more)
+      ∙ ap (λ ls. sum_at ls lot) (flat_map-append (λ (b : Booked). b.legs) (filter sells booked) (filter sells more))
+      ∙ sum_at-append (legs_in (filter sells booked)) (legs_in (filter sells more)) lot
+
+  book_takes : (before entries : List Entry) (booked : List Booked) (sales : List (ℕ × (ℕ × SaleParts)))
+      → BooksEntries before entries booked → SalesBehind before entries sales → sold_of booked lot ≡ taken_of sales lot
+  book_takes before [] booked sales h are = ap (λ (bs : List Booked). sold_of bs lot) h ∙ sym (ap (λ ss. taken_of ss lot) are)
+  book_takes before (entry ∷ entries) booked sales h are =
+      let own = map (λ (sale : ℕ × SaleParts). (suc (length before), sale)) are.0 in
+      ap (λ (bs : List Booked). sold_of bs lot) h.4
+      ∙ sold-append h.0 h.1
+      ∙ ap (λ z. z +ℤ sold_of h.1 lot)
+      (command_takes (facts_of before entry.key) entry.command entry.legs h.0 are.0 h.2 are.2 ∙ numbered (suc (length before)) are.0)
+      ∙ ap (λ z. taken_of own lot +ℤ z) (book_takes (before ++ entry ∷ []) entries h.1 are.1 h.3 are.3)
+      ∙ sym (ap (λ ss. taken_of ss lot) are.4 ∙ total-append (λ (sold : ℕ × (ℕ × SaleParts)). taken_by lot sold.1.1) own are.1)
+
+-- units that are kept where they aren't zero
+kept_units : (units : ℤ) → unwrap_or (non_zero units) (pos 0) ≡ units
+kept_units units =
+    sym (ap (λ (found : Option ℤ). unwrap_or found (pos 0)) (get-with_units_here empty ([], None) units)) ∙ units_at-set empty ([], None) units
+
+pub bought_is_taken_or_left : (entries : List Entry) (booked : List Booked) (sales : List (ℕ × (ℕ × SaleParts))) (rows : List Holding)
+    (account commodity : List ℕ) (lot : LotKey)
+    → BooksEntries [] entries booked → SalesOf entries sales → IsHoldings entries rows
+    → left_of rows (lot_at account commodity lot)
+    ≡ bought_into booked (lot_at account commodity lot) +ℤ taken_of sales (lot_at account commodity lot)
+bought_is_taken_or_left entries booked sales rows account commodity lot h are held =
+    let there = lot_at account commodity lot in
+    ap (λ (found : Option ℤ). unwrap_or found (pos 0)) (holding_is_sum entries rows there held)
+    ∙ kept_units (sum_at (legs_of entries) there)
+    ∙ sum_is_bought_and_sold entries booked account commodity lot h
+    ∙ ap (λ z. bought_into booked there +ℤ z) (book_takes there [] entries booked sales h are)

@@ -1,0 +1,12 @@
+pub mod KeepLemmas
+pub mod PutLemmas
+pub mod LegLemmas
+pub mod WrittenLemmas
+pub mod HeadLemmas
+pub mod PositionLemmas
+pub mod SaleLemmas
+pub mod NamedLemmas
+pub mod TransactionLemmas
+pub mod LawLemmas
+pub mod CallLemmas
+pub mod RowLemmas

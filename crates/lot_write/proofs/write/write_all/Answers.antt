@@ -1,0 +1,42 @@
+use Rattle.std.proofs.Common.{◌∙◌, arith, rules, subst, sym, take}
+use Rattle.sqlite.proofs.StateLemmas.{survives_then}
+use Rattle.sqlite.specs.Held.{state}
+use Rattle.lot_table.proofs.MakeLemmas.{keeps_shown, keeps_then}
+use Rattle.lot_table.specs.Book.{Turns}
+use Rattle.lot_rows.specs.Tables.{layout}
+use Rattle.lot_write.specs.Write.{AreFit, written_all}
+use Rattle.lot_write.proofs.CallLemmas.{failed_next, taken, turns_push}
+use Rattle.lot_write.proofs.write.write_all.Goals as goal
+
+pub returns-in_err-write_one-clause-writes : goal.returns-in_err-write_one-clause-writes
+returns-in_err-write_one-clause-writes g c =
+    let old = state g.S.Store c.args.tx.now.conn.now in
+    let now = state g.S.Store c.each.tx.conn.now in
+    let new = state g.S.Store c.write_one.new.tx.conn.now in
+    let n = c.each.write-index in
+    let write = c.write-item.result in
+    let was = c.each.invariant in
+    failed_next c.args.writes.now n write old now new c.in_err-write_one.field-0.0 c.from_residual.result
+    (taken c.args.writes.now n write _ c.each-test.true c.write-item.is) was.1
+    (λ clean. ((was.2 clean).1, (was.2 clean).2)) c.in_err-write_one.ensures.writes (search rules)
+
+pub each-preserved : goal.each-preserved
+each-preserved g c =
+    let old = state g.S.Store c.args.tx.now.conn.now in
+    let now = state g.S.Store c.each.tx.conn.now in
+    let new = state g.S.Store c.write_one.new.tx.conn.now in
+    let n = c.each.write-index in
+    let write = c.write-item.result in
+    let done = take n c.args.writes.now in
+    let was = c.each.invariant in
+    let made = c.in_ok-write_one.ensures.writes in (
+      c.write_one.ensures.same_reference ∙ was.0,
+      survives_then old now new (λ _. ⊥) (λ _. ⊥) (λ _. ⊥) (λ _ db none. none) (λ _ db none. none) was.1 made.crash,
+      λ clean.
+          let early = was.2 (omega (arith, made.crash.clean)) in
+          let inside = made.inside clean in (
+            inside.mode,
+            keeps_then old now new early.1 (keeps_shown now new _ _ inside),
+            subst (λ l. Turns layout (AreFit l) (written_all l) old new) (sym (taken c.args.writes.now n write _ c.each-test.true c.write-item.is)) (turns_push done write old now new early.2 (made.turns clean)),
+          ),
+    )

@@ -1,0 +1,100 @@
+-- The writes of an accepted command: its entry, and what it changes (docs/FORMATS.md, Tables).
+use Rattle.std.specs.Prelude.{All, ℕ, ℤ, pos, suc, if◌then◌else◌, List, [], ◌∷◌, ◌++◌, flat_map, map, Option, Some, None}
+use Rattle.std.specs.BTreeMap.{IsOrdered}
+use Rattle.std.specs.Map.{lookup}
+use Rattle.std.specs.Ordering.{int_eq}
+use Rattle.lot_cost.specs.declared.lot_key.LotKey.{LotKey}
+use Rattle.lot_command.specs.declared.command.Closing.{Closing as ClosingOf}
+use Rattle.lot_command.specs.declared.command.Command.{Command}
+use Rattle.lot_command.specs.declared.command.Command.TheVariants.{Opening, Closing, Declaring, Quoting, Transaction}
+use Rattle.lot_command.specs.declared.key.Key.{Key}
+use Rattle.lot_book.specs.Book.{entry_of}
+use Rattle.lot_book.specs.Change.{pair_cmp}
+use Rattle.lot_book.specs.Facts.{Facts, standing_by}
+use Rattle.lot_book.specs.Leg.{same_position}
+use Rattle.lot_book.specs.Sale.{SaleParts}
+use Rattle.lot_book.specs.declared.change.Change.{Change}
+use Rattle.lot_book.specs.declared.change.Pair.{Pair}
+use Rattle.lot_book.specs.declared.leg.Leg.{Leg}
+use Rattle.lot_book.specs.declared.leg.Position.{Position}
+use Rattle.lot_book.specs.declared.standing.Standing.{Standing}
+use Rattle.lot_stored.specs.Rows.{account_row, allowed_rows, commodity_row, entry_row, head_row, leg_row, lot_row, plain_row, price_row, sale_row}
+use Rattle.lot_table.specs.Cell.{IsOrdinal, IsPlace}
+use Rattle.lot_write.specs.declared.write.Write.{Write}
+use Rattle.lot_write.specs.declared.write.Write.TheVariants as write
+
+-- ---- a transaction
+
+-- the units of a position, which holds none where they are zero
+abbrev pub position_write : List ℕ → List ℕ → Option LotKey → ℤ → Write
+position_write account commodity None units =
+    if int_eq units (pos 0) then write.NoPlain account commodity else write.Plain (plain_row account commodity units)
+position_write account commodity (Some lot) units =
+    if int_eq units (pos 0) then write.NoLot account commodity lot else write.Lot (lot_row account commodity lot units)
+
+-- what a change lists of a position
+abbrev pub listed_write : Position → Option ℤ → List Write
+listed_write position None = []
+listed_write position (Some units) = position_write position.account position.commodity position.lot units ∷ []
+
+-- what a change lists of the position of each leg
+abbrev pub positions_written : List (Position × ℤ) → List Leg → List Write
+positions_written listed legs = flat_map (λ (leg : Leg). listed_write leg.position (lookup (same_position leg.position) listed)) legs
+
+abbrev pub legs_written : List Leg → List Write
+legs_written legs = map (λ (leg : Leg). write.Leg (leg_row leg)) legs
+
+abbrev pub sales_written : ℕ → List (ℕ × SaleParts) → List Write
+sales_written number sales = map (λ (sale : ℕ × SaleParts). write.Sale (sale_row (number, sale))) sales
+
+abbrev pub heads_written : List (Pair × ℤ) → List Write
+heads_written heads = map (λ (head : Pair × ℤ). write.Head (head_row head.0.account head.0.commodity head.1)) heads
+
+-- ---- any command
+
+-- an account that stands so is closed on a day
+abbrev pub closing_written : ClosingOf → Option Standing → List Write
+closing_written closing None = []
+closing_written closing (Some standing) =
+    write.Account (account_row closing.account (record standing { closed = Some closing.day })) ∷ []
+
+abbrev pub own_writes : Facts → Command → Change → List Write
+own_writes facts (Opening o) change =
+    write.Account (account_row o.account (standing_by None o)) ∷ map write.Allowed (allowed_rows o.account 0 o.currencies)
+own_writes facts (Closing c) change = closing_written c (facts.standing c.account)
+own_writes facts (Declaring d) change = write.Commodity (commodity_row d.commodity d.day) ∷ []
+own_writes facts (Quoting q) change = write.Price (price_row q.base q.quote q.day q.rate) ∷ []
+own_writes facts (Transaction t) change =
+    legs_written change.legs
+    ++ (sales_written (suc facts.entries) change.sales
+    ++ (positions_written change.positions.entries change.legs ++ heads_written change.heads.entries))
+
+-- an accepted command, by what was known of the book
+abbrev pub writes_of : Facts → Key → Command → Change → List Write
+writes_of facts key command change =
+    write.Entry (entry_row (suc facts.entries) (entry_of key command change.legs)) ∷ own_writes facts command change
+
+-- the days that a transaction lists come in the order of their pairs, as the entries of every map do
+abbrev pub ListsInOrder : Command → Change → Type 0
+ListsInOrder (Opening o) change = Unit {0}
+ListsInOrder (Closing c) change = Unit {0}
+ListsInOrder (Declaring d) change = Unit {0}
+ListsInOrder (Quoting q) change = Unit {0}
+ListsInOrder (Transaction t) change = IsOrdered pair_cmp change.heads
+
+-- ---- numbers that fit their columns
+
+-- those of a leg
+pub record IsNumbered (leg : Leg) : Type 0 where
+  pub entry : IsOrdinal leg.entry
+  pub posting : IsOrdinal leg.posting
+  pub place : IsPlace leg.place
+
+-- those of a sale
+abbrev pub IsPlaced : ℕ × SaleParts → Type 0
+IsPlaced sale = IsOrdinal sale.0
+
+-- those of a change
+pub record AreNumbered (change : Change) : Type 0 where
+  pub legs : All IsNumbered change.legs
+  pub sales : All IsPlaced change.sales

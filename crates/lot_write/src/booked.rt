@@ -1,0 +1,181 @@
+ghost use Rattle.std.specs.Prelude.{◌≡◌, ◌≢◌, ◌++◌, All, Err, IfOk, OnOk};
+ghost use Rattle.std.specs.BTreeMap.{IsOrdered};
+ghost use Rattle.std.specs.Map.{lookup};
+ghost use Rattle.lot_book.specs.Change.{pair_cmp};
+ghost use Rattle.lot_book.specs.Leg.{same_position};
+ghost use Rattle.lot_stored.specs.Rows.{leg_row, sale_row};
+ghost use Rattle.lot_write.specs.Writes.{AreNumbered, IsNumbered, IsPlaced, heads_written, legs_written, listed_write, position_write, positions_written, sales_written};
+ghost use Rattle.lot_table.specs.declared.fault.Fault.TheVariants.{Damaged, Device};
+
+use crate::number::{ordinal, place};
+use crate::write::Write;
+use lot_base::Day;
+use lot_book::{Change, Leg, Pair, Position, Sale};
+use lot_num::Units;
+use lot_rows::head::HeadRow;
+use lot_rows::leg::LegRow;
+use lot_rows::lot::LotRow;
+use lot_rows::plain::PlainRow;
+use lot_rows::sale::SaleRow;
+use lot_table::{Fault, Ordinal, Sum};
+use std::alloc::AllocError;
+use std::collections::BTreeMap;
+
+/// Adds what a transaction writes beside its entry, which has that number: its legs and sales, what the positions of its legs
+/// hold after them, and the latest days.
+pub(crate) fn push_change(
+    writes: &mut Vec<Write>,
+    number: Ordinal,
+    change: &Change,
+) -> Result<(), Fault>
+    ensures writes { OnOk result (writes.new.items ≡ writes.old.items
+        ++ (legs_written change.now.legs ++ (sales_written number change.now.sales
+        ++ (positions_written change.now.positions.entries change.now.legs ++ heads_written change.now.heads.entries)))) }
+    ensures ordered { OnOk result (IsOrdered pair_cmp change.now.heads) }
+    ensures fault { result ≢ Err Damaged }
+    ensures device { result ≡ Err Device → ¬ AreNumbered change.now }
+{
+    let legs = change.legs.as_slice();
+    push_legs(writes, legs)?;
+    push_sales(writes, number, change.sales.as_slice())?;
+    push_positions(writes, &change.positions, legs)?;
+    push_heads(writes, &change.heads)?;
+    Ok(())
+}
+
+fn push_legs(writes: &mut Vec<Write>, legs: &[Leg]) -> Result<(), Fault>
+    ensures writes { OnOk result (writes.new.items ≡ writes.old.items ++ legs_written legs.now) }
+    ensures fault { result ≢ Err Damaged }
+    ensures device { result ≡ Err Device → ¬ All IsNumbered legs.now }
+{
+    for leg in legs {
+        writes.push(Write::Leg(leg_row(leg)?))?;
+    }
+    Ok(())
+}
+
+fn leg_row(leg: &Leg) -> Result<LegRow, Fault>
+    ensures row { IfOk result (λ row. row ≡ leg_row leg.now) }
+    ensures fault { result ≢ Err Damaged }
+    ensures device { result ≡ Err Device → ¬ IsNumbered leg.now }
+{
+    let Position {
+        account,
+        commodity,
+        lot,
+    } = leg.position.copy()?;
+    Ok(LegRow {
+        entry: ordinal(leg.entry)?,
+        posting: ordinal(leg.posting as u64)?,
+        place: place(leg.place)?,
+        account,
+        commodity,
+        units: leg.units,
+        lot,
+    })
+}
+
+fn push_sales(
+    writes: &mut Vec<Write>,
+    number: Ordinal,
+    sales: &[(usize, Sale)],
+) -> Result<(), Fault>
+    ensures writes { OnOk result (writes.new.items ≡ writes.old.items ++ sales_written number sales.now) }
+    ensures fault { result ≢ Err Damaged }
+    ensures device { result ≡ Err Device → ¬ All IsPlaced sales.now }
+{
+    for (posting, sale) in sales {
+        let posting = ordinal(*posting as u64)?;
+        writes.push(Write::Sale(sale_row(number, posting, sale)?))?;
+    }
+    Ok(())
+}
+
+fn sale_row(entry: Ordinal, posting: Ordinal, sale: &Sale) -> Result<SaleRow, AllocError>
+    ensures { IfOk result (λ row. row ≡ sale_row (entry, (posting, sale.now))) }
+{
+    let Some(units) = Sum::new(sale.units()) else {
+        unreachable!()
+    };
+    let price = match sale.price() {
+        Some(price) => Some(price.copy()?),
+        None => None,
+    };
+    Ok(SaleRow {
+        entry,
+        posting,
+        day: sale.day(),
+        account: sale.account().copy()?,
+        commodity: sale.commodity().copy()?,
+        units,
+        price,
+    })
+}
+
+/// Adds what is listed of the position of each leg.
+fn push_positions(
+    writes: &mut Vec<Write>,
+    listed: &BTreeMap<Position, Units>,
+    legs: &[Leg],
+) -> Result<(), AllocError>
+    ensures { OnOk result (writes.new.items ≡ writes.old.items ++ positions_written listed.now.entries legs.now) }
+{
+    for leg in legs {
+        push_position(writes, listed, &leg.position)?;
+    }
+    Ok(())
+}
+
+fn push_position(
+    writes: &mut Vec<Write>,
+    listed: &BTreeMap<Position, Units>,
+    position: &Position,
+) -> Result<(), AllocError>
+    ensures { OnOk result (writes.new.items ≡ writes.old.items ++ listed_write position.now (lookup (same_position position.now) listed.now.entries)) }
+{
+    if let Some(units) = listed.get(position) {
+        writes.push(position_write(position, *units)?)?;
+    }
+    Ok(())
+}
+
+/// Returns the row of a position with those units, or that it goes where they are zero.
+fn position_write(position: &Position, units: Units) -> Result<Write, AllocError>
+    ensures { IfOk result (λ write. write ≡ position_write position.now.account position.now.commodity position.now.lot units) }
+{
+    let Position {
+        account,
+        commodity,
+        lot,
+    } = position.copy()?;
+    Ok(match (lot, Sum::new(units)) {
+        (None, None) => Write::NoPlain(account, commodity),
+        (None, Some(units)) => Write::Plain(PlainRow {
+            account,
+            commodity,
+            units,
+        }),
+        (Some(lot), None) => Write::NoLot(account, commodity, lot),
+        (Some(lot), Some(units)) => Write::Lot(LotRow {
+            account,
+            commodity,
+            lot,
+            units,
+        }),
+    })
+}
+
+fn push_heads(writes: &mut Vec<Write>, heads: &BTreeMap<Pair, Day>) -> Result<(), AllocError>
+    ensures writes { OnOk result (writes.new.items ≡ writes.old.items ++ heads_written heads.now.entries) }
+    ensures ordered { OnOk result (IsOrdered pair_cmp heads.now) }
+{
+    for (pair, day) in heads {
+        let Pair { account, commodity } = pair.copy()?;
+        writes.push(Write::Head(HeadRow {
+            account,
+            commodity,
+            day: *day,
+        }))?;
+    }
+    Ok(())
+}

@@ -1,0 +1,27 @@
+//! The law of what is written: tables that stand for a book stand, after the writes of an accepted command, for the book
+//! with its entry. It is the contract of a function that does nothing.
+ghost use Rattle.std.specs.Prelude.{◌≡◌, All, None, [], ◌∷◌, ◌++◌, List};
+ghost use Rattle.lot_book.specs.Agree.{Agrees};
+ghost use Rattle.lot_book.specs.Book.{IsBook, entry_of};
+ghost use Rattle.lot_book.specs.Change.{IsAcceptedWith};
+ghost use Rattle.lot_book.specs.Facts.{Entry, Facts, facts_of};
+ghost use Rattle.lot_book.specs.declared.change.Change.{Change};
+ghost use Rattle.lot_command.specs.declared.command.Command.{Command};
+ghost use Rattle.lot_command.specs.declared.key.Key.{Key};
+ghost use Rattle.lot_stored.specs.StandFor.{StandFor};
+ghost use Rattle.lot_command.specs.Sayable.{IsSayable};
+ghost use Rattle.lot_write.specs.Write.{AreFit, IsGood, written_all};
+ghost use Rattle.lot_write.specs.Writes.{ListsInOrder, writes_of};
+ghost use Rattle.lot_rows.specs.Tables.{Tables};
+
+/// What an accepted command writes makes of tables that stand for a book tables that stand for the book with its entry.
+///
+/// It is written from facts that agree with the book's on what the command looks at, under a key that is new.
+pub fn what_is_written_stands_for_the_book()
+    ensures { (tables : Tables) (entries : List Entry) (known : Facts) (key : Key) (command : Command) (change : Change)
+        → IsBook entries → StandFor tables entries → Agrees known (facts_of entries key) command → known.text ≡ None
+        → IsAcceptedWith known command change → ListsInOrder command change → IsSayable command
+        → All IsGood (writes_of known key command change)
+        → AreFit (writes_of known key command change) tables
+        × StandFor (written_all (writes_of known key command change) tables) (entries ++ entry_of key command change.legs ∷ []) }
+{}
