@@ -1,7 +1,7 @@
 #!/usr/bin/env bash
 # How the time of purchases and sales grows with the lots of what they touch, without a file: the program on texts that differ in
-# these commands alone, as the difference of their processor times. Of interest are the ratios to the smallest number of lots, not the
-# microseconds of this machine.
+# these commands alone, as the difference of their processor times, which wants a quiet machine. Of interest are the ratios to the
+# smallest number of lots, not the microseconds of this one.
 set -u -o pipefail
 
 cd "$(dirname "$(readlink -f "${BASH_SOURCE[0]}")")" || exit 1
@@ -13,7 +13,7 @@ purchases() {
         printf "2020-01-01 open Assets:Broker \"%s\"\n2020-01-01 open Assets:Cash\n", method
         for (lot = 0; lot < lots; lot++)
             for (n = 0; n < commodities; n++)
-                printf "2020-01-02 *\n  Assets:Broker 20000 C%d {%d.%02d USD}\n  Assets:Cash\n", n, 1 + lot * 7919 % lots, lot % 100
+                printf "2020-01-02 *\n  Assets:Broker 20000 C%d {0.%08d USD}\n  Assets:Cash\n", n, 1 + lot * 7919 % lots
     }'
 }
 
@@ -24,14 +24,14 @@ commands() {
         for (n = 0; n < count; n++) {
             lot = int(n / commodities) * 31 % lots
             printf "2020-01-02 *\n  Assets:Broker %d C%d {%s}\n  Assets:Cash\n", units, n % commodities,
-                cost ? sprintf("%d.%02d USD", 1 + lot * 7919 % lots, lot % 100) : ""
+                cost ? sprintf("0.%08d USD", 1 + lot * 7919 % lots) : ""
         }
     }'
 }
 
 # ratios NAME: a line of the microseconds that this call's standard input has for each number of lots, and of their ratios to the first.
 ratios() {
-    awk -v name="$1" 'NR == 1 { first = $1; printf "%-30s", name } { printf " %9.2f %6.2f", $1, first > 0 ? $1 / first : 0 } END { print "" }'
+    awk -v name="$1" 'NR == 1 { first = $1; printf "%-30s", name } { printf " %9.2f %6.2f", $1, (first > 0 ? $1 / first : 0) } END { print "" }'
 }
 
 # difference RUNS COUNT: what the text `with` takes more than the text `without`, in microseconds for each of so many parts.

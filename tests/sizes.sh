@@ -148,7 +148,7 @@ done
 
 # Sales of as many lots less one, or of all under STRICT, each lot of a day and a cost of its own: FIFO leaves the last one, LIFO and
 # HIFO leave the first.
-for length in $lengths 4095 4096 4097 10000; do
+for length in $lengths; do
     compared "a sale of $length lots by each method" 'function lot(n) {
         return sprintf("%d USD, %04d-%02d-%02d", n, 1900 + int(n / 336), 1 + int(n / 28) % 12, 1 + n % 28)
     }
