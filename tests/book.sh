@@ -112,12 +112,7 @@ prints "init on it" 0 "book ready" init --book "$scratch/zero.book" </dev/null
 tables foreign "$scratch/taken.db" account
 refused "a database with a table of that name" "$scratch/taken.db" "fault S1 NotABook" "fault S1 NotABook"
 tables foreign "$scratch/other.db" notes
-on "post on a database of another program" "$scratch/other.db" 4 "fault S1 NotABook" \
-    post --book "$scratch/other.db" --batch a <"$scratch/good"
-on "a faulty text on a database of another program" "$scratch/other.db" 3 "fault line 1 X6 BadDay" \
-    post --book "$scratch/other.db" --batch a <"$scratch/faulty"
-prints "a book beside other tables" 0 "book ready" init --book "$scratch/other.db" </dev/null
-prints "a batch beside other tables" 0 "1 accepted" post --book "$scratch/other.db" --batch a <"$scratch/good"
+refused "a database of another program" "$scratch/other.db" "fault S1 NotABook" "fault S1 NotABook"
 shows "the other table" kept rows "$scratch/other.db" "SELECT content FROM notes"
 
 makes "$scratch/newer.book"

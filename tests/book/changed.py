@@ -265,22 +265,23 @@ def takings():
 
 
 def taken(program, book, make, drop):
-    """What is wrong with making a book where a name is taken, and where it is free again, or nothing."""
+    """What is wrong with making a book where another program has a table and a name of a book's, a table alone, or nothing; or nothing."""
     held = changed(book, ["CREATE TABLE kept (other)", "INSERT INTO kept VALUES ('lot')", make])
-    answer = call(program, ["init", "--book", book])
-    if answer != ("fault S1 NotABook\n", "", 4):
-        return f"{answer}"
-    with tables.connect(book) as db:
-        if dump(db) != held:
-            return "the file holds something else"
-        db.execute(drop)
+    for statement in (drop, "DROP TABLE kept"):
+        answer = call(program, ["init", "--book", book])
+        if answer != ("fault S1 NotABook\n", "", 4):
+            return f"before {statement}: {answer}"
+        with tables.connect(book) as db:
+            if dump(db) != held:
+                return f"before {statement} the file holds something else"
+            db.execute(statement)
+            held = dump(db)
     answer = call(program, ["init", "--book", book])
     if answer != ("book ready\n", "", 0):
         return f"then {answer}"
     with tables.connect(book) as db:
         names = {name for (name,) in db.execute("SELECT name FROM sqlite_schema WHERE type = 'table'")}
-        kept = db.execute("SELECT * FROM kept").fetchall()
-    return "" if names == {"kept", *tables.TABLES} and kept == [("lot",)] else f"then tables {sorted(names)}"
+    return "" if names == set(tables.TABLES) else f"then tables {sorted(names)}"
 
 
 def full(program, book):

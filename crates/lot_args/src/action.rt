@@ -4,7 +4,7 @@ use lot_base::Day;
 use lot_import::Accounts;
 
 /// What the program is asked to do. A book is named by the path of its file.
-#[derive(Debug, Drop)]
+#[derive(Drop)]
 pub enum Action {
     /// No words: ledger text is judged on a fresh book in memory.
     Check,

@@ -12,7 +12,7 @@ const MAX_BATCH: usize = 32;
 /// The name of a batch: the commands that are sent under it are told apart by their numbers.
 ///
 /// It has 1 to 32 ASCII letters, digits, points, underlines and dashes. A contract sees its bytes.
-#[derive(Debug, Drop)]
+#[derive(Drop)]
 pub struct Batch {
     name: String,
 }
@@ -30,7 +30,7 @@ impl Model for Batch {
 }
 
 /// Why there is no batch of a text.
-#[derive(Clone, Copy, Debug, PartialEq, Eq)]
+#[derive(Clone, Copy)]
 pub enum BatchFault {
     /// The text isn't the name of a batch.
     Bad,

@@ -8,7 +8,7 @@ use std::alloc::AllocError;
 use std::fmt;
 
 /// An option whose value can be outside its rule, in the order in which they are looked at.
-#[derive(Clone, Copy, Debug, PartialEq, Eq)]
+#[derive(Clone, Copy)]
 pub enum BadOption {
     /// `--batch`, whose value is no name of a batch.
     Batch,
@@ -60,7 +60,7 @@ impl fmt::Display for BadOption {
 }
 
 /// Why words name no action.
-#[derive(Debug, Drop)]
+#[derive(Drop)]
 pub enum WordsFault {
     /// `clap` doesn't take the words, or help or the version was asked for: its error says which, and has the text to show.
     Usage(Error),

@@ -9,7 +9,7 @@ pub(crate) const GREATEST_START: u32 = 10_000_000;
 /// The number of the first command or row of an input that is run, from 1 to 10,000,000: those before it are skipped.
 ///
 /// A contract sees the number.
-#[derive(Clone, Copy, Debug, PartialEq, Eq)]
+#[derive(Clone, Copy)]
 pub struct Start {
     number: u32,
 }

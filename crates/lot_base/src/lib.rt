@@ -14,4 +14,5 @@ mod name;
 
 pub use day::{Day, DayFault};
 pub use fault::NameFault;
-pub use name::{Account, Commodity, Label, Note};
+pub use grammars::{AccountGrammar, CommodityGrammar, Grammar, LabelGrammar};
+pub use name::{Account, Commodity, Label, Name, Note};

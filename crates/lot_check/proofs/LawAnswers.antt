@@ -40,7 +40,7 @@ one_judgement : (input : List ℕ) (vs ws : List Verdict) (rows others : List Ho
     → IsJudged input vs rows → IsJudged input ws others → (vs ≡ ws) × (rows ≡ others)
 one_judgement input vs ws rows others h k =
     let commands = reads_one input h.commands k.commands h.reads k.reads in
-    let same = judged_alike key_of 1 [] h.commands vs ws h.book k.book h.judged (subst (λ cs. JudgesAll [] (numbered key_of 1 cs) ws k.book) (sym commands) k.judged) in
+    let same = judged_alike [] (numbered key_of 1 h.commands) vs ws h.book k.book h.judged (subst (λ cs. JudgesAll [] (numbered key_of 1 cs) ws k.book) (sym commands) k.judged) in
     (same.0, one_holdings (facts_in h.book) rows others h.inventory (subst (λ (book : List Entry). ListsHoldings (facts_in book) others) (sym same.1) k.inventory))
 
 judged_first : (number : ℕ) (before : List Entry) (done rest : List Command) (verdicts : List Verdict) (after : List Entry)
@@ -63,7 +63,7 @@ prefix_of_replies : (input text : List ℕ) (verdicts : List Verdict) (rows : Li
 prefix_of_replies input text verdicts rows h k =
     let commands = reads_one input k.commands (h.0 ++ h.1) k.reads h.5 in
     let parts = judged_first 1 [] h.0 h.1 verdicts k.book (subst (λ cs. JudgesAll [] (numbered key_of 1 cs) verdicts k.book) commands k.judged) in
-    let same = (judged_alike key_of 1 [] h.0 parts.0 h.2 parts.2 h.3 parts.3 h.6).0 in
+    let same = (judged_alike [] (numbered key_of 1 h.0) parts.0 h.2 parts.2 h.3 parts.3 h.6).0 in
     let first = replies_first 1 parts.0 parts.1 in
     (first.0, ap (replies 1) parts.4 ∙ first.1 ∙ ap (λ vs. replies 1 vs ++ first.0) same ∙ ap (λ t. t ++ first.0) (sym h.7))
 

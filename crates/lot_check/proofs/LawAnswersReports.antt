@@ -1,5 +1,5 @@
 -- Rows have one report: the whole one where all of them fit, and the one up to the first that doesn't.
-use Rattle.std.specs.Prelude.{◌≡◌, ℕ, Bool, true, false, not, IsTrue, List, [], ◌∷◌, ◌++◌, ℤ}
+use Rattle.std.specs.Prelude.{◌≡◌, ℕ, Bool, not, IsTrue, List, [], ◌∷◌, ◌++◌, ℤ}
 use Rattle.lot_base.specs.Text.{text_cmp}
 use Rattle.std.proofs.Common.{refl, sym, ap, subst, ◌∙◌, append_assoc, inl, inr}
 use Rattle.std.proofs.lemmas.Bool.{true≢false}

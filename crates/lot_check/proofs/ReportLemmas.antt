@@ -1,18 +1,14 @@
 -- The rows of a report, one after another.
-use Rattle.std.proofs.Common.{inl, inr, IsTrue, ◌≡◌, ℕ, List, [], ◌∷◌, ◌++◌, refl, sym, ap, ◌∙◌, subst, append_assoc, append-nil}
-use Rattle.std.specs.Prelude.{IsFalse, Option, Result, Ok, Err, IsErrAnd}
+use Rattle.std.proofs.Common.{inl, inr, ◌≡◌, ℕ, List, [], ◌∷◌, ◌++◌, refl, sym, ap, ◌∙◌, subst, append_assoc, append-nil}
+use Rattle.std.specs.Prelude.{IsFalse, Option, Result, Ok, Err}
 use Rattle.std.specs.Io.KnownBytes.{Appends}
-use Rattle.std.proofs.KnownBytes.{Appends-nil}
-use Rattle.std.proofs.lemmas.Grind.{flat_map-append}
 use Rattle.lot_book.specs.declared.holding.Holding.{Holding}
 use Rattle.lot_report.specs.declared.fault.ReportFault.{ReportFault}
 use Rattle.lot_report.specs.declared.fault.ReportFault.TheVariants.{Range, Write, Memory}
-use Rattle.lot_report.specs.declared.fault.RowFault.{RowFault}
 use Rattle.lot_report.specs.declared.holdings.Holdings.{Holdings}
 use Rattle.lot_report.specs.declared.holdings.ValuedHolding.{ValuedHolding}
 use Rattle.lot_report.specs.Fed.{AreLinesBefore, joined}
-use Rattle.lot_report.specs.Holdings.{AllFit, AreKeptLines, EndsHoldings, GrowsByHolding, IsFed, WritesReport, fits, holding_row, is_spent, row_lines, rows_text, unvalued, unvalued_row}
-use Rattle.lot_report.specs.Written.{AppendsPrefix, IsProperPrefixOf}
+use Rattle.lot_report.specs.Holdings.{EndsHoldings, GrowsByHolding, IsFed, WritesReport, fits, holding_row, is_spent, row_lines, rows_text, unvalued, unvalued_row}
 use Rattle.lot_report.proofs.EachLemmas.{text_more}
 use Rattle.lot_report.proofs.FedLemmas.{fit_more}
 use Rattle.lot_check.specs.Way.{in_row}
@@ -22,10 +18,6 @@ abbrev pub SoFar : List Holding → List Holding → Holdings → Option (List �
 SoFar rows left report old new =
     (before : List ValuedHolding) × (unvalued rows ≡ before ++ unvalued left) × IsFed before report × Appends old new (rows_text before)
     × IsFalse (is_spent report)
-
-pub nothing_yet : (rows left : List Holding) (report : Holdings) (held : Option (List ℕ)) → rows ≡ left → IsFed [] report → IsFalse (is_spent report)
-    → SoFar rows left report held held
-nothing_yet rows left report held is fed alive = ([], ap unvalued is, fed, Appends-nil held, alive)
 
 -- one row more
 one_more : (before : List ValuedHolding) (row : ValuedHolding) (rest : List ValuedHolding) → before ++ row ∷ rest ≡ (before ++ row ∷ []) ++ rest

@@ -10,6 +10,7 @@ use Rattle.lot_stream.specs.declared.status.Status.{Status}
 use Rattle.lot_book.specs.declared.verdict.Verdict.{Verdict}
 use Rattle.lot_view.specs.declared.view.View.{View}
 use Rattle.lot_command.specs.declared.command.Command.{Command}
+use Rattle.lot_command.specs.declared.key.Key.{Key}
 use Rattle.lot_stream.specs.Status.{fault_at, status_after}
 use Rattle.lot_report.specs.Written.{AppendsPrefix, WritesLine}
 use Rattle.lot_report.specs.Printed.{reply, replies}
@@ -19,6 +20,7 @@ use Rattle.lot_view.specs.View.{known}
 use Rattle.lot_check.specs.Key.{key_of}
 use Rattle.lot_check.specs.Answer.{status_of_replies, status_of_verdict}
 use Rattle.lot_check.specs.Way.{JudgesKnown, Replies, RunsCommands}
+use Rattle.lot_laws.proofs.JudgedLaws.{judges_more}
 use Rattle.lot_report.proofs.PrintLemmas.{prefix_behind}
 use Rattle.lot_report.proofs.ReplyLemmas.{replies_more}
 use Rattle.lot_check.proofs.KeyLemmas.{Stands, judged_as}
@@ -32,22 +34,29 @@ reply_stops before after command verdict number old new PrintFault.Memory e judg
 
 -- ---- One command more.
 
-judges_more : (number : ℕ) (before : List Entry) (done : List Command) (verdicts : List Verdict) (mid after : List Entry) (command : Command) (verdict : Verdict)
-    → JudgesAll before (numbered key_of number done) verdicts mid → JudgesOn mid (key_of (length verdicts + number)) command verdict after
-    → JudgesAll before (numbered key_of number (done ++ command ∷ [])) (verdicts ++ verdict ∷ []) after
-judges_more number before [] [] mid after command verdict all one =
-    let first : length {A = Verdict} [] + number ≡ number = omega arith in
-    let at_first = subst (λ (n : ℕ). JudgesOn mid (key_of n) command verdict after) first one in
-    (after, subst (λ (b : List Entry). JudgesOn b (key_of number) command verdict after) all at_first, refl)
-judges_more number before [] (v ∷ verdicts) mid after command verdict all one = absurd all
-judges_more number before (c ∷ done) [] mid after command verdict all one = absurd all
-judges_more number before (c ∷ done) (v ∷ verdicts) mid after command verdict all one =
-    let counted : length (v ∷ verdicts) + number ≡ length verdicts + suc number = omega arith in (
-      all.0,
-      all.1,
-      judges_more (suc number) all.0 done verdicts mid after command verdict all.2
-          (subst (λ (n : ℕ). JudgesOn mid (key_of n) command verdict after) counted one),
-    )
+as_many : (number : ℕ) (before : List Entry) (done : List Command) (verdicts : List Verdict) (after : List Entry)
+    → JudgesAll before (numbered key_of number done) verdicts after → length done ≡ length verdicts
+as_many number before [] [] after all = refl
+as_many number before [] (v ∷ verdicts) after all = absurd all
+as_many number before (c ∷ done) [] after all = absurd all
+as_many number before (c ∷ done) (v ∷ verdicts) after all = ap suc (as_many (suc number) all.0 done verdicts after all.2)
+
+numbered_more : (number : ℕ) (done : List Command) (command : Command)
+    → numbered key_of number (done ++ command ∷ []) ≡ numbered key_of number done ++ (key_of (length done + number), command) ∷ []
+numbered_more number [] command =
+    let same : number ≡ length {A = Command} [] + number = omega arith in ap (λ (n : ℕ). (key_of n, command) ∷ []) same
+numbered_more number (first ∷ done) command =
+    let same : length done + suc number ≡ length (first ∷ done) + number = omega arith in
+    ap (λ (more : List (Key × Command)). (key_of number, first) ∷ more)
+    (numbered_more (suc number) done command ∙ ap (λ (n : ℕ). numbered key_of (suc number) done ++ (key_of n, command) ∷ []) same)
+
+judges_next : (done : List Command) (verdicts : List Verdict) (mid after : List Entry) (command : Command) (verdict : Verdict)
+    → JudgesAll [] (numbered key_of 1 done) verdicts mid → JudgesOn mid (key_of (length verdicts + 1)) command verdict after
+    → JudgesAll [] (numbered key_of 1 (done ++ command ∷ [])) (verdicts ++ verdict ∷ []) after
+judges_next done verdicts mid after command verdict all one =
+    subst (λ (commands : List (Key × Command)). JudgesAll [] commands (verdicts ++ verdict ∷ []) after) (sym (numbered_more 1 done command))
+    (judges_more [] (numbered key_of 1 done) verdicts mid after (key_of (length done + 1), command) verdict all
+    (subst (λ (n : ℕ). JudgesOn mid (key_of (n + 1)) command verdict after) (sym (as_many 1 [] done verdicts mid all)) one))
 
 after_accepted : (verdict : Verdict) → status_after (status_of_verdict verdict) Status.Accepted ≡ status_of_verdict verdict
 after_accepted Verdict.Accepted = refl
@@ -78,13 +87,6 @@ RanSoFar commands left count view status old new =
 next_number : (number count : ℕ) (verdicts : List Verdict) → count ≡ length verdicts → number ≡ count + 1 → number ≡ length verdicts + 1
 next_number number count verdicts so_far is = omega (arith, so_far, is)
 
-as_many : (number : ℕ) (before : List Entry) (done : List Command) (verdicts : List Verdict) (after : List Entry)
-    → JudgesAll before (numbered key_of number done) verdicts after → length done ≡ length verdicts
-as_many number before [] [] after all = refl
-as_many number before [] (v ∷ verdicts) after all = absurd all
-as_many number before (c ∷ done) [] after all = absurd all
-as_many number before (c ∷ done) (v ∷ verdicts) after all = ap suc (as_many (suc number) all.0 done verdicts after all.2)
-
 -- where commands are left, the number of the next one is in range
 in_range : (commands left rest : List Command) (command : Command) (done : List Command) (verdicts : List Verdict) (book : List Entry)
     → JudgesAll [] (numbered key_of 1 done) verdicts book → commands ≡ done ++ left → left ≡ command ∷ rest → length commands < 2 ^ 64
@@ -114,7 +116,7 @@ run_next commands left rest command count number later view next status replied 
       after,
       split ∙ ap (λ cs. done ++ cs) is ∙ sym (append_assoc done (command ∷ []) rest),
       counted_on ∙ ap (λ n. n + 1) counted ∙ sym (length-append verdicts (verdict ∷ [])),
-      judges_more 1 [] done verdicts book after command verdict all one,
+      judges_next done verdicts book after command verdict all one,
       subst (λ (n : ℕ). Stands (known next) n after) (more_by_one verdicts verdict) stands_next,
       subst (Appends old new) (sym (replies_more 1 verdicts verdict ∙ ap (λ n. replies 1 verdicts ++ reply n verdict) (sym place)))
           (Appends-trans old mid new _ _ before written),
@@ -136,7 +138,7 @@ run_stops commands left rest command count number view status Fault.Write old mi
       verdicts ++ verdict ∷ [],
       more,
       split ∙ ap (λ cs. done ++ cs) is ∙ sym (append_assoc done (command ∷ []) rest),
-      judges_more 1 [] done verdicts book more command verdict all one,
+      judges_next done verdicts book more command verdict all one,
       subst (AppendsPrefix old new) (sym (replies_more 1 verdicts verdict ∙ ap (λ n. replies 1 verdicts ++ reply n verdict) (sym place)))
           (prefix_behind old mid new (replies 1 verdicts) (reply number verdict) before part),
     )

@@ -5,3 +5,5 @@ pub mod KeyedLemmas
 pub mod ReportLemmas
 pub mod RowLemmas
 pub mod RunLemmas
+pub mod HeadlineLemmas
+pub mod ReopenLemmas

@@ -15,7 +15,7 @@ use Rattle.lot_book_report.specs.declared.fault.ShowFault.TheVariants.{Row as At
 use Rattle.lot_store.proofs.ApplyLemmas.{stands_along}
 use Rattle.lot_rows.proofs.StateLemmas.{early, survives_both}
 use Rattle.lot_walk.proofs.PlaceLemmas.{failed_after, has_still, stays_then, unchanged_stays}
-use Rattle.lot_store.specs.Create.{IsHandedBack, TellsBook, TellsOf}
+use Rattle.lot_store.specs.Create.{IsHandedBack, IsTaken, TellsBook, TellsOf}
 use Rattle.lot_store.specs.declared.book.Book.{Book}
 use Rattle.lot_store.specs.declared.book.Condition.TheVariants.{NeedsReopen as Unusable, Ready}
 use Rattle.lot_store.specs.declared.fault.AdoptFault.{AdoptFault}
@@ -50,8 +50,7 @@ reads_on g old book later shown same look ready reads =
 -- a report of the book that was taken up
 pub reported : {S : Type 0} (g : Ghosts S) (report : Report) (old : State) (book later : Book S g) (shown : Result (Unit {0}) ShowFault)
     (before mid written : Option (List ℕ)) (status : ℕ)
-    → (HasCleanDisk (state g book.conn) → (tables : Tables) → Has old tables → TellsBook tables.book (Ok tt))
-    → (HasCleanDisk (state g book.conn) → IsUnchanged old (state g book.conn)) → Survives old (state g book.conn) (λ _. ⊥) → book.condition ≡ Ready
+    → (HasCleanDisk (state g book.conn) → IsTaken old) → (HasCleanDisk (state g book.conn) → IsUnchanged old (state g book.conn)) → Survives old (state g book.conn) (λ _. ⊥) → book.condition ≡ Ready
     → ReadsBook g book later shown
     → HoldsOfBook g book later (λ entries. ShowsReport report entries before mid shown)
     → ShowsSome report before mid shown

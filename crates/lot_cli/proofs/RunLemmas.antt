@@ -15,7 +15,7 @@ use Rattle.lot_cli.specs.Runs.{RunsOn, status_of_run}
 use Rattle.lot_cli.specs.Says.{Halts}
 use Rattle.lot_cli.specs.declared.halt.Halt.TheVariants as halt
 use Rattle.lot_store.proofs.ApplyLemmas.{stands_along}
-use Rattle.lot_store.specs.Create.{IsHandedBack, TellsBook, TellsOf}
+use Rattle.lot_store.specs.Create.{IsHandedBack, IsTaken, TellsBook, TellsOf}
 use Rattle.lot_store.specs.Run.{LeavesAfter, LeavesAtAnswer, LeavesAtFault, LeavesAtVerdict, RunsSession, RunsBook}
 use Rattle.lot_store.specs.Session.{LeavesFirst, LeavesJudged, LeavesNext}
 use Rattle.lot_store.specs.declared.book.Ack.{Ack}
@@ -31,10 +31,13 @@ use Rattle.lot_store.specs.declared.fault.StoreFault.TheVariants.{Damaged, Devic
 use Rattle.lot_store.specs.declared.run.Ending.{Ending}
 use Rattle.lot_store.specs.declared.run.Ending.TheVariants.{Complete, Output, Stopped}
 use Rattle.lot_store.specs.declared.run.RunEnd.{RunEnd}
+use Rattle.lot_rows.proofs.StateLemmas.{failed_then}
 use Rattle.lot_table.specs.Book.{IsUndone}
+use Rattle.lot_table.specs.Statement.{DiskFailed}
 
--- a crash may leave no more after the look than before
-module _ (old mid new : State) (verdicts : List Verdict) (book : List Entry) (may : (trees : Trees) → mid.may_leave trees → old.may_leave trees) where
+-- a crash may leave no more after the look than before, and a disk that failed since then has failed since before
+module _ (old mid new : State) (verdicts : List Verdict) (book : List Entry) (may : (trees : Trees) → mid.may_leave trees → old.may_leave trees)
+    (failed : DiskFailed mid new → DiskFailed old new) where
   judged : (trees : Trees) → LeavesJudged mid.may_leave verdicts book trees → LeavesJudged old.may_leave verdicts book trees
   judged trees (inl left) = inl left
   judged trees (inr (none, could)) = inr (none, may trees could)
@@ -45,28 +48,30 @@ module _ (old mid new : State) (verdicts : List Verdict) (book : List Entry) (ma
   next (command ∷ left) trees (inr entry) = inr entry
 
   at_fault : (left : List (Key × Command)) (fault : StoreFault) → LeavesAtFault fault verdicts book left mid new → LeavesAtFault fault verdicts book left old new
-  at_fault left Device (stands, leaves) = (stands, λ trees left_so. judged trees (leaves trees left_so))
+  at_fault left Device (stands, leaves, inl cause) = (stands, (λ trees left_so. judged trees (leaves trees left_so)), inl (failed cause))
+  at_fault left Device (stands, leaves, inr room) = (stands, (λ trees left_so. judged trees (leaves trees left_so)), inr room)
   at_fault left NeedsReopen (none, stands, leaves) = (none, stands, λ trees left_so. judged trees (leaves trees left_so))
   at_fault left Damaged none = absurd none
-  at_fault left InDoubt (stands, leaves) = (stands, λ trees left_so. next left trees (leaves trees left_so))
+  at_fault left InDoubt (stands, leaves, cause) = (stands, (λ trees left_so. next left trees (leaves trees left_so)), failed cause)
   at_fault left Memory (stands, leaves) = (stands, λ trees left_so. next left trees (leaves trees left_so))
 
-module _ (old mid new : State) (verdicts : List Verdict) (book : List Entry) (may : (trees : Trees) → mid.may_leave trees → old.may_leave trees) where
+module _ (old mid new : State) (verdicts : List Verdict) (book : List Entry) (may : (trees : Trees) → mid.may_leave trees → old.may_leave trees)
+    (failed : DiskFailed mid new → DiskFailed old new) where
   at_verdict : (left : List (Key × Command)) (verdict : Verdict) → LeavesAtVerdict verdict verdicts book left mid new → LeavesAtVerdict verdict verdicts book left old new
   at_verdict [] verdict none = absurd none
   at_verdict (command ∷ left) verdict (after, judges, stands, leaves) =
-      (after, judges, stands, λ trees left_so. judged old mid new (verdicts ++ verdict ∷ []) after may trees (leaves trees left_so))
+      (after, judges, stands, λ trees left_so. judged old mid new (verdicts ++ verdict ∷ []) after may failed trees (leaves trees left_so))
 
   at_answer : (left : List (Key × Command)) (answer : Result Ack ApplyFault) → LeavesAtAnswer answer verdicts book left mid new → LeavesAtAnswer answer verdicts book left old new
   at_answer left (Ok ack.Accepted) leaves = at_verdict left Accepted leaves
   at_answer left (Ok ack.Repeat) leaves = at_verdict left Repeated leaves
   at_answer left (Err (apply.Refused refusal)) leaves = at_verdict left (Refused refusal) leaves
-  at_answer left (Err (apply.Failed fault)) leaves = at_fault old mid new verdicts book may left fault leaves
+  at_answer left (Err (apply.Failed fault)) leaves = at_fault old mid new verdicts book may failed left fault leaves
 
   leaves_after : (left : List (Key × Command)) (answer : Result Ack ApplyFault) (ending : Ending) → LeavesAfter verdicts book left mid new answer ending
       → LeavesAfter verdicts book left old new answer ending
-  leaves_after left answer Complete (all, stands, leaves) = (all, stands, λ trees left_so. judged old mid new verdicts book may trees (leaves trees left_so))
-  leaves_after left answer (Stopped fault) leaves = at_fault old mid new verdicts book may left fault leaves
+  leaves_after left answer Complete (all, stands, leaves) = (all, stands, λ trees left_so. judged old mid new verdicts book may failed trees (leaves trees left_so))
+  leaves_after left answer (Stopped fault) leaves = at_fault old mid new verdicts book may failed left fault leaves
   leaves_after left answer Output leaves = at_answer left answer leaves
 
 pub runs_after_look : (commands : List (Key × Command)) (from : ℕ) (old mid new : State) (before written : Option (List ℕ)) (answer : Result Ack ApplyFault) (end : RunEnd)
@@ -82,8 +87,12 @@ runs_after_look commands from old mid new before written answer end same look ra
         on.0,
         on.1,
         on.2,
-        leaves_after old mid new ran.verdicts on.0 (λ trees may. elim (look.crash calm trees may) [ inl earlier ↦ earlier | inr none ↦ absurd none ]) on.1 answer end.ending on.3,
+        leaves_after old mid new ran.verdicts on.0 (λ trees may. elim (look.crash calm trees may) [ inl earlier ↦ earlier | inr none ↦ absurd none ])
+            (failed_then old mid new (same calm) look) on.1 answer end.ending on.3,
       );
+  stop = λ clean opened entries stands.
+      let calm : HasCleanDisk mid = omega (arith, clean, ran.crash.clean) in
+      ran.stop clean (same calm).0.is_open entries (stands_along old mid entries (same calm).0.now_is stands);
   crash = survives_then old mid new (λ _. ⊥) (λ trees. (entries : List Entry) → Stands mid entries → LeavesFirst entries commands trees)
       (λ trees. (entries : List Entry) → Stands old entries → LeavesFirst entries commands trees) (λ clean trees none. absurd none)
       (λ clean trees leaves entries stands.
@@ -93,8 +102,7 @@ runs_after_look commands from old mid new before written answer end same look ra
 
 -- commands are run on the book that was taken up
 pub runs_on : (commands : List (Key × Command)) (from : ℕ) (old mid new : State) (before written : Option (List ℕ)) (was condition : Condition) (end : RunEnd) (status : ℕ)
-    → (HasCleanDisk mid → (tables : Tables) → Has old tables → TellsBook tables.book (Ok tt))
-    → (HasCleanDisk mid → IsUnchanged old mid) → Survives old mid (λ _. ⊥) → was ≡ Ready
+    → (HasCleanDisk mid → IsTaken old) → (HasCleanDisk mid → IsUnchanged old mid) → Survives old mid (λ _. ⊥) → was ≡ Ready
     → RunsBook commands from mid new before written was condition end → (was ≡ Ready → end.ending ≢ Stopped NeedsReopen)
     → status ≡ code_of (status_of_run end) → RunsOn commands from old new before written status
 runs_on commands from old mid new before written was condition end status found same look ready (answer, ran, usable, known) stops is =

@@ -7,3 +7,6 @@ pub mod Posts
 pub mod Imports
 pub mod Reports
 pub mod Serve
+pub mod Headline
+pub mod Again
+pub mod Reopen

@@ -10,7 +10,8 @@ use Rattle.lot_stored.specs.StandFor.{Stands}
 use Rattle.lot_page.specs.Cursor.{Stays}
 use Rattle.lot_report.specs.Printed.{line}
 use Rattle.lot_rows.specs.Tables.{Has, Tables}
-use Rattle.lot_cli.specs.Runs.{IsLeft, IsTaken}
+use Rattle.lot_cli.specs.Runs.{IsLeft}
+use Rattle.lot_store.specs.Create.{IsTaken}
 use Rattle.lot_cli.specs.Says.{Halts, Says}
 use Rattle.lot_cli.specs.declared.halt.Halt.TheVariants as halt
 use Rattle.lot_cli.specs.declared.report.Report.{Report}
@@ -86,7 +87,7 @@ ShowsAllRows Journal tables = ShowsAllEntries tables
 -- a report of the book that is there is written, as far as its fault lets it, and concluded; or the database isn't taken up
 abbrev pub Reports : Report → State → State → Option (List ℕ) → Option (List ℕ) → ℕ → Type 0
 Reports report old new before written status =
-    ((shown : Result (Unit {0}) ShowFault) × (mid : Option (List ℕ)) × IsTaken old new × IsRead old new shown
+    ((shown : Result (Unit {0}) ShowFault) × (mid : Option (List ℕ)) × (HasCleanDisk new → IsTaken old) × IsRead old new shown
     × (HasCleanDisk new → (entries : List Entry) → Stands old entries → ShowsReport report entries before mid shown)
     × ShowsSome report before mid shown
     × (HasCleanDisk new → (tables : Tables) → Has old tables → ShowsAllRows report tables before mid shown)

@@ -1,5 +1,5 @@
 -- What is run of an input on the book that is there (docs/RULES.md, The program).
-use Rattle.std.specs.Prelude.{◌≡◌, ◌≢◌, ◌⊎◌, ℕ, zero, suc, List, Option, Result, Err, Ok}
+use Rattle.std.specs.Prelude.{◌≡◌, ◌≢◌, ◌⊎◌, ℕ, zero, suc, List, Option, Result, Err}
 use Rattle.sqlite.specs.State.{HasCleanDisk, State, Survives}
 use Rattle.lot_stream.specs.Status.{code_of}
 use Rattle.lot_stream.specs.declared.status.Status.{Status}
@@ -11,7 +11,7 @@ use Rattle.lot_cli.specs.Input.{Gives, GivesNone}
 use Rattle.lot_cli.specs.Says.{Halts}
 use Rattle.lot_cli.specs.declared.fault.InputFault.{InputFault}
 use Rattle.lot_cli.specs.declared.halt.Halt.TheVariants as halt
-use Rattle.lot_store.specs.Create.{IsHandedBack, TellsBook, TellsOf}
+use Rattle.lot_store.specs.Create.{IsHandedBack, IsTaken, TellsBook, TellsOf}
 use Rattle.lot_store.specs.Run.{RunsSession}
 use Rattle.lot_store.specs.declared.book.Ack.{Ack}
 use Rattle.lot_store.specs.declared.fault.AdoptFault.{AdoptFault}
@@ -42,10 +42,6 @@ pub record IsLeft (old new : State) (fault : AdoptFault) : Type 0 where
   pub undone : HasCleanDisk new → IsUndone old new
   pub crash : Survives old new (λ _. ⊥)
 
--- the database is a book, as its table `book` tells
-abbrev pub IsTaken : State → State → Type 0
-IsTaken old new = HasCleanDisk new → (tables : Tables) → Has old tables → TellsBook tables.book (Ok tt)
-
 -- ---- commands
 
 -- the status of a run that ended so, of whose replies so many refuse: a fault goes before a refusal
@@ -66,7 +62,7 @@ NeverReopens answer end = (answer ≢ Err (apply.Failed NeedsReopen)) × (end �
 -- the command at which the writer failed.
 abbrev pub RunsOn : List (Key × Command) → ℕ → State → State → Option (List ℕ) → Option (List ℕ) → ℕ → Type 0
 RunsOn commands from old new before written status =
-    ((answer : Result Ack ApplyFault) × (end : RunEnd) × IsTaken old new × RunsSession commands from old new before written answer end
+    ((answer : Result Ack ApplyFault) × (end : RunEnd) × (HasCleanDisk new → IsTaken old) × RunsSession commands from old new before written answer end
     × NeverReopens answer end.ending × (status ≡ code_of (status_of_run end)))
     ⊎ ((fault : AdoptFault) × IsLeft old new fault × Halts (halt.Adopt fault) before written status)
 

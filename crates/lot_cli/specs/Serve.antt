@@ -1,11 +1,10 @@
 -- What an action writes, with which status it ends, and what it leaves of the book (docs/RULES.md, The program).
-use Rattle.std.specs.Prelude.{◌≡◌, ◌⊎◌, ℕ, false, List, [], IfSome, IsTrue, Option, codes, ⊤}
+use Rattle.std.specs.Prelude.{◌≡◌, ◌≢◌, ◌⊎◌, ℕ, List, [], IfSome, IsTrue, Option, codes, ⊤}
 use Rattle.sqlite.specs.State.{HasCleanDisk, KeepsCommit, State, Survives}
 use Rattle.lot_check.specs.Answer.{IsOutcome}
 use Rattle.lot_stream.specs.declared.status.Status.TheVariants.{Accepted}
 use Rattle.lot_stored.specs.StandFor.{Left, Stands}
 use Rattle.lot_report.specs.Printed.{line}
-use Rattle.lot_rows.specs.Tables.{table_names}
 use Rattle.lot_cli.specs.Imports.{Imports}
 use Rattle.lot_cli.specs.Posts.{Posts}
 use Rattle.lot_cli.specs.Reports.{Reports}
@@ -15,7 +14,7 @@ use Rattle.lot_cli.specs.declared.halt.Halt.TheVariants as halt
 use Rattle.lot_cli.specs.declared.report.Report.TheVariants as report
 use Rattle.lot_store.specs.Create.{IsHandedBack, RefusedFor}
 use Rattle.lot_store.specs.declared.fault.CreateFault.{CreateFault}
-use Rattle.lot_table.specs.Make.{is_taken}
+use Rattle.lot_store.specs.declared.fault.CreateFault.TheVariants.{NotABook}
 use Rattle.lot_table.specs.Shape.{schema_of}
 use Rattle.lot_args.specs.declared.action.Action.{Action}
 use Rattle.lot_args.specs.declared.action.Action.TheVariants.{Check, Init, Post, Import, Holdings, Gains, Journal}
@@ -26,21 +25,22 @@ use Rattle.std.specs.Io.KnownBytes.{Appends}
 abbrev pub ready_line : List ℕ
 ready_line = line (codes "book ready")
 
--- In a database without tables those of a book without entries are made, in one commit. A crash during the call leaves them
--- or what it could leave before.
+-- The tables of a book without entries are made in a database that had none, in one commit. A crash during the call leaves
+-- them or what it could leave before.
 pub record IsMade (old new : State) : Type 0 where
-  pub empty : HasCleanDisk new → old.now.schema ≡ schema_of [] → Stands new []
+  pub made : HasCleanDisk new → Stands new []
   pub committed : HasCleanDisk new → IsTrue new.is_open × (new.committed ≡ new.now)
-  pub free : HasCleanDisk new → is_taken table_names old.now.schema ≡ false
-  pub crash : Survives old new (λ trees. old.now.schema ≡ schema_of [] → Left trees [])
+  pub empty : old.now.schema ≡ schema_of []
+  pub crash : Survives old new (λ trees. Left trees [])
 
 -- none is made, for what the fault says, and the database is handed back as it was; after a commit that failed a crash may
 -- leave one
 pub record IsNotMade (old new : State) (fault : CreateFault) : Type 0 where
   pub refused : HasCleanDisk new → RefusedFor old new fault
+  pub other : old.now.schema ≢ schema_of [] → fault ≡ NotABook
   pub handed_back : HasCleanDisk new → IsHandedBack old new
   pub kept : HasCleanDisk new → KeepsCommit old new
-  pub crash : Survives old new (λ trees. old.now.schema ≡ schema_of [] → Left trees [])
+  pub crash : Survives old new (λ trees. Left trees [])
 
 abbrev pub Makes : State → State → Option (List ℕ) → Option (List ℕ) → ℕ → Type 0
 Makes old new before written status =
@@ -59,14 +59,24 @@ ReadsNothing (Holdings book day) = ⊤
 ReadsNothing (Gains book first last) = ⊤
 ReadsNothing (Journal book) = ⊤
 
--- What an action comes to, where the reader has these bytes if it is known which: what it writes behind what was written
--- before, and its status; and what the connection stands for, and a crash may leave, after it.
-abbrev pub Serves : Action → Option (List ℕ) → State → State → Option (List ℕ) → Option (List ℕ) → ℕ → Type 0
-Serves Check known old new before written status =
-    IsUntouched old new × IfSome known (λ input. (text : List ℕ) × Appends before written text × IsOutcome input text status)
-Serves (Init book) known old new before written status = Makes old new before written status
-Serves (Post book batch from) known old new before written status = Posts batch from known old new before written status
-Serves (Import book batch accounts from) known old new before written status = Imports batch accounts from known old new before written status
-Serves (Holdings book day) known old new before written status = Reports (report.Holdings day) old new before written status
-Serves (Gains book first last) known old new before written status = Reports (report.Gains first last) old new before written status
-Serves (Journal book) known old new before written status = Reports report.Journal old new before written status
+-- a call: what is known of the bytes of the reader, the database before it and after it, what is known of the bytes that were
+-- written before it and after it, and the status of the program
+pub record Call : Type 1 where
+  pub input : Option (List ℕ)
+  pub old : State
+  pub new : State
+  pub before : Option (List ℕ)
+  pub written : Option (List ℕ)
+  pub status : ℕ
+
+-- What an action comes to: what it writes behind what was written before, and its status; and what the connection stands for,
+-- and a crash may leave, after it.
+abbrev pub Serves : Action → Call → Type 0
+Serves Check c =
+    IsUntouched c.old c.new × IfSome c.input (λ input. (text : List ℕ) × Appends c.before c.written text × IsOutcome input text c.status)
+Serves (Init book) c = Makes c.old c.new c.before c.written c.status
+Serves (Post book batch from) c = Posts batch from c.input c.old c.new c.before c.written c.status
+Serves (Import book batch accounts from) c = Imports batch accounts from c.input c.old c.new c.before c.written c.status
+Serves (Holdings book day) c = Reports (report.Holdings day) c.old c.new c.before c.written c.status
+Serves (Gains book first last) c = Reports (report.Gains first last) c.old c.new c.before c.written c.status
+Serves (Journal book) c = Reports report.Journal c.old c.new c.before c.written c.status

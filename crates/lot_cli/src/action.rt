@@ -1,7 +1,8 @@
-ghost use Rattle.std.specs.Prelude.{◌≡◌, None, false};
+ghost use Rattle.std.specs.Prelude.{◌≡◌, IsTrue, None, false};
 ghost use Rattle.lot_stream.specs.Status.{IsStatus};
 ghost use Rattle.lot_cli.specs.Serve.{Makes, ReadsNothing, Serves};
 ghost use Rattle.sqlite.specs.Held.{state};
+ghost use Rattle.sqlite.specs.Tree.{Trees};
 
 use crate::halt::Halt;
 use crate::import::import;
@@ -27,7 +28,7 @@ pub struct Served<S: Alter> {
 
 /// Does what an action asks for on the book that the connection leads to.
 ///
-/// - `init` makes a book and writes `book ready`; it reads nothing.
+/// - `init` makes a book in a database without tables and writes `book ready`; it reads nothing.
 /// - `post` reads all that the reader has as ledger text, and `import` as a broker file. Only then they take the book up, and
 ///   apply the commands, or those of the rows, from the given number on, each in one commit, with a reply to each. A fault of
 ///   the input changes nothing.
@@ -47,8 +48,17 @@ pub fn serve<R: Read, W: Write, S: Alter>(
 ) -> Served<S>
     requires outside { conn.in_transaction ≡ false }
     requires unlimited { conn.step_limit ≡ None }
-    ensures serves { Serves action.now (R.remaining reader.old) (state S.Store conn) (state S.Store result.conn)
-        (W.contents writer.old) (W.contents writer.new) result.status }
+    ensures serves { Serves action.now (record {
+      input = R.remaining reader.old;
+      old = state S.Store conn;
+      new = state S.Store result.conn;
+      before = W.contents writer.old;
+      written = W.contents writer.new;
+      status = result.status;
+    }) }
+    // With the connection open a crash leaves the last commit, and nothing else.
+    ensures safe { IsTrue (state S.Store result.conn).is_open → (trees : Trees) → (state S.Store result.conn).may_leave trees
+        → trees ≡ (state S.Store result.conn).committed.trees }
     ensures unread { ReadsNothing action.now → reader.new ≡ reader.old }
     ensures status { IsStatus result.status }
 {

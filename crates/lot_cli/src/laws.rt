@@ -1,5 +1,11 @@
 //! Laws of what the contract of `serve` cites. Each is the contract of a function that does nothing.
-ghost use Rattle.std.specs.Prelude.{◌≡◌, ◌≢◌, Some, ℕ, List};
+ghost use Rattle.std.specs.Prelude.{◌≡◌, ◌≢◌, Some, ℕ, List, []};
+ghost use Rattle.sqlite.specs.Files.{Finds, HoldsDatabase, IsOpened, file_state, image_of};
+ghost use Rattle.sqlite.specs.Held.{Held, state};
+ghost use Rattle.sqlite.specs.State.{IsLive, Opens};
+ghost use Rattle.sqlite.specs.Tree.{Trees};
+ghost use Rattle.sqlite_disk.specs.declared.Files.{Files};
+ghost use Rattle.sqlite_store.specs.declared.store.FileStore.{FileStore};
 ghost use Rattle.lot_book.specs.Facts.{Entry, text_under};
 ghost use Rattle.lot_book.specs.Judged.{JudgesOn};
 ghost use Rattle.lot_book.specs.declared.refusal.Refusal.TheVariants.{KeyReused};
@@ -12,6 +18,33 @@ ghost use Rattle.lot_import.specs.Keyed.{IsKeyed};
 ghost use Rattle.lot_import.specs.declared.accounts.Accounts.{Accounts};
 ghost use Rattle.lot_import.specs.declared.row.Row.{Row};
 ghost use Rattle.lot_command.specs.Sayable.{IsSayable};
+ghost use Rattle.lot_cli.specs.Again.{IsOneRun, SentAgain};
+ghost use Rattle.lot_cli.specs.Headline.{Headline, Sent, StopsLeave};
+ghost use Rattle.lot_cli.specs.Reopen.{IsOpenedAgain, LeavesOneOf, StandsForOneOf};
+ghost use Rattle.lot_store.specs.Session.{StopLeaves};
+ghost use Rattle.lot_stored.specs.StandFor.{Left, Stands};
+
+use sqlite::Alter;
+use sqlite_disk::Disk;
+
+/// The headline. Sessions follow one another on a book that was made, and each may be stopped within any write: the next one
+/// begins on what the stop left. What stands in the end is the book of a prefix of the accepted commands of each session that
+/// holds every acknowledged one. In that book each commodity's units at cost are those bought less those sold, and each
+/// realised gain is its proceeds less the cost of the lots that its posting took.
+pub fn the_headline()
+    ensures { (sessions : List Sent) (book : List Entry) → StopsLeave [] sessions book → Headline sessions book }
+{}
+
+/// Commands that are sent again from the first one without a reply, as often as a session is stopped, come to the book of one
+/// uninterrupted run once a session is complete. Their replies are those of that run, but for `repeat` in place of `accepted`
+/// at the first command of a session.
+///
+/// Nothing else is sent in between. A list that is sent again from its first command may come to another book: a sale that was
+/// refused may be accepted then, since what was bought behind it stands now.
+pub fn sending_again_is_one_run()
+    ensures { (before book : List Entry) (commands : List (Key × Command)) (replied : List Verdict) (again : List (List Verdict))
+        → SentAgain before commands replied again book → IsOneRun before commands replied again book }
+{}
 
 /// A row of a broker file acts once. Where it is accepted, its text stands under its key. While it stands there, the row is a
 /// repeat where it comes again to the same accounts, and another row with its `ref` is refused; neither changes anything.
@@ -26,4 +59,27 @@ pub fn a_row_acts_once()
         → IsKeyed source accounts row keyed → IsKeyed source accounts other next → other.name ≡ row.name → other ≢ row
         → IsSayable keyed.1 → IsSayable next.1 → text_under book keyed.0 ≡ Some (canonical keyed.1)
         → JudgesOn book next.0 next.1 verdict after → (verdict ≡ Refused KeyReused) × (after ≡ book) }
+{}
+
+/// Where a connection that was opened shows what a stop left of a book, it shows this book: its
+/// tables and no others, which stand for the same entries.
+pub fn a_book_that_is_left_is_found_again<S: Alter>()
+    ensures { (c : Held S) (book : List Entry) → Opens (state S.Store c) → IsLive (state S.Store c)
+        → Left (state S.Store c).committed.trees book → Stands (state S.Store c) book }
+{}
+
+/// The same of two files: where they hold what a stop left of a book, a connection that is opened
+/// over them shows this book. Where all that a stop may leave are books that a stop of a session
+/// leaves, and the files read as that stop may leave them, the connection shows one of these.
+pub fn a_stop_leaves_what_is_found_again<D: Disk>()
+    ensures database { (files : Files D) (c : Held (FileStore D D.Disk))
+        (trees : Trees) (book : List Entry)
+        → HoldsDatabase (image_of D.Disk files) trees → Left trees book
+        → Finds files c → IsOpened c → Stands (file_state c) book }
+    ensures session { (stopped : Held (FileStore D D.Disk)) (files : Files D)
+        (c : Held (FileStore D D.Disk))
+        (before : List Entry) (commands : List (Key × Command)) (replied : List Verdict)
+        → LeavesOneOf (StopLeaves before commands replied) (file_state stopped).may_leave
+        → IsOpenedAgain stopped files c
+        → StandsForOneOf (StopLeaves before commands replied) (file_state c) }
 {}

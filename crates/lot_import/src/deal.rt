@@ -101,7 +101,7 @@ fn bought(row: &Row, accounts: &Accounts) -> Result<Posting, AllocError>
         number: Some(row.price),
         currency: Some(row.currency.copy()?),
         day: None,
-        label: lot(row)?,
+        label: row.copied_lot()?,
     };
     Ok(Posting {
         account: accounts.invest.copy()?,
@@ -122,7 +122,7 @@ fn sold(row: &Row, accounts: &Accounts) -> Result<Posting, AllocError>
         number: None,
         currency: None,
         day: None,
-        label: lot(row)?,
+        label: row.copied_lot()?,
     };
     let price = UnitPrice {
         rate: row.price,
@@ -137,16 +137,6 @@ fn sold(row: &Row, accounts: &Accounts) -> Result<Posting, AllocError>
             price: Some(Price::Each(price)),
         }),
     })
-}
-
-/// Returns a copy of the label of the lot.
-fn lot(row: &Row) -> Result<Option<Label>, AllocError>
-    ensures { IfOk result (λ lot. lot ≡ row.now.lot) }
-{
-    match &row.lot {
-        Some(lot) => Ok(Some(lot.copy()?)),
-        None => Ok(None),
-    }
 }
 
 /// Appends the posting of the fee, unless the fee is zero.

@@ -54,7 +54,7 @@ pub enum Cause {
 }
 
 /// Why a record gives no row.
-#[derive(Clone, Copy, Debug, PartialEq, Eq)]
+#[derive(Drop)]
 pub(crate) enum RowFault {
     /// It is faulty, by that cause.
     Bad(Cause),
@@ -91,17 +91,6 @@ impl From<AllocError> for CommandFault {
     ghost from_gives = { λ _ e. e ≡ Memory };
 
     fn from(_error: AllocError) -> CommandFault {
-        CommandFault::Memory
-    }
-}
-
-impl<T: Drop> From<AllocFailed<T>> for CommandFault {
-    ghost use Rattle.std.specs.Prelude.{◌≡◌};
-    ghost use Rattle.lot_import.specs.declared.fault.CommandFault.TheVariants.{Memory};
-
-    ghost from_gives = { λ _ e. e ≡ Memory };
-
-    fn from(_failed: AllocFailed<T>) -> CommandFault {
         CommandFault::Memory
     }
 }

@@ -39,10 +39,6 @@ impl Row {
     pub fn copy(&self) -> Result<Row, AllocError>
         ensures { IfOk result (λ row. row ≡ self.now) }
     {
-        let lot = match &self.lot {
-            Some(lot) => Some(lot.copy()?),
-            None => None,
-        };
         Ok(Row {
             name: self.name.copy()?,
             day: self.day,
@@ -52,7 +48,17 @@ impl Row {
             price: self.price,
             currency: self.currency.copy()?,
             fee: self.fee,
-            lot,
+            lot: self.copied_lot()?,
         })
+    }
+
+    /// Returns a copy of the label of the lot.
+    pub(crate) fn copied_lot(&self) -> Result<Option<Label>, AllocError>
+        ensures { IfOk result (λ lot. lot ≡ self.now.lot) }
+    {
+        match &self.lot {
+            Some(lot) => Ok(Some(lot.copy()?)),
+            None => Ok(None),
+        }
     }
 }

@@ -7,7 +7,7 @@ use crate::column::field;
 use csv::ByteRecord;
 
 /// The versions of a broker file, told by its header.
-#[derive(Clone, Copy, Debug, PartialEq, Eq)]
+#[derive(Clone, Copy)]
 pub(crate) enum Version {
     /// Without the column `lot`.
     First,

@@ -1,5 +1,5 @@
 -- Commands judged in their order come to one list of verdicts and to one book, and what it holds is listed in one way.
-use Rattle.std.specs.Prelude.{◌≡◌, ℕ, suc, List, [], ◌∷◌, ◌++◌, map, ℤ}
+use Rattle.std.specs.Prelude.{◌≡◌, List, [], ◌∷◌, ◌++◌, map, ℤ}
 use Rattle.std.specs.List.Sorted.{IsStrictlySortedBy}
 use Rattle.std.specs.Map.{keys_of}
 use Rattle.std.proofs.Common.{refl, sym, ap, subst, ◌∙◌}
@@ -15,7 +15,7 @@ use Rattle.lot_book.specs.declared.verdict.Verdict.TheVariants.{Accepted, Repeat
 use Rattle.lot_book.specs.Book.{IsBook, entry_of}
 use Rattle.lot_book.specs.Facts.{Entry, Facts}
 use Rattle.lot_book.specs.Holding.{ListsHoldings, entry_of as as_entry, position_of}
-use Rattle.lot_book.specs.Judged.{JudgesOn, JudgesAll, numbered}
+use Rattle.lot_book.specs.Judged.{JudgesOn, JudgesAll}
 use Rattle.lot_book.specs.Leg.{position_cmp}
 use Rattle.lot_book.specs.Step.{Accept, Outcome, Refuse, Repeat, Step}
 use Rattle.lot_book.proofs.OrderLemmas.{exact_positions, positions_total}
@@ -30,14 +30,13 @@ judged_once before key command Accepted after h book = subst IsBook (sym h.2) (b
 judged_once before key command Repeated after h book = subst IsBook (sym h.1) book
 judged_once before key command (Refused refusal) after h book = subst IsBook (sym h.1) book
 
-pub judged_book : (key_of : ℕ → Key) (number : ℕ) (before : List Entry) (commands : List Command) (verdicts : List Verdict)
-    (after : List Entry) → IsBook before → JudgesAll before (numbered key_of number commands) verdicts after → IsBook after
-judged_book key_of number before [] [] after book h = subst IsBook (sym h) book
-judged_book key_of number before [] (verdict ∷ verdicts) after book h = absurd h
-judged_book key_of number before (command ∷ commands) [] after book h = absurd h
-judged_book key_of number before (command ∷ commands) (verdict ∷ verdicts) after book h =
-    judged_book key_of (suc number) h.0 commands verdicts after
-    (judged_once before (key_of number) command verdict h.0 h.1 book) h.2
+pub judged_book : (before : List Entry) (commands : List (Key × Command)) (verdicts : List Verdict) (after : List Entry)
+    → IsBook before → JudgesAll before commands verdicts after → IsBook after
+judged_book before [] [] after book h = subst IsBook (sym h) book
+judged_book before [] (verdict ∷ verdicts) after book h = absurd h
+judged_book before (next ∷ commands) [] after book h = absurd h
+judged_book before (next ∷ commands) (verdict ∷ verdicts) after book h =
+    judged_book h.0 commands verdicts after (judged_once before next.0 next.1 verdict h.0 h.1 book) h.2
 
 -- ---- Commands come to some verdicts and some book.
 
@@ -47,13 +46,13 @@ judged_by before key command (Accept legs) step = (Accepted, before ++ entry_of 
 judged_by before key command Repeat step = (Repeated, before, (step, refl))
 judged_by before key command (Refuse refusal) step = (Refused refusal, before, (step, refl))
 
-pub some_judged : (key_of : ℕ → Key) (number : ℕ) (before : List Entry) (commands : List Command)
-    → (verdicts : List Verdict) × (after : List Entry) × JudgesAll before (numbered key_of number commands) verdicts after
-some_judged key_of number before [] = ([], before, refl)
-some_judged key_of number before (command ∷ commands) =
-    let outcome = some_step before (key_of number) command in
-    let first = judged_by before (key_of number) command outcome.0 outcome.1 in
-    let rest = some_judged key_of (suc number) first.1 commands in
+pub some_judged : (before : List Entry) (commands : List (Key × Command))
+    → (verdicts : List Verdict) × (after : List Entry) × JudgesAll before commands verdicts after
+some_judged before [] = ([], before, refl)
+some_judged before (next ∷ commands) =
+    let outcome = some_step before next.0 next.1 in
+    let first = judged_by before next.0 next.1 outcome.0 outcome.1 in
+    let rest = some_judged first.1 commands in
     (first.0 ∷ rest.0, rest.1, (first.1, first.2, rest.2))
 
 -- ---- They come to no other.
@@ -94,19 +93,29 @@ alike before key command (Refused p) Repeated a b h k =
 alike before key command (Refused p) (Refused q) a b h k =
     (ap Refused (same_refusal p q (step_one before key command (Refuse p) (Refuse q) h.0 k.0)), h.1 ∙ sym k.1)
 
-pub judged_alike : (key_of : ℕ → Key) (number : ℕ) (before : List Entry) (commands : List Command) (vs ws : List Verdict)
-    (a b : List Entry) → JudgesAll before (numbered key_of number commands) vs a → JudgesAll before (numbered key_of number commands) ws b
-    → (vs ≡ ws) × (a ≡ b)
-judged_alike key_of number before [] [] [] a b h k = (refl, h ∙ sym k)
-judged_alike key_of number before [] [] (w ∷ ws) a b h k = absurd k
-judged_alike key_of number before [] (v ∷ vs) ws a b h k = absurd h
-judged_alike key_of number before (command ∷ commands) [] ws a b h k = absurd h
-judged_alike key_of number before (command ∷ commands) (v ∷ vs) [] a b h k = absurd k
-judged_alike key_of number before (command ∷ commands) (v ∷ vs) (w ∷ ws) a b h k =
-    let first = alike before (key_of number) command v w h.0 k.0 h.1 k.1 in
-    let rest = judged_alike key_of (suc number) h.0 commands vs ws a b h.2
-    (subst (λ (mid : List Entry). JudgesAll mid (numbered key_of (suc number) commands) ws b) (sym first.1) k.2) in
+pub judged_alike : (before : List Entry) (commands : List (Key × Command)) (vs ws : List Verdict) (a b : List Entry)
+    → JudgesAll before commands vs a → JudgesAll before commands ws b → (vs ≡ ws) × (a ≡ b)
+judged_alike before [] [] [] a b h k = (refl, h ∙ sym k)
+judged_alike before [] [] (w ∷ ws) a b h k = absurd k
+judged_alike before [] (v ∷ vs) ws a b h k = absurd h
+judged_alike before (next ∷ commands) [] ws a b h k = absurd h
+judged_alike before (next ∷ commands) (v ∷ vs) [] a b h k = absurd k
+judged_alike before (next ∷ commands) (v ∷ vs) (w ∷ ws) a b h k =
+    let first = alike before next.0 next.1 v w h.0 k.0 h.1 k.1 in
+    let rest = judged_alike h.0 commands vs ws a b h.2 (subst (λ (mid : List Entry). JudgesAll mid commands ws b) (sym first.1) k.2) in
     (ap (λ (u : Verdict). u ∷ vs) first.0 ∙ ap (λ (us : List Verdict). w ∷ us) rest.0, rest.1)
+
+-- ---- One command more.
+
+pub judges_more : (before : List Entry) (done : List (Key × Command)) (verdicts : List Verdict) (mid after : List Entry) (next : Key × Command)
+    (verdict : Verdict) → JudgesAll before done verdicts mid → JudgesOn mid next.0 next.1 verdict after
+    → JudgesAll before (done ++ next ∷ []) (verdicts ++ verdict ∷ []) after
+judges_more before [] [] mid after next verdict all one =
+    (after, subst (λ (book : List Entry). JudgesOn book next.0 next.1 verdict after) all one, refl)
+judges_more before [] (v ∷ verdicts) mid after next verdict all one = absurd all
+judges_more before (first ∷ done) [] mid after next verdict all one = absurd all
+judges_more before (first ∷ done) (v ∷ verdicts) mid after next verdict all one =
+    (all.0, all.1, judges_more all.0 done verdicts mid after next verdict all.2 one)
 
 -- ---- What is held is listed in one way.
 

@@ -1,10 +1,11 @@
--- A key acts once: what stands under it remains, and a command under it is a repeat, or is refused.
-use Rattle.std.proofs.Common.{◌≡◌, ◌≢◌, ◌∙◌, ap, refl, subst, ℕ, cond, List, Option, Some}
+-- A key acts once: what stands under it remains, and a command under it is refused, or is a repeat,
+-- which may be taken out of a list of commands.
+use Rattle.std.proofs.Common.{◌≡◌, ◌≢◌, ◌∙◌, ap, refl, subst, ℕ, cond, List, [], ◌∷◌, ◌++◌, Option, Some}
 use Rattle.lot_base.proofs.TextLemmas.{one_text}
 use Rattle.lot_base.specs.Text.{same_text}
 use Rattle.lot_book.proofs.CaseLemmas.{by_bool}
 use Rattle.lot_book.specs.Facts.{Entry, facts_of, text_under}
-use Rattle.lot_book.specs.Judged.{JudgesOn}
+use Rattle.lot_book.specs.Judged.{JudgesAll, JudgesOn}
 use Rattle.lot_book.specs.Step.{Accept, DecidesBy, Outcome, Refuse, Repeat, Step}
 use Rattle.lot_book.specs.declared.refusal.Refusal.TheVariants.{KeyReused}
 use Rattle.lot_book.specs.declared.verdict.Verdict.{Verdict}
@@ -12,7 +13,7 @@ use Rattle.lot_book.specs.declared.verdict.Verdict.TheVariants.{Accepted, Refuse
 use Rattle.lot_command.specs.Canonical.{canonical}
 use Rattle.lot_command.specs.declared.command.Command.{Command}
 use Rattle.lot_command.specs.declared.key.Key.{Key}
-use Rattle.lot_laws.proofs.LawKeys.{only_repeats, stands, still_stands}
+use Rattle.lot_laws.proofs.LawKeys.{only_repeats, repeats, stands, still_stands}
 
 -- ---- what stands
 
@@ -52,3 +53,32 @@ is_refused book after key command text Repeated known other judged =
     let none : Repeat ≡ Refuse KeyReused = only_refuses book key command text Repeat known other judged.0 in absurd cc
 is_refused book after key command text (Refused refusal) known other judged =
     let same : Refuse refusal ≡ Refuse KeyReused = only_refuses book key command text (Refuse refusal) known other judged.0 in (cc, judged.1)
+
+-- ---- a list with a command that stands
+
+pub taken_out : (book result : List Entry) (key : Key) (command : Command) (first more : List (Key × Command)) (verdicts : List Verdict)
+    → text_under book key ≡ Some (canonical command) → JudgesAll book (first ++ (key, command) ∷ more) verdicts result
+    → (earlier later : List Verdict) × (verdicts ≡ earlier ++ Repeated ∷ later) × JudgesAll book (first ++ more) (earlier ++ later) result
+taken_out book result key command [] more [] known h = absurd h
+taken_out book result key command [] more (verdict ∷ verdicts) known h =
+    let repeat = is_repeat book h.0 key command verdict known h.1 in (
+      [],
+      verdicts,
+      ap (λ (v : Verdict). v ∷ verdicts) repeat.0,
+      subst (λ (mid : List Entry). JudgesAll mid more verdicts result) repeat.1 h.2,
+    )
+taken_out book result key command (next ∷ first) more [] known h = absurd h
+taken_out book result key command (next ∷ first) more (verdict ∷ verdicts) known h =
+    let still = remains book h.0 key next.0 (canonical command) next.1 verdict known h.1 in
+    let rest = taken_out h.0 result key command first more verdicts still h.2 in
+    (verdict ∷ rest.0, rest.1, ap (λ (vs : List Verdict). verdict ∷ vs) rest.2, (h.0, h.1, rest.3))
+
+pub put_in : (book result : List Entry) (key : Key) (command : Command) (first more : List (Key × Command)) (verdicts : List Verdict)
+    → text_under book key ≡ Some (canonical command) → JudgesAll book (first ++ more) verdicts result
+    → (earlier later : List Verdict) × (verdicts ≡ earlier ++ later) × JudgesAll book (first ++ (key, command) ∷ more) (earlier ++ Repeated ∷ later) result
+put_in book result key command [] more verdicts known h = ([], verdicts, refl, (book, (repeats book key command known, refl), h))
+put_in book result key command (next ∷ first) more [] known h = absurd h
+put_in book result key command (next ∷ first) more (verdict ∷ verdicts) known h =
+    let still = remains book h.0 key next.0 (canonical command) next.1 verdict known h.1 in
+    let rest = put_in h.0 result key command first more verdicts still h.2 in
+    (verdict ∷ rest.0, rest.1, ap (λ (vs : List Verdict). verdict ∷ vs) rest.2, (h.0, h.1, rest.3))

@@ -19,8 +19,9 @@ use Rattle.lot_book.specs.Book.{Continues, IsBook}
 use Rattle.lot_book.specs.Booking.{All, Booked, BooksAll, HasLegs, IsBooked, Line, legs_in, line_of}
 use Rattle.lot_book.specs.Currencies.{sum_in}
 use Rattle.lot_book.specs.Facts.{Entry, Facts, facts_of, is_at_cost, legs_of}
-use Rattle.lot_laws.specs.Laws.{BooksCommand, BooksEntries, cost_in, cost_of, is_booked_at_cost, weights_at_cost}
+use Rattle.lot_laws.specs.Laws.{BooksCommand, BooksEntries, BooksEntry, cost_in, cost_of, is_booked_at_cost, weights_at_cost}
 use Rattle.lot_book.specs.Leg.{inventory_of, legs_at_lots}
+use Rattle.lot_laws.proofs.CollectLemmas.{over_collected}
 use Rattle.lot_laws.proofs.LawBalance.{command_booked}
 use Rattle.lot_laws.proofs.LawBooks.{over_booked}
 use Rattle.lot_laws.proofs.LawLots.{all_put, lots_put, lots_worth, put, total, total-append}
@@ -119,16 +120,17 @@ module _ (account commodity currency : List ℕ) where
 
   entries_weigh : (before entries : List Entry) (booked : List Booked) → BooksEntries before entries booked
       → sum_in (weights_at_cost account commodity booked) currency ≡ puts (legs_of entries)
-  entries_weigh before [] booked h = ap (λ (bs : List Booked). sum_in (weights_at_cost account commodity bs) currency) h
-  entries_weigh before (entry ∷ entries) booked h =
+  entries_weigh = over_collected BooksEntry
+      (λ before entries booked. sum_in (weights_at_cost account commodity booked) currency ≡ puts (legs_of entries)) (λ before. refl)
+      (λ before entry entries first more is rest.
       let there = is_booked_at_cost account commodity in
-      ap (λ (bs : List Booked). sum_in (weights_at_cost account commodity bs) currency) h.4
-      ∙ ap (λ bs. sum_in (weights_in bs) currency) (filter-append there h.0 h.1)
-      ∙ ap (λ ws. sum_in ws currency) (flat_map-append weights_of (filter there h.0) (filter there h.1))
-      ∙ sum_in-append (weights_at_cost account commodity h.0) (weights_at_cost account commodity h.1) currency
-      ∙ ap (λ z. z +ℤ sum_in (weights_at_cost account commodity h.1) currency) (command_weighs (facts_of before entry.key) entry.command entry.legs h.0 h.2)
-      ∙ ap (λ z. puts entry.legs +ℤ z) (entries_weigh (before ++ entry ∷ []) entries h.1 h.3)
-      ∙ sym (total-append (put (number_in currency) account commodity) entry.legs (legs_of entries))
+      ap (λ bs. sum_in (weights_in bs) currency) (filter-append there first more)
+      ∙ ap (λ ws. sum_in ws currency) (flat_map-append weights_of (filter there first) (filter there more))
+      ∙ sum_in-append (weights_at_cost account commodity first) (weights_at_cost account commodity more) currency
+      ∙ ap (λ z. z +ℤ sum_in (weights_at_cost account commodity more) currency)
+      (command_weighs (facts_of before entry.key) entry.command entry.legs first is)
+      ∙ ap (λ z. puts entry.legs +ℤ z) rest
+      ∙ sym (total-append (put (number_in currency) account commodity) entry.legs (legs_of entries)))
 
 pub lots_cost : (entries : List Entry) (booked : List Booked) (account commodity currency : List ℕ) → BooksEntries [] entries booked
     → cost_in (lots_of (inventory_of (legs_of entries) account) commodity) currency ≡ sum_in (weights_at_cost account commodity booked) currency

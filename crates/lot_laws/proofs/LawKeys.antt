@@ -14,7 +14,7 @@ use Rattle.lot_book.specs.declared.leg.Leg.{Leg}
 use Rattle.lot_book.specs.declared.refusal.Refusal.TheVariants.{KeyReused}
 use Rattle.lot_book.specs.Book.{Continues, IsBook, after, entry_of}
 use Rattle.lot_book.specs.Facts.{Entry, facts_of, same_key, text_under}
-use Rattle.lot_laws.specs.Laws.{HaveOneKeyEach, LeadsTo}
+use Rattle.lot_laws.specs.Laws.{HaveOneKeyEach}
 use Rattle.lot_book.specs.Step.{Accept, DecidesBy, Outcome, Refuse, Repeat, Step}
 use Rattle.lot_laws.proofs.LawBooks.{accepted}
 use Rattle.lot_book.proofs.CaseLemmas.{by_bool}
@@ -83,21 +83,6 @@ pub still_stands : (book : List Entry) (key : Key) (text : List ℕ) (other : Ke
 still_stands book key text other command (Accept legs) e = one_more book (entry_of other command legs) key text e
 still_stands book key text other command Repeat e = e
 still_stands book key text other command (Refuse refusal) e = e
-
-pub taken_out : (book result : List Entry) (key : Key) (command : Command) (first more : List (Key × Command))
-    → text_under book key ≡ Some (canonical command)
-    → LeadsTo book (first ++ (key, command) ∷ more) result → LeadsTo book (first ++ more) result
-taken_out book result key command [] more e h =
-    subst (λ (outcome : Outcome). LeadsTo (after book key command outcome) more result) (only_repeats book key command h.0 e h.1) h.2
-taken_out book result key command (next ∷ first) more e h =
-    (h.0, h.1, taken_out (after book next.0 next.1 h.0) result key command first more (still_stands book key (canonical command) next.0 next.1 h.0 e) h.2)
-
-pub put_in : (book result : List Entry) (key : Key) (command : Command) (first more : List (Key × Command))
-    → text_under book key ≡ Some (canonical command)
-    → LeadsTo book (first ++ more) result → LeadsTo book (first ++ (key, command) ∷ more) result
-put_in book result key command [] more e h = (Repeat, repeats book key command e, h)
-put_in book result key command (next ∷ first) more e h =
-    (h.0, h.1, put_in (after book next.0 next.1 h.0) result key command first more (still_stands book key (canonical command) next.0 next.1 h.0 e) h.2)
 
 -- ---- Keys are distinct.
 

@@ -4,6 +4,7 @@ use Rattle.std.proofs.Common.{refl, sym, ap, ◌∙◌, arith}
 use Rattle.std.proofs.Math.IntN.{+ℤ_idl, +ℤ_idr}
 use Rattle.std.proofs.lemmas.Grind.{flat_map-append}
 use Rattle.std.proofs.lemmas.Int.{ints}
+use Rattle.std.proofs.lemmas.List.Elements.{filter-append}
 use Rattle.lot_cost.specs.declared.lot_key.LotKey.{LotKey}
 use Rattle.lot_inv.specs.Inventory.{units_at}
 use Rattle.lot_command.specs.declared.command.Command.{Command}
@@ -18,7 +19,8 @@ use Rattle.lot_book.specs.Step.{fill_legs}
 use Rattle.lot_book.proofs.CaseLemmas.{by_bool}
 use Rattle.lot_book.proofs.OrderLemmas.{one_position}
 use Rattle.lot_book.proofs.SumLemmas.{sum_where-append, sum_where_apart}
-use Rattle.lot_laws.specs.Laws.{BooksCommand, BooksEntries, bought_into, lot_at, sold_of}
+use Rattle.lot_laws.specs.Laws.{BooksCommand, BooksEntries, BooksEntry, bought_into, lot_at, sold_of}
+use Rattle.lot_laws.proofs.CollectLemmas.{over_collected}
 use Rattle.lot_laws.proofs.LawHoldings.{holds_sum}
 
 -- ---- Legs at a position.
@@ -32,7 +34,19 @@ units_of leg = leg.units
 pub sum_at-append : (legs more : List Leg) (p : Position) → sum_at (legs ++ more) p ≡ sum_at legs p +ℤ sum_at more p
 sum_at-append legs more p = sum_where-append (is_there p) units_of legs more
 
+-- of booked postings
+legs_in-append : (booked more : List Booked) (p : Position)
+    → sum_at (legs_in (booked ++ more)) p ≡ sum_at (legs_in booked) p +ℤ sum_at (legs_in more) p
+legs_in-append booked more p =
+    ap (λ ls. sum_at ls p) (flat_map-append (λ (b : Booked). b.legs) booked more) ∙ sum_at-append (legs_in booked) (legs_in more) p
+
 -- ---- Sales, and other postings.
+
+pub sold-append : (booked more : List Booked) (p : Position) → sold_of (booked ++ more) p ≡ sold_of booked p +ℤ sold_of more p
+sold-append booked more p =
+    let sells = λ (b : Booked). b.reduces in
+    ap (λ (bs : List Booked). sum_at (legs_in bs) p) (filter-append sells booked more)
+    ∙ legs_in-append (filter sells booked) (filter sells more) p
 
 pub sum_if : (b : Bool) (first : Booked) (more : List Booked) (p : Position)
     → sum_at (legs_in (cond b (first ∷ more) more)) p ≡ cond b (sum_at first.legs p) (pos 0) +ℤ sum_at (legs_in more) p
@@ -101,14 +115,13 @@ module _ (account commodity : List ℕ) (lot : LotKey) where
 
   entries_there : (before entries : List Entry) (booked : List Booked) → BooksEntries before entries booked
       → sum_at (legs_of entries) there ≡ sum_at (legs_in booked) there
-  entries_there before [] booked h = sym (ap (λ (bs : List Booked). sum_at (legs_in bs) there) h)
-  entries_there before (entry ∷ entries) booked h =
+  entries_there = over_collected BooksEntry
+      (λ before entries booked. sum_at (legs_of entries) there ≡ sum_at (legs_in booked) there) (λ before. refl)
+      (λ before entry entries first more is rest.
       sum_at-append entry.legs (legs_of entries) there
-      ∙ ap (λ z. z +ℤ sum_at (legs_of entries) there) (command_there (facts_of before entry.key) entry.command entry.legs h.0 h.2)
-      ∙ ap (λ z. sum_at (legs_in h.0) there +ℤ z) (entries_there (before ++ entry ∷ []) entries h.1 h.3)
-      ∙ sym (ap (λ (bs : List Booked). sum_at (legs_in bs) there) h.4
-      ∙ ap (λ ls. sum_at ls there) (flat_map-append (λ (b : Booked). b.legs) h.0 h.1)
-      ∙ sum_at-append (legs_in h.0) (legs_in h.1) there)
+      ∙ ap (λ z. z +ℤ sum_at (legs_of entries) there) (command_there (facts_of before entry.key) entry.command entry.legs first is)
+      ∙ ap (λ z. sum_at (legs_in first) there +ℤ z) rest
+      ∙ sym (legs_in-append first more there))
 
 pub sum_is_bought_and_sold : (entries : List Entry) (booked : List Booked) (account commodity : List ℕ) (lot : LotKey)
     → BooksEntries [] entries booked

@@ -4,8 +4,6 @@ use Rattle.std.specs.List.{AllByRecursion}
 use Rattle.std.proofs.Common.{refl, sym, ap, subst, ◌∙◌, arith, append_assoc}
 use Rattle.std.proofs.Math.IntN.{+ℤ_idl}
 use Rattle.std.proofs.lemmas.Bool.{and_parts, true≢false}
-use Rattle.std.proofs.lemmas.Grind.{flat_map-append}
-use Rattle.std.proofs.lemmas.List.Elements.{filter-append}
 use Rattle.lot_base.specs.Text.{same_text}
 use Rattle.lot_base.proofs.TextLemmas.{one_text, same_text-itself}
 use Rattle.lot_cost.specs.declared.lot_key.LotKey.{LotKey}
@@ -24,7 +22,7 @@ use Rattle.lot_book.specs.declared.refusal.Refusal.{Refusal}
 use Rattle.lot_book.specs.declared.refusal.Refusal.TheVariants.{UnknownAccount}
 use Rattle.lot_book.specs.Balance.{elided_postings}
 use Rattle.lot_book.specs.Book.{Continues, IsBook}
-use Rattle.lot_book.specs.Booking.{All, Booked, BooksAll, HasLegs, IsBooked, Line, legs_in, line_of, method_of}
+use Rattle.lot_book.specs.Booking.{All, Booked, BooksAll, HasLegs, IsBooked, Line, line_of, method_of}
 use Rattle.lot_book.specs.Facts.{Entry, closing_of, facts_of, opening_of, standing_of}
 use Rattle.lot_book.specs.Leg.{leg_at, legs_at_lots, same_position, sum_at}
 use Rattle.lot_book.specs.Refusals.{back_dated, closed, currency_not_allowed, not_open_yet, place_of, too_many_postings, two_elided, unknown_account}
@@ -33,9 +31,10 @@ use Rattle.lot_book.proofs.CaseLemmas.{by_bool}
 use Rattle.lot_book.proofs.OrderLemmas.{one_position}
 use Rattle.lot_base.proofs.OptionLemmas.{not_mapped}
 use Rattle.lot_book.proofs.SumLemmas.{sum_where_apart}
-use Rattle.lot_laws.specs.Laws.{BooksCommand, BooksEntries, lot_at, sold_of}
+use Rattle.lot_laws.specs.Laws.{BooksCommand, BooksEntries, BooksEntry, lot_at, sold_of}
+use Rattle.lot_laws.proofs.CollectLemmas.{over_collected}
 use Rattle.lot_laws.proofs.LawBooks.{accepted, over_booked}
-use Rattle.lot_laws.proofs.LawLeft.{sum_at-append, sum_if}
+use Rattle.lot_laws.proofs.LawLeft.{sold-append, sum_if}
 use Rattle.lot_laws.proofs.LawOneSign.{method_by, method_is, opening_then, stays_unmatched}
 use Rattle.lot_laws.proofs.LawSales.{booked_sale}
 use Rattle.lot_laws.proofs.RecordedDays.{none_passes, none_refused}
@@ -151,28 +150,22 @@ module _ (account commodity : List ℕ) (lot : LotKey) where
 
   -- ---- A book.
 
-  pub sold-append : (booked more : List Booked) → sold_of (booked ++ more) there ≡ sold_of booked there +ℤ sold_of more there
-  sold-append booked more =
-      let sells = λ (b : Booked). b.reduces in
-      ap (λ (bs : List Booked). sum_at (legs_in bs) there) (filter-append sells booked more)
-      ∙ ap (λ ls. sum_at ls there) (flat_map-append (λ (b : Booked). b.legs) (filter sells booked) (filter sells more))
-      ∙ sum_at-append (legs_in (filter sells booked)) (legs_in (filter sells more)) there
-
-  entries_sell_none : (before entries : List Entry) (booked : List Booked) → Continues before entries → BooksEntries before entries booked
+  entries_sell_none : (before entries : List Entry) (booked : List Booked) → BooksEntries before entries booked → Continues before entries
       → method_by (opening_of (before ++ entries) account) ≡ Unmatched → sold_of booked there ≡ pos 0
-  entries_sell_none before [] booked continues h none = none_of booked h
-  entries_sell_none before (entry ∷ entries) booked continues h none =
-      ap (λ (bs : List Booked). sold_of bs there) h.4
-      ∙ sold-append h.0 h.1
-      ∙ ap (λ z. z +ℤ sold_of h.1 there)
-      (command_sells_none before entry.key entry.command entry.legs h.0 continues.0 h.2
+  entries_sell_none = over_collected BooksEntry
+      (λ before entries booked. Continues before entries → method_by (opening_of (before ++ entries) account) ≡ Unmatched
+      → sold_of booked there ≡ pos 0)
+      (λ before continues none. refl)
+      (λ before entry entries first more is rest continues none.
+      sold-append first more there
+      ∙ ap (λ z. z +ℤ sold_of more there)
+      (command_sells_none before entry.key entry.command entry.legs first continues.0 is
       (λ opened. never_reduces before (entry ∷ entries) account opened none))
-      ∙ +ℤ_idl (sold_of h.1 there)
-      ∙ entries_sell_none (before ++ entry ∷ []) entries h.1 continues.1 h.3
-      (ap (λ (es : List Entry). method_by (opening_of es account)) (append_assoc before (entry ∷ []) entries) ∙ none)
+      ∙ +ℤ_idl (sold_of more there)
+      ∙ rest continues.1 (ap (λ (es : List Entry). method_by (opening_of es account)) (append_assoc before (entry ∷ []) entries) ∙ none))
 
 pub none_sells : (entries : List Entry) (booked : List Booked) (account commodity : List ℕ) (lot : LotKey) → IsBook entries
     → BooksEntries [] entries booked → method_of (standing_of entries account) ≡ Unmatched → sold_of booked (lot_at account commodity lot) ≡ pos 0
 none_sells entries booked account commodity lot book h none =
-    entries_sell_none account commodity lot [] entries booked book h
+    entries_sell_none account commodity lot [] entries booked h book
     (sym (method_is (closing_of entries account) (opening_of entries account)) ∙ none)

@@ -7,6 +7,7 @@ pub mod RecordedBook
 pub mod BalanceLaw
 pub mod LawHoldings
 pub mod LawBooks
+pub mod CollectLemmas
 pub mod LawBalance
 pub mod LawLots
 pub mod LawUnits

@@ -1,5 +1,5 @@
 -- The laws of books.
-use Rattle.std.specs.Prelude.{◌≡◌, ℕ, ◌&&◌, Bool, false, not, if◌then◌else◌, List, [], ◌∷◌, ◌++◌, map, filter, Option, None, Some, ℤ, pos, ◌*ℤ◌, int_lt, neg_ℤ}
+use Rattle.std.specs.Prelude.{◌≡◌, ℕ, ◌&&◌, Bool, false, not, if◌then◌else◌, List, [], ◌++◌, map, filter, Option, None, Some, ℤ, pos, ◌*ℤ◌, int_lt, neg_ℤ}
 use Rattle.std.specs.List.{AllByRecursion, IsDistinct}
 use Rattle.lot_num.specs.Sum.{sum_of}
 use Rattle.lot_base.specs.Text.{same_text}
@@ -7,19 +7,18 @@ use Rattle.lot_cost.specs.declared.lot_key.LotKey.{LotKey}
 use Rattle.lot_inv.specs.Inventory.{other_sign}
 use Rattle.lot_command.specs.declared.command.Command.{Command}
 use Rattle.lot_command.specs.declared.command.Command.TheVariants.{Opening, Closing, Declaring, Quoting, Transaction}
-use Rattle.lot_command.specs.declared.key.Key.{Key}
 use Rattle.lot_command.specs.declared.transaction.Amount.{Amount}
 use Rattle.lot_command.specs.declared.transaction.Posting.{Posting}
 use Rattle.lot_command.specs.declared.transaction.Transaction.{Transaction as TransactionOf}
 use Rattle.lot_book.specs.declared.leg.Leg.{Leg}
 use Rattle.lot_book.specs.declared.leg.Position.{Position}
 use Rattle.lot_book.specs.Balance.{weight_of, weights_in}
-use Rattle.lot_book.specs.Book.{after}
 use Rattle.lot_book.specs.Booking.{All, Booked, BooksAll, legs_in}
 use Rattle.lot_book.specs.Currencies.{sum_in}
 use Rattle.lot_book.specs.Facts.{Entry, Facts, facts_of, is_at_cost, posts_at_cost, same_key}
 use Rattle.lot_book.specs.Leg.{sum_at}
-use Rattle.lot_book.specs.Step.{Outcome, Step, all_legs, fill_legs}
+use Rattle.lot_book.specs.Step.{all_legs, fill_legs}
+use Rattle.lot_laws.specs.Collects.{Collects}
 
 -- ---- Balance.
 
@@ -88,12 +87,6 @@ HaveOneSign lots =
 abbrev pub HaveOneKeyEach : List Entry → Type 0
 HaveOneKeyEach entries = IsDistinct same_key (map (λ (entry : Entry). entry.key) entries)
 
--- commands with their keys, judged one after another on a book, come to that book
-abbrev pub LeadsTo : List Entry → List (Key × Command) → List Entry → Type 0
-LeadsTo before [] book = book ≡ before
-LeadsTo before (keyed ∷ commands) book =
-    (outcome : Outcome) × Step before keyed.0 keyed.1 outcome × LeadsTo (after before keyed.0 keyed.1 outcome) commands book
-
 -- ---- The cost of lots.
 
 -- the currency of a lot, and its cost there: units times number
@@ -113,12 +106,13 @@ BooksCommand facts (Quoting q) legs booked = (legs ≡ []) × (booked ≡ [])
 BooksCommand facts (Transaction t) legs booked =
     (legs ≡ all_legs facts t booked) × BooksAll facts t.day [] 1 t.postings (All booked)
 
+-- what is booked of the postings of an entry behind those before it
+abbrev pub BooksEntry : List Entry → Entry → List Booked → Type 0
+BooksEntry before entry booked = BooksCommand (facts_of before entry.key) entry.command entry.legs booked
+
 -- what is booked of the postings of all entries behind those before them
 abbrev pub BooksEntries : List Entry → List Entry → List Booked → Type 0
-BooksEntries before [] booked = booked ≡ []
-BooksEntries before (entry ∷ entries) booked =
-    (first more : List Booked) × BooksCommand (facts_of before entry.key) entry.command entry.legs first
-    × BooksEntries (before ++ entry ∷ []) entries more × (booked ≡ first ++ more)
+BooksEntries before entries booked = Collects BooksEntry before entries booked
 
 -- whether a booked posting has braces, of the account and the commodity
 abbrev pub is_booked_at_cost : List ℕ → List ℕ → Booked → Bool

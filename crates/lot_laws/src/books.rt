@@ -17,8 +17,8 @@ ghost use Rattle.lot_book.specs.Book.{IsBook, after, entry_of};
 ghost use Rattle.lot_book.specs.Booking.{Booked, IsBooked, Line, method_of};
 ghost use Rattle.lot_book.specs.Currencies.{sum_in};
 ghost use Rattle.lot_book.specs.Facts.{Entry, facts_of, legs_of, standing_of, text_under};
-ghost use Rattle.lot_book.specs.Judged.{JudgesOn, JudgesAll, numbered};
-ghost use Rattle.lot_laws.specs.Laws.{BooksEntries, HaveOneKeyEach, HaveOneSign, IsBalanced, LeadsTo};
+ghost use Rattle.lot_book.specs.Judged.{JudgesOn, JudgesAll};
+ghost use Rattle.lot_laws.specs.Laws.{BooksEntries, HaveOneKeyEach, HaveOneSign, IsBalanced};
 ghost use Rattle.lot_laws.specs.Laws.{bought, bought_into, cost_in, lot_at, sold, sold_of, weights_at_cost};
 ghost use Rattle.lot_book.specs.Leg.{inventory_of, legs_at_lots, sum_at};
 ghost use Rattle.lot_book.specs.Sale.{AreLegsOf};
@@ -58,8 +58,8 @@ pub fn the_keys_of_a_book_are_distinct()
 {}
 
 /// An accepted command stands under its key. A command under a key that stands with its text repeats an entry, and does
-/// nothing else; so it may be taken out of any list of commands, or put in at any place, and the book after them is the
-/// same.
+/// nothing else; so it may be taken out of any list of commands, or put in at any place, and the
+/// verdicts on the others and the book after them are the same.
 pub fn an_equal_command_may_be_taken_out()
     ensures stands { (book : List Entry) (key : Key) (command : Command) (legs : List Leg)
         → Step book key command (Accept legs)
@@ -68,12 +68,18 @@ pub fn an_equal_command_may_be_taken_out()
         → text_under book key ≡ Some (canonical command) → Step book key command Repeat }
     ensures nothing_else { (book : List Entry) (key : Key) (command : Command) (outcome : Outcome)
         → text_under book key ≡ Some (canonical command) → Step book key command outcome → outcome ≡ Repeat }
-    ensures taken_out { (book result : List Entry) (key : Key) (command : Command) (first more : List (Key × Command))
+    ensures taken_out { (book result : List Entry) (key : Key) (command : Command)
+        (first more : List (Key × Command)) (verdicts : List Verdict)
         → text_under book key ≡ Some (canonical command)
-        → LeadsTo book (first ++ (key, command) ∷ more) result → LeadsTo book (first ++ more) result }
-    ensures put_in { (book result : List Entry) (key : Key) (command : Command) (first more : List (Key × Command))
+        → JudgesAll book (first ++ (key, command) ∷ more) verdicts result
+        → (earlier later : List Verdict) × (verdicts ≡ earlier ++ Repeated ∷ later)
+        × JudgesAll book (first ++ more) (earlier ++ later) result }
+    ensures put_in { (book result : List Entry) (key : Key) (command : Command)
+        (first more : List (Key × Command)) (verdicts : List Verdict)
         → text_under book key ≡ Some (canonical command)
-        → LeadsTo book (first ++ more) result → LeadsTo book (first ++ (key, command) ∷ more) result }
+        → JudgesAll book (first ++ more) verdicts result
+        → (earlier later : List Verdict) × (verdicts ≡ earlier ++ later)
+        × JudgesAll book (first ++ (key, command) ∷ more) (earlier ++ Repeated ∷ later) result }
 {}
 
 /// A key acts once. The text of an accepted command stands under its key, and it remains there whatever is judged later. A
@@ -128,17 +134,15 @@ pub fn nothing_is_sold_under_none()
         → sold_of booked (lot_at account commodity lot) ≡ pos 0 }
 {}
 
-/// Commands, each under the key of its number, are judged in one way: there is one list of verdicts, and one list of
-/// entries after them, which is a book where the list before them was.
+/// Commands, each under a key, are judged in one way: there is one list of verdicts, and one list
+/// of entries after them, which is a book where the list before them was.
 pub fn judged_commands_make_a_book()
-    ensures some { (key_of : ℕ → Key) (number : ℕ) (before : List Entry) (commands : List Command)
-        → (verdicts : List Verdict) × (after : List Entry)
-        × JudgesAll before (numbered key_of number commands) verdicts after }
-    ensures one { (key_of : ℕ → Key) (number : ℕ) (before : List Entry) (commands : List Command) (vs ws : List Verdict)
+    ensures some { (before : List Entry) (commands : List (Key × Command))
+        → (verdicts : List Verdict) × (after : List Entry) × JudgesAll before commands verdicts after }
+    ensures one { (before : List Entry) (commands : List (Key × Command)) (vs ws : List Verdict)
         (a b : List Entry)
-        → JudgesAll before (numbered key_of number commands) vs a → JudgesAll before (numbered key_of number commands) ws b
-        → (vs ≡ ws) × (a ≡ b) }
-    ensures book { (key_of : ℕ → Key) (number : ℕ) (before : List Entry) (commands : List Command)
-        (verdicts : List Verdict) (after : List Entry)
-        → IsBook before → JudgesAll before (numbered key_of number commands) verdicts after → IsBook after }
+        → JudgesAll before commands vs a → JudgesAll before commands ws b → (vs ≡ ws) × (a ≡ b) }
+    ensures book { (before : List Entry) (commands : List (Key × Command)) (verdicts : List Verdict)
+        (after : List Entry)
+        → IsBook before → JudgesAll before commands verdicts after → IsBook after }
 {}

@@ -10,17 +10,17 @@ use Rattle.lot_cost.specs.declared.method.Method.{Method}
 use Rattle.lot_cost.specs.declared.method.Method.TheVariants.{Strict, Fifo, Lifo, Hifo, Unmatched}
 use Rattle.lot_command.specs.Canonical.{escaped, escaped_byte}
 use Rattle.lot_meaning.specs.declared.fault.ValueFault.{ValueFault}
+use Rattle.lot_meaning.specs.NameLaws.{label_is_quoted, named_is_good, names_itself, quoted_is_label}
 use Rattle.lot_meaning.specs.Meaning.{Item, units_item, rate_item, total_item, account_item, commodity_item, method_item, label_item, note_item, day_item, IsInside, AreInside, FirstOutside, Names, Quotes, fault_of}
 use Rattle.lot_meaning.proofs.EscapeLemmas.{Written, behind, plain, written, first_same, escape_front, one_text, quote_first, backslash_last}
 use Rattle.lot_meaning.proofs.ItemLemmas.{outside_first, outside_later}
-use Rattle.lot_meaning.proofs.PartLemmas.{label_is_quoted, quoted_is_label}
 
 -- ---- Names.
 
 name_or_not : (is_name : List ℕ → Bool) (bytes : List ℕ) → Decided ((name : List ℕ) × Names is_name bytes name)
 name_or_not is_name bytes =
     decided_by (is_name bytes ≡ true) ((name : List ℕ) × Names is_name bytes name)
-    (λ good. (bytes, record { spelled = refl; good = good })) (λ (name, n). ap is_name n.spelled ∙ n.good) (true_or_not (is_name bytes))
+    (λ good. (bytes, names_itself is_name bytes good)) (λ (name, n). named_is_good is_name bytes name n) (true_or_not (is_name bytes))
 
 label_or_not : (bytes : List ℕ) → Decided ((name : List ℕ) × Quotes is_label bytes name)
 label_or_not bytes =

@@ -1,8 +1,8 @@
 -- The currencies of an opening, and its method.
-use Rattle.std.proofs.Common.{◌≡◌, ℕ, Bool, true, false, List, [], ◌∷◌, map, flat_map, Option, None, Some, refl, sym, ap, ◌∙◌, subst}
+use Rattle.std.proofs.Common.{◌≡◌, ℕ, Bool, true, false, List, [], ◌∷◌, map, flat_map, Option, None, Some, refl, sym, subst}
 use Rattle.std.specs.Prelude.{Result, Ok, Err, IfErr, IsErrAnd, IsErrOf, ◌&&◌}
 use Rattle.std.specs.List.{AllZip, list_all}
-use Rattle.std.proofs.lemmas.Bool.{and_parts, false≢true}
+use Rattle.std.proofs.lemmas.Bool.{and_parts}
 use Rattle.std.proofs.lemmas.Option.{none-some}
 use Rattle.lot_base.specs.Name.{is_account, is_commodity}
 use Rattle.lot_cost.specs.Method.{word_of}
@@ -14,6 +14,7 @@ use Rattle.lot_meaning.specs.declared.fault.ValueFault.TheVariants.{BadName}
 use Rattle.lot_meaning.specs.declared.fault.MeaningFault.{MeaningFault}
 use Rattle.lot_meaning.specs.declared.fault.MeaningFault.TheVariants.{Outside, Memory}
 use Rattle.lot_meaning.specs.Meaning.{Names, MeansMethod, Item, AreInside, FirstOutside, commodity_item, method_item, listed_by, directive_items}
+use Rattle.lot_meaning.specs.NameLaws.{commodity_outside}
 use Rattle.lot_meaning.specs.Outside.{IsOutside}
 use Rattle.lot_meaning.specs.Refusal.{IsRefusal}
 use Rattle.lot_meaning.proofs.ItemLemmas.{both_inside, outside_first, outside_later, outside_before, outside_behind}
@@ -31,16 +32,13 @@ currencies_named (word ∷ words) e =
     let both = and_parts (names_commodity word) (list_all names_commodity words) e in
     (record { spelled = refl; good = both.0 }, currencies_named words both.1)
 
-not_named : (bytes : List ℕ) → is_commodity bytes ≡ false → IsOutside (commodity_item bytes) BadName
-not_named bytes bad = record { outside = λ (name, n). false≢true (sym bad ∙ ap is_commodity n.spelled ∙ n.good); which = refl }
-
 abbrev FirstBad : List (Bor (List ℕ)) → Type 0
 FirstBad words = FirstOutside (flat_map (λ c. commodity_item c ∷ []) (map seen_text words)) BadName
 
 first_bad_by : (word : Bor (List ℕ)) (words : List (Bor (List ℕ))) (good : Bool) → names_commodity word ≡ good
     → (list_all names_commodity words ≡ false → FirstBad words) → good && list_all names_commodity words ≡ false → FirstBad (word ∷ words)
 first_bad_by word words true e later f = outside_later _ _ _ (word.now, record { spelled = refl; good = e }) (later f)
-first_bad_by word words false e later f = outside_first _ _ _ (not_named word.now e)
+first_bad_by word words false e later f = outside_first _ _ _ (commodity_outside word.now e)
 
 pub currency_outside : (words : List (Bor (List ℕ))) → list_all names_commodity words ≡ false → FirstBad words
 currency_outside [] e = cc

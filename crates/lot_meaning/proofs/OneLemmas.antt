@@ -3,7 +3,7 @@ use Rattle.std.proofs.Common.{◌≡◌, ℕ, List, Bool, Some, None, refl, sym,
 use Rattle.lot_base.specs.Name.{is_label, is_note}
 use Rattle.lot_meaning.specs.Meaning.{MeansPerhaps, MeansUnits, MeansRate, MeansTotal, MeansDay, Names, Quotes}
 use Rattle.lot_meaning.proofs.EscapeLemmas.{one_text}
-use Rattle.lot_meaning.proofs.PartLemmas.{label_is_plain}
+use Rattle.lot_meaning.specs.NameLaws.{label_is_plain}
 
 -- what is meant by a part is one
 abbrev pub MeansOne : {A B : Type 0} → (A → B → Type 0) → Type 0

@@ -2,3 +2,4 @@ pub mod Meaning
 pub mod Outside
 pub mod Refusal
 pub mod Checked
+pub mod NameLaws

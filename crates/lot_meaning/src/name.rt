@@ -1,123 +1,108 @@
 //! Parts that are names. What they mean isn't kept yet.
-ghost use Rattle.std.specs.Prelude.{◌≡◌, IfErr, IfOk};
+ghost use Rattle.std.specs.Prelude.{◌≡◌, false, ℕ, List, IfErr, IfOk, IsTrue};
 ghost use Rattle.lot_base.specs.Name.{is_account, is_commodity, is_label};
 ghost use Rattle.lot_base.specs.declared.fault.NameFault.TheVariants.{Memory};
-ghost use Rattle.lot_meaning.specs.Meaning.{Names, Quotes, account_item, commodity_item, label_item};
+ghost use Rattle.lot_meaning.specs.declared.fault.ValueFault.TheVariants.{BadName};
+ghost use Rattle.lot_meaning.specs.Meaning.{Item, Names, Quotes, account_item, commodity_item, label_item};
+ghost use Rattle.lot_meaning.specs.NameLaws.{account_outside, commodity_outside, label_is_quoted, label_outside, names_itself};
 ghost use Rattle.lot_meaning.specs.Outside.{IsOutside};
 
 use crate::fault::ValueFault;
-use lot_base::{Account, Commodity, Label, NameFault};
+use lot_base::{AccountGrammar, CommodityGrammar, Grammar, LabelGrammar, Name, NameFault};
 use std::alloc::{AllocError, Global};
-use std::marker::Model;
+use std::marker::{Model, PhantomData};
 
 /// A part that is an account.
-#[derive(Drop)]
-pub(crate) struct AccountPart<'a> {
-    text: &'a str,
-}
-
-impl<'a> Model for AccountPart<'a> {
-    ghost use Rattle.std.specs.Prelude.{ℕ, List, IsTrue};
-    ghost use Rattle.lot_base.specs.Name.{is_account};
-
-    ghost Value = { List ℕ };
-
-    ghost view = { λ p. p.text.now };
-
-    ghost invariant = { λ p. IsTrue (is_account p.text.now) };
-}
-
-impl<'a> AccountPart<'a> {
-    /// Returns the account that a part means. The error is `BadName`, exactly where it means none.
-    pub(crate) fn new(part: &'a str) -> Result<AccountPart<'a>, ValueFault>
-        ensures means { IfOk result (λ account. Names is_account part.now account) }
-        ensures outside { IfErr result (λ fault. IsOutside (account_item part.now) fault) }
-    {
-        if !Account::is_name(part) {
-            return Err(ValueFault::BadName);
-        }
-        Ok(AccountPart { text: part })
-    }
-
-    /// Returns the account, which is kept. The only error is out of memory.
-    pub(crate) fn keep(&self, alloc: Global) -> Result<Account, AllocError>
-        ensures { IfOk result (λ account. account ≡ self.now) }
-    {
-        Account::new(alloc, self.text).map_err(out_of_memory)
-    }
-}
+pub(crate) type AccountPart<'a> = NamePart<'a, AccountGrammar>;
 
 /// A part that is a commodity.
-#[derive(Drop)]
-pub(crate) struct CommodityPart<'a> {
-    text: &'a str,
-}
-
-impl<'a> Model for CommodityPart<'a> {
-    ghost use Rattle.std.specs.Prelude.{ℕ, List, IsTrue};
-    ghost use Rattle.lot_base.specs.Name.{is_commodity};
-
-    ghost Value = { List ℕ };
-
-    ghost view = { λ p. p.text.now };
-
-    ghost invariant = { λ p. IsTrue (is_commodity p.text.now) };
-}
-
-impl<'a> CommodityPart<'a> {
-    /// Returns the commodity that a part means. The error is `BadName`, exactly where it means none.
-    pub(crate) fn new(part: &'a str) -> Result<CommodityPart<'a>, ValueFault>
-        ensures means { IfOk result (λ commodity. Names is_commodity part.now commodity) }
-        ensures outside { IfErr result (λ fault. IsOutside (commodity_item part.now) fault) }
-    {
-        if !Commodity::is_name(part) {
-            return Err(ValueFault::BadName);
-        }
-        Ok(CommodityPart { text: part })
-    }
-
-    /// Returns the commodity, which is kept. The only error is out of memory.
-    pub(crate) fn keep(&self, alloc: Global) -> Result<Commodity, AllocError>
-        ensures { IfOk result (λ commodity. commodity ≡ self.now) }
-    {
-        Commodity::new(alloc, self.text).map_err(out_of_memory)
-    }
-}
+pub(crate) type CommodityPart<'a> = NamePart<'a, CommodityGrammar>;
 
 /// A part that is a label.
-#[derive(Drop)]
-pub(crate) struct LabelPart<'a> {
-    text: &'a str,
+pub(crate) type LabelPart<'a> = NamePart<'a, LabelGrammar>;
+
+/// A grammar whose names are parts of lines.
+pub(crate) trait PartGrammar: Grammar {
+    // What a part means as such a name.
+    ghost Means: { List ℕ → List ℕ → Type 0 };
+
+    // The part, as such a name.
+    ghost item: { List ℕ → Item };
+
+    // A part of the grammar means the name with its text.
+    ghost as_it_stands: { (part : List ℕ) → IsTrue (Self.is_name part) → Means part part };
+
+    // Any other part means none.
+    ghost outside: { (part : List ℕ) → Self.is_name part ≡ false → IsOutside (item part) BadName };
 }
 
-impl<'a> Model for LabelPart<'a> {
+impl PartGrammar for AccountGrammar {
+    ghost Means = { Names is_account };
+
+    ghost item = { account_item };
+
+    ghost as_it_stands = { names_itself is_account };
+
+    ghost outside = { account_outside };
+}
+
+impl PartGrammar for CommodityGrammar {
+    ghost Means = { Names is_commodity };
+
+    ghost item = { commodity_item };
+
+    ghost as_it_stands = { names_itself is_commodity };
+
+    ghost outside = { commodity_outside };
+}
+
+impl PartGrammar for LabelGrammar {
+    ghost Means = { Quotes is_label };
+
+    ghost item = { label_item };
+
+    ghost as_it_stands = { label_is_quoted };
+
+    ghost outside = { label_outside };
+}
+
+/// A part that is a name of the grammar `G`.
+#[derive(Drop)]
+pub(crate) struct NamePart<'a, G: Grammar> {
+    text: &'a str,
+    grammar: PhantomData<G>,
+}
+
+impl<'a, G: Grammar> Model for NamePart<'a, G> {
     ghost use Rattle.std.specs.Prelude.{ℕ, List, IsTrue};
-    ghost use Rattle.lot_base.specs.Name.{is_label};
 
     ghost Value = { List ℕ };
 
     ghost view = { λ p. p.text.now };
 
-    ghost invariant = { λ p. IsTrue (is_label p.text.now) };
+    ghost invariant = { λ p. IsTrue (G.is_name p.text.now) };
 }
 
-impl<'a> LabelPart<'a> {
-    /// Returns the label that a part means. The error is `BadName`, exactly where it means none.
-    pub(crate) fn new(part: &'a str) -> Result<LabelPart<'a>, ValueFault>
-        ensures means { IfOk result (λ label. Quotes is_label part.now label) }
-        ensures outside { IfErr result (λ fault. IsOutside (label_item part.now) fault) }
+impl<'a, G: PartGrammar> NamePart<'a, G> {
+    /// Returns the name that a part means. The error is `BadName`, exactly where it means none.
+    pub(crate) fn new(part: &'a str) -> Result<NamePart<'a, G>, ValueFault>
+        ensures means { IfOk result (λ name. G.Means part.now name) }
+        ensures outside { IfErr result (λ fault. IsOutside (G.item part.now) fault) }
     {
-        if !Label::is_name(part) {
+        if !G::accepts(part) {
             return Err(ValueFault::BadName);
         }
-        Ok(LabelPart { text: part })
+        Ok(NamePart {
+            text: part,
+            grammar: PhantomData,
+        })
     }
 
-    /// Returns the label, which is kept. The only error is out of memory.
-    pub(crate) fn keep(&self, alloc: Global) -> Result<Label, AllocError>
-        ensures { IfOk result (λ label. label ≡ self.now) }
+    /// Returns the name, which is kept. The only error is out of memory.
+    pub(crate) fn keep(&self, alloc: Global) -> Result<Name<G>, AllocError>
+        ensures { IfOk result (λ name. name ≡ self.now) }
     {
-        Label::new(alloc, self.text).map_err(out_of_memory)
+        Name::new(alloc, self.text).map_err(out_of_memory)
     }
 }
 

@@ -19,17 +19,12 @@ use Rattle.sqlite_sql.specs.declared.ops.CompareOp.{CompareOp}
 use Rattle.sqlite_value.specs.Keys.{ascending, rising}
 use Rattle.sqlite_value.specs.Order.{column, value_cmp}
 use Rattle.sqlite_value.specs.declared.keys.Key.{Key}
-use Rattle.lot_page.specs.Page.{is_past}
+use Rattle.lot_page.specs.Page.{is_past, level}
 use Rattle.lot_table.proofs.ReadLemmas.{IsPresent, compared, true_if}
 
 -- ---- the tests of a query
 
--- so many columns equal those of the key, and the next is greater
-abbrev pub level : ℕ → ℕ → Row → Row → Bool
-level zero at key row = is_gt (value_cmp (column row at) (column key at))
-level (suc n) at key row = is_eq (value_cmp (column row at) (column key at)) && level n (suc at) key row
-
--- or is as great
+-- as `level`, or the next is as great
 abbrev pub reach : ℕ → ℕ → Row → Row → Bool
 reach zero at key row = not (is_lt (value_cmp (column row at) (column key at)))
 reach (suc n) at key row = is_eq (value_cmp (column row at) (column key at)) && reach n (suc at) key row

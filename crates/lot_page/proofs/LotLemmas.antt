@@ -1,29 +1,37 @@
 -- The pages of the table `lot`.
-use Rattle.std.proofs.Common.{ℕ, not, None, Result, Vec, filter, map, ◌+ℤ◌, pos, List, [], ◌∷◌, ◌++◌, ◌&&◌, codes, refl, ap, ◌∙◌, arith, is_eq}
+use Rattle.std.proofs.Common.{inl, inr, Err, IfErr, IfOk, OnErr, OnOk, ◌⊎◌, ◌≡◌, ◌≤◌, ℕ, zero, suc, Bool, false, true, not, None, Result, Vec, filter, length, map, ◌+ℤ◌, pos, List, [], ◌∷◌, ◌++◌, ◌&&◌, codes, refl, ap, ◌∙◌, arith, is_eq}
+use Rattle.std.specs.List.{list_all}
 use Rattle.std.specs.declared.alloc.Global.{Global}
 use Rattle.sqlite.specs.Collation.TheVariants.{Binary}
-use Rattle.sqlite.specs.Listing.{understood}
+use Rattle.sqlite.specs.Command.TheVariants.{Select}
+use Rattle.sqlite.specs.Listing.{reads_listing, understood}
 use Rattle.sqlite.specs.Order.{Row}
-use Rattle.sqlite.specs.State.{State}
-use Rattle.sqlite.specs.Term.{Term, col}
+use Rattle.sqlite.specs.State.{HasCleanDisk, IsUnchanged, Shown, State, Survives}
+use Rattle.sqlite.specs.Term.{Term, col, holds}
 use Rattle.sqlite.specs.Tree.{Trees}
 use Rattle.sqlite.specs.declared.types.Value.TheVariants.{Int, Text}
+use Rattle.sqlite.specs.declared.types.Value.{Value}
+use Rattle.sqlite.proofs.Callers.{IsPlain, command_of}
+use Rattle.sqlite_typing.specs.Types.{accepts_program}
 use Rattle.sqlite_sql.specs.declared.ops.CompareOp.TheVariants.{Ge, Gt}
 use Rattle.sqlite_tied.specs.Compute.{everything}
 use Rattle.sqlite_value.specs.Keys.{ascending, rising}
 use Rattle.sqlite_value.specs.Order.{value_cmp}
 use Rattle.sqlite_value.specs.declared.keys.Key.{Key}
-use Rattle.lot_page.specs.Page.{Pages, PagesOf, page_rows, is_from, is_past}
+use Rattle.lot_page.specs.Page.{Pages, PagesOf, page_rows, Takes, is_from, level}
 use Rattle.lot_page.specs.Rise.{lots_rise}
-use Rattle.lot_page.proofs.LevelLemmas.{Mounts, first_column, level, mounts, terms, terms_level, terms_reach}
+use Rattle.lot_page.proofs.LevelLemmas.{Mounts, mounts, terms, terms_level, terms_reach}
 use Rattle.lot_page.proofs.NextLemmas.{not_shorter, past_number, past_text}
-use Rattle.lot_page.proofs.PageLemmas.{Asks}
-use Rattle.lot_page.proofs.WalkLemmas.{from_all, from_past, pages_so}
+use Rattle.lot_page.proofs.PageLemmas.{Asks, answers, asking, paged}
+use Rattle.lot_page.proofs.WalkLemmas.{from_all, pages_so}
 use Rattle.lot_rows.specs.Lot.{lot_cells}
 use Rattle.lot_rows.specs.Tables.{Tables, layout, lot_table}
 use Rattle.lot_rows.specs.declared.lot.LotRow.{LotRow}
-use Rattle.lot_table.specs.Book.{Holds}
+use Rattle.lot_table.specs.Book.{Holds, IsUndone}
+use Rattle.lot_table.specs.Statement.{DiskFailed, IsSelect, Refused}
+use Rattle.lot_table.proofs.RefusalLemmas.{IsWhole}
 use Rattle.lot_table.specs.declared.fault.Fault.{Fault}
+use Rattle.lot_table.specs.declared.fault.Fault.TheVariants.{Device}
 use Rattle.lot_table.specs.Cell.{label_text}
 
 abbrev pub shows : List Term
@@ -35,132 +43,90 @@ order = (col 1 1, ascending Binary) ∷ (col 1 2, ascending Binary) ∷ (col 1 3
 abbrev pub names : List (List ℕ)
 names = codes "account" ∷ codes "commodity" ∷ codes "cost_day" ∷ codes "cost_currency" ∷ codes "cost_number" ∷ codes "cost_label" ∷ codes "units" ∷ []
 
--- ---- from a text on
-
-abbrev pub from_text : List ℕ
-from_text = codes "SELECT account, commodity, cost_day, cost_currency, cost_number, cost_label, units FROM lot WHERE account >= ?2 ORDER BY account, commodity, cost_day, cost_currency, cost_number, cost_label LIMIT ?1"
-
-abbrev pub from_key : List ℕ → Row
-from_key k = Text k ∷ []
-
-pub asks_from : Asks lot_table from_key (λ k. is_from (Text k)) page_rows (terms Ge 0 0) shows order names from_text
-unfolding understood everything
-asks_from = record {
-  means = refl;
-  unlisted = refl;
-  bare = (refl, refl);
-  whole = λ _. (omega arith, refl);
-  selects = (_, refl, refl);
+-- a text that asks for lots in the order of their key
+asks : {K : Type 0} (key : K → Row) (passes : K → Row → Bool) (tests : List Term) (text : List ℕ)
+    → command_of (understood layout.schema text) ≡ Select (record { lets = []; body = paged lot_table.table.tree tests shows order }) names
+    → reads_listing layout.schema text ≡ false → IsPlain (understood layout.schema text) → ((k : K) → IsWhole text (length (asking page_rows (key k))) (understood layout.schema text)) → IsSelect text
+    → ((k : K) (v : Value) (x : LotRow) → list_all (holds (asking page_rows (key k) ∷ (v ∷ lot_cells x) ∷ [])) tests ≡ passes k (lot_cells x))
+    → ((k : K) → accepts_program layout.schema [] (paged lot_table.table.tree tests shows order) (asking page_rows (key k)) ≡ true)
+    → Asks lot_table key passes page_rows tests shows order names text
+asks key passes tests text means unlisted bare whole selects picks typed = record {
+  means = means;
+  unlisted = unlisted;
+  bare = bare;
+  whole = whole;
+  selects = selects;
   held = λ _ _ holds. holds.held.1.1.1.1.1.1.1.1.0;
   present = λ _. (refl, (refl, (refl, (refl, (refl, (refl, tt))))));
-  picks = λ k v x. terms_reach (Int (pos page_rows)) v (lot_cells x) (from_key k) 0 0 (refl, tt) (refl, tt);
+  picks = picks;
   blind = λ _ _ _ _. refl;
   shown = λ _ _. refl;
   sorts = λ _ _ _ _. refl;
-  typed = λ _. refl;
+  typed = typed;
 }
 
--- ---- by commodity
+-- ---- from a value of one column on
 
-abbrev pub commodity_text : List ℕ
-commodity_text = codes "SELECT account, commodity, cost_day, cost_currency, cost_number, cost_label, units FROM lot WHERE account = ?2 AND commodity >= ?3 ORDER BY account, commodity, cost_day, cost_currency, cost_number, cost_label LIMIT ?1"
+-- where so many columns before it are equal
+abbrev pub from_text : ℕ → List ℕ
+from_text zero = codes "SELECT account, commodity, cost_day, cost_currency, cost_number, cost_label, units FROM lot WHERE account >= ?2 ORDER BY account, commodity, cost_day, cost_currency, cost_number, cost_label LIMIT ?1"
+from_text (suc zero) = codes "SELECT account, commodity, cost_day, cost_currency, cost_number, cost_label, units FROM lot WHERE account = ?2 AND commodity >= ?3 ORDER BY account, commodity, cost_day, cost_currency, cost_number, cost_label LIMIT ?1"
+from_text (suc (suc zero)) = codes "SELECT account, commodity, cost_day, cost_currency, cost_number, cost_label, units FROM lot WHERE account = ?2 AND commodity = ?3 AND cost_day >= ?4 ORDER BY account, commodity, cost_day, cost_currency, cost_number, cost_label LIMIT ?1"
+from_text (suc (suc (suc zero))) = codes "SELECT account, commodity, cost_day, cost_currency, cost_number, cost_label, units FROM lot WHERE account = ?2 AND commodity = ?3 AND cost_day = ?4 AND cost_currency >= ?5 ORDER BY account, commodity, cost_day, cost_currency, cost_number, cost_label LIMIT ?1"
+from_text (suc (suc (suc (suc n)))) = codes "SELECT account, commodity, cost_day, cost_currency, cost_number, cost_label, units FROM lot WHERE account = ?2 AND commodity = ?3 AND cost_day = ?4 AND cost_currency = ?5 AND cost_number >= ?6 ORDER BY account, commodity, cost_day, cost_currency, cost_number, cost_label LIMIT ?1"
 
-abbrev pub commodity_key : LotRow → Row
-commodity_key k = Text k.account ∷ Text (k.commodity ++ 0 ∷ []) ∷ []
+-- the columns of a lot, so many, and the first value behind that of the next
+abbrev pub next_key : ℕ → LotRow → Row
+next_key zero k = Text (k.account ++ 0 ∷ []) ∷ []
+next_key (suc zero) k = Text k.account ∷ Text (k.commodity ++ 0 ∷ []) ∷ []
+next_key (suc (suc zero)) k = Text k.account ∷ Text k.commodity ∷ Int (k.lot.day +ℤ pos 1) ∷ []
+next_key (suc (suc (suc zero))) k = Text k.account ∷ Text k.commodity ∷ Int k.lot.day ∷ Text (k.lot.currency ++ 0 ∷ []) ∷ []
+next_key (suc (suc (suc (suc n)))) k = Text k.account ∷ Text k.commodity ∷ Int k.lot.day ∷ Text k.lot.currency ∷ Int (pos k.lot.number +ℤ pos 1) ∷ []
 
-pub asks_commodity : Asks lot_table commodity_key (λ k. level 1 0 (lot_cells k)) page_rows (terms Ge 1 0) shows order names commodity_text
+abbrev pub first_key : List ℕ → Row
+first_key k = Text k ∷ []
+
+pub asks_first : Asks lot_table first_key (λ k. is_from (Text k)) page_rows (terms Ge 0 0) shows order names (from_text 0)
 unfolding understood everything
-asks_commodity = record {
-  means = refl;
-  unlisted = refl;
-  bare = (refl, refl);
-  whole = λ _. (omega arith, refl);
-  selects = (_, refl, refl);
-  held = λ _ _ holds. holds.held.1.1.1.1.1.1.1.1.0;
-  present = λ _. (refl, (refl, (refl, (refl, (refl, (refl, tt))))));
-  picks = λ k v x. terms_reach (Int (pos page_rows)) v (lot_cells x) (commodity_key k) 1 0 (refl, (refl, tt)) (refl, (refl, tt)) ∙ ap (λ b. (is_eq (value_cmp (Text x.account) (Text k.account)) && b)) (past_text x.commodity k.commodity);
-  blind = λ _ _ _ _. refl;
-  shown = λ _ _. refl;
-  sorts = λ _ _ _ _. refl;
-  typed = λ _. refl;
-}
+asks_first =
+    asks first_key (λ k. is_from (Text k)) (terms Ge 0 0) (from_text 0) refl refl (refl, refl) (λ _. (omega arith, refl)) (_, refl, refl)
+    (λ k v x. terms_reach (Int (pos page_rows)) v (lot_cells x) (first_key k) 0 0 (refl, tt) (refl, tt)) (λ _. refl)
 
--- ---- by cost_day
-
-abbrev pub cost_day_text : List ℕ
-cost_day_text = codes "SELECT account, commodity, cost_day, cost_currency, cost_number, cost_label, units FROM lot WHERE account = ?2 AND commodity = ?3 AND cost_day >= ?4 ORDER BY account, commodity, cost_day, cost_currency, cost_number, cost_label LIMIT ?1"
-
-abbrev pub cost_day_key : LotRow → Row
-cost_day_key k = Text k.account ∷ Text k.commodity ∷ Int (k.lot.day +ℤ pos 1) ∷ []
-
-pub asks_cost_day : Asks lot_table cost_day_key (λ k. level 2 0 (lot_cells k)) page_rows (terms Ge 2 0) shows order names cost_day_text
+pub asks_from : (n : ℕ) → n ≤ 4 → Asks lot_table (next_key n) (λ k. level n 0 (lot_cells k)) page_rows (terms Ge n 0) shows order names (from_text n)
 unfolding understood everything
-asks_cost_day = record {
-  means = refl;
-  unlisted = refl;
-  bare = (refl, refl);
-  whole = λ _. (omega arith, refl);
-  selects = (_, refl, refl);
-  held = λ _ _ holds. holds.held.1.1.1.1.1.1.1.1.0;
-  present = λ _. (refl, (refl, (refl, (refl, (refl, (refl, tt))))));
-  picks = λ k v x. terms_reach (Int (pos page_rows)) v (lot_cells x) (cost_day_key k) 2 0 (refl, (refl, (refl, tt))) (refl, (refl, (refl, tt))) ∙ ap (λ b. (is_eq (value_cmp (Text x.account) (Text k.account)) && (is_eq (value_cmp (Text x.commodity) (Text k.commodity)) && b))) (past_number x.lot.day k.lot.day);
-  blind = λ _ _ _ _. refl;
-  shown = λ _ _. refl;
-  sorts = λ _ _ _ _. refl;
-  typed = λ _. refl;
-}
+asks_from zero _ =
+    asks (next_key 0) (λ k. level 0 0 (lot_cells k)) (terms Ge 0 0) (from_text 0) refl refl (refl, refl) (λ _. (omega arith, refl)) (_, refl, refl)
+    (λ k v x. terms_reach (Int (pos page_rows)) v (lot_cells x) (next_key 0 k) 0 0 (refl, tt) (refl, tt) ∙ past_text x.account k.account) (λ _. refl)
+asks_from (suc zero) _ =
+    asks (next_key 1) (λ k. level 1 0 (lot_cells k)) (terms Ge 1 0) (from_text 1) refl refl (refl, refl) (λ _. (omega arith, refl)) (_, refl, refl)
+    (λ k v x. terms_reach (Int (pos page_rows)) v (lot_cells x) (next_key 1 k) 1 0 (refl, (refl, tt)) (refl, (refl, tt)) ∙ ap (λ b. (is_eq (value_cmp (Text x.account) (Text k.account)) && b)) (past_text x.commodity k.commodity)) (λ _. refl)
+asks_from (suc (suc zero)) _ =
+    asks (next_key 2) (λ k. level 2 0 (lot_cells k)) (terms Ge 2 0) (from_text 2) refl refl (refl, refl) (λ _. (omega arith, refl)) (_, refl, refl)
+    (λ k v x. terms_reach (Int (pos page_rows)) v (lot_cells x) (next_key 2 k) 2 0 (refl, (refl, (refl, tt))) (refl, (refl, (refl, tt))) ∙ ap (λ b. (is_eq (value_cmp (Text x.account) (Text k.account)) && (is_eq (value_cmp (Text x.commodity) (Text k.commodity)) && b))) (past_number x.lot.day k.lot.day)) (λ _. refl)
+asks_from (suc (suc (suc zero))) _ =
+    asks (next_key 3) (λ k. level 3 0 (lot_cells k)) (terms Ge 3 0) (from_text 3) refl refl (refl, refl) (λ _. (omega arith, refl)) (_, refl, refl)
+    (λ k v x. terms_reach (Int (pos page_rows)) v (lot_cells x) (next_key 3 k) 3 0 (refl, (refl, (refl, (refl, tt)))) (refl, (refl, (refl, (refl, tt)))) ∙ ap (λ b. (is_eq (value_cmp (Text x.account) (Text k.account)) && (is_eq (value_cmp (Text x.commodity) (Text k.commodity)) && (is_eq (value_cmp (Int x.lot.day) (Int k.lot.day)) && b)))) (past_text x.lot.currency k.lot.currency)) (λ _. refl)
+asks_from (suc (suc (suc (suc zero)))) _ =
+    asks (next_key 4) (λ k. level 4 0 (lot_cells k)) (terms Ge 4 0) (from_text 4) refl refl (refl, refl) (λ _. (omega arith, refl)) (_, refl, refl)
+    (λ k v x. terms_reach (Int (pos page_rows)) v (lot_cells x) (next_key 4 k) 4 0 (refl, (refl, (refl, (refl, (refl, tt))))) (refl, (refl, (refl, (refl, (refl, tt))))) ∙ ap (λ b. (is_eq (value_cmp (Text x.account) (Text k.account)) && (is_eq (value_cmp (Text x.commodity) (Text k.commodity)) && (is_eq (value_cmp (Int x.lot.day) (Int k.lot.day)) && (is_eq (value_cmp (Text x.lot.currency) (Text k.lot.currency)) && b))))) (past_number (pos x.lot.number) (pos k.lot.number))) (λ _. refl)
+asks_from (suc (suc (suc (suc (suc n))))) few = absurd (omega (arith, few))
 
--- ---- by cost_currency
+pub level_takes : (n : ℕ) → n ≤ 4 → (old new : State) (k : LotRow) (result : Result (Vec Row Global) Fault)
+    → (HasCleanDisk new → IfOk result (λ rows. Shown (from_text n) (asking page_rows (next_key n k)) old new rows.items)) → (HasCleanDisk new → OnOk result (IsUnchanged old new))
+    → (HasCleanDisk new → IfErr result (Refused (from_text n) (asking page_rows (next_key n k)) old new)) → (HasCleanDisk new → result ≡ Err Device → DiskFailed old new)
+    → (HasCleanDisk new → OnErr result (IsUndone old new)) → Survives old new (λ _. ⊥) → Takes lot_cells (λ b. b.lot) page_rows (level n 0 (lot_cells k)) old new result
+level_takes n few = answers lot_table (next_key n) (λ k. level n 0 (lot_cells k)) page_rows (terms Ge n 0) shows order names (from_text n) (asks_from n few)
 
-abbrev pub cost_currency_text : List ℕ
-cost_currency_text = codes "SELECT account, commodity, cost_day, cost_currency, cost_number, cost_label, units FROM lot WHERE account = ?2 AND commodity = ?3 AND cost_day = ?4 AND cost_currency >= ?5 ORDER BY account, commodity, cost_day, cost_currency, cost_number, cost_label LIMIT ?1"
+-- each of these numbers of columns
+pub cases_4 : (n : ℕ) → n ≤ 4 → (n ≡ 0) ⊎ ((n ≡ 1) ⊎ ((n ≡ 2) ⊎ ((n ≡ 3) ⊎ (n ≡ 4))))
+cases_4 zero _ = inl refl
+cases_4 (suc zero) _ = inr (inl refl)
+cases_4 (suc (suc zero)) _ = inr (inr (inl refl))
+cases_4 (suc (suc (suc zero))) _ = inr (inr (inr (inl refl)))
+cases_4 (suc (suc (suc (suc zero)))) _ = inr (inr (inr (inr refl)))
+cases_4 (suc (suc (suc (suc (suc n))))) few = absurd (omega (arith, few))
 
-abbrev pub cost_currency_key : LotRow → Row
-cost_currency_key k = Text k.account ∷ Text k.commodity ∷ Int k.lot.day ∷ Text (k.lot.currency ++ 0 ∷ []) ∷ []
-
-pub asks_cost_currency : Asks lot_table cost_currency_key (λ k. level 3 0 (lot_cells k)) page_rows (terms Ge 3 0) shows order names cost_currency_text
-unfolding understood everything
-asks_cost_currency = record {
-  means = refl;
-  unlisted = refl;
-  bare = (refl, refl);
-  whole = λ _. (omega arith, refl);
-  selects = (_, refl, refl);
-  held = λ _ _ holds. holds.held.1.1.1.1.1.1.1.1.0;
-  present = λ _. (refl, (refl, (refl, (refl, (refl, (refl, tt))))));
-  picks = λ k v x. terms_reach (Int (pos page_rows)) v (lot_cells x) (cost_currency_key k) 3 0 (refl, (refl, (refl, (refl, tt)))) (refl, (refl, (refl, (refl, tt)))) ∙ ap (λ b. (is_eq (value_cmp (Text x.account) (Text k.account)) && (is_eq (value_cmp (Text x.commodity) (Text k.commodity)) && (is_eq (value_cmp (Int x.lot.day) (Int k.lot.day)) && b)))) (past_text x.lot.currency k.lot.currency);
-  blind = λ _ _ _ _. refl;
-  shown = λ _ _. refl;
-  sorts = λ _ _ _ _. refl;
-  typed = λ _. refl;
-}
-
--- ---- by cost_number
-
-abbrev pub cost_number_text : List ℕ
-cost_number_text = codes "SELECT account, commodity, cost_day, cost_currency, cost_number, cost_label, units FROM lot WHERE account = ?2 AND commodity = ?3 AND cost_day = ?4 AND cost_currency = ?5 AND cost_number >= ?6 ORDER BY account, commodity, cost_day, cost_currency, cost_number, cost_label LIMIT ?1"
-
-abbrev pub cost_number_key : LotRow → Row
-cost_number_key k = Text k.account ∷ Text k.commodity ∷ Int k.lot.day ∷ Text k.lot.currency ∷ Int (pos k.lot.number +ℤ pos 1) ∷ []
-
-pub asks_cost_number : Asks lot_table cost_number_key (λ k. level 4 0 (lot_cells k)) page_rows (terms Ge 4 0) shows order names cost_number_text
-unfolding understood everything
-asks_cost_number = record {
-  means = refl;
-  unlisted = refl;
-  bare = (refl, refl);
-  whole = λ _. (omega arith, refl);
-  selects = (_, refl, refl);
-  held = λ _ _ holds. holds.held.1.1.1.1.1.1.1.1.0;
-  present = λ _. (refl, (refl, (refl, (refl, (refl, (refl, tt))))));
-  picks = λ k v x. terms_reach (Int (pos page_rows)) v (lot_cells x) (cost_number_key k) 4 0 (refl, (refl, (refl, (refl, (refl, tt))))) (refl, (refl, (refl, (refl, (refl, tt))))) ∙ ap (λ b. (is_eq (value_cmp (Text x.account) (Text k.account)) && (is_eq (value_cmp (Text x.commodity) (Text k.commodity)) && (is_eq (value_cmp (Int x.lot.day) (Int k.lot.day)) && (is_eq (value_cmp (Text x.lot.currency) (Text k.lot.currency)) && b))))) (past_number (pos x.lot.number) (pos k.lot.number));
-  blind = λ _ _ _ _. refl;
-  shown = λ _ _. refl;
-  sorts = λ _ _ _ _. refl;
-  typed = λ _. refl;
-}
-
--- ---- by cost_label
+-- ---- behind the last column
 
 abbrev pub cost_label_text : List ℕ
 cost_label_text = codes "SELECT account, commodity, cost_day, cost_currency, cost_number, cost_label, units FROM lot WHERE account = ?2 AND commodity = ?3 AND cost_day = ?4 AND cost_currency = ?5 AND cost_number = ?6 AND cost_label > ?7 ORDER BY account, commodity, cost_day, cost_currency, cost_number, cost_label LIMIT ?1"
@@ -170,44 +136,22 @@ cost_label_key k = Text k.account ∷ Text k.commodity ∷ Int k.lot.day ∷ Tex
 
 pub asks_cost_label : Asks lot_table cost_label_key (λ k. level 5 0 (lot_cells k)) page_rows (terms Gt 5 0) shows order names cost_label_text
 unfolding understood everything
-asks_cost_label = record {
-  means = refl;
-  unlisted = refl;
-  bare = (refl, refl);
-  whole = λ _. (omega arith, refl);
-  selects = (_, refl, refl);
-  held = λ _ _ holds. holds.held.1.1.1.1.1.1.1.1.0;
-  present = λ _. (refl, (refl, (refl, (refl, (refl, (refl, tt))))));
-  picks = λ k v x. terms_level (Int (pos page_rows)) v (lot_cells x) (cost_label_key k) 5 0 (refl, (refl, (refl, (refl, (refl, (refl, tt)))))) (refl, (refl, (refl, (refl, (refl, (refl, tt))))));
-  blind = λ _ _ _ _. refl;
-  shown = λ _ _. refl;
-  sorts = λ _ _ _ _. refl;
-  typed = λ _. refl;
-}
+asks_cost_label =
+    asks cost_label_key (λ k. level 5 0 (lot_cells k)) (terms Gt 5 0) cost_label_text refl refl (refl, refl) (λ _. (omega arith, refl)) (_, refl, refl)
+    (λ k v x. terms_level (Int (pos page_rows)) v (lot_cells x) (cost_label_key k) 5 0 (refl, (refl, (refl, (refl, (refl, (refl, tt)))))) (refl, (refl, (refl, (refl, (refl, (refl, tt))))))) (λ _. refl)
 
--- ---- all rows, and those past the first column of one
+-- ---- all rows
 
 pub all_lots : (old new : State) (result : Result (Vec Row Global) Fault) → PagesOf lot_cells (λ b. b.lot) page_rows (filter (is_from (Text []))) old new result → Pages lot_cells (λ b. b.lot) 6 page_rows None old new result
 all_lots = pages_so lot_cells (λ b. b.lot) page_rows (omega arith) (filter (is_from (Text []))) (λ rows. rows) (from_all lot_cells (λ b. b.lot) page_rows (omega arith) (Text []) (λ x. ap not (not_shorter x.account)))
 
-pub past_first : (row : LotRow) (old new : State) (result : Result (Vec Row Global) Fault) → PagesOf lot_cells (λ b. b.lot) page_rows (filter (is_from (Text (row.account ++ 0 ∷ [])))) old new result → PagesOf lot_cells (λ b. b.lot) page_rows (filter (is_past 1 (lot_cells row))) old new result
-past_first row =
-    pages_so lot_cells (λ b. b.lot) page_rows (omega arith) (filter (is_from (Text (row.account ++ 0 ∷ [])))) (filter (is_past 1 (lot_cells row)))
-    (from_past lot_cells (λ b. b.lot) page_rows (omega arith) (lot_cells row) (Text (row.account ++ 0 ∷ [])) (λ x. past_text x.account row.account ∙ first_column (lot_cells row) (lot_cells x)))
-
 -- ---- the order by fewer columns
 
-pub mounts_1 : (trees : Trees) (tables : Tables) → Holds layout trees tables → Mounts 1 (map lot_cells tables.lot)
-mounts_1 trees tables holds = mounts 1 (rising 5 []) (map lot_cells tables.lot) (lots_rise trees tables holds)
-
-pub mounts_2 : (trees : Trees) (tables : Tables) → Holds layout trees tables → Mounts 2 (map lot_cells tables.lot)
-mounts_2 trees tables holds = mounts 2 (rising 4 []) (map lot_cells tables.lot) (lots_rise trees tables holds)
-
-pub mounts_3 : (trees : Trees) (tables : Tables) → Holds layout trees tables → Mounts 3 (map lot_cells tables.lot)
-mounts_3 trees tables holds = mounts 3 (rising 3 []) (map lot_cells tables.lot) (lots_rise trees tables holds)
-
-pub mounts_4 : (trees : Trees) (tables : Tables) → Holds layout trees tables → Mounts 4 (map lot_cells tables.lot)
-mounts_4 trees tables holds = mounts 4 (rising 2 []) (map lot_cells tables.lot) (lots_rise trees tables holds)
-
-pub mounts_5 : (trees : Trees) (tables : Tables) → Holds layout trees tables → Mounts 5 (map lot_cells tables.lot)
-mounts_5 trees tables holds = mounts 5 (rising 1 []) (map lot_cells tables.lot) (lots_rise trees tables holds)
+pub mounts_at : (n : ℕ) → n ≤ 5 → (trees : Trees) (tables : Tables) → Holds layout trees tables → Mounts n (map lot_cells tables.lot)
+mounts_at zero _ trees tables held = mounts 0 (rising 6 []) (map lot_cells tables.lot) (lots_rise trees tables held)
+mounts_at (suc zero) _ trees tables held = mounts 1 (rising 5 []) (map lot_cells tables.lot) (lots_rise trees tables held)
+mounts_at (suc (suc zero)) _ trees tables held = mounts 2 (rising 4 []) (map lot_cells tables.lot) (lots_rise trees tables held)
+mounts_at (suc (suc (suc zero))) _ trees tables held = mounts 3 (rising 3 []) (map lot_cells tables.lot) (lots_rise trees tables held)
+mounts_at (suc (suc (suc (suc zero)))) _ trees tables held = mounts 4 (rising 2 []) (map lot_cells tables.lot) (lots_rise trees tables held)
+mounts_at (suc (suc (suc (suc (suc zero))))) _ trees tables held = mounts 5 (rising 1 []) (map lot_cells tables.lot) (lots_rise trees tables held)
+mounts_at (suc (suc (suc (suc (suc (suc n)))))) few trees tables held = absurd (omega (arith, few))

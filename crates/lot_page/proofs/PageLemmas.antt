@@ -17,10 +17,10 @@ use Rattle.sqlite_typing.specs.Types.{accepts_program}
 use Rattle.sqlite_value.specs.declared.keys.Key.{Key}
 use Rattle.sqlite.proofs.Callers.{IsPlain, command_of, reads_as}
 use Rattle.lot_table.proofs.BookLemmas.{if_ok}
+use Rattle.lot_page.specs.Page.{Takes}
 use Rattle.lot_page.proofs.PlaceLemmas.{drop_none}
 use Rattle.lot_rows.specs.Tables.{Has, Tables, layout}
 use Rattle.lot_table.specs.Book.{BookTable, Holds, IsUndone, always}
-use Rattle.lot_table.specs.Call.{Answers}
 use Rattle.lot_table.specs.Rows.{HasRows, key_order}
 use Rattle.lot_table.specs.Statement.{DiskFailed, IsSelect, Refused}
 use Rattle.lot_table.specs.declared.fault.Fault.TheVariants.{Damaged, Device}
@@ -79,10 +79,6 @@ always_ok (Ok found) = tt
 always_ok (Err fault) = tt
 
 -- ---- the page
-
--- the call answers the first rows that pass the test
-abbrev pub Takes : {X : Type 0} → (X → Row) → (Tables → List X) → ℕ → (Row → Bool) → State → State → Result (Vec Row Global) Fault → Type 0
-Takes encode rows most passes = Answers layout (λ found b. found.items ≡ take most (filter passes (map encode (rows b)))) always always
 
 module _ {X K : Type 0} (t : BookTable Tables X) (key : K → Row) (passes : K → Row → Bool) (most : ℕ) (tests shows : List Term) (order : List (Term × Key)) (names : List (List ℕ)) (text : List ℕ)
     (is : Asks t key passes most tests shows order names text) (old new : State) (k : K) where

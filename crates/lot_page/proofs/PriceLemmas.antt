@@ -13,9 +13,9 @@ use Rattle.sqlite_tied.specs.Compute.{everything}
 use Rattle.sqlite_value.specs.Keys.{ascending, rising}
 use Rattle.sqlite_value.specs.Order.{value_cmp}
 use Rattle.sqlite_value.specs.declared.keys.Key.{Key}
-use Rattle.lot_page.specs.Page.{Pages, PagesOf, page_rows, is_from, is_past}
+use Rattle.lot_page.specs.Page.{Pages, PagesOf, page_rows, is_from, is_past, level}
 use Rattle.lot_page.specs.Rise.{prices_rise}
-use Rattle.lot_page.proofs.LevelLemmas.{Mounts, first_column, level, mounts, terms, terms_level, terms_reach}
+use Rattle.lot_page.proofs.LevelLemmas.{Mounts, first_column, mounts, terms, terms_level, terms_reach}
 use Rattle.lot_page.proofs.NextLemmas.{not_shorter, past_text}
 use Rattle.lot_page.proofs.PageLemmas.{Asks}
 use Rattle.lot_page.proofs.WalkLemmas.{from_all, from_past, pages_so}

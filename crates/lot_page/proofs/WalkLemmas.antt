@@ -8,10 +8,9 @@ use Rattle.sqlite.specs.State.{State}
 use Rattle.sqlite.specs.Tree.{Trees}
 use Rattle.sqlite.specs.declared.types.Value.{Value}
 use Rattle.sqlite_keyed.proofs.ListLemmas.{filter_all}
-use Rattle.lot_page.specs.Page.{IsPageOf, PagesOf, is_from, is_past}
+use Rattle.lot_page.specs.Page.{IsPageOf, PagesOf, Takes, is_from, is_past, level}
 use Rattle.lot_page.proofs.CallLemmas.{answers_ok, answers_so, answers_then, ends_so, fails_so}
-use Rattle.lot_page.proofs.LevelLemmas.{Mounts, level, split}
-use Rattle.lot_page.proofs.PageLemmas.{Takes}
+use Rattle.lot_page.proofs.LevelLemmas.{Mounts, first_column, split}
 use Rattle.lot_page.proofs.PlaceLemmas.{page_taken}
 use Rattle.lot_rows.specs.Tables.{Tables, layout}
 use Rattle.lot_table.specs.Book.{Holds}
@@ -42,6 +41,12 @@ module _ {X : Type 0} (encode : X → Row) (rows : Tables → List X) (most : �
   -- the first rows that pass a test are a page of them
   pub taken : (passes : Row → Bool) (old new : State) (result : Result (Vec Row Global) Fault) → Takes encode rows most passes old new result → PagesOf encode rows most (filter passes) old new result
   taken passes old new result = answers_so _ _ old new result (λ found b has told. page_taken most (filter passes (map encode (rows b))) found.items one told)
+
+  -- those of the first level are those past the first column
+  pub first_pages : (start : Row) (old new : State) (result : Result (Vec Row Global) Fault) → Takes encode rows most (level 0 0 start) old new result → PagesOf encode rows most (filter (is_past 1 start)) old new result
+  first_pages start old new result first =
+      pages_so (filter (level 0 0 start)) (filter (is_past 1 start)) (λ xs. filter_alike (level 0 0 start) (is_past 1 start) (map encode xs) (all_so (level 0 0 start) (is_past 1 start) (λ x. first_column start (encode x)) xs))
+      old new result (taken (level 0 0 start) old new result first)
 
   -- ---- a level, and then the rows past fewer columns
 

@@ -1,6 +1,6 @@
 -- A page of one table of a book: some of its rows, in the order of their key, behind the last one that was given.
-use Rattle.std.specs.Prelude.{◌≡◌, ◌≤◌, ℕ, Bool, not, [], ◌++◌, List, filter, length, map, Option, None, Some, Result, Vec}
-use Rattle.std.specs.Ordering.{is_gt, is_lt}
+use Rattle.std.specs.Prelude.{◌≡◌, ◌≤◌, ◌&&◌, ℕ, zero, suc, Bool, not, [], ◌++◌, List, filter, length, map, take, Option, None, Some, Result, Vec}
+use Rattle.std.specs.Ordering.{is_eq, is_gt, is_lt}
 use Rattle.std.specs.declared.alloc.Global.{Global}
 use Rattle.sqlite.specs.Order.{Row}
 use Rattle.sqlite.specs.State.{State}
@@ -27,6 +27,11 @@ entry_page_rows = 100
 abbrev pub is_past : ℕ → Row → Row → Bool
 is_past width start row = is_gt (key_order width row start)
 
+-- so many columns from that one on are equal in both, and by the next the row comes after that one
+abbrev pub level : ℕ → ℕ → Row → Row → Bool
+level zero at start row = is_gt (value_cmp (column row at) (column start at))
+level (suc n) at start row = is_eq (value_cmp (column row at) (column start at)) && level n (suc at) start row
+
 -- its first column is that value, or comes after it
 abbrev pub is_from : Value → Row → Bool
 is_from first row = not (is_lt (value_cmp (column row 0) first))
@@ -45,7 +50,11 @@ pub record IsPageOf (most : ℕ) (rows page : List Row) : Type 0 where
   pub few : length page ≤ most
   pub some : page ≡ [] → rows ≡ []
 
--- The call answers a page of those rows of the table. Without a limit on steps it finds no damage in a book.
+-- The call answers the first rows that pass a test. Without a limit on steps it finds no damage in a book.
+abbrev pub Takes : {X : Type 0} → (X → Row) → (Tables → List X) → ℕ → (Row → Bool) → State → State → Result (Vec Row Global) Fault → Type 0
+Takes encode rows most passes = Answers layout (λ found book. found.items ≡ take most (filter passes (map encode (rows book)))) always always
+
+-- The call answers a page of those rows of the table, and finds no damage likewise.
 abbrev pub PagesOf : {X : Type 0} → (X → Row) → (Tables → List X) → ℕ → (List Row → List Row) → State → State → Result (Vec Row Global) Fault → Type 0
 PagesOf encode rows most those = Answers layout (λ found book. IsPageOf most (those (map encode (rows book))) found.items) always always
 

@@ -1,5 +1,5 @@
-ghost use Rattle.std.specs.Prelude.{◌≡◌, [], ◌∷◌, ◌++◌, ◌+ℤ◌, pos, IfOk, filter};
-ghost use Rattle.lot_page.specs.Page.{PagesOf, is_from, is_past, page_rows};
+ghost use Rattle.std.specs.Prelude.{◌≡◌, ◌≤◌, [], ◌∷◌, ◌++◌, ◌+ℤ◌, pos, suc, IfOk, filter};
+ghost use Rattle.lot_page.specs.Page.{PagesOf, Takes, is_from, is_past, level, page_rows};
 ghost use Rattle.lot_page.specs.Rise.{lots_rise};
 ghost use Rattle.lot_page.specs.Lots.{AreBehind};
 ghost use Rattle.lot_rows.specs.Lot.{lot_cells};
@@ -16,6 +16,15 @@ use lot_table::{Cell, Fault, ask};
 use sqlite::types::ValueRef;
 use sqlite::{Alter, Connection, Row};
 use std::alloc::{AllocError, Global};
+
+/// The queries for lots from a value of one column of the key on, by how many columns before it are the same.
+const FROM: [&str; 5] = [
+    "SELECT account, commodity, cost_day, cost_currency, cost_number, cost_label, units FROM lot WHERE account >= ?2 ORDER BY account, commodity, cost_day, cost_currency, cost_number, cost_label LIMIT ?1",
+    "SELECT account, commodity, cost_day, cost_currency, cost_number, cost_label, units FROM lot WHERE account = ?2 AND commodity >= ?3 ORDER BY account, commodity, cost_day, cost_currency, cost_number, cost_label LIMIT ?1",
+    "SELECT account, commodity, cost_day, cost_currency, cost_number, cost_label, units FROM lot WHERE account = ?2 AND commodity = ?3 AND cost_day >= ?4 ORDER BY account, commodity, cost_day, cost_currency, cost_number, cost_label LIMIT ?1",
+    "SELECT account, commodity, cost_day, cost_currency, cost_number, cost_label, units FROM lot WHERE account = ?2 AND commodity = ?3 AND cost_day = ?4 AND cost_currency >= ?5 ORDER BY account, commodity, cost_day, cost_currency, cost_number, cost_label LIMIT ?1",
+    "SELECT account, commodity, cost_day, cost_currency, cost_number, cost_label, units FROM lot WHERE account = ?2 AND commodity = ?3 AND cost_day = ?4 AND cost_currency = ?5 AND cost_number >= ?6 ORDER BY account, commodity, cost_day, cost_currency, cost_number, cost_label LIMIT ?1",
+];
 
 /// A cursor over all lots, by account, commodity and lot.
 pub type LotCursor = Cursor<LotRow>;
@@ -52,7 +61,7 @@ impl PagedRow for LotRow {
             return Ok(rest);
         }
         let texts = texts_behind(alloc, row)?;
-        behind_number(conn, row, &texts)
+        behind(conn, row, &texts, 4)
     }
 
     ghost rises = { lots_rise };
@@ -77,110 +86,56 @@ fn texts_behind(alloc: Global, row: &LotRow) -> Result<Texts, AllocError>
     })
 }
 
-/// Returns the next lots behind all of the same account, commodity, day, currency and number.
-fn behind_number<S: Alter>(
+/// Returns the next lots past this one by its first columns of the key, so many and one more: those that have so many in
+/// common with it come first, then those that have fewer.
+fn behind<S: Alter>(
     conn: &mut Connection<S>,
     row: &LotRow,
     texts: &Texts,
+    same: usize,
 ) -> Result<Vec<Row>, Fault>
     requires texts { AreBehind texts.now row.now }
-    ensures pages { PagesOf lot_cells (λ b. b.lot) page_rows (filter (is_past 5 (lot_cells row.now)))
+    requires same { same ≤ 4 }
+    ensures pages { PagesOf lot_cells (λ b. b.lot) page_rows (filter (is_past (suc same) (lot_cells row.now)))
         (state S.Store conn.old) (state S.Store conn.new) result }
 {
-    let rest = ask(
-        conn,
-        "SELECT account, commodity, cost_day, cost_currency, cost_number, cost_label, units FROM lot WHERE account = ?2 AND commodity = ?3 AND cost_day = ?4 AND cost_currency = ?5 AND cost_number >= ?6 ORDER BY account, commodity, cost_day, cost_currency, cost_number, cost_label LIMIT ?1",
-        &[
-            PAGE_ROWS.to_cell(),
-            row.account.to_cell(),
-            row.commodity.to_cell(),
-            row.lot.day.to_cell(),
-            row.lot.currency.to_cell(),
-            rate_behind(row.lot.number),
-        ],
-    )?;
-    if !rest.is_empty() {
-        return Ok(rest);
+    let page = level(conn, row, texts, same)?;
+    if same == 0 || !page.is_empty() {
+        return Ok(page);
     }
-    behind_currency(conn, row, texts)
+    behind(conn, row, texts, same - 1)
 }
 
-/// Returns the next lots behind all of the same account, commodity, day and currency.
-fn behind_currency<S: Alter>(
+/// Returns the next lots of those that have so many first columns of the key in common with this one, and come after it by
+/// the next.
+fn level<'a, S: Alter>(
     conn: &mut Connection<S>,
-    row: &LotRow,
-    texts: &Texts,
+    row: &'a LotRow,
+    texts: &'a Texts,
+    same: usize,
 ) -> Result<Vec<Row>, Fault>
     requires texts { AreBehind texts.now row.now }
-    ensures pages { PagesOf lot_cells (λ b. b.lot) page_rows (filter (is_past 4 (lot_cells row.now)))
+    requires same { same ≤ 4 }
+    ensures takes { Takes lot_cells (λ b. b.lot) page_rows (level same 0 (lot_cells row.now))
         (state S.Store conn.old) (state S.Store conn.new) result }
 {
-    let rest = ask(
-        conn,
-        "SELECT account, commodity, cost_day, cost_currency, cost_number, cost_label, units FROM lot WHERE account = ?2 AND commodity = ?3 AND cost_day = ?4 AND cost_currency >= ?5 ORDER BY account, commodity, cost_day, cost_currency, cost_number, cost_label LIMIT ?1",
-        &[
-            PAGE_ROWS.to_cell(),
-            row.account.to_cell(),
-            row.commodity.to_cell(),
-            row.lot.day.to_cell(),
-            ValueRef::Text(texts.currency.as_slice()),
-        ],
-    )?;
-    if !rest.is_empty() {
-        return Ok(rest);
-    }
-    behind_day(conn, row, texts)
-}
-
-/// Returns the next lots behind all of the same account, commodity and day.
-fn behind_day<S: Alter>(
-    conn: &mut Connection<S>,
-    row: &LotRow,
-    texts: &Texts,
-) -> Result<Vec<Row>, Fault>
-    requires texts { AreBehind texts.now row.now }
-    ensures pages { PagesOf lot_cells (λ b. b.lot) page_rows (filter (is_past 3 (lot_cells row.now)))
-        (state S.Store conn.old) (state S.Store conn.new) result }
-{
-    let rest = ask(
-        conn,
-        "SELECT account, commodity, cost_day, cost_currency, cost_number, cost_label, units FROM lot WHERE account = ?2 AND commodity = ?3 AND cost_day >= ?4 ORDER BY account, commodity, cost_day, cost_currency, cost_number, cost_label LIMIT ?1",
-        &[
-            PAGE_ROWS.to_cell(),
-            row.account.to_cell(),
-            row.commodity.to_cell(),
-            day_behind(row.lot.day),
-        ],
-    )?;
-    if !rest.is_empty() {
-        return Ok(rest);
-    }
-    behind_commodity(conn, row, texts)
-}
-
-/// Returns the next lots behind all of the same account and commodity.
-fn behind_commodity<S: Alter>(
-    conn: &mut Connection<S>,
-    row: &LotRow,
-    texts: &Texts,
-) -> Result<Vec<Row>, Fault>
-    requires texts { AreBehind texts.now row.now }
-    ensures pages { PagesOf lot_cells (λ b. b.lot) page_rows (filter (is_past 2 (lot_cells row.now)))
-        (state S.Store conn.old) (state S.Store conn.new) result }
-{
-    let rest = ask(
-        conn,
-        "SELECT account, commodity, cost_day, cost_currency, cost_number, cost_label, units FROM lot WHERE account = ?2 AND commodity >= ?3 ORDER BY account, commodity, cost_day, cost_currency, cost_number, cost_label LIMIT ?1",
-        &[
-            PAGE_ROWS.to_cell(),
-            row.account.to_cell(),
-            ValueRef::Text(texts.commodity.as_slice()),
-        ],
-    )?;
-    if !rest.is_empty() {
-        return Ok(rest);
-    }
-    lots_from(conn, texts.account.as_slice())
+    let next = [
+        ValueRef::Text(texts.account.as_slice()),
+        ValueRef::Text(texts.commodity.as_slice()),
+        day_behind(row.lot.day),
+        ValueRef::Text(texts.currency.as_slice()),
+        rate_behind(row.lot.number),
+    ];
+    let mut key = [
+        PAGE_ROWS.to_cell(),
+        row.account.to_cell(),
+        row.commodity.to_cell(),
+        row.lot.day.to_cell(),
+        row.lot.currency.to_cell(),
+        row.lot.number.to_cell(),
+    ];
+    key[same + 1] = next[same];
+    ask(conn, FROM[same], &key[..same + 2])
 }
 
 /// Returns the next lots of the accounts from a text on.
@@ -188,11 +143,7 @@ fn lots_from<S: Alter>(conn: &mut Connection<S>, text: &[u8]) -> Result<Vec<Row>
     ensures pages { PagesOf lot_cells (λ b. b.lot) page_rows (filter (is_from (Text text.now)))
         (state S.Store conn.old) (state S.Store conn.new) result }
 {
-    ask(
-        conn,
-        "SELECT account, commodity, cost_day, cost_currency, cost_number, cost_label, units FROM lot WHERE account >= ?2 ORDER BY account, commodity, cost_day, cost_currency, cost_number, cost_label LIMIT ?1",
-        &[PAGE_ROWS.to_cell(), ValueRef::Text(text)],
-    )
+    ask(conn, FROM[0], &[PAGE_ROWS.to_cell(), ValueRef::Text(text)])
 }
 
 /// Returns what a column holds for the next day.

@@ -1,5 +1,5 @@
 -- The statements on the table `account`.
-use Rattle.std.proofs.Common.{if◌then◌else◌, Result, Vec, slice_get, IfSome, true, ◌≡◌, ℕ, ℤ, None, All, List, [], ◌∷◌, codes, refl, sym, ap, ◌∙◌, arith}
+use Rattle.std.proofs.Common.{if◌then◌else◌, Result, slice_get, IfSome, true, ◌≡◌, ℕ, ℤ, None, List, [], ◌∷◌, codes, refl, sym, ap, ◌∙◌, arith}
 use Rattle.sqlite.specs.Collation.TheVariants.{Binary}
 use Rattle.sqlite.specs.Listing.{understood}
 use Rattle.sqlite.specs.State.{State}
@@ -20,15 +20,14 @@ use Rattle.sqlite.specs.Values.{or_null}
 use Rattle.lot_cost.specs.Method.{word_of}
 use Rattle.lot_cost.specs.declared.method.Method.TheVariants.{Strict, Fifo, Lifo, Hifo, Unmatched}
 use Rattle.lot_cost.specs.declared.method.Method.{Method}
-use Rattle.lot_table.specs.Call.{Finds, Lists, Puts, Runs, Selects}
+use Rattle.lot_table.specs.Call.{Finds, Puts, Runs, Selects}
 use Rattle.lot_table.specs.declared.fault.Fault.{Fault}
 use Rattle.lot_table.proofs.ShapeLemmas.{free}
 use Rattle.lot_table.proofs.StatementLemmas.{IsPut, IsTable, puts}
-use Rattle.lot_table.proofs.QueryLemmas.{Asks, IsQuery, every_one, finds, keyed, lists}
+use Rattle.lot_table.proofs.QueryLemmas.{Asks, IsQuery, finds, keyed}
 use Rattle.sqlite_rules.proofs.ListLemmas.{has_got}
 use Rattle.sqlite_rules.specs.Steps.{is_typed}
 use Rattle.sqlite_typing.specs.Types.{accepts_terms}
-use Rattle.std.specs.declared.alloc.Global.{Global}
 use Rattle.std.proofs.Common.{pos}
 
 same_days : (a b : Option ℤ) → or_null Int a ≡ or_null Int b → a ≡ b
@@ -93,7 +92,7 @@ put_is x = record { count = 5; terms = put_terms; means = refl; bare = (refl, re
 pub puts_row : (old new : State) (x : AccountRow) {A : Type 0} (result : Result A Fault) → Runs put_text (account_cells x) old new result → Puts layout account_table x old new result
 puts_row old new x = puts layout account_table is_table old new put_text x (put_is x) (λ _ _ _. refl)
 
--- ---- find and list
+-- ---- find
 
 abbrev shows : List Term
 shows = col 1 1 ∷ col 1 2 ∷ col 1 3 ∷ col 1 4 ∷ []
@@ -107,7 +106,7 @@ names = codes "name" ∷ codes "opened" ∷ codes "closed" ∷ codes "method" �
 abbrev find_text : List ℕ
 find_text = codes "SELECT name, opened, closed, method FROM account WHERE name = ?1 ORDER BY name"
 
-pub find_is : IsQuery layout.schema 2 (key_terms 1 0) shows order names 1 find_text
+pub find_is : IsQuery layout.schema account_table.table.tree (key_terms 1 0) shows order names 1 find_text
 unfolding understood everything
 find_is = record { means = refl; unlisted = refl; bare = (refl, refl); whole = (omega arith, refl); selects = (_, refl, refl) }
 
@@ -124,24 +123,3 @@ find_asks name = record {
 pub find_rows : (old new : State) (name : List ℕ) (result : Result (Option AccountRow) Fault)
     → Selects account_cells IsAccountRow (λ rows found. found ≡ slice_get rows 0) (λ found. IfSome found IsAccountRow) find_text (Text name ∷ []) old new result → Finds layout IsAccountRow (λ b. with_key account_cells 1 (Text name ∷ []) b.account) old new result
 find_rows old new name = finds layout account_table is_table (Text name ∷ []) (has_key 1 (Text name ∷ [])) find_text (find_asks name) old new IsAccountRow (λ b. with_key account_cells 1 (Text name ∷ []) b.account) (λ _. refl) same_row
-
-abbrev list_text : List ℕ
-list_text = codes "SELECT name, opened, closed, method FROM account ORDER BY name"
-
-pub list_is : IsQuery layout.schema 2 (key_terms 0 0) shows order names 0 list_text
-unfolding understood everything
-list_is = record { means = refl; unlisted = refl; bare = (refl, refl); whole = (omega arith, refl); selects = (_, refl, refl) }
-
-list_asks : Asks layout account_table [] (has_key 0 []) list_text
-list_asks = record {
-  tests = (key_terms 0 0);
-  shows = shows;
-  order = order;
-  names = names;
-  is = list_is;
-  picks = record { alike = λ _ _. refl; blind = λ _ _ _. refl; shown = λ _. refl; sorts = λ _ _ _. refl; typed = refl };
-}
-
-pub list_rows : (old new : State) (result : Result (Vec AccountRow Global) Fault)
-    → Selects account_cells IsAccountRow (λ rows found. found.items ≡ rows) (λ found. All IsAccountRow found.items) list_text [] old new result → Lists layout IsAccountRow (λ b. b.account) old new result
-list_rows old new = lists layout account_table is_table [] (has_key 0 []) list_text list_asks old new IsAccountRow (λ b. b.account) (λ b. every_one account_cells [] b.account) same_row

@@ -18,7 +18,7 @@ use Rattle.lot_table.specs.Call.{Lists, Puts, Runs, Selects}
 use Rattle.lot_table.specs.declared.fault.Fault.{Fault}
 use Rattle.lot_table.proofs.ShapeLemmas.{free}
 use Rattle.lot_table.proofs.StatementLemmas.{IsPut, IsTable, puts}
-use Rattle.lot_table.proofs.QueryLemmas.{Asks, IsQuery, every_one, keyed, lists}
+use Rattle.lot_table.proofs.QueryLemmas.{Asks, IsQuery, keyed, lists}
 use Rattle.sqlite_rules.proofs.ListLemmas.{has_got}
 use Rattle.std.specs.declared.alloc.Global.{Global}
 
@@ -57,7 +57,7 @@ put_is x = record { count = 4; terms = put_terms; means = refl; bare = (refl, re
 pub puts_row : (old new : State) (x : AllowedRow) {A : Type 0} (result : Result A Fault) → Runs put_text (allowed_cells x) old new result → Puts layout allowed_table x old new result
 puts_row old new x = puts layout allowed_table is_table old new put_text x (put_is x) (λ _ _ _. refl)
 
--- ---- find and list
+-- ---- list_of
 
 abbrev shows : List Term
 shows = col 1 1 ∷ col 1 2 ∷ col 1 3 ∷ []
@@ -71,7 +71,7 @@ names = codes "account" ∷ codes "place" ∷ codes "commodity" ∷ []
 abbrev account_text : List ℕ
 account_text = codes "SELECT account, place, commodity FROM allowed WHERE account = ?1 ORDER BY account, place"
 
-pub account_is : IsQuery layout.schema 4 (key_terms 1 0) shows order names 1 account_text
+pub account_is : IsQuery layout.schema allowed_table.table.tree (key_terms 1 0) shows order names 1 account_text
 unfolding understood everything
 account_is = record { means = refl; unlisted = refl; bare = (refl, refl); whole = (omega arith, refl); selects = (_, refl, refl) }
 
@@ -88,24 +88,3 @@ account_asks account = record {
 pub account_rows : (old new : State) (account : List ℕ) (result : Result (Vec AllowedRow Global) Fault)
     → Selects allowed_cells IsAllowedRow (λ rows found. found.items ≡ rows) (λ found. All IsAllowedRow found.items) account_text (Text account ∷ []) old new result → Lists layout IsAllowedRow (λ b. with_key allowed_cells 1 (Text account ∷ []) b.allowed) old new result
 account_rows old new account = lists layout allowed_table is_table (Text account ∷ []) (has_key 1 (Text account ∷ [])) account_text (account_asks account) old new IsAllowedRow (λ b. with_key allowed_cells 1 (Text account ∷ []) b.allowed) (λ _. refl) same_row
-
-abbrev list_text : List ℕ
-list_text = codes "SELECT account, place, commodity FROM allowed ORDER BY account, place"
-
-pub list_is : IsQuery layout.schema 4 (key_terms 0 0) shows order names 0 list_text
-unfolding understood everything
-list_is = record { means = refl; unlisted = refl; bare = (refl, refl); whole = (omega arith, refl); selects = (_, refl, refl) }
-
-list_asks : Asks layout allowed_table [] (has_key 0 []) list_text
-list_asks = record {
-  tests = (key_terms 0 0);
-  shows = shows;
-  order = order;
-  names = names;
-  is = list_is;
-  picks = record { alike = λ _ _. refl; blind = λ _ _ _. refl; shown = λ _. refl; sorts = λ _ _ _. refl; typed = refl };
-}
-
-pub list_rows : (old new : State) (result : Result (Vec AllowedRow Global) Fault)
-    → Selects allowed_cells IsAllowedRow (λ rows found. found.items ≡ rows) (λ found. All IsAllowedRow found.items) list_text [] old new result → Lists layout IsAllowedRow (λ b. b.allowed) old new result
-list_rows old new = lists layout allowed_table is_table [] (has_key 0 []) list_text list_asks old new IsAllowedRow (λ b. b.allowed) (λ b. every_one allowed_cells [] b.allowed) same_row

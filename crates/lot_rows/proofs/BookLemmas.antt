@@ -1,5 +1,5 @@
 -- The statements on the table `book`.
-use Rattle.std.proofs.Common.{Ok, Err, IfOk, Result, ◌≡◌, negsuc, ℕ, None, List, [], ◌∷◌, map, codes, refl, ap, ◌∙◌, arith}
+use Rattle.std.proofs.Common.{Result, ◌≡◌, negsuc, ℕ, None, List, [], ◌∷◌, map, codes, refl, ap, ◌∙◌, arith}
 use Rattle.sqlite.specs.Collation.TheVariants.{Binary}
 use Rattle.sqlite.specs.Listing.{understood}
 use Rattle.sqlite.specs.Order.{Row}
@@ -18,7 +18,6 @@ use Rattle.lot_table.proofs.WriteLemmas.{cast_int}
 use Rattle.lot_rows.specs.Book.{book_cells}
 use Rattle.lot_rows.specs.Tables.{Has, Tables, book_table, shapes, layout}
 use Rattle.lot_rows.specs.declared.book.BookRow.{BookRow}
-use Rattle.lot_table.specs.Book.{always}
 use Rattle.lot_table.specs.Call.{Puts, Runs}
 use Rattle.lot_table.specs.declared.fault.Fault.{Fault}
 use Rattle.lot_table.proofs.ShapeLemmas.{free}
@@ -56,7 +55,7 @@ put_is x = record { count = 3; terms = put_terms; means = refl; bare = (refl, re
 pub puts_row : (old new : State) (x : BookRow) {A : Type 0} (result : Result A Fault) → Runs put_text (book_cells x) old new result → Puts layout book_table x old new result
 puts_row old new x = puts layout book_table is_table old new put_text x (put_is x) (λ _ _ _. refl)
 
--- ---- find and list
+-- ---- all rows
 
 abbrev shows : List Term
 shows = col 1 1 ∷ col 1 2 ∷ []
@@ -70,7 +69,7 @@ names = codes "mark" ∷ codes "edition" ∷ []
 abbrev list_text : List ℕ
 list_text = codes "SELECT mark, edition FROM book ORDER BY mark"
 
-pub list_is : IsQuery layout.schema 0 (key_terms 0 0) shows order names 0 list_text
+pub list_is : IsQuery layout.schema book_table.table.tree (key_terms 0 0) shows order names 0 list_text
 unfolding understood everything
 list_is = record { means = refl; unlisted = refl; bare = (refl, refl); whole = (omega arith, refl); selects = (_, refl, refl) }
 
@@ -90,8 +89,4 @@ module _ (old new : State) where
 
   pub list_refused : Refused list_text [] old new Damaged → old.step_limit ≡ None → (b : Tables) → Has old b → ⊥
   list_refused refused unlimited b has =
-      not_damaged list_text [] old new layout.schema has.0 list_is.bare list_is.whole (query 0 [] shows order) names list_is.means list_is.unlisted refl (steady_query 0 [] shows order (lit (Int (negsuc 0))) []) unlimited refused
-
-pub any_answer : {A E : Type 0} (result : Result A E) → IfOk result always
-any_answer (Ok a) = tt
-any_answer (Err e) = tt
+      not_damaged list_text [] old new layout.schema has.0 list_is.bare list_is.whole (query book_table.table.tree [] shows order) names list_is.means list_is.unlisted refl (steady_query book_table.table.tree [] shows order (lit (Int (negsuc 0))) []) unlimited refused

@@ -1,5 +1,5 @@
 -- The statements on the table `commodity`.
-use Rattle.std.proofs.Common.{Option, Result, Vec, slice_get, IfSome, ◌≡◌, ℕ, All, List, [], ◌∷◌, codes, refl, arith}
+use Rattle.std.proofs.Common.{Option, Result, slice_get, IfSome, ◌≡◌, ℕ, List, [], ◌∷◌, codes, refl, arith}
 use Rattle.sqlite.specs.Collation.TheVariants.{Binary}
 use Rattle.sqlite.specs.Listing.{understood}
 use Rattle.sqlite.specs.State.{State}
@@ -14,13 +14,12 @@ use Rattle.lot_table.proofs.WriteLemmas.{cast_int}
 use Rattle.lot_rows.specs.Commodity.{IsCommodityRow, commodity_cells}
 use Rattle.lot_rows.specs.Tables.{commodity_table, shapes, layout}
 use Rattle.lot_rows.specs.declared.commodity.CommodityRow.{CommodityRow}
-use Rattle.lot_table.specs.Call.{Finds, Lists, Puts, Runs, Selects}
+use Rattle.lot_table.specs.Call.{Finds, Puts, Runs, Selects}
 use Rattle.lot_table.specs.declared.fault.Fault.{Fault}
 use Rattle.lot_table.proofs.ShapeLemmas.{free}
 use Rattle.lot_table.proofs.StatementLemmas.{IsPut, IsTable, puts}
-use Rattle.lot_table.proofs.QueryLemmas.{Asks, IsQuery, every_one, finds, keyed, lists}
+use Rattle.lot_table.proofs.QueryLemmas.{Asks, IsQuery, finds, keyed}
 use Rattle.sqlite_rules.proofs.ListLemmas.{has_got}
-use Rattle.std.specs.declared.alloc.Global.{Global}
 
 pub same_row : (x y : CommodityRow) → commodity_cells x ≡ commodity_cells y → x ≡ y
 same_row x y same =
@@ -57,7 +56,7 @@ put_is x = record { count = 3; terms = put_terms; means = refl; bare = (refl, re
 pub puts_row : (old new : State) (x : CommodityRow) {A : Type 0} (result : Result A Fault) → Runs put_text (commodity_cells x) old new result → Puts layout commodity_table x old new result
 puts_row old new x = puts layout commodity_table is_table old new put_text x (put_is x) (λ _ _ _. refl)
 
--- ---- find and list
+-- ---- find
 
 abbrev shows : List Term
 shows = col 1 1 ∷ col 1 2 ∷ []
@@ -71,7 +70,7 @@ names = codes "name" ∷ codes "day" ∷ []
 abbrev find_text : List ℕ
 find_text = codes "SELECT name, day FROM commodity WHERE name = ?1 ORDER BY name"
 
-pub find_is : IsQuery layout.schema 6 (key_terms 1 0) shows order names 1 find_text
+pub find_is : IsQuery layout.schema commodity_table.table.tree (key_terms 1 0) shows order names 1 find_text
 unfolding understood everything
 find_is = record { means = refl; unlisted = refl; bare = (refl, refl); whole = (omega arith, refl); selects = (_, refl, refl) }
 
@@ -88,24 +87,3 @@ find_asks name = record {
 pub find_rows : (old new : State) (name : List ℕ) (result : Result (Option CommodityRow) Fault)
     → Selects commodity_cells IsCommodityRow (λ rows found. found ≡ slice_get rows 0) (λ found. IfSome found IsCommodityRow) find_text (Text name ∷ []) old new result → Finds layout IsCommodityRow (λ b. with_key commodity_cells 1 (Text name ∷ []) b.commodity) old new result
 find_rows old new name = finds layout commodity_table is_table (Text name ∷ []) (has_key 1 (Text name ∷ [])) find_text (find_asks name) old new IsCommodityRow (λ b. with_key commodity_cells 1 (Text name ∷ []) b.commodity) (λ _. refl) same_row
-
-abbrev list_text : List ℕ
-list_text = codes "SELECT name, day FROM commodity ORDER BY name"
-
-pub list_is : IsQuery layout.schema 6 (key_terms 0 0) shows order names 0 list_text
-unfolding understood everything
-list_is = record { means = refl; unlisted = refl; bare = (refl, refl); whole = (omega arith, refl); selects = (_, refl, refl) }
-
-list_asks : Asks layout commodity_table [] (has_key 0 []) list_text
-list_asks = record {
-  tests = (key_terms 0 0);
-  shows = shows;
-  order = order;
-  names = names;
-  is = list_is;
-  picks = record { alike = λ _ _. refl; blind = λ _ _ _. refl; shown = λ _. refl; sorts = λ _ _ _. refl; typed = refl };
-}
-
-pub list_rows : (old new : State) (result : Result (Vec CommodityRow Global) Fault)
-    → Selects commodity_cells IsCommodityRow (λ rows found. found.items ≡ rows) (λ found. All IsCommodityRow found.items) list_text [] old new result → Lists layout IsCommodityRow (λ b. b.commodity) old new result
-list_rows old new = lists layout commodity_table is_table [] (has_key 0 []) list_text list_asks old new IsCommodityRow (λ b. b.commodity) (λ b. every_one commodity_cells [] b.commodity) same_row

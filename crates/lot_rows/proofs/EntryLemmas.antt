@@ -1,5 +1,5 @@
 -- The statements on the table `entry`.
-use Rattle.std.proofs.Common.{Option, Result, Vec, slice_get, IfSome, true, ◌≡◌, ◌⊎◌, inl, inr, ◌&&◌, ◌||◌, Ordering, Less, Equal, Greater, is_eq, option_map, reverse, take, ap₂, ℕ, pos, false, None, All, List, [], ◌∷◌, map, codes, refl, sym, ap, subst, ◌∙◌, arith}
+use Rattle.std.proofs.Common.{Option, Result, slice_get, IfSome, true, ◌≡◌, ◌⊎◌, inl, inr, ◌&&◌, ◌||◌, Ordering, Less, Equal, Greater, is_eq, option_map, reverse, take, ap₂, ℕ, pos, false, None, All, List, [], ◌∷◌, map, codes, refl, sym, ap, subst, ◌∙◌, arith}
 use Rattle.std.proofs.Math.Bool.{or-false}
 use Rattle.sqlite.specs.Collation.TheVariants.{Binary}
 use Rattle.sqlite.specs.Listing.{understood}
@@ -11,10 +11,8 @@ use Rattle.sqlite_tied.specs.Compute.{everything}
 use Rattle.sqlite_value.specs.Keys.{ascending}
 use Rattle.sqlite_value.specs.declared.keys.Key.{Key}
 use Rattle.sqlite.proofs.Callers.{IsPlain, command_of}
-use Rattle.lot_table.specs.Rows.{has_key}
 use Rattle.lot_table.specs.Statement.{IsSelect, Refused, ShowsDamage}
 use Rattle.lot_table.specs.declared.fault.Fault.TheVariants.{Damaged}
-use Rattle.lot_table.proofs.ReadLemmas.{key_terms}
 use Rattle.lot_table.proofs.WriteLemmas.{cast_int}
 use Rattle.lot_rows.specs.Entry.{IsEntryRow, IsNumberRow, IsUnnamed, entry_cells, greatest_number, is_named, named, number_cells}
 use Rattle.lot_rows.specs.declared.entry.NumberRow.{NumberRow}
@@ -44,13 +42,12 @@ use Rattle.lot_rows.specs.Tables.{Has as HasBook, Tables, entry_table, shapes, l
 use Rattle.lot_rows.specs.declared.entry.EntryRow.{EntryRow}
 use Rattle.lot_table.proofs.BookLemmas.{if_ok}
 use Rattle.lot_table.specs.Book.{always}
-use Rattle.lot_table.specs.Call.{Answers, Finds, Lists, PutsWhere, Runs, Selects}
+use Rattle.lot_table.specs.Call.{Answers, Finds, PutsWhere, Runs, Selects}
 use Rattle.lot_table.specs.declared.fault.Fault.{Fault}
 use Rattle.lot_table.proofs.ShapeLemmas.{free}
 use Rattle.lot_table.proofs.StatementLemmas.{IsPut, IsTable, puts_where}
-use Rattle.lot_table.proofs.QueryLemmas.{Asks, IsQuery, every_one, finds, lists}
+use Rattle.lot_table.proofs.QueryLemmas.{Asks, IsQuery, finds}
 use Rattle.sqlite_rules.proofs.ListLemmas.{has_got}
-use Rattle.std.specs.declared.alloc.Global.{Global}
 
 pub same_row : (x y : EntryRow) → entry_cells x ≡ entry_cells y → x ≡ y
 same_row x y same =
@@ -95,9 +92,9 @@ unfolding first_key
 puts_row old new x =
     puts_where layout entry_table is_table old new put_text x (put_is x) (λ b. IsUnnamed x b.entry)
     (λ b unnamed kept. clash entry_cells 1 (λ _. (refl, tt)) entry_table.table layout.schema.indexes x (λ r. agree plain (2 ∷ 3 ∷ []) r (2 ∷ 3 ∷ []) (Int (pos 0) ∷ entry_cells x) || false) (λ _ _ _. refl)
-    (old.now.trees 10) b.entry (apart x b.entry unnamed) kept)
+    (old.now.trees entry_table.table.tree) b.entry (apart x b.entry unnamed) kept)
 
--- ---- find and list
+-- ---- find
 
 abbrev shows : List Term
 shows = col 1 1 ∷ col 1 2 ∷ col 1 3 ∷ col 1 4 ∷ []
@@ -108,34 +105,13 @@ order = (col 1 1, ascending Binary) ∷ []
 abbrev names : List (List ℕ)
 names = codes "number" ∷ codes "source" ∷ codes "name" ∷ codes "body" ∷ []
 
-abbrev list_text : List ℕ
-list_text = codes "SELECT number, source, name, body FROM entry ORDER BY number"
-
-pub list_is : IsQuery layout.schema 10 (key_terms 0 0) shows order names 0 list_text
-unfolding understood everything
-list_is = record { means = refl; unlisted = refl; bare = (refl, refl); whole = (omega arith, refl); selects = (_, refl, refl) }
-
-list_asks : Asks layout entry_table [] (has_key 0 []) list_text
-list_asks = record {
-  tests = (key_terms 0 0);
-  shows = shows;
-  order = order;
-  names = names;
-  is = list_is;
-  picks = record { alike = λ _ _. refl; blind = λ _ _ _. refl; shown = λ _. refl; sorts = λ _ _ _. refl; typed = refl };
-}
-
-pub list_rows : (old new : State) (result : Result (Vec EntryRow Global) Fault)
-    → Selects entry_cells IsEntryRow (λ rows found. found.items ≡ rows) (λ found. All IsEntryRow found.items) list_text [] old new result → Lists layout IsEntryRow (λ b. b.entry) old new result
-list_rows old new = lists layout entry_table is_table [] (has_key 0 []) list_text list_asks old new IsEntryRow (λ b. b.entry) (λ b. every_one entry_cells [] b.entry) same_row
-
 abbrev tests : List Term
 tests = op2 (Compare Eq Binary) (col 1 2) (col 0 0) ∷ op2 (Compare Eq Binary) (col 1 3) (col 0 1) ∷ []
 
 abbrev find_text : List ℕ
 find_text = codes "SELECT number, source, name, body FROM entry WHERE source = ?1 AND name = ?2 ORDER BY number"
 
-pub find_is : IsQuery layout.schema 10 tests shows order names 2 find_text
+pub find_is : IsQuery layout.schema entry_table.table.tree tests shows order names 2 find_text
 unfolding understood everything
 find_is = record { means = refl; unlisted = refl; bare = (refl, refl); whole = (omega arith, refl); selects = (_, refl, refl) }
 
@@ -169,10 +145,13 @@ find_rows old new source name =
 
 -- ---- the greatest number
 
+abbrev at : ℕ
+at = entry_table.table.tree
+
 abbrev greatest_text : List ℕ
 greatest_text = codes "SELECT number FROM entry ORDER BY number DESC LIMIT 1"
 
-greatest_is : (command_of (understood layout.schema greatest_text) ≡ Select (record { lets = []; body = greatest 10 }) (codes "number" ∷ [])) × (reads_listing layout.schema greatest_text ≡ false)
+greatest_is : (command_of (understood layout.schema greatest_text) ≡ Select (record { lets = []; body = greatest at }) (codes "number" ∷ [])) × (reads_listing layout.schema greatest_text ≡ false)
     × IsPlain (understood layout.schema greatest_text) × IsWhole greatest_text 0 (understood layout.schema greatest_text)
 unfolding understood everything
 greatest_is = (refl, refl, (refl, refl), (omega arith, refl))
@@ -188,10 +167,10 @@ all_back P (x ∷ xs) all = subst (AllByRecursion P) (sym (reverse-append (x ∷
 module _ (old new : State) where
   greatest_rows : (rows : List Row) → Shown greatest_text [] old new rows → (b : Tables) → HasBook old b → rows ≡ take 1 (map (λ (e : EntryRow). Int (pos e.number) ∷ []) (reverse b.entry))
   greatest_rows rows told b has =
-      let command = Select (record { lets = []; body = greatest 10 }) (codes "number" ∷ []) in
+      let command = Select (record { lets = []; body = greatest at }) (codes "number" ∷ []) in
       let read = reads_as greatest_text [] old new layout.schema has.0 command greatest_is.0 greatest_is.2 greatest_is.1 rows told in
-      greatest_shown entry_cells (λ (e : EntryRow). Int (pos e.number) ∷ []) 10 old.now.trees (λ _. refl) b.entry (is_table.held old.now.trees b has.1.held) rows
-      (subst (λ d. IsAnswer (greatest 10) d [] rows) (plain_overlay old.now.trees) (read.answer Null))
+      greatest_shown entry_cells (λ (e : EntryRow). Int (pos e.number) ∷ []) at old.now.trees (λ _. refl) b.entry (is_table.held old.now.trees b has.1.held) rows
+      (subst (λ d. IsAnswer (greatest at) d [] rows) (plain_overlay old.now.trees) (read.answer Null))
 
   -- the first of the numbers is that of the last row
   first_number : (found : List NumberRow) (back : List EntryRow) → map number_cells found ≡ take 1 (map (λ (e : EntryRow). Int (pos e.number) ∷ []) back)
@@ -207,7 +186,7 @@ module _ (old new : State) where
 
   greatest_damage : Refused greatest_text [] old new Damaged ⊎ ShowsDamage number_cells IsNumberRow greatest_text [] old new → old.step_limit ≡ None → (b : Tables) → HasBook old b → All IsEntryRow b.entry → ⊥
   greatest_damage (inl refused) unlimited b has all =
-      not_damaged greatest_text [] old new layout.schema has.0 greatest_is.2 greatest_is.3 (greatest 10) (codes "number" ∷ []) greatest_is.0 greatest_is.1 refl (steady_query 10 [] greatest_shows greatest_order (lit (Int (pos 1))) []) unlimited refused
+      not_damaged greatest_text [] old new layout.schema has.0 greatest_is.2 greatest_is.3 (greatest at) (codes "number" ∷ []) greatest_is.0 greatest_is.1 refl (steady_query at [] greatest_shows greatest_order (lit (Int (pos 1))) []) unlimited refused
   greatest_damage (inr (rows, told, bad)) unlimited b has all =
       go (reverse b.entry) (all_back IsEntryRow b.entry (recursion_from_All IsEntryRow b.entry all)) (greatest_rows rows told b has)
     where

@@ -1,5 +1,5 @@
 -- The statements on the table `head`.
-use Rattle.std.proofs.Common.{Option, Result, Vec, slice_get, IfSome, ◌≡◌, ℕ, All, List, [], ◌∷◌, codes, refl, arith}
+use Rattle.std.proofs.Common.{Option, Result, slice_get, IfSome, ◌≡◌, ℕ, List, [], ◌∷◌, codes, refl, arith}
 use Rattle.sqlite.specs.Collation.TheVariants.{Binary}
 use Rattle.sqlite.specs.Listing.{understood}
 use Rattle.sqlite.specs.State.{State}
@@ -14,13 +14,12 @@ use Rattle.lot_table.proofs.WriteLemmas.{cast_int}
 use Rattle.lot_rows.specs.Head.{IsHeadRow, head_cells}
 use Rattle.lot_rows.specs.Tables.{head_table, shapes, layout}
 use Rattle.lot_rows.specs.declared.head.HeadRow.{HeadRow}
-use Rattle.lot_table.specs.Call.{Finds, Lists, Puts, Runs, Selects}
+use Rattle.lot_table.specs.Call.{Finds, Puts, Runs, Selects}
 use Rattle.lot_table.specs.declared.fault.Fault.{Fault}
 use Rattle.lot_table.proofs.ShapeLemmas.{free}
 use Rattle.lot_table.proofs.StatementLemmas.{IsPut, IsTable, puts}
-use Rattle.lot_table.proofs.QueryLemmas.{Asks, IsQuery, every_one, finds, keyed, lists}
+use Rattle.lot_table.proofs.QueryLemmas.{Asks, IsQuery, finds, keyed}
 use Rattle.sqlite_rules.proofs.ListLemmas.{has_got}
-use Rattle.std.specs.declared.alloc.Global.{Global}
 
 pub same_row : (x y : HeadRow) → head_cells x ≡ head_cells y → x ≡ y
 same_row x y same =
@@ -57,7 +56,7 @@ put_is x = record { count = 4; terms = put_terms; means = refl; bare = (refl, re
 pub puts_row : (old new : State) (x : HeadRow) {A : Type 0} (result : Result A Fault) → Runs put_text (head_cells x) old new result → Puts layout head_table x old new result
 puts_row old new x = puts layout head_table is_table old new put_text x (put_is x) (λ _ _ _. refl)
 
--- ---- find and list
+-- ---- find
 
 abbrev shows : List Term
 shows = col 1 1 ∷ col 1 2 ∷ col 1 3 ∷ []
@@ -71,7 +70,7 @@ names = codes "account" ∷ codes "commodity" ∷ codes "day" ∷ []
 abbrev find_text : List ℕ
 find_text = codes "SELECT account, commodity, day FROM head WHERE account = ?1 AND commodity = ?2 ORDER BY account, commodity"
 
-pub find_is : IsQuery layout.schema 21 (key_terms 2 0) shows order names 2 find_text
+pub find_is : IsQuery layout.schema head_table.table.tree (key_terms 2 0) shows order names 2 find_text
 unfolding understood everything
 find_is = record { means = refl; unlisted = refl; bare = (refl, refl); whole = (omega arith, refl); selects = (_, refl, refl) }
 
@@ -88,24 +87,3 @@ find_asks account commodity = record {
 pub find_rows : (old new : State) (account commodity : List ℕ) (result : Result (Option HeadRow) Fault)
     → Selects head_cells IsHeadRow (λ rows found. found ≡ slice_get rows 0) (λ found. IfSome found IsHeadRow) find_text (Text account ∷ Text commodity ∷ []) old new result → Finds layout IsHeadRow (λ b. with_key head_cells 2 (Text account ∷ Text commodity ∷ []) b.head) old new result
 find_rows old new account commodity = finds layout head_table is_table (Text account ∷ Text commodity ∷ []) (has_key 2 (Text account ∷ Text commodity ∷ [])) find_text (find_asks account commodity) old new IsHeadRow (λ b. with_key head_cells 2 (Text account ∷ Text commodity ∷ []) b.head) (λ _. refl) same_row
-
-abbrev list_text : List ℕ
-list_text = codes "SELECT account, commodity, day FROM head ORDER BY account, commodity"
-
-pub list_is : IsQuery layout.schema 21 (key_terms 0 0) shows order names 0 list_text
-unfolding understood everything
-list_is = record { means = refl; unlisted = refl; bare = (refl, refl); whole = (omega arith, refl); selects = (_, refl, refl) }
-
-list_asks : Asks layout head_table [] (has_key 0 []) list_text
-list_asks = record {
-  tests = (key_terms 0 0);
-  shows = shows;
-  order = order;
-  names = names;
-  is = list_is;
-  picks = record { alike = λ _ _. refl; blind = λ _ _ _. refl; shown = λ _. refl; sorts = λ _ _ _. refl; typed = refl };
-}
-
-pub list_rows : (old new : State) (result : Result (Vec HeadRow Global) Fault)
-    → Selects head_cells IsHeadRow (λ rows found. found.items ≡ rows) (λ found. All IsHeadRow found.items) list_text [] old new result → Lists layout IsHeadRow (λ b. b.head) old new result
-list_rows old new = lists layout head_table is_table [] (has_key 0 []) list_text list_asks old new IsHeadRow (λ b. b.head) (λ b. every_one head_cells [] b.head) same_row

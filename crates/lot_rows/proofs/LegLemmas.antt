@@ -21,7 +21,7 @@ use Rattle.lot_table.specs.Call.{ListsColumns, Puts, Runs, Selects}
 use Rattle.lot_table.specs.declared.fault.Fault.{Fault}
 use Rattle.lot_table.proofs.ShapeLemmas.{free}
 use Rattle.lot_table.proofs.StatementLemmas.{IsPut, IsTable, puts}
-use Rattle.lot_table.proofs.QueryLemmas.{Asks, IsQuery, every_one, keyed, lists_columns}
+use Rattle.lot_table.proofs.QueryLemmas.{Asks, IsQuery, keyed, lists_columns}
 use Rattle.sqlite_rules.proofs.ListLemmas.{has_got}
 use Rattle.sqlite_rules.specs.Steps.{is_typed}
 use Rattle.sqlite_typing.specs.Types.{accepts_terms}
@@ -66,7 +66,7 @@ put_is x = record { count = 11; terms = put_terms; means = refl; bare = (refl, r
 pub puts_row : (old new : State) (x : LegRow) {A : Type 0} (result : Result A Fault) → Runs put_text (leg_cells x) old new result → Puts layout leg_table x old new result
 puts_row old new x = puts layout leg_table is_table old new put_text x (put_is x) (λ _ _ _. refl)
 
--- ---- find and list
+-- ---- list_of
 
 abbrev shows : List Term
 shows = col 1 1 ∷ col 1 2 ∷ col 1 3 ∷ col 1 4 ∷ col 1 5 ∷ col 1 6 ∷ col 1 7 ∷ col 1 8 ∷ col 1 9 ∷ col 1 10 ∷ []
@@ -80,7 +80,7 @@ names = codes "entry" ∷ codes "posting" ∷ codes "place" ∷ codes "account" 
 abbrev posting_text : List ℕ
 posting_text = codes "SELECT entry, posting, place, account, commodity, units, cost_number, cost_currency, cost_day, cost_label FROM leg WHERE entry = ?1 AND posting = ?2 ORDER BY entry, posting, place"
 
-pub posting_is : IsQuery layout.schema 13 (key_terms 2 0) shows order names 2 posting_text
+pub posting_is : IsQuery layout.schema leg_table.table.tree (key_terms 2 0) shows order names 2 posting_text
 unfolding understood everything
 posting_is = record { means = refl; unlisted = refl; bare = (refl, refl); whole = (omega arith, refl); selects = (_, refl, refl) }
 
@@ -97,24 +97,3 @@ posting_asks entry posting = record {
 pub posting_rows : (old new : State) (entry : ℕ) (posting : ℕ) (result : Result (Vec LegRow Global) Fault)
     → Selects leg_cells IsLegRow (λ rows found. found.items ≡ rows) (λ found. All IsLegRow found.items) posting_text (Int (pos entry) ∷ Int (pos posting) ∷ []) old new result → ListsColumns layout leg_cells IsLegRow (λ b. with_key leg_cells 2 (Int (pos entry) ∷ Int (pos posting) ∷ []) b.leg) old new result
 posting_rows old new entry posting = lists_columns layout leg_table is_table (Int (pos entry) ∷ Int (pos posting) ∷ []) (has_key 2 (Int (pos entry) ∷ Int (pos posting) ∷ [])) posting_text (posting_asks entry posting) old new IsLegRow (λ b. with_key leg_cells 2 (Int (pos entry) ∷ Int (pos posting) ∷ []) b.leg) (λ _. refl)
-
-abbrev list_text : List ℕ
-list_text = codes "SELECT entry, posting, place, account, commodity, units, cost_number, cost_currency, cost_day, cost_label FROM leg ORDER BY entry, posting, place"
-
-pub list_is : IsQuery layout.schema 13 (key_terms 0 0) shows order names 0 list_text
-unfolding understood everything
-list_is = record { means = refl; unlisted = refl; bare = (refl, refl); whole = (omega arith, refl); selects = (_, refl, refl) }
-
-list_asks : Asks layout leg_table [] (has_key 0 []) list_text
-list_asks = record {
-  tests = (key_terms 0 0);
-  shows = shows;
-  order = order;
-  names = names;
-  is = list_is;
-  picks = record { alike = λ _ _. refl; blind = λ _ _ _. refl; shown = λ _. refl; sorts = λ _ _ _. refl; typed = refl };
-}
-
-pub list_rows : (old new : State) (result : Result (Vec LegRow Global) Fault)
-    → Selects leg_cells IsLegRow (λ rows found. found.items ≡ rows) (λ found. All IsLegRow found.items) list_text [] old new result → ListsColumns layout leg_cells IsLegRow (λ b. b.leg) old new result
-list_rows old new = lists_columns layout leg_table is_table [] (has_key 0 []) list_text list_asks old new IsLegRow (λ b. b.leg) (λ b. every_one leg_cells [] b.leg)

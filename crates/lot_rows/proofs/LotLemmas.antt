@@ -20,7 +20,7 @@ use Rattle.lot_table.specs.Call.{Deletes, ListsColumns, Puts, Runs, Selects}
 use Rattle.lot_table.specs.declared.fault.Fault.{Fault}
 use Rattle.lot_table.proofs.ShapeLemmas.{free}
 use Rattle.lot_table.proofs.StatementLemmas.{IsDelete, IsPut, IsTable, deletes_key, puts}
-use Rattle.lot_table.proofs.QueryLemmas.{Asks, IsQuery, every_one, keyed, lists_columns}
+use Rattle.lot_table.proofs.QueryLemmas.{Asks, IsQuery, keyed, lists_columns}
 use Rattle.sqlite_rules.proofs.ListLemmas.{has_got}
 use Rattle.std.specs.declared.alloc.Global.{Global}
 
@@ -66,7 +66,7 @@ delete_is account commodity lot = record { means = refl; bare = (refl, refl); wh
 pub deletes_row : (old new : State) (account commodity : List ℕ) (lot : LotKey) {A : Type 0} (result : Result A Fault) → Runs delete_text (Text account ∷ Text commodity ∷ Int lot.day ∷ Text lot.currency ∷ Int (pos lot.number) ∷ Text (label_text lot.label) ∷ []) old new result → Deletes layout lot_table (Text account ∷ Text commodity ∷ Int lot.day ∷ Text lot.currency ∷ Int (pos lot.number) ∷ Text (label_text lot.label) ∷ []) old new result
 deletes_row old new account commodity lot = deletes_key layout lot_table is_table old new delete_text (Text account ∷ Text commodity ∷ Int lot.day ∷ Text lot.currency ∷ Int (pos lot.number) ∷ Text (label_text lot.label) ∷ []) (delete_is account commodity lot)
 
--- ---- find and list
+-- ---- list_of
 
 abbrev shows : List Term
 shows = col 1 1 ∷ col 1 2 ∷ col 1 3 ∷ col 1 4 ∷ col 1 5 ∷ col 1 6 ∷ col 1 7 ∷ []
@@ -80,7 +80,7 @@ names = codes "account" ∷ codes "commodity" ∷ codes "cost_day" ∷ codes "co
 abbrev pair_text : List ℕ
 pair_text = codes "SELECT account, commodity, cost_day, cost_currency, cost_number, cost_label, units FROM lot WHERE account = ?1 AND commodity = ?2 ORDER BY account, commodity, cost_day, cost_currency, cost_number, cost_label"
 
-pub pair_is : IsQuery layout.schema 17 (key_terms 2 0) shows order names 2 pair_text
+pub pair_is : IsQuery layout.schema lot_table.table.tree (key_terms 2 0) shows order names 2 pair_text
 unfolding understood everything
 pair_is = record { means = refl; unlisted = refl; bare = (refl, refl); whole = (omega arith, refl); selects = (_, refl, refl) }
 
@@ -97,24 +97,3 @@ pair_asks account commodity = record {
 pub pair_rows : (old new : State) (account commodity : List ℕ) (result : Result (Vec LotRow Global) Fault)
     → Selects lot_cells IsLotRow (λ rows found. found.items ≡ rows) (λ found. All IsLotRow found.items) pair_text (Text account ∷ Text commodity ∷ []) old new result → ListsColumns layout lot_cells IsLotRow (λ b. with_key lot_cells 2 (Text account ∷ Text commodity ∷ []) b.lot) old new result
 pair_rows old new account commodity = lists_columns layout lot_table is_table (Text account ∷ Text commodity ∷ []) (has_key 2 (Text account ∷ Text commodity ∷ [])) pair_text (pair_asks account commodity) old new IsLotRow (λ b. with_key lot_cells 2 (Text account ∷ Text commodity ∷ []) b.lot) (λ _. refl)
-
-abbrev list_text : List ℕ
-list_text = codes "SELECT account, commodity, cost_day, cost_currency, cost_number, cost_label, units FROM lot ORDER BY account, commodity, cost_day, cost_currency, cost_number, cost_label"
-
-pub list_is : IsQuery layout.schema 17 (key_terms 0 0) shows order names 0 list_text
-unfolding understood everything
-list_is = record { means = refl; unlisted = refl; bare = (refl, refl); whole = (omega arith, refl); selects = (_, refl, refl) }
-
-list_asks : Asks layout lot_table [] (has_key 0 []) list_text
-list_asks = record {
-  tests = (key_terms 0 0);
-  shows = shows;
-  order = order;
-  names = names;
-  is = list_is;
-  picks = record { alike = λ _ _. refl; blind = λ _ _ _. refl; shown = λ _. refl; sorts = λ _ _ _. refl; typed = refl };
-}
-
-pub list_rows : (old new : State) (result : Result (Vec LotRow Global) Fault)
-    → Selects lot_cells IsLotRow (λ rows found. found.items ≡ rows) (λ found. All IsLotRow found.items) list_text [] old new result → ListsColumns layout lot_cells IsLotRow (λ b. b.lot) old new result
-list_rows old new = lists_columns layout lot_table is_table [] (has_key 0 []) list_text list_asks old new IsLotRow (λ b. b.lot) (λ b. every_one lot_cells [] b.lot)

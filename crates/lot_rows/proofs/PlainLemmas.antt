@@ -83,7 +83,7 @@ names = codes "account" ∷ codes "commodity" ∷ codes "units" ∷ []
 abbrev find_text : List ℕ
 find_text = codes "SELECT account, commodity, units FROM plain WHERE account = ?1 AND commodity = ?2 ORDER BY account, commodity"
 
-pub find_is : IsQuery layout.schema 19 (key_terms 2 0) shows order names 2 find_text
+pub find_is : IsQuery layout.schema plain_table.table.tree (key_terms 2 0) shows order names 2 find_text
 unfolding understood everything
 find_is = record { means = refl; unlisted = refl; bare = (refl, refl); whole = (omega arith, refl); selects = (_, refl, refl) }
 
@@ -104,7 +104,7 @@ find_rows old new account commodity = finds layout plain_table is_table (Text ac
 abbrev account_text : List ℕ
 account_text = codes "SELECT account, commodity, units FROM plain WHERE account = ?1 ORDER BY account, commodity"
 
-pub account_is : IsQuery layout.schema 19 (key_terms 1 0) shows order names 1 account_text
+pub account_is : IsQuery layout.schema plain_table.table.tree (key_terms 1 0) shows order names 1 account_text
 unfolding understood everything
 account_is = record { means = refl; unlisted = refl; bare = (refl, refl); whole = (omega arith, refl); selects = (_, refl, refl) }
 
@@ -125,7 +125,7 @@ account_rows old new account = lists layout plain_table is_table (Text account �
 abbrev list_text : List ℕ
 list_text = codes "SELECT account, commodity, units FROM plain ORDER BY account, commodity"
 
-pub list_is : IsQuery layout.schema 19 (key_terms 0 0) shows order names 0 list_text
+pub list_is : IsQuery layout.schema plain_table.table.tree (key_terms 0 0) shows order names 0 list_text
 unfolding understood everything
 list_is = record { means = refl; unlisted = refl; bare = (refl, refl); whole = (omega arith, refl); selects = (_, refl, refl) }
 

@@ -1,26 +1,19 @@
 -- The statements on the table `price`.
-use Rattle.std.proofs.Common.{Result, Vec, ◌≡◌, ℕ, pos, All, List, [], ◌∷◌, codes, refl, arith}
-use Rattle.sqlite.specs.Collation.TheVariants.{Binary}
+use Rattle.std.proofs.Common.{Result, ◌≡◌, ℕ, pos, List, [], ◌∷◌, codes, refl, arith}
 use Rattle.sqlite.specs.Listing.{understood}
 use Rattle.sqlite.specs.State.{State}
 use Rattle.sqlite.specs.Term.{Term, col, lit}
 use Rattle.sqlite.specs.declared.types.Value.TheVariants.{Null}
 use Rattle.sqlite_tied.specs.Compute.{everything}
-use Rattle.sqlite_value.specs.Keys.{ascending}
-use Rattle.sqlite_value.specs.declared.keys.Key.{Key}
-use Rattle.lot_table.specs.Rows.{has_key}
-use Rattle.lot_table.proofs.ReadLemmas.{key_terms}
 use Rattle.lot_table.proofs.WriteLemmas.{cast_int}
-use Rattle.lot_rows.specs.Price.{IsPriceRow, price_cells}
+use Rattle.lot_rows.specs.Price.{price_cells}
 use Rattle.lot_rows.specs.Tables.{price_table, shapes, layout}
 use Rattle.lot_rows.specs.declared.price.PriceRow.{PriceRow}
-use Rattle.lot_table.specs.Call.{Lists, Puts, Runs, Selects}
+use Rattle.lot_table.specs.Call.{Puts, Runs}
 use Rattle.lot_table.specs.declared.fault.Fault.{Fault}
 use Rattle.lot_table.proofs.ShapeLemmas.{free}
 use Rattle.lot_table.proofs.StatementLemmas.{IsPut, IsTable, puts}
-use Rattle.lot_table.proofs.QueryLemmas.{Asks, IsQuery, every_one, lists}
 use Rattle.sqlite_rules.proofs.ListLemmas.{has_got}
-use Rattle.std.specs.declared.alloc.Global.{Global}
 
 pub same_row : (x y : PriceRow) → price_cells x ≡ price_cells y → x ≡ y
 same_row x y same =
@@ -56,35 +49,3 @@ put_is x = record { count = 5; terms = put_terms; means = refl; bare = (refl, re
 
 pub puts_row : (old new : State) (x : PriceRow) {A : Type 0} (result : Result A Fault) → Runs put_text (price_cells x) old new result → Puts layout price_table x old new result
 puts_row old new x = puts layout price_table is_table old new put_text x (put_is x) (λ _ _ _. refl)
-
--- ---- find and list
-
-abbrev shows : List Term
-shows = col 1 1 ∷ col 1 2 ∷ col 1 3 ∷ col 1 4 ∷ []
-
-abbrev order : List (Term × Key)
-order = (col 1 1, ascending Binary) ∷ (col 1 2, ascending Binary) ∷ (col 1 3, ascending Binary) ∷ []
-
-abbrev names : List (List ℕ)
-names = codes "base" ∷ codes "quote" ∷ codes "day" ∷ codes "rate" ∷ []
-
-abbrev list_text : List ℕ
-list_text = codes "SELECT base, quote, day, rate FROM price ORDER BY base, quote, day"
-
-pub list_is : IsQuery layout.schema 8 (key_terms 0 0) shows order names 0 list_text
-unfolding understood everything
-list_is = record { means = refl; unlisted = refl; bare = (refl, refl); whole = (omega arith, refl); selects = (_, refl, refl) }
-
-list_asks : Asks layout price_table [] (has_key 0 []) list_text
-list_asks = record {
-  tests = (key_terms 0 0);
-  shows = shows;
-  order = order;
-  names = names;
-  is = list_is;
-  picks = record { alike = λ _ _. refl; blind = λ _ _ _. refl; shown = λ _. refl; sorts = λ _ _ _. refl; typed = refl };
-}
-
-pub list_rows : (old new : State) (result : Result (Vec PriceRow Global) Fault)
-    → Selects price_cells IsPriceRow (λ rows found. found.items ≡ rows) (λ found. All IsPriceRow found.items) list_text [] old new result → Lists layout IsPriceRow (λ b. b.price) old new result
-list_rows old new = lists layout price_table is_table [] (has_key 0 []) list_text list_asks old new IsPriceRow (λ b. b.price) (λ b. every_one price_cells [] b.price) same_row

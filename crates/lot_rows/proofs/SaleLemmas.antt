@@ -1,17 +1,12 @@
 -- The statements on the table `sale`.
-use Rattle.std.proofs.Common.{Result, Vec, true, ◌≡◌, ℕ, pos, None, All, List, [], ◌∷◌, codes, refl, arith}
-use Rattle.sqlite.specs.Collation.TheVariants.{Binary}
+use Rattle.std.proofs.Common.{Result, true, ◌≡◌, ℕ, pos, None, List, [], ◌∷◌, codes, refl, arith}
 use Rattle.sqlite.specs.Listing.{understood}
 use Rattle.sqlite.specs.State.{State}
 use Rattle.sqlite.specs.Term.{Term, col, lit}
 use Rattle.sqlite.specs.declared.types.Value.TheVariants.{Null}
 use Rattle.sqlite_tied.specs.Compute.{everything}
-use Rattle.sqlite_value.specs.Keys.{ascending}
-use Rattle.sqlite_value.specs.declared.keys.Key.{Key}
-use Rattle.lot_table.specs.Rows.{has_key}
-use Rattle.lot_table.proofs.ReadLemmas.{key_terms}
 use Rattle.lot_table.proofs.WriteLemmas.{cast_int}
-use Rattle.lot_rows.specs.Sale.{IsSaleRow, sale_cells}
+use Rattle.lot_rows.specs.Sale.{sale_cells}
 use Rattle.lot_rows.specs.Tables.{sale_table, shapes, layout}
 use Rattle.lot_rows.specs.declared.sale.SaleRow.{SaleRow}
 use Rattle.std.proofs.Common.{Option, Some}
@@ -22,15 +17,13 @@ use Rattle.lot_command.specs.declared.price.Price.TheVariants.{Each, Whole}
 use Rattle.lot_command.specs.declared.price.Price.{Price}
 use Rattle.lot_rows.specs.Sale.{amount_of, currency_of, kind_of}
 use Rattle.lot_table.proofs.WriteLemmas.{cast_null}
-use Rattle.lot_table.specs.Call.{ListsColumns, Puts, Runs, Selects}
+use Rattle.lot_table.specs.Call.{Puts, Runs}
 use Rattle.lot_table.specs.declared.fault.Fault.{Fault}
 use Rattle.lot_table.proofs.ShapeLemmas.{free}
 use Rattle.lot_table.proofs.StatementLemmas.{IsPut, IsTable, puts}
-use Rattle.lot_table.proofs.QueryLemmas.{Asks, IsQuery, every_one, lists_columns}
 use Rattle.sqlite_rules.proofs.ListLemmas.{has_got}
 use Rattle.sqlite_rules.specs.Steps.{is_typed}
 use Rattle.sqlite_typing.specs.Types.{accepts_terms}
-use Rattle.std.specs.declared.alloc.Global.{Global}
 use Rattle.std.proofs.Common.{ℤ}
 use Rattle.sqlite.specs.declared.types.Value.TheVariants.{Text}
 use Rattle.sqlite.specs.declared.types.Value.TheVariants.{Int}
@@ -93,35 +86,3 @@ put_is x = record { count = 10; terms = put_terms; means = refl; bare = (refl, r
 
 pub puts_row : (old new : State) (x : SaleRow) {A : Type 0} (result : Result A Fault) → Runs put_text (sale_cells x) old new result → Puts layout sale_table x old new result
 puts_row old new x = puts layout sale_table is_table old new put_text x (put_is x) (λ _ _ _. refl)
-
--- ---- find and list
-
-abbrev shows : List Term
-shows = col 1 1 ∷ col 1 2 ∷ col 1 3 ∷ col 1 4 ∷ col 1 5 ∷ col 1 6 ∷ col 1 7 ∷ col 1 8 ∷ col 1 9 ∷ []
-
-abbrev order : List (Term × Key)
-order = (col 1 1, ascending Binary) ∷ (col 1 2, ascending Binary) ∷ []
-
-abbrev names : List (List ℕ)
-names = codes "entry" ∷ codes "posting" ∷ codes "day" ∷ codes "account" ∷ codes "commodity" ∷ codes "units" ∷ codes "kind" ∷ codes "amount" ∷ codes "currency" ∷ []
-
-abbrev list_text : List ℕ
-list_text = codes "SELECT entry, posting, day, account, commodity, units, kind, amount, currency FROM sale ORDER BY entry, posting"
-
-pub list_is : IsQuery layout.schema 15 (key_terms 0 0) shows order names 0 list_text
-unfolding understood everything
-list_is = record { means = refl; unlisted = refl; bare = (refl, refl); whole = (omega arith, refl); selects = (_, refl, refl) }
-
-list_asks : Asks layout sale_table [] (has_key 0 []) list_text
-list_asks = record {
-  tests = (key_terms 0 0);
-  shows = shows;
-  order = order;
-  names = names;
-  is = list_is;
-  picks = record { alike = λ _ _. refl; blind = λ _ _ _. refl; shown = λ _. refl; sorts = λ _ _ _. refl; typed = refl };
-}
-
-pub list_rows : (old new : State) (result : Result (Vec SaleRow Global) Fault)
-    → Selects sale_cells IsSaleRow (λ rows found. found.items ≡ rows) (λ found. All IsSaleRow found.items) list_text [] old new result → ListsColumns layout sale_cells IsSaleRow (λ b. b.sale) old new result
-list_rows old new = lists_columns layout sale_table is_table [] (has_key 0 []) list_text list_asks old new IsSaleRow (λ b. b.sale) (λ b. every_one sale_cells [] b.sale)

@@ -1,9 +1,10 @@
 -- The tables of a book, as the lists of their rows in the order of their keys (docs/FORMATS.md, Tables).
-use Rattle.std.specs.Prelude.{ℕ, List, [], ◌∷◌, map, codes}
+use Rattle.std.specs.Prelude.{ℕ, ◌+◌, List, [], ◌∷◌, map, take, codes}
 use Rattle.sqlite.specs.State.{State}
+use Rattle.sqlite.specs.Table.{Table}
 use Rattle.sqlite_schema.specs.declared.schema.Column.{Column}
 use Rattle.lot_table.specs.Book.{BookTable, Has as HasLists, Layout, Slot}
-use Rattle.lot_table.specs.Shape.{Shape, maybe_number, maybe_text, number, schema_of, table, text}
+use Rattle.lot_table.specs.Shape.{Shape, maybe_number, maybe_text, number, schema_of, table, text, trees_of}
 use Rattle.lot_rows.specs.Account.{account_cells}
 use Rattle.lot_rows.specs.Allowed.{allowed_cells}
 use Rattle.lot_rows.specs.Book.{book_cells}
@@ -102,38 +103,47 @@ table_names = map (λ s. s.name) shapes
 
 -- ---- the tables, each in its tree; its indexes are in the trees after it
 
+-- the first tree behind all of those that tables of these shapes take
+abbrev first_tree : List Shape → ℕ
+first_tree [] = 0
+first_tree (shape ∷ shapes) = trees_of shape + first_tree shapes
+
+-- the table that is made behind so many others
+abbrev made : ℕ → Shape → Table
+made place shape = table (first_tree (take place shapes)) shape
+
 abbrev pub book_table : BookTable Tables BookRow
-book_table = record { table = table 0 book_shape; encode = book_cells; width = 1; rows = λ b. b.book; with_rows = λ rows b. record b { book = rows } }
+book_table = record { table = made 0 book_shape; encode = book_cells; width = 1; rows = λ b. b.book; with_rows = λ rows b. record b { book = rows } }
 
 abbrev pub account_table : BookTable Tables AccountRow
-account_table = record { table = table 2 account_shape; encode = account_cells; width = 1; rows = λ b. b.account; with_rows = λ rows b. record b { account = rows } }
+account_table = record { table = made 1 account_shape; encode = account_cells; width = 1; rows = λ b. b.account; with_rows = λ rows b. record b { account = rows } }
 
 abbrev pub allowed_table : BookTable Tables AllowedRow
-allowed_table = record { table = table 4 allowed_shape; encode = allowed_cells; width = 2; rows = λ b. b.allowed; with_rows = λ rows b. record b { allowed = rows } }
+allowed_table = record { table = made 2 allowed_shape; encode = allowed_cells; width = 2; rows = λ b. b.allowed; with_rows = λ rows b. record b { allowed = rows } }
 
 abbrev pub commodity_table : BookTable Tables CommodityRow
-commodity_table = record { table = table 6 commodity_shape; encode = commodity_cells; width = 1; rows = λ b. b.commodity; with_rows = λ rows b. record b { commodity = rows } }
+commodity_table = record { table = made 3 commodity_shape; encode = commodity_cells; width = 1; rows = λ b. b.commodity; with_rows = λ rows b. record b { commodity = rows } }
 
 abbrev pub price_table : BookTable Tables PriceRow
-price_table = record { table = table 8 price_shape; encode = price_cells; width = 3; rows = λ b. b.price; with_rows = λ rows b. record b { price = rows } }
+price_table = record { table = made 4 price_shape; encode = price_cells; width = 3; rows = λ b. b.price; with_rows = λ rows b. record b { price = rows } }
 
 abbrev pub entry_table : BookTable Tables EntryRow
-entry_table = record { table = table 10 entry_shape; encode = entry_cells; width = 1; rows = λ b. b.entry; with_rows = λ rows b. record b { entry = rows } }
+entry_table = record { table = made 5 entry_shape; encode = entry_cells; width = 1; rows = λ b. b.entry; with_rows = λ rows b. record b { entry = rows } }
 
 abbrev pub leg_table : BookTable Tables LegRow
-leg_table = record { table = table 13 leg_shape; encode = leg_cells; width = 3; rows = λ b. b.leg; with_rows = λ rows b. record b { leg = rows } }
+leg_table = record { table = made 6 leg_shape; encode = leg_cells; width = 3; rows = λ b. b.leg; with_rows = λ rows b. record b { leg = rows } }
 
 abbrev pub sale_table : BookTable Tables SaleRow
-sale_table = record { table = table 15 sale_shape; encode = sale_cells; width = 2; rows = λ b. b.sale; with_rows = λ rows b. record b { sale = rows } }
+sale_table = record { table = made 7 sale_shape; encode = sale_cells; width = 2; rows = λ b. b.sale; with_rows = λ rows b. record b { sale = rows } }
 
 abbrev pub lot_table : BookTable Tables LotRow
-lot_table = record { table = table 17 lot_shape; encode = lot_cells; width = 6; rows = λ b. b.lot; with_rows = λ rows b. record b { lot = rows } }
+lot_table = record { table = made 8 lot_shape; encode = lot_cells; width = 6; rows = λ b. b.lot; with_rows = λ rows b. record b { lot = rows } }
 
 abbrev pub plain_table : BookTable Tables PlainRow
-plain_table = record { table = table 19 plain_shape; encode = plain_cells; width = 2; rows = λ b. b.plain; with_rows = λ rows b. record b { plain = rows } }
+plain_table = record { table = made 9 plain_shape; encode = plain_cells; width = 2; rows = λ b. b.plain; with_rows = λ rows b. record b { plain = rows } }
 
 abbrev pub head_table : BookTable Tables HeadRow
-head_table = record { table = table 21 head_shape; encode = head_cells; width = 2; rows = λ b. b.head; with_rows = λ rows b. record b { head = rows } }
+head_table = record { table = made 10 head_shape; encode = head_cells; width = 2; rows = λ b. b.head; with_rows = λ rows b. record b { head = rows } }
 
 -- ---- the layout
 

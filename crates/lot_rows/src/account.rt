@@ -1,7 +1,7 @@
 ghost use Rattle.std.specs.Prelude.{◌≡◌, ◌∷◌, [], IsTrue};
 ghost use Rattle.lot_rows.specs.Account.{IsAccountRow, account_cells};
 ghost use Rattle.lot_rows.specs.Tables.{layout, account_table};
-ghost use Rattle.lot_table.specs.Call.{Finds, Lists, Puts};
+ghost use Rattle.lot_table.specs.Call.{Finds, Puts};
 ghost use Rattle.lot_table.specs.Rows.{with_key};
 ghost use Rattle.sqlite.specs.Held.{state};
 ghost use Rattle.sqlite.specs.State.{HasCleanDisk};
@@ -9,12 +9,12 @@ ghost use Rattle.sqlite.specs.declared.types.Value.TheVariants.{Text};
 
 use lot_base::{Account, Day};
 use lot_cost::Method;
-use lot_table::{Cell, Fault, TableRow, change, column, find as find_row, select};
+use lot_table::{Cell, Fault, TableRow, change, column, find as find_row};
 use sqlite::{Alter, Connection, Row, Transaction};
 use std::alloc::Global;
 
 /// A row of the table `account`: an account, the days on which it was opened and closed, and its method.
-#[derive(Debug, PartialEq, Eq, Drop)]
+#[derive(Drop)]
 pub struct AccountRow {
     pub name: Account,
     pub opened: Day,
@@ -73,18 +73,5 @@ pub fn find<S: Alter>(
         conn,
         "SELECT name, opened, closed, method FROM account WHERE name = ?1 ORDER BY name",
         &[name.to_cell()],
-    )
-}
-
-/// Returns all rows, by name.
-pub fn list<S: Alter>(alloc: Global, conn: &mut Connection<S>) -> Result<Vec<AccountRow>, Fault>
-    ensures lists { Lists layout IsAccountRow (λ b. b.account)
-        (state S.Store conn.old) (state S.Store conn.new) result }
-{
-    select(
-        alloc,
-        conn,
-        "SELECT name, opened, closed, method FROM account ORDER BY name",
-        &[],
     )
 }

@@ -13,7 +13,7 @@ use sqlite::{Alter, Connection, Row, Transaction};
 use std::alloc::Global;
 
 /// A row of the table `allowed`: a currency of an opening, and its place there.
-#[derive(Debug, PartialEq, Eq, Drop)]
+#[derive(Drop)]
 pub struct AllowedRow {
     pub account: Account,
     /// From 0.
@@ -70,18 +70,5 @@ pub fn list_of<S: Alter>(
         conn,
         "SELECT account, place, commodity FROM allowed WHERE account = ?1 ORDER BY account, place",
         &[account.to_cell()],
-    )
-}
-
-/// Returns all rows, by account and place.
-pub fn list<S: Alter>(alloc: Global, conn: &mut Connection<S>) -> Result<Vec<AllowedRow>, Fault>
-    ensures lists { Lists layout IsAllowedRow (λ b. b.allowed)
-        (state S.Store conn.old) (state S.Store conn.new) result }
-{
-    select(
-        alloc,
-        conn,
-        "SELECT account, place, commodity FROM allowed ORDER BY account, place",
-        &[],
     )
 }

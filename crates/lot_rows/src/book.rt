@@ -1,17 +1,16 @@
-ghost use Rattle.std.specs.Prelude.{◌≡◌, IsTrue, map};
+ghost use Rattle.std.specs.Prelude.{◌≡◌, IsTrue};
 ghost use Rattle.lot_rows.specs.Book.{IsBookRow, book_cells};
 ghost use Rattle.lot_rows.specs.Tables.{layout, book_table};
-ghost use Rattle.lot_table.specs.Book.{always};
-ghost use Rattle.lot_table.specs.Call.{Answers, Puts};
+ghost use Rattle.lot_table.specs.Call.{Puts};
 ghost use Rattle.sqlite.specs.Held.{state};
 ghost use Rattle.sqlite.specs.State.{HasCleanDisk};
 
-use lot_table::{AnyText, Cell, Fault, TableRow, ask, change, column};
-use sqlite::{Alter, Connection, Row, Transaction};
+use lot_table::{AnyText, Cell, Fault, TableRow, change, column};
+use sqlite::{Alter, Row, Transaction};
 use std::alloc::Global;
 
 /// The row of the table `book`, by which a database is told to be a book.
-#[derive(Debug, Drop)]
+#[derive(Drop)]
 pub struct BookRow {
     pub mark: AnyText,
     pub edition: i64,
@@ -45,14 +44,4 @@ pub fn put<S: Alter>(tx: &mut Transaction<'_, S>, row: &BookRow) -> Result<(), F
         "INSERT OR REPLACE INTO book (mark, edition) VALUES (?1, ?2)",
         &[row.mark.to_cell(), row.edition.to_cell()],
     )
-}
-
-/// Returns the columns of all rows, as they are: `BookRow::read` tells whether a row is one of a text and a whole number.
-///
-/// The error is `Damaged` only where there is no such table with these columns.
-pub fn list<S: Alter>(conn: &mut Connection<S>) -> Result<Vec<Row>, Fault>
-    ensures answers { Answers layout (λ found b. found.items ≡ map book_cells b.book) always always
-        (state S.Store conn.old) (state S.Store conn.new) result }
-{
-    ask(conn, "SELECT mark, edition FROM book ORDER BY mark", &[])
 }

@@ -1,19 +1,19 @@
 ghost use Rattle.std.specs.Prelude.{◌≡◌, ◌∷◌, [], IsTrue};
 ghost use Rattle.lot_rows.specs.Commodity.{IsCommodityRow, commodity_cells};
 ghost use Rattle.lot_rows.specs.Tables.{layout, commodity_table};
-ghost use Rattle.lot_table.specs.Call.{Finds, Lists, Puts};
+ghost use Rattle.lot_table.specs.Call.{Finds, Puts};
 ghost use Rattle.lot_table.specs.Rows.{with_key};
 ghost use Rattle.sqlite.specs.Held.{state};
 ghost use Rattle.sqlite.specs.State.{HasCleanDisk};
 ghost use Rattle.sqlite.specs.declared.types.Value.TheVariants.{Text};
 
 use lot_base::{Commodity, Day};
-use lot_table::{Cell, Fault, TableRow, change, column, find as find_row, select};
+use lot_table::{Cell, Fault, TableRow, change, column, find as find_row};
 use sqlite::{Alter, Connection, Row, Transaction};
 use std::alloc::Global;
 
 /// A row of the table `commodity`: a commodity, and the day on which it was declared.
-#[derive(Debug, PartialEq, Eq, Drop)]
+#[derive(Drop)]
 pub struct CommodityRow {
     pub name: Commodity,
     pub day: Day,
@@ -63,18 +63,5 @@ pub fn find<S: Alter>(
         conn,
         "SELECT name, day FROM commodity WHERE name = ?1 ORDER BY name",
         &[name.to_cell()],
-    )
-}
-
-/// Returns all rows, by name.
-pub fn list<S: Alter>(alloc: Global, conn: &mut Connection<S>) -> Result<Vec<CommodityRow>, Fault>
-    ensures lists { Lists layout IsCommodityRow (λ b. b.commodity)
-        (state S.Store conn.old) (state S.Store conn.new) result }
-{
-    select(
-        alloc,
-        conn,
-        "SELECT name, day FROM commodity ORDER BY name",
-        &[],
     )
 }

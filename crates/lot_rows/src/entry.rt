@@ -2,20 +2,18 @@ ghost use Rattle.std.specs.Prelude.{◌≡◌, All, IsTrue, option_map};
 ghost use Rattle.lot_rows.specs.Entry.{IsEntryRow, IsNumberRow, IsUnnamed, entry_cells, greatest_number, named, number_cells};
 ghost use Rattle.lot_rows.specs.Tables.{layout, entry_table};
 ghost use Rattle.lot_table.specs.Book.{always};
-ghost use Rattle.lot_table.specs.Call.{Answers, Finds, Lists, PutsWhere};
+ghost use Rattle.lot_table.specs.Call.{Answers, Finds, PutsWhere};
 ghost use Rattle.sqlite.specs.Held.{state};
 ghost use Rattle.sqlite.specs.State.{HasCleanDisk};
 ghost use Rattle.lot_rows.specs.declared.entry.NumberRow.{NumberRow};
 
 use lot_base::Label;
-use lot_table::{
-    AnyText, Cell, Fault, Ordinal, TableRow, change, column, find as find_row, select,
-};
+use lot_table::{AnyText, Cell, Fault, Ordinal, TableRow, change, column, find as find_row};
 use sqlite::{Alter, Connection, Row, Transaction};
 use std::alloc::Global;
 
 /// A row of the table `entry`: an accepted command by its number and its key, with its canonical text.
-#[derive(Debug, Drop)]
+#[derive(Drop)]
 pub struct EntryRow {
     pub number: Ordinal,
     pub source: Label,
@@ -57,18 +55,6 @@ pub fn put<S: Alter>(tx: &mut Transaction<'_, S>, row: &EntryRow) -> Result<(), 
             row.name.to_cell(),
             row.body.to_cell(),
         ],
-    )
-}
-
-/// Returns all rows, by number.
-pub fn list<S: Alter>(alloc: Global, conn: &mut Connection<S>) -> Result<Vec<EntryRow>, Fault>
-    ensures lists { Lists layout IsEntryRow (λ b. b.entry) (state S.Store conn.old) (state S.Store conn.new) result }
-{
-    select(
-        alloc,
-        conn,
-        "SELECT number, source, name, body FROM entry ORDER BY number",
-        &[],
     )
 }
 

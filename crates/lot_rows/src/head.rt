@@ -1,19 +1,19 @@
 ghost use Rattle.std.specs.Prelude.{◌≡◌, ◌∷◌, [], IsTrue};
 ghost use Rattle.lot_rows.specs.Head.{IsHeadRow, head_cells};
 ghost use Rattle.lot_rows.specs.Tables.{layout, head_table};
-ghost use Rattle.lot_table.specs.Call.{Finds, Lists, Puts};
+ghost use Rattle.lot_table.specs.Call.{Finds, Puts};
 ghost use Rattle.lot_table.specs.Rows.{with_key};
 ghost use Rattle.sqlite.specs.Held.{state};
 ghost use Rattle.sqlite.specs.State.{HasCleanDisk};
 ghost use Rattle.sqlite.specs.declared.types.Value.TheVariants.{Text};
 
 use lot_base::{Account, Commodity, Day};
-use lot_table::{Cell, Fault, TableRow, change, column, find as find_row, select};
+use lot_table::{Cell, Fault, TableRow, change, column, find as find_row};
 use sqlite::{Alter, Connection, Row, Transaction};
 use std::alloc::Global;
 
 /// A row of the table `head`: the latest day of a transaction that posted with braces to an account and a commodity.
-#[derive(Debug, PartialEq, Eq, Drop)]
+#[derive(Drop)]
 pub struct HeadRow {
     pub account: Account,
     pub commodity: Commodity,
@@ -70,17 +70,5 @@ pub fn find<S: Alter>(
         conn,
         "SELECT account, commodity, day FROM head WHERE account = ?1 AND commodity = ?2 ORDER BY account, commodity",
         &[account.to_cell(), commodity.to_cell()],
-    )
-}
-
-/// Returns all rows, by account and commodity.
-pub fn list<S: Alter>(alloc: Global, conn: &mut Connection<S>) -> Result<Vec<HeadRow>, Fault>
-    ensures lists { Lists layout IsHeadRow (λ b. b.head) (state S.Store conn.old) (state S.Store conn.new) result }
-{
-    select(
-        alloc,
-        conn,
-        "SELECT account, commodity, day FROM head ORDER BY account, commodity",
-        &[],
     )
 }

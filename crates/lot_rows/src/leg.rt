@@ -16,7 +16,7 @@ use sqlite::{Alter, Connection, Row, Transaction};
 use std::alloc::Global;
 
 /// A row of the table `leg`: units that a posting of an entry put into a position or, below zero, took out of it.
-#[derive(Debug, PartialEq, Eq, Drop)]
+#[derive(Drop)]
 pub struct LegRow {
     pub entry: Ordinal,
     pub posting: Ordinal,
@@ -90,18 +90,5 @@ pub fn list_of<S: Alter>(
         conn,
         "SELECT entry, posting, place, account, commodity, units, cost_number, cost_currency, cost_day, cost_label FROM leg WHERE entry = ?1 AND posting = ?2 ORDER BY entry, posting, place",
         &[entry.to_cell(), posting.to_cell()],
-    )
-}
-
-/// Returns all rows, by entry, posting and place.
-pub fn list<S: Alter>(alloc: Global, conn: &mut Connection<S>) -> Result<Vec<LegRow>, Fault>
-    ensures lists { ListsColumns layout leg_cells IsLegRow (λ b. b.leg)
-        (state S.Store conn.old) (state S.Store conn.new) result }
-{
-    select(
-        alloc,
-        conn,
-        "SELECT entry, posting, place, account, commodity, units, cost_number, cost_currency, cost_day, cost_label FROM leg ORDER BY entry, posting, place",
-        &[],
     )
 }

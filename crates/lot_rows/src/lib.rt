@@ -2,7 +2,7 @@
 //!
 //! - `tables`: `make` makes all of them.
 //! - `book`, `account`, `allowed`, `commodity`, `price`, `entry`, `leg`, `sale`, `lot`, `plain`, `head`: one table each, with
-//!   its row type, `put`, and what else it needs of `delete`, `find`, `list_of` and `list`.
+//!   its row type, `put`, and what a book needs of `delete`, `find`, `greatest`, `list_of` and `list`.
 #![tactic(auto)]
 
 pub mod account;

@@ -15,7 +15,7 @@ use sqlite::{Alter, Connection, Row, Transaction};
 use std::alloc::Global;
 
 /// A row of the table `lot`: the units that an account has in a lot.
-#[derive(Debug, PartialEq, Eq, Drop)]
+#[derive(Drop)]
 pub struct LotRow {
     pub account: Account,
     pub commodity: Commodity,
@@ -109,18 +109,5 @@ pub fn list_of<S: Alter>(
         conn,
         "SELECT account, commodity, cost_day, cost_currency, cost_number, cost_label, units FROM lot WHERE account = ?1 AND commodity = ?2 ORDER BY account, commodity, cost_day, cost_currency, cost_number, cost_label",
         &[account.to_cell(), commodity.to_cell()],
-    )
-}
-
-/// Returns all rows, by account, commodity and lot.
-pub fn list<S: Alter>(alloc: Global, conn: &mut Connection<S>) -> Result<Vec<LotRow>, Fault>
-    ensures lists { ListsColumns layout lot_cells IsLotRow (λ b. b.lot)
-        (state S.Store conn.old) (state S.Store conn.new) result }
-{
-    select(
-        alloc,
-        conn,
-        "SELECT account, commodity, cost_day, cost_currency, cost_number, cost_label, units FROM lot ORDER BY account, commodity, cost_day, cost_currency, cost_number, cost_label",
-        &[],
     )
 }

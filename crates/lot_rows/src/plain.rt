@@ -13,7 +13,7 @@ use sqlite::{Alter, Connection, Row, Transaction};
 use std::alloc::Global;
 
 /// A row of the table `plain`: the units of a commodity that an account has without a cost.
-#[derive(Debug, PartialEq, Eq, Drop)]
+#[derive(Drop)]
 pub struct PlainRow {
     pub account: Account,
     pub commodity: Commodity,

@@ -1,18 +1,18 @@
 ghost use Rattle.std.specs.Prelude.{◌≡◌, IsTrue};
 ghost use Rattle.lot_rows.specs.Price.{IsPriceRow, price_cells};
 ghost use Rattle.lot_rows.specs.Tables.{layout, price_table};
-ghost use Rattle.lot_table.specs.Call.{Lists, Puts};
+ghost use Rattle.lot_table.specs.Call.{Puts};
 ghost use Rattle.sqlite.specs.Held.{state};
 ghost use Rattle.sqlite.specs.State.{HasCleanDisk};
 
 use lot_base::{Commodity, Day};
 use lot_num::Rate;
-use lot_table::{Cell, Fault, TableRow, change, column, select};
-use sqlite::{Alter, Connection, Row, Transaction};
+use lot_table::{Cell, Fault, TableRow, change, column};
+use sqlite::{Alter, Row, Transaction};
 use std::alloc::Global;
 
 /// A row of the table `price`: the last accepted price of a pair and a day.
-#[derive(Debug, PartialEq, Eq, Drop)]
+#[derive(Drop)]
 pub struct PriceRow {
     pub base: Commodity,
     pub quote: Commodity,
@@ -54,17 +54,5 @@ pub fn put<S: Alter>(tx: &mut Transaction<'_, S>, row: &PriceRow) -> Result<(), 
             row.day.to_cell(),
             row.rate.to_cell(),
         ],
-    )
-}
-
-/// Returns all rows, by base, quote and day.
-pub fn list<S: Alter>(alloc: Global, conn: &mut Connection<S>) -> Result<Vec<PriceRow>, Fault>
-    ensures lists { Lists layout IsPriceRow (λ b. b.price) (state S.Store conn.old) (state S.Store conn.new) result }
-{
-    select(
-        alloc,
-        conn,
-        "SELECT base, quote, day, rate FROM price ORDER BY base, quote, day",
-        &[],
     )
 }

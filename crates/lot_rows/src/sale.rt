@@ -1,15 +1,15 @@
 ghost use Rattle.std.specs.Prelude.{◌≡◌, IsTrue};
 ghost use Rattle.lot_rows.specs.Sale.{IsSaleRow, sale_cells};
 ghost use Rattle.lot_rows.specs.Tables.{layout, sale_table};
-ghost use Rattle.lot_table.specs.Call.{ListsColumns, Puts};
+ghost use Rattle.lot_table.specs.Call.{Puts};
 ghost use Rattle.sqlite.specs.Held.{state};
 ghost use Rattle.sqlite.specs.State.{HasCleanDisk};
 
 use crate::sale_price;
 use lot_base::{Account, Commodity, Day};
 use lot_command::Price;
-use lot_table::{Cell, Fault, Ordinal, Sum, TableRow, change, column, select};
-use sqlite::{Alter, Connection, Row, Transaction};
+use lot_table::{Cell, Fault, Ordinal, Sum, TableRow, change, column};
+use sqlite::{Alter, Row, Transaction};
 use std::alloc::Global;
 
 /// A row of the table `sale`: a posting that took lots away, with its price, where it has one.
@@ -66,18 +66,5 @@ pub fn put<S: Alter>(tx: &mut Transaction<'_, S>, row: &SaleRow) -> Result<(), F
             sale_price::amount_cell(&row.price),
             sale_price::currency_cell(&row.price),
         ],
-    )
-}
-
-/// Returns all rows, by entry and posting.
-pub fn list<S: Alter>(alloc: Global, conn: &mut Connection<S>) -> Result<Vec<SaleRow>, Fault>
-    ensures lists { ListsColumns layout sale_cells IsSaleRow (λ b. b.sale)
-        (state S.Store conn.old) (state S.Store conn.new) result }
-{
-    select(
-        alloc,
-        conn,
-        "SELECT entry, posting, day, account, commodity, units, kind, amount, currency FROM sale ORDER BY entry, posting",
-        &[],
     )
 }

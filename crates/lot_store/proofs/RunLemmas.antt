@@ -1,6 +1,7 @@
 -- A run of commands, one after another.
-use Rattle.std.proofs.Common.{◌≡◌, ◌≢◌, ◌∙◌, inl, inr, ◌<◌, ◌≤◌, ◌+◌, ℕ, IfSome, IsTrue, List, [], ◌∷◌, ◌++◌, Ok, Err, Option, Result, Some, length, take, drop, get_or, add-one, append_assoc, append-nil, length-append, take-append-drop, refl, sym, ap, subst, arith}
+use Rattle.std.proofs.Common.{◌≡◌, ◌≢◌, ◌∙◌, ◌⊎◌, inl, inr, false, ◌<◌, ◌≤◌, ◌+◌, ℕ, IfSome, IsTrue, List, [], ◌∷◌, ◌++◌, Ok, Err, Option, Result, Some, length, take, drop, get_or, add-one, append_assoc, append-nil, length-append, take-append-drop, refl, sym, ap, subst, arith}
 use Rattle.std.proofs.KnownBytes.{Appends-nil, Appends-trans}
+use Rattle.std.proofs.lemmas.Bool.{true≢false}
 use Rattle.std.proofs.Math.Seq.{take-suc}
 use Rattle.std.specs.Io.KnownBytes.{Appends}
 use Rattle.sqlite.proofs.StateLemmas.{survives_then}
@@ -13,6 +14,7 @@ use Rattle.lot_book.specs.Facts.{Entry}
 use Rattle.lot_book.specs.Judged.{JudgesAll, JudgesOn}
 use Rattle.lot_book.specs.declared.verdict.Verdict.{Verdict}
 use Rattle.lot_book.specs.declared.verdict.Verdict.TheVariants.{Accepted, Refused, Repeated}
+use Rattle.lot_laws.proofs.JudgedLaws.{judges_more}
 use Rattle.lot_stored.specs.StandFor.{Left, Stands}
 use Rattle.lot_report.proofs.ReplyLemmas.{replies_more}
 use Rattle.lot_report.specs.Printed.{replies, reply}
@@ -21,9 +23,10 @@ use Rattle.lot_report.specs.declared.line.PrintFault.{PrintFault}
 use Rattle.lot_report.specs.declared.line.PrintFault.TheVariants.{Write, Memory as Unwritten}
 use Rattle.lot_rows.specs.Tables.{layout}
 use Rattle.lot_table.specs.Book.{Holds}
-use Rattle.lot_store.specs.Apply.{AppliesWith, MayAdd, StandsWith, condition_after, ready_of, verdict_of}
-use Rattle.lot_store.specs.Run.{AppendsSome, EndsBehind, FlushesLine, LeavesAfter, LeavesAtAnswer, LeavesAtFault, LeavesAtVerdict, RepliesTo, RunsSession, RunsBook, StopsWith, WritesEnd, WritesOut, answer_line, count_refused, fault_line, told}
-use Rattle.lot_store.specs.Session.{LeavesEntry, LeavesFirst, LeavesJudged, LeavesNext, Session}
+use Rattle.lot_table.specs.Statement.{DiskFailed}
+use Rattle.lot_store.specs.Apply.{AppliesWith, FailsFor, MayAdd, StandsWith, condition_after, ready_of, verdict_of}
+use Rattle.lot_store.specs.Run.{AppendsSome, EndsBehind, FlushesLine, HasNoRoomForNext, IsConditionAfter, LeavesAfter, LeavesAtAnswer, LeavesAtFault, LeavesAtVerdict, RepliesTo, RunsSession, RunsBook, StopsWith, Writes, WritesEnd, WritesOut, answer_line, count_refused, fault_line, told}
+use Rattle.lot_store.specs.Session.{LeavesEntry, LeavesFirst, LeavesJudged, LeavesNext, LeavesStopped, Session}
 use Rattle.lot_store.specs.declared.book.Ack.{Ack}
 use Rattle.lot_store.specs.declared.book.Ack.TheVariants as ack
 use Rattle.lot_store.specs.declared.book.Condition.{Condition}
@@ -34,6 +37,7 @@ use Rattle.lot_store.specs.declared.fault.StoreFault.{StoreFault}
 use Rattle.lot_store.specs.declared.fault.StoreFault.TheVariants.{Damaged, Device, InDoubt, Memory, NeedsReopen}
 use Rattle.lot_store.specs.declared.run.Ending.{Ending}
 use Rattle.lot_store.specs.declared.run.Ending.TheVariants.{Complete, Output, Stopped}
+use Rattle.lot_store.specs.declared.run.RunEnd.{RunEnd}
 use Rattle.lot_store.proofs.ApplyLemmas.{stands_along}
 use Rattle.lot_rows.proofs.StateLemmas.{survives_same}
 
@@ -64,19 +68,20 @@ told_usable : (answer : Result Ack ApplyFault) (verdict : Verdict) → told answ
 told_usable answer verdict is spent = let none : Err NeedsReopen ≡ Ok verdict = sym (ap told spent) ∙ is in absurd cc
 
 module _ (Kept KeptThen : List Entry → Type 0) (key : Key) (command : Command) (number : ℕ) (old new : State) (before written : Option (List ℕ)) (condition : Condition)
-    (answer : Result Ack ApplyFault) (applies : AppliesWith Kept KeptThen key command old new answer) (after : condition ≡ condition_after answer) (ending : Ending) where
+    (answer : Result Ack ApplyFault) (applies : AppliesWith Kept KeptThen key command old new answer) (fails : FailsFor Kept key command old new answer)
+    (after : condition ≡ condition_after answer) (ending : Ending) where
   -- the reply isn't written out
   pub reply_cut : (verdict : Verdict) → told answer ≡ Ok verdict → WritesOut before written (reply number verdict) (Err ending)
       → RepliesTo Kept KeptThen key command number old new before written condition (Err ending)
   reply_cut verdict is (cut, part) =
-      (answer, applies, told_usable answer verdict is, after, inr (cut, subst (AppendsSome before written) (sym (told_line number answer verdict is)) part))
+      (answer, applies, fails, told_usable answer verdict is, after, inr (cut, subst (AppendsSome before written) (sym (told_line number answer verdict is)) part))
 
   -- it stops at a fault
   pub reply_stops : (fault : StoreFault) → told answer ≡ Err fault → (answer ≢ Err (apply.Failed NeedsReopen)) → StopsWith number fault before written ending
       → RepliesTo Kept KeptThen key command number old new before written condition (Err ending)
-  reply_stops fault is usable (inl (stopped, printed)) = (answer, applies, usable, after, inl (fault, told_fault answer fault is, stopped, printed))
+  reply_stops fault is usable (inl (stopped, printed)) = (answer, applies, fails, usable, after, inl (fault, told_fault answer fault is, stopped, printed))
   reply_stops fault is usable (inr (cut, part)) =
-      (answer, applies, usable, after, inr (cut, subst (λ (a : Result Ack ApplyFault). AppendsSome before written (answer_line number a)) (sym (told_fault answer fault is)) part))
+      (answer, applies, fails, usable, after, inr (cut, subst (λ (a : Result Ack ApplyFault). AppendsSome before written (answer_line number a)) (sym (told_fault answer fault is)) part))
 
 pub ready_fault : (condition : Condition) (fault : StoreFault) → ready_of condition ≡ Err fault → fault ≡ NeedsReopen
 ready_fault Ready fault is = absurd cc
@@ -93,21 +98,14 @@ ready_ok MustReopen is = absurd cc
 -- a book that could be used doesn't stop since it needs reopening
 pub reply_usable : (Kept KeptThen : List Entry → Type 0) (key : Key) (command : Command) (number : ℕ) (old new : State) (before written : Option (List ℕ)) (condition : Condition) (ending : Ending)
     → RepliesTo Kept KeptThen key command number old new before written condition (Err ending) → ending ≢ Stopped NeedsReopen
-reply_usable Kept KeptThen key command number old new before written condition ending (answer, applies, usable, after, inl (fault, same, stopped, printed)) is =
+reply_usable Kept KeptThen key command number old new before written condition ending (answer, applies, fails, usable, after, inl (fault, same, stopped, printed)) is =
     let both : Stopped fault ≡ Stopped NeedsReopen = sym stopped ∙ is in
     let equal : fault ≡ NeedsReopen = cc in
     usable (same ∙ ap (λ (f : StoreFault). Err (apply.Failed f)) equal)
-reply_usable Kept KeptThen key command number old new before written condition ending (answer, applies, usable, after, inr (cut, part)) is =
+reply_usable Kept KeptThen key command number old new before written condition ending (answer, applies, fails, usable, after, inr (cut, part)) is =
     let both : Output ≡ Stopped NeedsReopen = sym cut ∙ is in absurd cc
 
 -- ---- one command more
-
-pub judges_more : (before : List Entry) (done : List (Key × Command)) (verdicts : List Verdict) (mid after : List Entry) (next : Key × Command) (verdict : Verdict)
-    → JudgesAll before done verdicts mid → JudgesOn mid next.0 next.1 verdict after → JudgesAll before (done ++ next ∷ []) (verdicts ++ verdict ∷ []) after
-judges_more before [] [] mid after next verdict all one = (after, subst (λ (b : List Entry). JudgesOn b next.0 next.1 verdict after) all one, refl)
-judges_more before [] (v ∷ verdicts) mid after next verdict all one = absurd all
-judges_more before (c ∷ done) [] mid after next verdict all one = absurd all
-judges_more before (c ∷ done) (v ∷ verdicts) mid after next verdict all one = (all.0, all.1, judges_more all.0 done verdicts mid after next verdict all.2 one)
 
 refused_more : (verdicts : List Verdict) (verdict : Verdict) → count_refused (verdicts ++ verdict ∷ []) ≡ count_refused verdicts + count_refused (verdict ∷ [])
 refused_more [] verdict = omega arith
@@ -131,6 +129,8 @@ pub record SoFar (Kept : List Entry → Type 0) (commands : List (Key × Command
   pub lines : Appends before written (replies from verdicts)
   pub judged : HasCleanDisk now → (entries : List Entry) → Stands old entries
       → (book : List Entry) × JudgesAll entries (take index commands) verdicts book × StandsWith Kept now book × ((trees : Trees) → now.may_leave trees → LeavesJudged old.may_leave verdicts book trees)
+  -- only a database that was shut before is shut now
+  pub shut : HasCleanDisk now → now.is_open ≡ false → old.is_open ≡ false
   pub crash : Survives old now (λ trees. (entries : List Entry) → Stands old entries → LeavesFirst entries commands trees)
 
 -- what is kept before the first is of any book
@@ -141,7 +141,8 @@ so_far_none Kept all commands from old before = record {
   counted = refl;
   refusals = refl;
   lines = Appends-nil _;
-  judged = λ clean entries stands. (entries, refl, (stands, all entries), λ trees may. inr (tt, may));
+  judged = λ clean entries stands. (entries, refl, (stands, all entries), λ trees may. inr (refl, may));
+  shut = λ clean is. is;
   crash = survives_same old _;
 }
 
@@ -159,6 +160,98 @@ left_of s book trees stands settled is = record {
   tables = stands.tables;
   holds = subst (λ t. Holds layout t stands.tables) (sym (is ∙ ap (λ (db : Database). db.trees) settled)) stands.has.1;
   stand = stands.stand;
+}
+
+-- an open database may leave what stands in it alone
+abbrev pub LeavesWhatStands : State → Type 0
+LeavesWhatStands s = HasCleanDisk s → IsTrue s.is_open → (entries : List Entry) → Stands s entries → (trees : Trees) → s.may_leave trees → Left trees entries
+
+pub leaves_what_stands : (s : State) → (HasCleanDisk s → IsTrue s.is_open → s.now ≡ s.committed) → (IsTrue s.is_open → (trees : Trees) → s.may_leave trees → trees ≡ s.committed.trees)
+    → LeavesWhatStands s
+leaves_what_stands s settled safe clean opened entries stands trees may = left_of s entries trees stands (sym (settled clean opened)) (safe opened trees may)
+
+-- ---- what a stop leaves
+
+module _ (entries : List Entry) (commands : List (Key × Command)) (verdicts : List Verdict) (book : List Entry) where
+  -- one command more was judged
+  session_more : (next : Key × Command) (left : List (Key × Command)) (verdict : Verdict) (after : List Entry) → Session entries commands verdicts book (next ∷ left)
+      → JudgesOn book next.0 next.1 verdict after → Session entries commands (verdicts ++ verdict ∷ []) after left
+  session_more next left verdict after on judges = record {
+    done = on.done ++ next ∷ [];
+    split = on.split ∙ sym (append_assoc on.done (next ∷ []) left);
+    judged = judges_more entries on.done verdicts book after next verdict on.judged judges;
+  }
+
+  module _ (old new : State) (could : (trees : Trees) → old.may_leave trees → Left trees entries) where
+    judged_stops : (left : List (Key × Command)) → Session entries commands verdicts book left → (trees : Trees) → LeavesJudged old.may_leave verdicts book trees
+        → LeavesStopped entries commands verdicts trees
+    judged_stops left on trees (inl there) = (book, inl (left, on), there)
+    judged_stops left on trees (inr (none, may)) = (
+      entries,
+      inl (commands, record { done = []; split = refl; judged = subst (λ (vs : List Verdict). JudgesAll entries [] vs entries) (sym none) refl }),
+      could trees may,
+    )
+
+    next_stops : (left : List (Key × Command)) → Session entries commands verdicts book left → (trees : Trees) → LeavesNext old.may_leave verdicts book left trees
+        → LeavesStopped entries commands verdicts trees
+    next_stops [] on trees leaves = judged_stops [] on trees leaves
+    next_stops (next ∷ left) on trees (inl leaves) = judged_stops (next ∷ left) on trees leaves
+    next_stops (next ∷ left) on trees (inr (after, judges, there)) = (after, inr (left, session_more next left Accepted after on judges), there)
+
+    fault_stops : (fault : StoreFault) (left : List (Key × Command)) → Session entries commands verdicts book left → LeavesAtFault fault verdicts book left old new
+        → (trees : Trees) → new.may_leave trees → LeavesStopped entries commands verdicts trees
+    fault_stops Device left on (stands, leaves, cause) trees may = judged_stops left on trees (leaves trees may)
+    fault_stops NeedsReopen left on (none, stands, leaves) trees may = judged_stops left on trees (leaves trees may)
+    fault_stops Damaged left on none trees may = absurd none
+    fault_stops InDoubt left on (stands, leaves, cause) trees may = next_stops left on trees (leaves trees may)
+    fault_stops Memory left on (stands, leaves) trees may = next_stops left on trees (leaves trees may)
+
+    -- a command that isn't accepted leaves the book
+    verdict_stops : (verdict : Verdict) (left : List (Key × Command)) → Session entries commands verdicts book left → LeavesAtVerdict verdict verdicts book left old new
+        → (trees : Trees) → new.may_leave trees → LeavesStopped entries commands verdicts trees
+    verdict_stops verdict [] on none trees may = absurd none
+    verdict_stops verdict (next ∷ left) on (after, judges, stands, leaves) trees may = elim (leaves trees may) [
+      | inl there ↦ stopped verdict judges there
+      | inr (none, was) ↦ absurd (some verdicts none)
+    ]
+      where
+        some : (vs : List Verdict) → vs ++ verdict ∷ [] ≢ []
+        some [] none = absurd cc
+        some (v ∷ vs) none = absurd cc
+
+        stopped : (v : Verdict) → JudgesOn book next.0 next.1 v after → Left trees after → LeavesStopped entries commands verdicts trees
+        stopped Accepted one there = (after, inr (left, session_more next left Accepted after on one), there)
+        stopped Repeated one there = (book, inl (next ∷ left, on), subst (Left trees) one.1 there)
+        stopped (Refused refusal) one there = (book, inl (next ∷ left, on), subst (Left trees) one.1 there)
+
+    answer_stops : (answer : Result Ack ApplyFault) (left : List (Key × Command)) → Session entries commands verdicts book left → LeavesAtAnswer answer verdicts book left old new
+        → (trees : Trees) → new.may_leave trees → LeavesStopped entries commands verdicts trees
+    answer_stops (Ok ack.Accepted) left on = verdict_stops Accepted left on
+    answer_stops (Ok ack.Repeat) left on = verdict_stops Repeated left on
+    answer_stops (Err (apply.Refused refusal)) left on = verdict_stops (Refused refusal) left on
+    answer_stops (Err (apply.Failed fault)) left on = fault_stops fault left on
+
+    stops : (answer : Result Ack ApplyFault) (ending : Ending) (left : List (Key × Command)) → Session entries commands verdicts book left
+        → LeavesAfter verdicts book left old new answer ending → (trees : Trees) → new.may_leave trees → LeavesStopped entries commands verdicts trees
+    stops answer Complete left on (all, stands, leaves) trees may = judged_stops left on trees (leaves trees may)
+    stops answer (Stopped fault) left on leaves trees may = fault_stops fault left on leaves trees may
+    stops answer Output left on leaves trees may = answer_stops answer left on leaves trees may
+
+-- a run of a session, from what it wrote and what it left
+run_of : (commands : List (Key × Command)) (from : ℕ) (old new : State) (before written : Option (List ℕ)) (answer : Result Ack ApplyFault) (end : RunEnd) (verdicts : List Verdict)
+    → LeavesWhatStands old → Writes from verdicts answer end before written → EndsBehind (length commands) (length verdicts) answer end.ending
+    → (HasCleanDisk new → (entries : List Entry) → Stands old entries
+    → (book : List Entry) × (left : List (Key × Command)) × Session entries commands verdicts book left × LeavesAfter verdicts book left old new answer end.ending)
+    → Survives old new (λ trees. (entries : List Entry) → Stands old entries → LeavesFirst entries commands trees) → RunsSession commands from old new before written answer end
+run_of commands from old new before written answer end verdicts stands_so writes place session crash = record {
+  verdicts = verdicts;
+  writes = writes;
+  place = place;
+  session = session;
+  stop = λ clean opened entries stands.
+      let on = session clean entries stands in
+      stops entries commands verdicts on.0 old new (stands_so (omega (arith, clean, crash.clean)) opened entries stands) answer end.ending on.1 on.2 on.3;
+  crash = crash;
 }
 
 -- what a command may add is the book with its entry
@@ -219,7 +312,7 @@ module _ (Kept KeptThen : List Entry → Type 0) (commands : List (Key × Comman
   pub so_far_next : (verdict : Verdict) (condition : Condition) → RepliesTo Kept KeptThen next.0 next.1 number now new mid written condition (Ok verdict)
       → (IsTrue new.is_open → (trees : Trees) → new.may_leave trees → trees ≡ new.committed.trees)
       → SoFar KeptThen commands from (index + 1) (refused + count_refused (verdict ∷ [])) old new before written
-  so_far_next verdict condition (answer, applies, is, printed) safe = record {
+  so_far_next verdict condition (answer, applies, is_told, printed) safe = record {
     verdicts = so.verdicts ++ verdict ∷ [];
     counted = ap (λ n. n + 1) so.counted ∙ sym (length-append so.verdicts (verdict ∷ []));
     refusals = ap (λ n. n + count_refused (verdict ∷ [])) so.refusals ∙ sym (refused_more so.verdicts verdict);
@@ -227,12 +320,15 @@ module _ (Kept KeptThen : List Entry → Type 0) (commands : List (Key × Comman
         (Appends-trans before mid written _ _ so.lines printed);
     judged = λ clean entries stands.
         let was = so.judged (omega (arith, clean, applies.crash.clean)) entries stands in
-        let one = judges_next answer verdict is applies safe clean was.0 was.2 in (
+        let one = judges_next answer verdict is_told applies safe clean was.0 was.2 in (
           one.0,
           subst (λ done. JudgesAll entries done (so.verdicts ++ verdict ∷ []) one.0) (sym taken) (judges_more entries (take index commands) so.verdicts was.0 one.0 next verdict was.1 one.1),
           one.2,
           λ trees may. inl (one.3 trees may),
         );
+    shut = λ clean is.
+        let set = subst (λ o. IfSome o (λ v. IsTrue new.is_open × (new.committed ≡ new.now))) (verdict_told answer verdict is_told) (applies.settled clean) in
+        absurd (true≢false (sym set.0 ∙ is));
     crash = first answer applies;
   }
 
@@ -256,24 +352,40 @@ module _ (Kept KeptThen : List Entry → Type 0) (commands : List (Key × Comman
     | inr add ↦ inr (adds (StandsWith Kept now) next.0 next.1 answer trees book there add)
   ]
 
+  -- the disk failed during the run, or the database was shut before it
+  failed_since : (answer : Result Ack ApplyFault) → AppliesWith Kept KeptThen next.0 next.1 now new answer → HasCleanDisk new → DiskFailed now new → DiskFailed old new
+  failed_since answer applies clean (inl more) = inl (omega (arith, so.crash.counts, more))
+  failed_since answer applies clean (inr closed) = inr (so.shut (omega (arith, clean, applies.crash.clean)) closed)
+
+  -- the disk failed, or there is no room for the command
+  refused_for : (book : List Entry) → StandsWith Kept now book → AppliesWith Kept KeptThen next.0 next.1 now new (Err (apply.Failed Device))
+      → FailsFor Kept next.0 next.1 now new (Err (apply.Failed Device)) → HasCleanDisk new → DiskFailed old new ⊎ HasNoRoomForNext book (next ∷ drop (index + 1) commands) new
+  refused_for book there applies fails clean = elim (fails.device clean refl book there.0 there.1) [
+    | inl failed ↦ inl (failed_since (Err (apply.Failed Device)) applies clean failed)
+    | inr room ↦ inr (there.0.tables, there.0.stand, room)
+  ]
+
   -- what stands after a fault of the command
-  at_fault : (fault : StoreFault) → AppliesWith Kept KeptThen next.0 next.1 now new (Err (apply.Failed fault)) → fault ≢ NeedsReopen → HasCleanDisk new
+  at_fault : (fault : StoreFault) → AppliesWith Kept KeptThen next.0 next.1 now new (Err (apply.Failed fault))
+      → FailsFor Kept next.0 next.1 now new (Err (apply.Failed fault)) → fault ≢ NeedsReopen → HasCleanDisk new
       → (book : List Entry) → StandsWith Kept now book → ((trees : Trees) → now.may_leave trees → LeavesJudged old.may_leave so.verdicts book trees)
       → LeavesAtFault fault so.verdicts book (next ∷ drop (index + 1) commands) old new
-  at_fault Device applies usable clean book there was = (
+  at_fault Device applies fails usable clean book there was = (
     λ opened. stands_along now new book ((applies.rest clean).1 opened) there.0,
     kept_only (Err (apply.Failed Device)) applies (λ trees none. none) clean old.may_leave book was,
+    refused_for book there applies fails clean,
   )
-  at_fault InDoubt applies usable clean book there was = (
+  at_fault InDoubt applies fails usable clean book there was = (
     λ opened. stands_along now new book ((applies.rest clean).1 opened) there.0,
     leaves_next (Err (apply.Failed InDoubt)) applies clean old.may_leave book there was,
+    failed_since (Err (apply.Failed InDoubt)) applies clean (fails.in_doubt clean refl),
   )
-  at_fault Memory applies usable clean book there was = (
+  at_fault Memory applies fails usable clean book there was = (
     λ opened. stands_along now new book ((applies.rest clean).1 opened) there.0,
     leaves_next (Err (apply.Failed Memory)) applies clean old.may_leave book there was,
   )
-  at_fault NeedsReopen applies usable clean book there was = absurd (usable refl)
-  at_fault Damaged applies usable clean book there was = applies.damaged clean refl book there
+  at_fault NeedsReopen applies fails usable clean book there was = absurd (usable refl)
+  at_fault Damaged applies fails usable clean book there was = applies.damaged clean refl book there
 
   -- what stands after a verdict on it, whose reply isn't written out
   at_verdict : (answer : Result Ack ApplyFault) (verdict : Verdict) → told answer ≡ Ok verdict → AppliesWith Kept KeptThen next.0 next.1 now new answer
@@ -282,51 +394,48 @@ module _ (Kept KeptThen : List Entry → Type 0) (commands : List (Key × Comman
   at_verdict answer verdict is applies safe clean book there =
       let one = judges_next answer verdict is applies safe clean book there in (one.0, one.1, one.2.0, λ trees may. inl (one.3 trees may))
 
-  at_answer : (answer : Result Ack ApplyFault) → AppliesWith Kept KeptThen next.0 next.1 now new answer → answer ≢ Err (apply.Failed NeedsReopen)
+  at_answer : (answer : Result Ack ApplyFault) → AppliesWith Kept KeptThen next.0 next.1 now new answer → FailsFor Kept next.0 next.1 now new answer → answer ≢ Err (apply.Failed NeedsReopen)
       → (IsTrue new.is_open → (trees : Trees) → new.may_leave trees → trees ≡ new.committed.trees) → HasCleanDisk new → (book : List Entry) → StandsWith Kept now book
       → ((trees : Trees) → now.may_leave trees → LeavesJudged old.may_leave so.verdicts book trees)
       → LeavesAtAnswer answer so.verdicts book (next ∷ drop (index + 1) commands) old new
-  at_answer (Ok ack.Accepted) applies usable safe clean book there was = at_verdict (Ok ack.Accepted) Accepted refl applies safe clean book there
-  at_answer (Ok ack.Repeat) applies usable safe clean book there was = at_verdict (Ok ack.Repeat) Repeated refl applies safe clean book there
-  at_answer (Err (apply.Refused refusal)) applies usable safe clean book there was =
+  at_answer (Ok ack.Accepted) applies fails usable safe clean book there was = at_verdict (Ok ack.Accepted) Accepted refl applies safe clean book there
+  at_answer (Ok ack.Repeat) applies fails usable safe clean book there was = at_verdict (Ok ack.Repeat) Repeated refl applies safe clean book there
+  at_answer (Err (apply.Refused refusal)) applies fails usable safe clean book there was =
       at_verdict (Err (apply.Refused refusal)) (Refused refusal) refl applies safe clean book there
-  at_answer (Err (apply.Failed fault)) applies usable safe clean book there was = at_fault fault applies (λ spent. usable (ap (λ (f : StoreFault). Err (apply.Failed f)) spent)) clean book there was
+  at_answer (Err (apply.Failed fault)) applies fails usable safe clean book there was = at_fault fault applies fails (λ spent. usable (ap (λ (f : StoreFault). Err (apply.Failed f)) spent)) clean book there was
 
   here : length so.verdicts < length commands
   here = omega (arith, within, so.counted)
 
   -- what was written up to the end, and what stands then
-  ends_so : (answer : Result Ack ApplyFault) (ending : Ending) → AppliesWith Kept KeptThen next.0 next.1 now new answer → WritesEnd from so.verdicts answer ending before written
+  ends_so : (answer : Result Ack ApplyFault) (ending : Ending) → LeavesWhatStands old → AppliesWith Kept KeptThen next.0 next.1 now new answer → WritesEnd from so.verdicts answer ending before written
       → EndsBehind (length commands) (length so.verdicts) answer ending
       → (HasCleanDisk new → (book : List Entry) → StandsWith Kept now book → ((trees : Trees) → now.may_leave trees → LeavesJudged old.may_leave so.verdicts book trees)
       → LeavesAfter so.verdicts book (next ∷ drop (index + 1) commands) old new answer ending)
       → RunsSession commands from old new before written answer (record { replied = index; refused = refused; ending = ending })
-  ends_so answer ending applies lines place leaves = record {
-    verdicts = so.verdicts;
-    writes = record { replied = so.counted; refused = so.refusals; lines = lines };
-    place = place;
-    session = λ clean entries stands.
-        let was = so.judged (omega (arith, clean, applies.crash.clean)) entries stands in
-        (was.0, next ∷ drop (index + 1) commands, session entries was.0 was.1, leaves clean was.0 was.2 was.3);
-    crash = first answer applies;
-  }
+  ends_so answer ending stands_so applies lines place leaves =
+      run_of commands from old new before written answer (record { replied = index; refused = refused; ending = ending }) so.verdicts stands_so
+      (record { replied = so.counted; refused = so.refusals; lines = lines }) place
+      (λ clean entries stands.
+      let was = so.judged (omega (arith, clean, applies.crash.clean)) entries stands in
+      (was.0, next ∷ drop (index + 1) commands, session entries was.0 was.1, leaves clean was.0 was.2 was.3)) (first answer applies)
 
   pub run_ends : (ending : Ending) (was condition : Condition) → RepliesTo Kept KeptThen next.0 next.1 number now new mid written condition (Err ending)
-      → (IsTrue new.is_open → (trees : Trees) → new.may_leave trees → trees ≡ new.committed.trees)
+      → (IsTrue new.is_open → (trees : Trees) → new.may_leave trees → trees ≡ new.committed.trees) → LeavesWhatStands old
       → RunsBook commands from old new before written was condition (record { replied = index; refused = refused; ending = ending })
-  run_ends ending was condition (answer, applies, usable, after, inl (fault, is, stopped, printed)) safe = rw stopped (
+  run_ends ending was condition (answer, applies, fails, usable, after, inl (fault, is, stopped, printed)) safe stands_so = rw stopped (
     answer,
-    ends_so answer (Stopped fault) applies
+    ends_so answer (Stopped fault) stands_so applies
         (subst (λ n. Appends before written (replies from so.verdicts ++ fault_line n fault)) count (Appends-trans before mid written _ _ so.lines printed)) (inl here)
-        (at_fault fault (subst (AppliesWith Kept KeptThen next.0 next.1 now new) is applies) (λ spent. usable (is ∙ ap (λ (f : StoreFault). Err (apply.Failed f)) spent))),
+        (at_fault fault (subst (AppliesWith Kept KeptThen next.0 next.1 now new) is applies) (subst (FailsFor Kept next.0 next.1 now new) is fails) (λ spent. usable (is ∙ ap (λ (f : StoreFault). Err (apply.Failed f)) spent))),
     λ ready. usable,
     after ∙ ap condition_after is,
   )
-  run_ends ending was condition (answer, applies, usable, after, inr (cut, part)) safe = rw cut (
+  run_ends ending was condition (answer, applies, fails, usable, after, inr (cut, part)) safe stands_so = rw cut (
     answer,
-    ends_so answer Output applies
+    ends_so answer Output stands_so applies
         (part.0, subst (λ n. IsPrefixOf part.0 (answer_line n answer)) count part.1, Appends-trans before mid written _ _ so.lines part.2) (inl here)
-        (at_answer answer applies usable safe),
+        (at_answer answer applies fails usable safe),
     λ ready. usable,
     after,
   )
@@ -338,61 +447,50 @@ take_all [] = refl
 take_all (x ∷ xs) = ap (λ ys. x ∷ ys) (take_all xs)
 
 pub run_completes : (Kept : List Entry → Type 0) (commands : List (Key × Command)) (from refused : ℕ) (old new : State) (before written : Option (List ℕ)) (was condition : Condition)
-    → SoFar Kept commands from (length commands) refused old new before written → condition ≡ Ready
+    → SoFar Kept commands from (length commands) refused old new before written → condition ≡ Ready → LeavesWhatStands old
     → RunsBook commands from old new before written was condition (record { replied = length commands; refused = refused; ending = Complete })
-run_completes Kept commands from refused old new before written was condition so ready = (
+run_completes Kept commands from refused old new before written was condition so ready stands_so = (
   Ok ack.Accepted,
-  record {
-    verdicts = so.verdicts;
-    writes = record { replied = so.counted; refused = so.refusals; lines = so.lines };
-    place = sym so.counted;
-    session = λ clean entries stands.
-        let was = so.judged clean entries stands in (
-          was.0,
-          [],
-          record { done = commands; split = sym (append-nil commands); judged = subst (λ cs. JudgesAll entries cs so.verdicts was.0) (take_all commands) was.1 },
-          (refl, was.2.0, was.3),
-        );
-    crash = so.crash;
-  },
+  run_of commands from old new before written (Ok ack.Accepted) (record { replied = length commands; refused = refused; ending = Complete }) so.verdicts stands_so
+      (record { replied = so.counted; refused = so.refusals; lines = so.lines }) (sym so.counted)
+      (λ clean entries stands.
+      let was = so.judged clean entries stands in (
+        was.0,
+        [],
+        record { done = commands; split = sym (append-nil commands); judged = subst (λ cs. JudgesAll entries cs so.verdicts was.0) (take_all commands) was.1 },
+        (refl, was.2.0, was.3),
+      )) so.crash,
   λ usable is. absurd cc,
   ready,
 )
 
 pub run_needs_reopening : (commands : List (Key × Command)) (from : ℕ) (old : State) (before written : Option (List ℕ)) (ending : Ending) (condition : Condition)
-    → StopsWith from NeedsReopen before written ending → condition ≡ MustReopen
+    → StopsWith from NeedsReopen before written ending → condition ≡ MustReopen → LeavesWhatStands old
     → RunsBook commands from old old before written condition condition (record { replied = 0; refused = 0; ending = ending })
-run_needs_reopening commands from old before written ending condition (inl (is, printed)) spent = (
+run_needs_reopening commands from old before written ending condition stops_so spent stands_so = (
   Err (apply.Failed NeedsReopen),
-  record {
-    verdicts = [];
-    writes = record { replied = refl; refused = refl; lines = rw is (subst (λ n. Appends before written ([] ++ fault_line n NeedsReopen)) (zero-on from) printed) };
-    place = rw is (inr (refl, refl));
-    session = λ clean entries stands. (entries, commands, record { done = []; split = refl; judged = refl }, rw is (refl, stands, λ trees may. inr (tt, may)));
-    crash = survives_same old _;
-  },
+  run_of commands from old old before written (Err (apply.Failed NeedsReopen)) (record { replied = 0; refused = 0; ending = ending }) [] stands_so
+      (record { replied = refl; refused = refl; lines = lines stops_so }) (place stops_so)
+      (λ clean entries stands. (entries, commands, record { done = []; split = refl; judged = refl }, leaves stops_so entries stands)) (survives_same old _),
   λ ready. let both = sym ready ∙ spent in absurd cc,
-  rw is spent,
+  after stops_so,
 )
   where
     zero-on : (n : ℕ) → n ≡ length {A = Verdict} [] + n
     zero-on n = omega arith
-run_needs_reopening commands from old before written ending condition (inr (is, part)) spent = (
-  Err (apply.Failed NeedsReopen),
-  record {
-    verdicts = [];
-    writes = record {
-      replied = refl;
-      refused = refl;
-      lines = rw is (part.0, subst (λ n. IsPrefixOf part.0 (fault_line n NeedsReopen)) (zero-on from) part.1, part.2);
-    };
-    place = rw is (inr (refl, refl));
-    session = λ clean entries stands. (entries, commands, record { done = []; split = refl; judged = refl }, rw is (refl, stands, λ trees may. inr (tt, may)));
-    crash = survives_same old _;
-  },
-  λ ready. let both = sym ready ∙ spent in absurd cc,
-  rw is spent,
-)
-  where
-    zero-on : (n : ℕ) → n ≡ length {A = Verdict} [] + n
-    zero-on n = omega arith
+
+    lines : StopsWith from NeedsReopen before written ending → WritesEnd from [] (Err (apply.Failed NeedsReopen)) ending before written
+    lines (inl (is, printed)) = rw is (subst (λ n. Appends before written ([] ++ fault_line n NeedsReopen)) (zero-on from) printed)
+    lines (inr (is, part)) = rw is (part.0, subst (λ n. IsPrefixOf part.0 (fault_line n NeedsReopen)) (zero-on from) part.1, part.2)
+
+    place : StopsWith from NeedsReopen before written ending → EndsBehind (length commands) 0 (Err (apply.Failed NeedsReopen)) ending
+    place (inl (is, printed)) = rw is (inr (refl, refl))
+    place (inr (is, part)) = rw is (inr (refl, refl))
+
+    leaves : StopsWith from NeedsReopen before written ending → (entries : List Entry) → Stands old entries → LeavesAfter [] entries commands old old (Err (apply.Failed NeedsReopen)) ending
+    leaves (inl (is, printed)) entries stands = rw is (refl, stands, λ trees may. inr (refl, may))
+    leaves (inr (is, part)) entries stands = rw is (refl, stands, λ trees may. inr (refl, may))
+
+    after : StopsWith from NeedsReopen before written ending → IsConditionAfter (Err (apply.Failed NeedsReopen)) ending condition
+    after (inl (is, printed)) = rw is spent
+    after (inr (is, part)) = rw is spent

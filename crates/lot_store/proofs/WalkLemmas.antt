@@ -1,16 +1,16 @@
 -- A call of a walk, from the step that its book made.
-use Rattle.std.proofs.Common.{◌≡◌, true, false, ◌≢◌, ◌↔◌, ◌⊎◌, [], ◌∷◌, ◌++◌, List, Option, Some, None, Result, Ok, Err, IfOk, IfSome, IsErr, IsTrue, refl, sym, ap, subst, arith}
+use Rattle.std.proofs.Common.{◌≡◌, true, false, ◌↔◌, List, Option, Some, None, Result, Ok, Err, IsTrue, refl, sym, subst}
 use Rattle.sqlite.specs.Held.{state}
 use Rattle.sqlite.specs.Effect.{Database}
-use Rattle.sqlite.specs.State.{HasCleanDisk, State, Survives}
+use Rattle.sqlite.specs.State.{HasCleanDisk, State}
 use Rattle.sqlite.specs.Store.{Ghosts}
 use Rattle.lot_book.specs.Facts.{Entry}
 use Rattle.lot_stored.specs.StandFor.{Stands}
 use Rattle.lot_page.specs.Cursor.{Stays}
-use Rattle.lot_rows.specs.Tables.{Has, Tables, layout}
+use Rattle.lot_rows.specs.Tables.{Tables, layout}
 use Rattle.lot_table.specs.Book.{Holds}
 use Rattle.lot_walk.specs.Step.{Steps, StepsOverRows}
-use Rattle.lot_store.specs.Walk.{Gives, HasGiven, HasGivenRows, Walks, WalksOverRows, is_at_end, is_at_fault, stage_after}
+use Rattle.lot_store.specs.Walk.{Gives, HasGiven, Walks, WalksOverRows, is_at_end, is_at_fault, stage_after}
 use Rattle.lot_store.specs.declared.fault.StoreFault.{StoreFault}
 use Rattle.lot_store.specs.declared.fault.StoreFault.TheVariants.{Damaged, Device, NeedsReopen}
 use Rattle.lot_store.specs.declared.book.Condition.TheVariants.{NeedsReopen as MustReopen}

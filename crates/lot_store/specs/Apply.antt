@@ -158,3 +158,9 @@ RefusedByDevice key command old new =
 abbrev pub RefusedByDeviceWith : (List Entry → Type 0) → Key → Command → State → State → Type 0
 RefusedByDeviceWith Kept key command old new =
     (entries : List Entry) (stands : Stands old entries) → Kept entries → DiskFailed old new ⊎ HasNoRoomFor key command entries stands.tables new
+
+-- why applying a command fails: where the device refuses it, or its commit is in doubt
+pub record FailsFor (Kept : List Entry → Type 0) (key : Key) (command : Command) (old new : State)
+    (result : Result Ack ApplyFault) : Type 0 where
+  pub device : HasCleanDisk new → result ≡ Err (Failed Device) → RefusedByDeviceWith Kept key command old new
+  pub in_doubt : HasCleanDisk new → result ≡ Err (Failed InDoubt) → DiskFailed old new

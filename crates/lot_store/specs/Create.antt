@@ -98,6 +98,18 @@ IsUnanswered old new (Err adopt.NotABook) = Refused marks_text [] old new table.
 IsUnanswered old new (Err adopt.Device) = DiskFailed old new
 IsUnanswered old new (Err adopt.Memory) = Unit {0}
 
+-- A database is marked as a book of this edition: it answers the question with the one row that marks such a book. The
+-- question changes nothing.
+abbrev pub IsMarked : State → Type 0
+IsMarked s = (rows : List Row) × Shown marks_text [] s s rows × AreMarked current_edition rows
+
+-- A database is taken up as a book: it is open, and is marked as a book of this edition. Where it has the tables of a book,
+-- the table `book` tells so.
+pub record IsTaken (s : State) : Type 0 where
+  pub opened : IsTrue s.is_open
+  pub marked : IsMarked s
+  pub told : (tables : Tables) → Has s tables → TellsBook tables.book (Ok tt)
+
 -- what is told of any database, whatever its tables are
 abbrev pub TellsOf : State → State → Result (Unit {0}) AdoptFault → Type 0
 TellsOf old new result = ((rows : List Row) × Shown marks_text [] old new rows × TellsColumns rows result) ⊎ IsUnanswered old new result

@@ -9,13 +9,15 @@ use Rattle.lot_book.specs.Facts.{Entry}
 use Rattle.lot_book.specs.Judged.{JudgesOn}
 use Rattle.lot_book.specs.declared.verdict.Verdict.{Verdict}
 use Rattle.lot_book.specs.declared.verdict.Verdict.TheVariants.{Accepted, Repeated, Refused}
-use Rattle.lot_stored.specs.StandFor.{Stands}
+use Rattle.lot_rows.specs.Tables.{Tables}
+use Rattle.lot_stored.specs.StandFor.{StandFor, Stands}
 use Rattle.std.specs.declared.io.Error.{Error}
 use Rattle.lot_report.specs.declared.line.PrintFault.{PrintFault}
 use Rattle.lot_report.specs.Printed.{line, replies, reply}
 use Rattle.lot_report.specs.Written.{IsPrefixOf}
-use Rattle.lot_store.specs.Apply.{AppliesWith, condition_after}
-use Rattle.lot_store.specs.Session.{LeavesFirst, LeavesJudged, LeavesNext, Session}
+use Rattle.lot_table.specs.Statement.{DiskFailed}
+use Rattle.lot_store.specs.Apply.{AppliesWith, FailsFor, HasNoRoomFor, condition_after}
+use Rattle.lot_store.specs.Session.{LeavesFirst, LeavesJudged, LeavesNext, LeavesStopped, Session}
 use Rattle.lot_store.specs.declared.book.Ack.{Ack}
 use Rattle.lot_store.specs.declared.book.Ack.TheVariants as ack
 use Rattle.lot_store.specs.declared.book.Condition.{Condition}
@@ -91,7 +93,8 @@ abbrev pub RepliesTo : (Kept KeptThen : List Entry → Type 0) → Key → Comma
 RepliesTo Kept KeptThen key command number old new before written condition (Ok verdict) =
     (answer : Result Ack ApplyFault) × AppliesWith Kept KeptThen key command old new answer × (told answer ≡ Ok verdict) × Appends before written (reply number verdict)
 RepliesTo Kept KeptThen key command number old new before written condition (Err ending) =
-    (answer : Result Ack ApplyFault) × AppliesWith Kept KeptThen key command old new answer × (answer ≢ Err (apply.Failed NeedsReopen))
+    (answer : Result Ack ApplyFault) × AppliesWith Kept KeptThen key command old new answer
+    × FailsFor Kept key command old new answer × (answer ≢ Err (apply.Failed NeedsReopen))
     × (condition ≡ condition_after answer) × EndsAt number answer before written ending
 
 -- ---- flushing
@@ -133,15 +136,24 @@ EndsBehind commands replied answer Complete = replied ≡ commands
 EndsBehind commands replied answer (Stopped fault) = IsAtCommand commands replied (Err (apply.Failed fault))
 EndsBehind commands replied answer Output = IsAtCommand commands replied answer
 
--- what stands after a run whose next command came to a fault, and what a crash may leave
+-- the database has no room for the first of these commands on that book
+abbrev pub HasNoRoomForNext : List Entry → List (Key × Command) → State → Type 0
+HasNoRoomForNext book [] new = ⊥
+HasNoRoomForNext book (next ∷ left) new =
+    (tables : Tables) × StandFor tables book × HasNoRoomFor next.0 next.1 book tables new
+
+-- What stands after a run whose next command came to a fault, and what a crash may leave. The device refuses a command only
+-- where the disk failed or the database has no room for it, and a commit is in doubt only where the disk failed.
 abbrev pub LeavesAtFault : StoreFault → List Verdict → List Entry → List (Key × Command) → State → State → Type 0
 LeavesAtFault Device verdicts book left old new =
     (IsTrue new.is_open → Stands new book) × ((trees : Trees) → new.may_leave trees → LeavesJudged old.may_leave verdicts book trees)
+    × (DiskFailed old new ⊎ HasNoRoomForNext book left new)
 LeavesAtFault NeedsReopen verdicts book left old new =
     (verdicts ≡ []) × Stands new book × ((trees : Trees) → new.may_leave trees → LeavesJudged old.may_leave verdicts book trees)
 LeavesAtFault Damaged verdicts book left old new = ⊥
 LeavesAtFault InDoubt verdicts book left old new =
     (IsTrue new.is_open → Stands new book) × ((trees : Trees) → new.may_leave trees → LeavesNext old.may_leave verdicts book left trees)
+    × DiskFailed old new
 LeavesAtFault Memory verdicts book left old new =
     (IsTrue new.is_open → Stands new book) × ((trees : Trees) → new.may_leave trees → LeavesNext old.may_leave verdicts book left trees)
 
@@ -174,6 +186,10 @@ pub record RunsSession (commands : List (Key × Command)) (from : ℕ) (old new 
   pub session : HasCleanDisk new → (entries : List Entry) → Stands old entries
       → (book : List Entry) × (left : List (Key × Command)) × Session entries commands verdicts book left
       × LeavesAfter verdicts book left old new answer end.ending
+  -- of a connection that was open a stop leaves the book after the commands that were replied to, or after one more, which was
+  -- accepted
+  pub stop : HasCleanDisk new → IsTrue old.is_open → (entries : List Entry) → Stands old entries
+      → (trees : Trees) → new.may_leave trees → LeavesStopped entries commands verdicts trees
   pub crash : Survives old new (λ trees. (entries : List Entry) → Stands old entries → LeavesFirst entries commands trees)
 
 -- ---- the condition of the book

@@ -1,6 +1,6 @@
 ghost use Rattle.std.specs.Prelude.{◌≡◌, ◌≢◌, [], ◌∷◌, false, Err, IfErr, IfOk, None, Ok, OnErr, OnOk};
 ghost use Rattle.lot_rows.specs.Tables.{Has, Tables};
-ghost use Rattle.lot_store.specs.Create.{IsHandedBack, TellsBook, TellsColumns, TellsOf};
+ghost use Rattle.lot_store.specs.Create.{IsHandedBack, IsTaken, TellsBook, TellsColumns, TellsOf};
 ghost use Rattle.lot_table.specs.Book.{IsUndone};
 ghost use Rattle.sqlite.specs.Held.{state};
 ghost use Rattle.sqlite.specs.State.{HasCleanDisk, IsUnchanged, Survives};
@@ -27,8 +27,8 @@ pub fn adopt<S: Alter>(
     requires unlimited { conn.step_limit ≡ None }
     ensures tells_ok { IfOk result (λ book. HasCleanDisk (state S.Store book.conn) → TellsOf (state S.Store conn) (state S.Store book.conn) (Ok tt)) }
     ensures tells_err { IfErr result (λ left. HasCleanDisk (state S.Store left.conn) → TellsOf (state S.Store conn) (state S.Store left.conn) (Err left.fault)) }
+    ensures taken { IfOk result (λ book. HasCleanDisk (state S.Store book.conn) → IsTaken (state S.Store conn)) }
     // Of a database that has the tables of a book.
-    ensures found { IfOk result (λ book. HasCleanDisk (state S.Store book.conn) → (tables : Tables) → Has (state S.Store conn) tables → TellsBook tables.book (Ok tt)) }
     ensures refused { IfErr result (λ left. HasCleanDisk (state S.Store left.conn) → left.fault ≢ AdoptFault.Device
         → (tables : Tables) → Has (state S.Store conn) tables → TellsBook tables.book (Err left.fault)) }
     ensures same { IfOk result (λ book. HasCleanDisk (state S.Store book.conn) → IsUnchanged (state S.Store conn) (state S.Store book.conn)) }
@@ -54,6 +54,7 @@ fn tell<S: Alter>(alloc: Global, conn: &mut Connection<S>) -> Result<(), AdoptFa
     ensures of_book { HasCleanDisk (state S.Store conn.new) → result ≢ Err AdoptFault.Device
         → (tables : Tables) → Has (state S.Store conn.old) tables → TellsBook tables.book result }
     ensures same { HasCleanDisk (state S.Store conn.new) → OnOk result (IsUnchanged (state S.Store conn.old) (state S.Store conn.new)) }
+    ensures taken { HasCleanDisk (state S.Store conn.new) → OnOk result (IsTaken (state S.Store conn.old)) }
     ensures undone { HasCleanDisk (state S.Store conn.new) → OnErr result (IsUndone (state S.Store conn.old) (state S.Store conn.new)) }
     ensures crash { Survives (state S.Store conn.old) (state S.Store conn.new) (λ _. ⊥) }
 {

@@ -136,8 +136,6 @@ impl<S: Alter> Book<S> {
         ensures left { HasCleanDisk (state S.Store self.new.conn) → OnErr result (LeavesTables (state S.Store self.old.conn) (state S.Store self.new.conn)) }
     {
         self.ready()?;
-        // Outside a transaction the tables are those of the last commit.
-        let _settled = self.conn.is_autocommit();
         let found = place.next(self.alloc, &mut self.conn);
         if let Err(Fault::Device) = found {
             self.condition = Condition::NeedsReopen;
@@ -154,8 +152,12 @@ impl<S: Alter> Book<S> {
 
     /// Returns an error where the book needs reopening.
     pub(crate) fn ready(&self) -> Result<(), StoreFault>
-        ensures { result ≡ ready_of self.now.condition }
+        ensures value { result ≡ ready_of self.now.condition }
+        ensures settled { HasCleanDisk (state S.Store self.now.conn) → IsTrue (state S.Store self.now.conn).is_open
+            → (state S.Store self.now.conn).now ≡ (state S.Store self.now.conn).committed }
     {
+        // Outside a transaction the tables are those of the last commit.
+        let _settled = self.conn.is_autocommit();
         match self.condition {
             Condition::Ready => Ok(()),
             Condition::NeedsReopen => Err(StoreFault::NeedsReopen),

@@ -1,9 +1,7 @@
-ghost use Rattle.std.specs.Prelude.{◌≡◌, [], false, Err, IfErr, IfOk, IsTrue, None, OnErr, OnOk};
+ghost use Rattle.std.specs.Prelude.{◌≡◌, ◌≢◌, ◌↔◌, [], false, Err, IfErr, IfOk, IsTrue, None, OnErr, OnOk};
 ghost use Rattle.lot_stored.specs.Rows.{this_edition};
 ghost use Rattle.lot_stored.specs.StandFor.{Left, Stands};
-ghost use Rattle.lot_rows.specs.Tables.{table_names};
 ghost use Rattle.lot_store.specs.Create.{IsHandedBack, RefusedFor, StandsForNone, create_outcome};
-ghost use Rattle.lot_table.specs.Make.{is_taken};
 ghost use Rattle.lot_table.specs.Shape.{schema_of};
 ghost use Rattle.sqlite.specs.Held.{state};
 ghost use Rattle.sqlite.specs.State.{HasCleanDisk, IsLive, KeepsCommit, Survives};
@@ -16,39 +14,41 @@ use lot_rows::tables;
 use lot_stored::EDITION;
 use lot_table::AnyText;
 use sqlite::{Alter, Connection, Error, ErrorCode, Transaction};
+use sqlite_schema::schema::Schema;
 use std::alloc::{AllocError, Global};
 
 /// Makes the tables of a book in one commit, and returns the book, which is empty.
 ///
-/// The error is `NotABook` where the name of a table is taken, without regard to the case of ASCII letters, or the database
-/// takes no tables of a book for another cause; never where it has no tables. After `InDoubt` the tables were made or not.
-/// After any error the connection is outside a transaction, and every row is as it was. A crash during the call leaves what it
-/// could leave before, or the tables of the empty book.
-///
-/// What is said of the tables holds in a database that had none. In one with others the book's are made beside them.
+/// The error is `NotABook` where the database has a table already, and nowhere else while it is open: a book stands in a file
+/// of its own. After `InDoubt` the tables were made or not. After any error the connection is outside a transaction, and every
+/// row is as it was. A crash during the call leaves what it could leave before, or the tables of the empty book.
 pub fn create<S: Alter>(
     alloc: Global,
     conn: Connection<S>,
 ) -> Result<Book<S>, HandedBack<S, CreateFault>>
     requires outside { conn.in_transaction ≡ false }
     requires unlimited { conn.step_limit ≡ None }
-    ensures made { IfOk result (λ book. HasCleanDisk (state S.Store book.conn) → (state S.Store conn).now.schema ≡ schema_of []
-        → Stands (state S.Store book.conn) []) }
+    ensures made { IfOk result (λ book. HasCleanDisk (state S.Store book.conn) → Stands (state S.Store book.conn) []) }
+    ensures empty { IfOk result (λ book. (state S.Store conn).now.schema ≡ schema_of []) }
+    ensures other { (state S.Store conn).now.schema ≢ schema_of [] → IfErr result (λ left. left.fault ≡ CreateFault.NotABook) }
     ensures committed { IfOk result (λ book. HasCleanDisk (state S.Store book.conn)
         → IsTrue (state S.Store book.conn).is_open × ((state S.Store book.conn).committed ≡ (state S.Store book.conn).now)) }
-    ensures free { IfOk result (λ book. HasCleanDisk (state S.Store book.conn) → is_taken table_names (state S.Store conn).now.schema ≡ false) }
     ensures ready { IfOk result (λ book. book.condition ≡ Condition.Ready) }
     ensures refused { IfErr result (λ left. HasCleanDisk (state S.Store left.conn) → RefusedFor (state S.Store conn) (state S.Store left.conn) left.fault) }
     ensures handed_back { IfErr result (λ left. HasCleanDisk (state S.Store left.conn) → IsHandedBack (state S.Store conn) (state S.Store left.conn)) }
     ensures kept { IfErr result (λ left. HasCleanDisk (state S.Store left.conn) → KeepsCommit (state S.Store conn) (state S.Store left.conn)) }
-    ensures crash_ok { IfOk result (λ book. Survives (state S.Store conn) (state S.Store book.conn)
-        (λ trees. (state S.Store conn).now.schema ≡ schema_of [] → Left trees [])) }
-    ensures crash_err { IfErr result (λ left. Survives (state S.Store conn) (state S.Store left.conn)
-        (λ trees. (state S.Store conn).now.schema ≡ schema_of [] → Left trees [])) }
+    ensures crash_ok { IfOk result (λ book. Survives (state S.Store conn) (state S.Store book.conn) (λ trees. Left trees [])) }
+    ensures crash_err { IfErr result (λ left. Survives (state S.Store conn) (state S.Store left.conn) (λ trees. Left trees [])) }
 {
     let mut conn = conn;
     // Outside a transaction the tables are those of the last commit, before the call and after it.
     let _settled = conn.is_autocommit();
+    if !is_empty(conn.schema()) {
+        return Err(HandedBack {
+            fault: CreateFault::NotABook,
+            conn,
+        });
+    }
     match make(alloc, &mut conn) {
         Ok(()) => Ok(Book::ready_over(alloc, conn)),
         Err(fault) => {
@@ -58,14 +58,22 @@ pub fn create<S: Alter>(
     }
 }
 
-/// The same on a connection that is lent.
+/// Returns whether a database has neither tables, nor indexes, nor views.
+fn is_empty(schema: &Schema) -> bool
+    ensures { IsTrue result ↔ (schema.now ≡ schema_of []) }
+{
+    schema.tables.as_slice().is_empty()
+        && schema.indexes.as_slice().is_empty()
+        && schema.views.as_slice().is_empty()
+}
+
+/// Makes the tables on a connection that is lent. What is said of them holds in a database that had none.
 fn make<S: Alter>(alloc: Global, conn: &mut Connection<S>) -> Result<(), CreateFault>
     requires outside { conn.old.in_transaction ≡ false }
     requires unlimited { conn.old.step_limit ≡ None }
     ensures outside { conn.new.in_transaction ≡ false }
     ensures made { HasCleanDisk (state S.Store conn.new) → OnOk result ((state S.Store conn.old).now.schema ≡ schema_of [] → Stands (state S.Store conn.new) []) }
     ensures committed { HasCleanDisk (state S.Store conn.new) → OnOk result (IsTrue (state S.Store conn.new).is_open × ((state S.Store conn.new).committed ≡ (state S.Store conn.new).now)) }
-    ensures free { HasCleanDisk (state S.Store conn.new) → OnOk result (is_taken table_names (state S.Store conn.old).now.schema ≡ false) }
     ensures refused { HasCleanDisk (state S.Store conn.new) → IfErr result (RefusedFor (state S.Store conn.old) (state S.Store conn.new)) }
     ensures kept { HasCleanDisk (state S.Store conn.new) → OnErr result (KeepsCommit (state S.Store conn.old) (state S.Store conn.new)) }
     ensures crash { Survives (state S.Store conn.old) (state S.Store conn.new)
@@ -99,7 +107,6 @@ fn make_tables<S: Alter>(tx: &mut Transaction<'_, S>, row: &BookRow) -> Result<(
     ensures opened { HasCleanDisk (state S.Store tx.new.conn.now) → OnOk result (IsTrue (state S.Store tx.new.conn.now).is_open) }
     ensures made { HasCleanDisk (state S.Store tx.new.conn.now) → OnOk result ((state S.Store tx.old.conn.now).now.schema ≡ schema_of []
         → IsSound (schema_of []) (state S.Store tx.old.conn.now).now.trees → StandsForNone (state S.Store tx.new.conn.now)) }
-    ensures free { HasCleanDisk (state S.Store tx.new.conn.now) → OnOk result (is_taken table_names (state S.Store tx.old.conn.now).now.schema ≡ false) }
     ensures refused { HasCleanDisk (state S.Store tx.new.conn.now) → IsLive (state S.Store tx.old.conn.now)
         → IfErr result (RefusedFor (state S.Store tx.old.conn.now) (state S.Store tx.new.conn.now)) }
     ensures kept { HasCleanDisk (state S.Store tx.new.conn.now) → KeepsCommit (state S.Store tx.old.conn.now) (state S.Store tx.new.conn.now) }

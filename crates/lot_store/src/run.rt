@@ -53,6 +53,9 @@ impl<S: Alter> Book<S> {
         requires { length commands.now + from < 2 ^ 64 }
         ensures runs { RunsBook commands.now from (state S.Store self.old.conn) (state S.Store self.new.conn)
             (W.contents writer.old) (W.contents writer.new) self.old.condition self.new.condition result }
+        // With the connection open a crash leaves the last commit, and nothing else.
+        ensures safe { IsTrue (state S.Store self.new.conn).is_open → (trees : Trees) → (state S.Store self.new.conn).may_leave trees
+            → trees ≡ (state S.Store self.new.conn).committed.trees }
         ensures spent { self.old.condition ≡ Condition.NeedsReopen
             → StopsAtOnce from result (W.contents writer.old) (W.contents writer.new) × (self.new ≡ self.old) }
         ensures usable { self.old.condition ≡ Condition.Ready → result.ending ≢ Stopped StoreFault.NeedsReopen }

@@ -2,6 +2,7 @@ pub mod OrderLemmas
 pub mod LookupLemmas
 pub mod KeyLemmas
 pub mod KeptLemmas
+pub mod SalesLemmas
 pub mod OneTablesLemmas
 pub mod BookedLemmas
 pub mod HeldLemmas

@@ -1,5 +1,5 @@
 -- A book has one list of rows in each table: what stands for it has no row more, and none less.
-use Rattle.std.specs.Prelude.{◌≡◌, ℕ, true, List, [], ◌∷◌, ◌++◌, map, length, suc}
+use Rattle.std.specs.Prelude.{◌≡◌, ℕ, true, List, [], ◌∷◌, map}
 use Rattle.std.specs.Cmp.{IsTotalOrder}
 use Rattle.std.specs.Ordering.{is_lt}
 use Rattle.std.specs.declared.cmp.Ordering.{Ordering}
@@ -12,12 +12,7 @@ use Rattle.sqlite.specs.Order.{Row}
 use Rattle.sqlite.specs.Tree.{IsAscending}
 use Rattle.sqlite_rules.specs.Lists.{Has}
 use Rattle.sqlite_rules.proofs.ListLemmas.{all_has, has_filtered, has_kept}
-use Rattle.lot_command.specs.declared.command.Command.{Command}
-use Rattle.lot_command.specs.declared.command.Command.TheVariants.{Opening, Closing, Declaring, Quoting, Transaction}
-use Rattle.lot_book.specs.Booking.{All, Booked}
-use Rattle.lot_book.specs.Facts.{Entry, Facts, facts_of}
-use Rattle.lot_book.specs.Sale.{SaleParts, AreSales, sales_in}
-use Rattle.lot_laws.proofs.StepLemmas.{books_one}
+use Rattle.lot_book.specs.Facts.{Entry}
 use Rattle.lot_table.specs.Rows.{has_key, with_key}
 use Rattle.lot_rows.specs.Account.{account_cells}
 use Rattle.lot_rows.specs.Allowed.{allowed_cells}
@@ -28,11 +23,11 @@ use Rattle.lot_rows.specs.Lot.{IsLotRow, lot_cells}
 use Rattle.lot_rows.specs.Plain.{plain_cells}
 use Rattle.lot_rows.specs.Price.{price_cells}
 use Rattle.lot_rows.specs.Tables.{Tables}
-use Rattle.lot_stored.specs.Kept.{SalesBehind}
 use Rattle.lot_stored.specs.Rows.{lot_key, name_key, pair_key, posting_key, price_key, sale_row}
 use Rattle.lot_stored.specs.StandFor.{StandFor}
 use Rattle.lot_stored.proofs.LookupLemmas.{first_with_key, has_own_key, row-only, row-there}
 use Rattle.lot_stored.proofs.OrderLemmas.{IsRising, row_order, row_order-total}
+use Rattle.lot_stored.proofs.SalesLemmas.{one_sales}
 
 -- ---- lists with the same elements, each below the later ones
 
@@ -103,30 +98,6 @@ module _ {X : Type 0} (encode : X → Row) (shorter width : ℕ) (key_of : X →
       same_list (row_order encode width) (row_order-total encode width) xs ys up other (shown_within xs ys same)
       (shown_within ys xs (λ x. sym (same x)))
 
--- ---- sales
-
-all_booked : (a b : List Booked) → All a ≡ All b → a ≡ b
-all_booked a b e = cc
-
-same_sales : (facts : Facts) (command : Command) (a b : List (ℕ × SaleParts)) → AreSales facts command a → AreSales facts command b → a ≡ b
-same_sales facts (Opening o) a b is other = is ∙ sym other
-same_sales facts (Closing c) a b is other = is ∙ sym other
-same_sales facts (Declaring d) a b is other = is ∙ sym other
-same_sales facts (Quoting q) a b is other = is ∙ sym other
-same_sales facts (Transaction t) a b is other =
-    is.2
-    ∙ ap (sales_in t.day) (all_booked is.0 other.0 (books_one facts t.day [] 1 t.postings (All is.0) (All other.0) is.1 other.1))
-    ∙ sym other.2
-
-same_behind : (before entries : List Entry) (a b : List (ℕ × (ℕ × SaleParts))) → SalesBehind before entries a → SalesBehind before entries b → a ≡ b
-same_behind before [] a b is other = is ∙ sym other
-same_behind before (entry ∷ entries) a b is other =
-    is.4
-    ∙ (λ i. map (λ (sale : ℕ × SaleParts). (suc (length before), sale))
-    (same_sales (facts_of before entry.key) entry.command is.0 other.0 is.2 other.2 i)
-    ++ same_behind (before ++ entry ∷ []) entries is.1 other.1 is.3 other.3 i)
-    ∙ sym other.4
-
 -- ---- all tables
 
 module _ (a b : Tables) (entries : List Entry) (stand : StandFor a entries) (other : StandFor b entries) where
@@ -159,7 +130,7 @@ module _ (a b : Tables) (entries : List Entry) (stand : StandFor a entries) (oth
       (λ row. stand.leg row.entry row.posting ∙ sym (other.leg row.entry row.posting)) stand.ordered.leg other.ordered.leg
 
   one_sale : a.sale ≡ b.sale
-  one_sale = stand.sale ∙ ap (map sale_row) (same_behind [] entries stand.sales other.sales stand.sold other.sold) ∙ sym other.sale
+  one_sale = stand.sale ∙ ap (map sale_row) (one_sales entries stand.sales other.sales stand.sold other.sold) ∙ sym other.sale
 
   one_lot : a.lot ≡ b.lot
   one_lot =

@@ -1,6 +1,6 @@
 -- What a book says beside the facts that commands are judged on: the days of declarings, the prices, the legs of a posting
 -- and the sales. Each looks over all entries.
-use Rattle.std.specs.Prelude.{◌≡◌, ℕ, suc, ◌==◌, ◌&&◌, Bool, if◌then◌else◌, List, [], ◌∷◌, ◌++◌, length, filter, map, Option, None, Some, ℤ}
+use Rattle.std.specs.Prelude.{◌≡◌, ℕ, suc, ◌==◌, ◌&&◌, Bool, if◌then◌else◌, List, [], ◌∷◌, length, filter, map, Option, None, Some, ℤ}
 use Rattle.std.specs.Option.{option_or}
 use Rattle.std.specs.Ordering.{int_eq}
 use Rattle.lot_base.specs.Text.{same_text}
@@ -10,6 +10,7 @@ use Rattle.lot_command.specs.declared.command.Opening.{Opening as OpeningOf}
 use Rattle.lot_book.specs.declared.leg.Leg.{Leg}
 use Rattle.lot_book.specs.Facts.{Entry, facts_of, opening_of}
 use Rattle.lot_book.specs.Sale.{SaleParts, AreSales}
+use Rattle.lot_laws.specs.Collects.{Collects}
 
 -- ---- currencies
 
@@ -63,14 +64,17 @@ legs_of_posting entry posting legs = filter (is_of_posting entry posting) legs
 
 -- ---- sales
 
--- the sales of entries behind those before them, each with the number of its entry and the place of its posting
-abbrev pub SalesBehind : List Entry → List Entry → List (ℕ × (ℕ × SaleParts)) → Type 0
-SalesBehind before [] sales = sales ≡ []
-SalesBehind before (entry ∷ entries) sales =
-    (own : List (ℕ × SaleParts)) × (others : List (ℕ × (ℕ × SaleParts)))
-    × AreSales (facts_of before entry.key) entry.command own × SalesBehind (before ++ entry ∷ []) entries others
-    × (sales ≡ map (λ (sale : ℕ × SaleParts). (suc (length before), sale)) own ++ others)
+-- sales with the number of their entry
+abbrev pub numbered : ℕ → List (ℕ × SaleParts) → List (ℕ × (ℕ × SaleParts))
+numbered number sales = map (λ (sale : ℕ × SaleParts). (number, sale)) sales
+
+-- the sales of an entry behind those before it, each with the number of the entry and the place of
+-- its posting
+abbrev pub AreSalesOfEntry : List Entry → Entry → List (ℕ × (ℕ × SaleParts)) → Type 0
+AreSalesOfEntry before entry sales =
+    (own : List (ℕ × SaleParts)) × AreSales (facts_of before entry.key) entry.command own
+    × (sales ≡ numbered (suc (length before)) own)
 
 -- the sales of a book
 abbrev pub SalesOf : List Entry → List (ℕ × (ℕ × SaleParts)) → Type 0
-SalesOf entries sales = SalesBehind [] entries sales
+SalesOf entries sales = Collects AreSalesOfEntry [] entries sales

@@ -1,11 +1,9 @@
 -- What was bought into a lot is taken by the sales of a book, or held.
-use Rattle.std.specs.Prelude.{◌≡◌, ℕ, suc, true, cond, List, [], ◌∷◌, ◌++◌, length, map, filter, Option, None, Some, ℤ, pos, ◌+ℤ◌}
+use Rattle.std.specs.Prelude.{◌≡◌, ℕ, suc, true, cond, List, [], ◌∷◌, length, filter, Option, None, Some, ℤ, pos, ◌+ℤ◌}
 use Rattle.std.specs.FinMap.{empty}
 use Rattle.std.specs.Option.{unwrap_or}
 use Rattle.std.proofs.Common.{refl, sym, ap, ◌∙◌}
 use Rattle.std.proofs.Math.IntN.{+ℤ_idr}
-use Rattle.std.proofs.lemmas.Grind.{flat_map-append}
-use Rattle.std.proofs.lemmas.List.Elements.{filter-append}
 use Rattle.lot_cost.specs.declared.lot_key.LotKey.{LotKey}
 use Rattle.lot_inv.specs.Inventory.{non_zero}
 use Rattle.lot_inv.proofs.LotLemmas.{get-with_units_here, units_at-set}
@@ -16,19 +14,22 @@ use Rattle.lot_command.specs.declared.transaction.Posting.{Posting}
 use Rattle.lot_book.specs.declared.holding.Holding.{Holding}
 use Rattle.lot_book.specs.declared.leg.Leg.{Leg}
 use Rattle.lot_book.specs.declared.leg.Position.{Position}
-use Rattle.lot_book.specs.Booking.{All, Booked, BooksAll, IsBooked, Line, legs_in, line_of}
+use Rattle.lot_book.specs.Booking.{All, Booked, BooksAll, IsBooked, Line, line_of}
 use Rattle.lot_book.specs.Facts.{Entry, Facts, facts_of, legs_of}
 use Rattle.lot_book.specs.Leg.{legs_at_lots, leg_at, same_position, sum_at}
 use Rattle.lot_book.specs.Sale.{SaleParts, AreSales, lots_in_legs, sales_in, sales_of}
 use Rattle.lot_book.proofs.CaseLemmas.{by_bool}
 use Rattle.lot_book.proofs.SumLemmas.{sum_where-cons}
-use Rattle.lot_laws.specs.Laws.{BooksCommand, BooksEntries, bought_into, lot_at, sold_of}
+use Rattle.lot_laws.specs.Collects.{Collects}
+use Rattle.lot_laws.specs.Laws.{BooksCommand, BooksEntries, BooksEntry, bought_into, lot_at, sold_of}
+use Rattle.lot_laws.proofs.CollectLemmas.{over_collected}
 use Rattle.lot_laws.proofs.LawBooks.{over_booked}
-use Rattle.lot_laws.proofs.LawLeft.{sum_at-append, sum_if, sum_is_bought_and_sold}
+use Rattle.lot_laws.proofs.LawLeft.{sold-append, sum_if, sum_is_bought_and_sold}
 use Rattle.lot_laws.proofs.LawLots.{total, total-append}
 use Rattle.lot_laws.proofs.LawSales.{booked_sale}
 use Rattle.lot_laws.proofs.StepLemmas.{books_one}
-use Rattle.lot_stored.specs.Kept.{SalesBehind, SalesOf}
+use Rattle.lot_stored.specs.Kept.{AreSalesOfEntry, SalesOf, numbered}
+use Rattle.lot_stored.proofs.SalesLemmas.{all_booked}
 use Rattle.lot_book.proofs.SaleLemmas.{lots_in_legs-lots}
 use Rattle.lot_walk.specs.Holdings.{IsHoldings}
 use Rattle.lot_walk.specs.Sold.{left_of, taken_by, taken_of}
@@ -97,36 +98,35 @@ module _ (lot : Position) where
   command_takes facts (Declaring d) legs booked sales h are = none_takes booked sales h.1 are
   command_takes facts (Quoting q) legs booked sales h are = none_takes booked sales h.1 are
   command_takes facts (Transaction t) legs booked sales h are =
-      let one : All booked ≡ All are.0 = books_one facts t.day [] 1 t.postings (All booked) (All are.0) h.1 are.1 in
-      let same : booked ≡ are.0 = cc in
+      let same = all_booked booked are.0 (books_one facts t.day [] 1 t.postings (All booked) (All are.0) h.1 are.1) in
       sales_take facts t.day t.postings booked h.1
       ∙ ap (λ (bs : List Booked). total taken (sales_in t.day bs)) same
       ∙ sym (ap (total taken) are.2)
 
   -- ---- A book.
 
-  numbered : (number : ℕ) (sales : List (ℕ × SaleParts)) → total taken sales ≡ taken_of (map (λ (sale : ℕ × SaleParts). (number, sale)) sales) lot
-  numbered number [] = refl
-  numbered number (sale ∷ sales) = ap (λ z. taken sale +ℤ z) (numbered number sales)
+  numbered_take : (number : ℕ) (sales : List (ℕ × SaleParts)) → total taken sales ≡ taken_of (numbered number sales) lot
+  numbered_take number [] = refl
+  numbered_take number (sale ∷ sales) = ap (λ z. taken sale +ℤ z) (numbered_take number sales)
 
-  sold-append : (booked more : List Booked) → sold_of (booked ++ more) lot ≡ sold_of booked lot +ℤ sold_of more lot
-  sold-append booked more =
-      let sells = λ (b : Booked). b.reduces in
-      ap (λ (bs : List Booked). sum_at (legs_in bs) lot) (filter-append sells booked more)
-      ∙ ap (λ ls. sum_at ls lot) (flat_map-append (λ (b : Booked). b.legs) (filter sells booked) (filter sells more))
-      ∙ sum_at-append (legs_in (filter sells booked)) (legs_in (filter sells more)) lot
+  entry_takes : (before : List Entry) (entry : Entry) (booked : List Booked) (sales : List (ℕ × (ℕ × SaleParts)))
+      → BooksEntry before entry booked → AreSalesOfEntry before entry sales → sold_of booked lot ≡ taken_of sales lot
+  entry_takes before entry booked sales is are =
+      command_takes (facts_of before entry.key) entry.command entry.legs booked are.0 is are.1
+      ∙ numbered_take (suc (length before)) are.0
+      ∙ sym (ap (λ ss. taken_of ss lot) are.2)
 
-  book_takes : (before entries : List Entry) (booked : List Booked) (sales : List (ℕ × (ℕ × SaleParts)))
-      → BooksEntries before entries booked → SalesBehind before entries sales → sold_of booked lot ≡ taken_of sales lot
-  book_takes before [] booked sales h are = ap (λ (bs : List Booked). sold_of bs lot) h ∙ sym (ap (λ ss. taken_of ss lot) are)
-  book_takes before (entry ∷ entries) booked sales h are =
-      let own = map (λ (sale : ℕ × SaleParts). (suc (length before), sale)) are.0 in
-      ap (λ (bs : List Booked). sold_of bs lot) h.4
-      ∙ sold-append h.0 h.1
-      ∙ ap (λ z. z +ℤ sold_of h.1 lot)
-      (command_takes (facts_of before entry.key) entry.command entry.legs h.0 are.0 h.2 are.2 ∙ numbered (suc (length before)) are.0)
-      ∙ ap (λ z. taken_of own lot +ℤ z) (book_takes (before ++ entry ∷ []) entries h.1 are.1 h.3 are.3)
-      ∙ sym (ap (λ ss. taken_of ss lot) are.4 ∙ total-append (λ (sold : ℕ × (ℕ × SaleParts)). taken_by lot sold.1.1) own are.1)
+  book_takes : (before entries : List Entry) (booked : List Booked) → BooksEntries before entries booked
+      → (sales : List (ℕ × (ℕ × SaleParts))) → Collects AreSalesOfEntry before entries sales → sold_of booked lot ≡ taken_of sales lot
+  book_takes = over_collected BooksEntry
+      (λ before entries booked. (sales : List (ℕ × (ℕ × SaleParts))) → Collects AreSalesOfEntry before entries sales
+      → sold_of booked lot ≡ taken_of sales lot)
+      (λ before sales are. sym (ap (λ ss. taken_of ss lot) are))
+      (λ before entry entries first more is rest sales are.
+      sold-append first more lot
+      ∙ ap (λ z. z +ℤ sold_of more lot) (entry_takes before entry first are.0 is are.2)
+      ∙ ap (λ z. taken_of are.0 lot +ℤ z) (rest are.1 are.3)
+      ∙ sym (ap (λ ss. taken_of ss lot) are.4 ∙ total-append (λ (sold : ℕ × (ℕ × SaleParts)). taken_by lot sold.1.1) are.0 are.1))
 
 -- units that are kept where they aren't zero
 kept_units : (units : ℤ) → unwrap_or (non_zero units) (pos 0) ≡ units
@@ -143,4 +143,4 @@ bought_is_taken_or_left entries booked sales rows account commodity lot h are he
     ap (λ (found : Option ℤ). unwrap_or found (pos 0)) (holding_is_sum entries rows there held)
     ∙ kept_units (sum_at (legs_of entries) there)
     ∙ sum_is_bought_and_sold entries booked account commodity lot h
-    ∙ ap (λ z. bought_into booked there +ℤ z) (book_takes there [] entries booked sales h are)
+    ∙ ap (λ z. bought_into booked there +ℤ z) (book_takes there [] entries booked h sales are)

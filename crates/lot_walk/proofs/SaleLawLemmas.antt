@@ -1,36 +1,16 @@
 -- The sales of a book on the days of a range are one list, which is empty where the range ends before it begins.
-use Rattle.std.proofs.Common.{◌≡◌, ◌∙◌, ◌++◌, ◌&&◌, [], ◌∷◌, ℕ, ℤ, suc, Bool, true, false, not, length, List, map, Some, refl, sym, ap, ap₂, arith}
+use Rattle.std.proofs.Common.{◌≡◌, ◌∙◌, ◌&&◌, [], ◌∷◌, ℕ, ℤ, Bool, true, false, not, List, Some, refl, sym, ap, arith}
 use Rattle.std.specs.Prelude.{◌<ℤ◌, int_lt}
 use Rattle.std.proofs.lemmas.Int.{ints}
-use Rattle.lot_command.specs.declared.command.Command.{Command}
-use Rattle.lot_command.specs.declared.command.Command.TheVariants.{Opening, Closing, Declaring, Quoting, Transaction}
-use Rattle.lot_book.specs.Booking.{All}
-use Rattle.lot_book.specs.Facts.{Entry, Facts, facts_of}
-use Rattle.lot_book.specs.Sale.{SaleParts, AreSales, sales_in}
-use Rattle.lot_laws.proofs.StepLemmas.{books_one}
-use Rattle.lot_stored.specs.Kept.{SalesBehind}
+use Rattle.lot_book.specs.Facts.{Entry}
+use Rattle.lot_book.specs.Sale.{SaleParts}
+use Rattle.lot_stored.proofs.SalesLemmas.{one_sales}
 use Rattle.lot_walk.specs.Gains.{AreSalesWithin, Range, is_within, sold_within}
-use Rattle.lot_walk.proofs.SaleLegLemmas.{all_booked}
 
 -- ---- one list
 
-one_own : (facts : Facts) (command : Command) (a b : List (ℕ × SaleParts)) → AreSales facts command a → AreSales facts command b → a ≡ b
-one_own facts (Opening o) a b is other = is ∙ sym other
-one_own facts (Closing c) a b is other = is ∙ sym other
-one_own facts (Declaring d) a b is other = is ∙ sym other
-one_own facts (Quoting q) a b is other = is ∙ sym other
-one_own facts (Transaction t) a b is other =
-    let one = all_booked is.0 other.0 (books_one facts t.day [] 1 t.postings (All is.0) (All other.0) is.1 other.1) in is.2 ∙ ap (sales_in t.day) one ∙ sym other.2
-
-one_behind : (before entries : List Entry) (a b : List (ℕ × (ℕ × SaleParts))) → SalesBehind before entries a → SalesBehind before entries b → a ≡ b
-one_behind before [] a b is other = is ∙ sym other
-one_behind before (entry ∷ entries) a b is other =
-    let own = one_own (facts_of before entry.key) entry.command is.0 other.0 is.2 other.2 in
-    let later = one_behind (before ++ entry ∷ []) entries is.1 other.1 is.3 other.3 in
-    is.4 ∙ ap₂ (λ (own : List (ℕ × SaleParts)) (later : List (ℕ × (ℕ × SaleParts))). map (λ (sale : ℕ × SaleParts). (suc (length before), sale)) own ++ later) own later ∙ sym other.4
-
-pub one_sales : (entries : List Entry) (range : Range) (a b : List SaleParts) → AreSalesWithin range entries a → AreSalesWithin range entries b → a ≡ b
-one_sales entries range a b is other = is.2 ∙ ap (sold_within range) (one_behind [] entries is.0 other.0 is.1 other.1) ∙ sym other.2
+pub one_within : (entries : List Entry) (range : Range) (a b : List SaleParts) → AreSalesWithin range entries a → AreSalesWithin range entries b → a ≡ b
+one_within entries range a b is other = is.2 ∙ ap (sold_within range) (one_sales entries is.0 other.0 is.1 other.1) ∙ sym other.2
 
 -- ---- an empty range
 

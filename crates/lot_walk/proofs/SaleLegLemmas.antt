@@ -1,5 +1,5 @@
 -- The legs of a sale are all the legs of its posting.
-use Rattle.std.specs.Prelude.{◌≡◌, ◌≢◌, Bool, true, false, ℕ, suc, ◌≤◌, ◌==◌, ◌&&◌, cond, filter, List, [], ◌∷◌, ◌++◌, length, map, Option, None, Some, ℤ}
+use Rattle.std.specs.Prelude.{◌≡◌, ◌≢◌, Bool, true, false, ℕ, suc, ◌≤◌, ◌==◌, ◌&&◌, cond, filter, List, [], ◌∷◌, ◌++◌, length, Option, None, Some, ℤ}
 use Rattle.std.specs.List.{AllByRecursion}
 use Rattle.std.proofs.Common.{refl, sym, ap, subst, ◌∙◌, inl, inr, arith, append_assoc}
 use Rattle.std.proofs.lemmas.Bool.{cases_Bool}
@@ -24,13 +24,16 @@ use Rattle.lot_book.specs.Leg.{leg_at, legs_at_lots}
 use Rattle.lot_book.specs.Sale.{AreLegsOf, SaleParts, AreSales, lots_in_legs, sales_in, sales_of}
 use Rattle.lot_book.specs.Step.{Accept, Judges, first_conditions, first_of}
 use Rattle.lot_book.specs.declared.leg.Leg.{Leg}
+use Rattle.lot_laws.specs.Collects.{Collects}
+use Rattle.lot_laws.proofs.CollectLemmas.{over_collected}
 use Rattle.lot_laws.proofs.LawBooks.{accepted}
 use Rattle.lot_laws.proofs.LawSales.{booked_sale}
 use Rattle.lot_laws.proofs.StepLemmas.{books_one}
 use Rattle.lot_book.proofs.SaleLemmas.{lots_in_legs-lots}
 use Rattle.lot_stored.proofs.BookedLemmas.{AreApart, IsBookedAs, IsFrom, Walks, WalksOn, booked_as, elided_apart, legs_from, numbered_from, walks}
 use Rattle.lot_stored.proofs.NumberLemmas.{AreOfEntries, numbered_next, one_longer, own_legs}
-use Rattle.lot_stored.specs.Kept.{SalesBehind, SalesOf, is_of_posting, legs_of_posting}
+use Rattle.lot_stored.proofs.SalesLemmas.{all_booked}
+use Rattle.lot_stored.specs.Kept.{AreSalesOfEntry, SalesOf, is_of_posting, legs_of_posting}
 use Rattle.lot_walk.specs.Gains.{HasItsLegs}
 
 -- ---- filters
@@ -251,9 +254,6 @@ module _ (facts : Facts) (t : TransactionOf) (legs : List Leg) (is : IsBookedAs 
   transaction_sales : AllByRecursion (HasLegsOf number legs) (sales_in t.day is.booked)
   transaction_sales = own_sales is.booked (all_sold facts t.day 1 t.postings [] is.booked is.all) (all_own number 1 t.postings is.booked walk)
 
-pub all_booked : (a b : List Booked) → All a ≡ All b → a ≡ b
-all_booked a b e = cc
-
 entry_sales : (facts : Facts) (command : Command) (legs : List Leg) (sales : List (ℕ × SaleParts)) → Judges facts command (Accept legs) → AreSales facts command sales
     → AllByRecursion (HasLegsOf (suc facts.entries) legs) sales
 entry_sales facts (Opening o) legs sales judges are = subst (AllByRecursion (HasLegsOf (suc facts.entries) legs)) (sym are) tt
@@ -303,21 +303,29 @@ only_own before entries entry posting earlier continues =
     beyond : (n : ℕ) → suc (suc (length before)) ≤ n → n ≡ suc (length before) → ⊥
     beyond n from same = omega (arith, from, same)
 
-sales_behind : (before entries : List Entry) (sales : List (ℕ × (ℕ × SaleParts))) → AreOfEntries before → Continues before entries → SalesBehind before entries sales
-    → AllByRecursion (HasItsLegs (legs_of (before ++ entries))) sales
-sales_behind before [] sales earlier continues behind = subst (AllByRecursion (HasItsLegs (legs_of (before ++ [])))) (sym behind) tt
-sales_behind before (entry ∷ entries) sales earlier continues behind =
+own_sale_legs : (before entries : List Entry) (entry : Entry) (sales : List (ℕ × (ℕ × SaleParts))) → AreOfEntries before
+    → Continues before (entry ∷ entries) → AreSalesOfEntry before entry sales
+    → AllByRecursion (HasItsLegs (legs_of (before ++ entry ∷ entries))) sales
+own_sale_legs before entries entry sales earlier continues of =
     let number = suc (length before) in
     let whole = legs_of (before ++ entry ∷ entries) in
     let judges = (accepted before entry.key entry.command entry.legs continues.0).1 in
-    subst (AllByRecursion (HasItsLegs whole)) (sym behind.4)
-    (all-append (HasItsLegs whole) (map (λ (sale : ℕ × SaleParts). (number, sale)) behind.0) behind.1
-    (all_map (HasItsLegs whole) (λ (sale : ℕ × SaleParts). (number, sale)) behind.0
+    subst (AllByRecursion (HasItsLegs whole)) (sym of.2)
+    (all_map (HasItsLegs whole) (λ (sale : ℕ × SaleParts). (number, sale)) of.0
     (all_weaker (HasLegsOf number entry.legs) (λ (sale : ℕ × SaleParts). HasItsLegs whole (number, sale))
-    (λ sale has. (has.0, only_own before entries entry sale.0 earlier continues.1 ∙ has.1)) behind.0
-    (entry_sales (facts_of before entry.key) entry.command entry.legs behind.0 judges behind.2)))
-    (subst (λ (book : List Entry). AllByRecursion (HasItsLegs (legs_of book)) behind.1) (append_assoc before (entry ∷ []) entries)
-    (sales_behind (before ++ entry ∷ []) entries behind.1 (numbered_next before entry earlier judges) continues.1 behind.3)))
+    (λ sale has. (has.0, only_own before entries entry sale.0 earlier continues.1 ∙ has.1)) of.0
+    (entry_sales (facts_of before entry.key) entry.command entry.legs of.0 judges of.1)))
+
+collected_legs : (before entries : List Entry) (sales : List (ℕ × (ℕ × SaleParts))) → Collects AreSalesOfEntry before entries sales
+    → AreOfEntries before → Continues before entries → AllByRecursion (HasItsLegs (legs_of (before ++ entries))) sales
+collected_legs = over_collected AreSalesOfEntry
+    (λ before entries sales. AreOfEntries before → Continues before entries → AllByRecursion (HasItsLegs (legs_of (before ++ entries))) sales)
+    (λ before earlier continues. tt)
+    (λ before entry entries first more of rest earlier continues.
+    let judges = (accepted before entry.key entry.command entry.legs continues.0).1 in
+    all-append (HasItsLegs (legs_of (before ++ entry ∷ entries))) first more (own_sale_legs before entries entry first earlier continues of)
+    (subst (λ (book : List Entry). AllByRecursion (HasItsLegs (legs_of book)) more) (append_assoc before (entry ∷ []) entries)
+    (rest (numbered_next before entry earlier judges) continues.1)))
 
 pub sale_legs : (entries : List Entry) (sales : List (ℕ × (ℕ × SaleParts))) → IsBook entries → SalesOf entries sales → AllByRecursion (HasItsLegs (legs_of entries)) sales
-sale_legs entries sales book of = sales_behind [] entries sales tt book of
+sale_legs entries sales book of = collected_legs [] entries sales of tt book

@@ -67,12 +67,13 @@ impl HoldingsPlace {
         ensures begun { HasGivenNone AreHoldings IsBehindHoldings result tt }
         ensures rows { HasGivenNoRows IsBehindHoldingRows result tt }
     {
+        let lots = LotCursor::new(alloc);
         HoldingsPlace {
             has_begun: false,
             plain: None,
             more: Vec::new(alloc).into_iter(),
             lot: None,
-            lots: LotCursor::new(alloc),
+            lots,
         }
     }
 

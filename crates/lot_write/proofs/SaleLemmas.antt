@@ -3,7 +3,7 @@ use Rattle.std.specs.Prelude.{◌≡◌, ℕ, suc, ◌+◌, ◌<◌, ◌≤◌, 
 use Rattle.std.specs.List.{AllByRecursion}
 use Rattle.std.specs.declared.cmp.Ordering.TheVariants.{Less}
 use Rattle.std.proofs.Common.{refl, sym, ap, subst, ◌∙◌, arith, append_assoc, length-append}
-use Rattle.std.proofs.lemmas.List.{append-nil, map-append}
+use Rattle.std.proofs.lemmas.List.{map-append}
 use Rattle.sqlite.specs.Order.{Row}
 use Rattle.sqlite.specs.Tree.{IsAscending}
 use Rattle.sqlite.specs.declared.types.Value.TheVariants.{Int, Text}
@@ -14,7 +14,9 @@ use Rattle.lot_book.specs.Facts.{Entry, facts_of}
 use Rattle.lot_book.specs.Sale.{SaleParts, AreSales, sales_in}
 use Rattle.lot_rows.specs.Sale.{amount_of, currency_of, kind_of, sale_cells}
 use Rattle.lot_rows.specs.declared.sale.SaleRow.{SaleRow}
-use Rattle.lot_stored.specs.Kept.{SalesBehind, SalesOf}
+use Rattle.lot_laws.specs.Collects.{Collects}
+use Rattle.lot_laws.proofs.CollectLemmas.{collected_next, over_collected}
+use Rattle.lot_stored.specs.Kept.{AreSalesOfEntry, SalesOf, numbered}
 use Rattle.lot_stored.specs.Rows.{sale_row}
 use Rattle.lot_stored.proofs.KeyLemmas.{number_below, same_first}
 use Rattle.lot_stored.proofs.OrderLemmas.{IsRising, row_order}
@@ -67,56 +69,35 @@ sales_rise entry day place (posting ∷ postings) booked walk =
 
 -- ---- the sales of a book
 
--- a sale with the number of its entry
-abbrev pub numbered : ℕ → List (ℕ × SaleParts) → List (ℕ × (ℕ × SaleParts))
-numbered number sales = map (λ (sale : ℕ × SaleParts). (number, sale)) sales
-
-sales_next : (before entries whole : List Entry) (entry : Entry) (sales : List (ℕ × (ℕ × SaleParts))) (own : List (ℕ × SaleParts))
-    → before ++ entries ≡ whole → SalesBehind before entries sales → AreSales (facts_of whole entry.key) entry.command own
-    → SalesBehind before (entries ++ entry ∷ []) (sales ++ numbered (suc (length whole)) own)
-sales_next before [] whole entry sales own is behind are =
-    let same : whole ≡ before = sym is ∙ append-nil before in (
-      own,
-      [],
-      subst (λ (book : List Entry). AreSales (facts_of book entry.key) entry.command own) same are,
-      refl,
-      ap (λ (ss : List (ℕ × (ℕ × SaleParts))). ss ++ numbered (suc (length whole)) own) behind
-          ∙ ap (λ (book : List Entry). numbered (suc (length book)) own) same
-          ∙ sym (append-nil (numbered (suc (length before)) own)),
-    )
-sales_next before (first ∷ entries) whole entry sales own is behind are = (
-  behind.0,
-  behind.1 ++ numbered (suc (length whole)) own,
-  behind.2,
-  sales_next (before ++ first ∷ []) entries whole entry behind.1 own (append_assoc before (first ∷ []) entries ∙ is) behind.3 are,
-  ap (λ (ss : List (ℕ × (ℕ × SaleParts))). ss ++ numbered (suc (length whole)) own) behind.4
-      ∙ append_assoc (numbered (suc (length before)) behind.0) behind.1 (numbered (suc (length whole)) own),
-)
-
 pub sales_with : (entries : List Entry) (entry : Entry) (sales : List (ℕ × (ℕ × SaleParts))) (own : List (ℕ × SaleParts))
     → SalesOf entries sales → AreSales (facts_of entries entry.key) entry.command own
     → SalesOf (entries ++ entry ∷ []) (sales ++ numbered (suc (length entries)) own)
-sales_with entries entry sales own of are = sales_next [] entries entries entry sales own refl of are
+sales_with entries entry sales own of are =
+    collected_next AreSalesOfEntry [] entries entry sales (numbered (suc (length entries)) own) of (own, are, refl)
 
 -- each sale is of some entry
 abbrev AreUpTo : ℕ → List (ℕ × (ℕ × SaleParts)) → Type 0
 AreUpTo most sales = AllByRecursion (λ (sale : ℕ × (ℕ × SaleParts)). sale.0 ≤ most) sales
 
-up_to : (before entries : List Entry) (most : ℕ) (sales : List (ℕ × (ℕ × SaleParts))) → length (before ++ entries) ≤ most
-    → SalesBehind before entries sales → AreUpTo most sales
-up_to before [] most sales within behind = subst (AreUpTo most) (sym behind) tt
-up_to before (first ∷ entries) most sales within behind =
-    let here : suc (length before) ≤ length (before ++ first ∷ entries) =
-    subst (λ n. suc (length before) ≤ n) (sym (longer before first entries)) (omega arith) in
-    subst (AreUpTo most) (sym behind.4)
-    (all-append (λ (sale : ℕ × (ℕ × SaleParts)). sale.0 ≤ most) (numbered (suc (length before)) behind.0) behind.1
+own_up_to : (most : ℕ) (before entries : List Entry) (entry : Entry) (sales : List (ℕ × (ℕ × SaleParts)))
+    → length (before ++ entry ∷ entries) ≤ most → AreSalesOfEntry before entry sales → AreUpTo most sales
+own_up_to most before entries entry sales within of =
+    let here : suc (length before) ≤ length (before ++ entry ∷ entries) =
+    subst (λ n. suc (length before) ≤ n) (sym (longer before entry entries)) (omega arith) in
+    subst (AreUpTo most) (sym of.2)
     (all-map (λ (sale : ℕ × (ℕ × SaleParts)). sale.0 ≤ most) (λ (sale : ℕ × SaleParts). (suc (length before), sale))
-    (λ sale. omega arith) behind.0)
-    (up_to (before ++ first ∷ []) entries most behind.1
-    (subst (λ (book : List Entry). length book ≤ most) (sym (append_assoc before (first ∷ []) entries)) within) behind.3))
+    (λ sale. omega (arith, here, within)) of.0)
   where
     longer : {X : Type 0} (xs : List X) (x : X) (ys : List X) → length (xs ++ x ∷ ys) ≡ suc (length xs + length ys)
     longer xs x ys = length-append xs (x ∷ ys) ∙ omega arith
+
+up_to : (most : ℕ) (before entries : List Entry) (sales : List (ℕ × (ℕ × SaleParts))) → Collects AreSalesOfEntry before entries sales
+    → length (before ++ entries) ≤ most → AreUpTo most sales
+up_to most = over_collected AreSalesOfEntry (λ before entries sales. length (before ++ entries) ≤ most → AreUpTo most sales)
+    (λ before within. tt)
+    (λ before entry entries first more of rest within.
+    all-append (λ (sale : ℕ × (ℕ × SaleParts)). sale.0 ≤ most) first more (own_up_to most before entries entry first within of)
+    (rest (subst (λ (book : List Entry). length book ≤ most) (sym (append_assoc before (entry ∷ []) entries)) within)))
 
 -- ---- their table
 
@@ -148,7 +129,7 @@ sales_last entries sales own of rise =
     (λ (sale : ℕ × (ℕ × SaleParts)). AllByRecursion (λ (new : SaleRow). row_order sale_cells 2 (sale_row sale) new ≡ Less) (map row own))
     (λ sale within. all-map (λ (new : SaleRow). row_order sale_cells 2 (sale_row sale) new ≡ Less) row
     (λ other. earlier_entry sale (number, other) (omega (arith, within))) own)
-    sales (up_to [] entries (length entries) sales (omega arith) of)) in
+    sales (up_to (length entries) [] entries sales of (omega arith))) in
     let up : IsRising sale_cells 2 (map row own) =
     ascending-map (λ (a b : SaleRow). row_order sale_cells 2 a b ≡ Less) row own
     (ascending_weaker IsEarlier (λ (a b : ℕ × SaleParts). row_order sale_cells 2 (row a) (row b) ≡ Less) (earlier_posting number) own rise) in

@@ -47,7 +47,7 @@ use Rattle.lot_rows.specs.declared.lot.LotRow.{LotRow}
 use Rattle.lot_rows.specs.declared.plain.PlainRow.{PlainRow}
 use Rattle.lot_rows.specs.declared.price.PriceRow.{PriceRow}
 use Rattle.lot_table.specs.Rows.{with_key}
-use Rattle.lot_stored.specs.Kept.{SalesOf, legs_of_posting}
+use Rattle.lot_stored.specs.Kept.{SalesOf, legs_of_posting, numbered}
 use Rattle.lot_stored.specs.Rows.{allowed_rows, entry_row, head_row, leg_row, lot_key, lot_row, pair_key, plain_row, posting_key, row_at, sale_row}
 use Rattle.lot_stored.specs.StandFor.{StandFor, sum_in}
 use Rattle.lot_stored.proofs.KeyLemmas.{at_lot}
@@ -64,7 +64,7 @@ use Rattle.lot_write.proofs.NamedLemmas.{IsAccepted, judged}
 use Rattle.lot_stored.proofs.NumberLemmas.{legs_for, numbered_legs, own_legs, precede_next}
 use Rattle.lot_write.proofs.PositionLemmas.{lot_step, plain_at, plain_step, positions_stand, settled}
 use Rattle.lot_write.proofs.PutLemmas.{head_of, heads_put, legs_put, put_each, sales_put}
-use Rattle.lot_write.proofs.SaleLemmas.{IsEarlier, numbered, sales_last, sales_rise, sales_with}
+use Rattle.lot_write.proofs.SaleLemmas.{IsEarlier, sales_last, sales_rise, sales_with}
 use Rattle.lot_write.proofs.WrittenLemmas.{left-written_all, written_all-append}
 
 -- ---- other commands

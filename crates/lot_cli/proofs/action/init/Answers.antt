@@ -10,12 +10,12 @@ pub returns-in-Ok-clause-makes : goal.returns-in-Ok-clause-makes
 returns-in-Ok-clause-makes g c =
     subst (λ conn. Makes (state g.S.Store c.args.conn) (state g.S.Store conn) (g.W.Write.contents c.args.writer.now) (g.W.Write.contents c.tell.new.writer) c.tell.result)
     (sym c.into_connection.ensures.same)
-    (makes (state g.S.Store c.args.conn) (state g.S.Store c.in-Ok.book.conn) _ _ c.tell.result c.in-Ok.ensures.made c.in-Ok.ensures.committed c.in-Ok.ensures.free c.in-Ok.ensures.crash_ok
+    (makes (state g.S.Store c.args.conn) (state g.S.Store c.in-Ok.book.conn) _ _ c.tell.result c.in-Ok.ensures.made c.in-Ok.ensures.committed c.in-Ok.ensures.empty c.in-Ok.ensures.crash_ok
     (said ready_line Accepted _ _ _ c.print_line-printed.result c.tell.result c.print_line-printed.ensures.bytes c.tell.ensures.kept c.tell.ensures.end))
 
 pub returns-in-Err-clause-makes : goal.returns-in-Err-clause-makes
 returns-in-Err-clause-makes g c =
     subst (λ conn. Makes (state g.S.Store c.args.conn) (state g.S.Store conn) (g.W.Write.contents c.args.writer.now) (g.W.Write.contents c.halted.new.writer) c.halted.result.status)
     (sym c.halted.ensures.same)
-    (makes_none (state g.S.Store c.args.conn) (state g.S.Store c.in-Err.field-0.conn) _ _ c.in-Err.field-0.fault c.halted.result.status c.in-Err.ensures.refused c.in-Err.ensures.handed_back c.in-Err.ensures.kept c.in-Err.ensures.crash_err
+    (makes_none (state g.S.Store c.args.conn) (state g.S.Store c.in-Err.field-0.conn) _ _ c.in-Err.field-0.fault c.halted.result.status c.in-Err.ensures.refused c.in-Err.ensures.other c.in-Err.ensures.handed_back c.in-Err.ensures.kept c.in-Err.ensures.crash_err
     c.halted.ensures.says)

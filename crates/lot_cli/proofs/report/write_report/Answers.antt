@@ -9,7 +9,7 @@ returns-in-Ok-clause-reports g c =
     subst (λ conn. Reports c.args.report (state g.S.Store c.args.conn) (state g.S.Store conn) (g.W.Write.contents c.args.writer.now) (g.W.Write.contents c.conclude.new.writer) c.conclude.result)
     (sym c.into_connection.ensures.same)
     (reported g.S.Store c.args.report (state g.S.Store c.args.conn) c.in-Ok.book c.show-shown.new.book c.show-shown.result _ _ _ c.conclude.result
-    c.in-Ok.ensures.found c.in-Ok.ensures.same c.in-Ok.ensures.crash_ok c.in-Ok.ensures.ready c.show-shown.ensures.reads c.show-shown.ensures.shows c.show-shown.ensures.some c.show-shown.ensures.rows c.conclude.ensures.concludes)
+    c.in-Ok.ensures.taken c.in-Ok.ensures.same c.in-Ok.ensures.crash_ok c.in-Ok.ensures.ready c.show-shown.ensures.reads c.show-shown.ensures.shows c.show-shown.ensures.some c.show-shown.ensures.rows c.conclude.ensures.concludes)
 
 pub returns-in-Err-clause-reports : goal.returns-in-Err-clause-reports
 returns-in-Err-clause-reports g c =

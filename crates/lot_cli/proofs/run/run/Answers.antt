@@ -10,7 +10,7 @@ returns-in-Ok-clause-runs g c =
     subst (λ conn. RunsOn c.args.commands.now c.args.from (state g.S.Store c.args.conn) (state g.S.Store conn) (g.W.Write.contents c.args.writer.now) (g.W.Write.contents c.run-end.new.writer) c.code.result)
     (sym c.into_connection.ensures.same)
     (runs_on c.args.commands.now c.args.from (state g.S.Store c.args.conn) (state g.S.Store c.in-Ok.book.conn) (state g.S.Store c.run-end.new.self.conn) _ _ c.in-Ok.book.condition c.run-end.new.self.condition c.run-end.result c.code.result
-    c.in-Ok.ensures.found c.in-Ok.ensures.same c.in-Ok.ensures.crash_ok c.in-Ok.ensures.ready c.run-end.ensures.runs
+    c.in-Ok.ensures.taken c.in-Ok.ensures.same c.in-Ok.ensures.crash_ok c.in-Ok.ensures.ready c.run-end.ensures.runs
     c.run-end.ensures.usable (c.code.ensures.value ∙ ap code_of c.status_of_run.ensures))
 
 pub returns-in-Err-clause-runs : goal.returns-in-Err-clause-runs

@@ -1,5 +1,6 @@
 -- What stands under a key stands there ever after.
-use Rattle.lot_laws.proofs.LawKeys.{only_repeats, put_in, repeats, stands, taken_out}
+use Rattle.lot_laws.proofs.KeyLaws.{put_in, taken_out}
+use Rattle.lot_laws.proofs.LawKeys.{only_repeats, repeats, stands}
 use Rattle.lot_laws.proofs.books.an_equal_command_may_be_taken_out.Goals as goal
 
 pub returns-clause-stands : goal.returns-clause-stands

@@ -2,7 +2,7 @@ use Rattle.std.proofs.Common.{Err, ap, inl, inr, sym}
 use Rattle.std.proofs.lemmas.Result.{err_from_is_err_and}
 use Rattle.sqlite.specs.Held.{state}
 use Rattle.lot_rows.proofs.BookLemmas.{list_is}
-use Rattle.lot_store.proofs.AdoptLemmas.{tells_book, unanswered}
+use Rattle.lot_store.proofs.AdoptLemmas.{is_taken, tells_book, unanswered}
 use Rattle.lot_store.proofs.adoption.tell.Goals as goal
 
 pub ask-requires : goal.ask-requires
@@ -23,3 +23,6 @@ returns-clause-tells g c clean = inl (c.in_ok-rows.rows.items, c.in_ok-rows.ensu
 
 pub returns-clause-of_book : goal.returns-clause-of_book
 returns-clause-of_book g c clean = tells_book (state g.S.Store c.args.conn.now) (state g.S.Store c.ask.new.conn) c.tell_rows.result (returns-clause-tells g c clean) c.requires
+
+pub returns-clause-taken : goal.returns-clause-taken
+returns-clause-taken g c clean = is_taken (state g.S.Store c.args.conn.now) (state g.S.Store c.ask.new.conn) c.tell_rows.result (returns-clause-tells g c clean) c.requires

@@ -1,7 +1,7 @@
 use Rattle.std.proofs.Common.{sym, ◌∙◌}
 use Rattle.std.proofs.lemmas.List.{nil_from_length}
 use Rattle.std.proofs.lemmas.Result.{err_from_is_err_and}
-use Rattle.lot_check.proofs.ReportLemmas.{nothing_yet, report_ends, row_stops, row_taken}
+use Rattle.lot_check.proofs.ReportLemmas.{report_ends, row_stops, row_taken}
 use Rattle.lot_check.proofs.batch.report.print_holdings.Goals as goal
 
 pub loop-holding-preserved : goal.loop-holding-preserved

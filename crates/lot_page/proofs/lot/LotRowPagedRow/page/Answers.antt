@@ -2,10 +2,10 @@ use Rattle.std.proofs.Common.{arith, rules}
 use Rattle.std.proofs.lemmas.List.{nil_from_length}
 use Rattle.sqlite.specs.Held.{state}
 use Rattle.sqlite_sql.specs.declared.ops.CompareOp.TheVariants.{Gt}
-use Rattle.lot_page.specs.Page.{page_rows}
-use Rattle.lot_page.proofs.LevelLemmas.{level, terms}
+use Rattle.lot_page.specs.Page.{level, page_rows}
+use Rattle.lot_page.proofs.LevelLemmas.{terms}
 use Rattle.lot_page.proofs.PageLemmas.{answers}
-use Rattle.lot_page.proofs.LotLemmas.{all_lots, asks_cost_label, cost_label_key, cost_label_text, mounts_5, names, order, shows}
+use Rattle.lot_page.proofs.LotLemmas.{all_lots, asks_cost_label, cost_label_key, cost_label_text, mounts_at, names, order, shows}
 use Rattle.lot_page.proofs.WalkLemmas.{later_pages, level_ends, level_fails, level_pages}
 use Rattle.lot_rows.specs.Lot.{lot_cells}
 use Rattle.lot_rows.specs.Tables.{lot_table}
@@ -27,7 +27,7 @@ returns-in_err-rest g c =
     let first =
     answers lot_table cost_label_key (λ k. level 5 0 (lot_cells k)) page_rows (terms Gt 5 0) shows order names cost_label_text asks_cost_label old new row c.ask.result (rw (c.to_cell.ensures, c.to_cell-2.ensures, c.to_cell-3.ensures, c.to_cell-4.ensures, c.to_cell-5.ensures, c.to_cell-6.ensures, c.to_cell-7.ensures) at told.shown) told.same
     (rw (c.to_cell.ensures, c.to_cell-2.ensures, c.to_cell-3.ensures, c.to_cell-4.ensures, c.to_cell-5.ensures, c.to_cell-6.ensures, c.to_cell-7.ensures) at told.refused) told.device told.err told.crash in
-    let pages = level_fails lot_cells (λ b. b.lot) page_rows (omega arith) 5 (lot_cells row) mounts_5 old new c.in_err-rest.field-0.0 (rw (c.in_err-rest.was) at first) in
+    let pages = level_fails lot_cells (λ b. b.lot) page_rows (omega arith) 5 (lot_cells row) (mounts_at 5 (omega arith)) old new c.in_err-rest.field-0.0 (rw (c.in_err-rest.was) at first) in
     record { pages = rw (c.in-Some.is) (search rules) }
 
 pub returns-then-not-is_empty : goal.returns-then-not-is_empty
@@ -39,7 +39,7 @@ returns-then-not-is_empty g c =
     let first =
     answers lot_table cost_label_key (λ k. level 5 0 (lot_cells k)) page_rows (terms Gt 5 0) shows order names cost_label_text asks_cost_label old new row c.ask.result (rw (c.to_cell.ensures, c.to_cell-2.ensures, c.to_cell-3.ensures, c.to_cell-4.ensures, c.to_cell-5.ensures, c.to_cell-6.ensures, c.to_cell-7.ensures) at told.shown) told.same
     (rw (c.to_cell.ensures, c.to_cell-2.ensures, c.to_cell-3.ensures, c.to_cell-4.ensures, c.to_cell-5.ensures, c.to_cell-6.ensures, c.to_cell-7.ensures) at told.refused) told.device told.err told.crash in
-    record { pages = rw (c.in-Some.is) (level_pages lot_cells (λ b. b.lot) page_rows (omega arith) 5 (lot_cells row) mounts_5 old new c.in_ok-rest.rest (search rules) (rw (c.in_ok-rest.was) at first)) }
+    record { pages = rw (c.in-Some.is) (level_pages lot_cells (λ b. b.lot) page_rows (omega arith) 5 (lot_cells row) (mounts_at 5 (omega arith)) old new c.in_ok-rest.rest (search rules) (rw (c.in_ok-rest.was) at first)) }
 
 pub returns-in_err-texts : goal.returns-in_err-texts
 returns-in_err-texts g c =
@@ -50,7 +50,7 @@ returns-in_err-texts g c =
     let first =
     answers lot_table cost_label_key (λ k. level 5 0 (lot_cells k)) page_rows (terms Gt 5 0) shows order names cost_label_text asks_cost_label old new row c.ask.result (rw (c.to_cell.ensures, c.to_cell-2.ensures, c.to_cell-3.ensures, c.to_cell-4.ensures, c.to_cell-5.ensures, c.to_cell-6.ensures, c.to_cell-7.ensures) at told.shown) told.same
     (rw (c.to_cell.ensures, c.to_cell-2.ensures, c.to_cell-3.ensures, c.to_cell-4.ensures, c.to_cell-5.ensures, c.to_cell-6.ensures, c.to_cell-7.ensures) at told.refused) told.device told.err told.crash in
-    let pages = level_ends lot_cells (λ b. b.lot) page_rows (omega arith) 5 (lot_cells row) mounts_5 old new c.in_ok-rest.rest (rw (c.in_ok-rest.was) at first) in
+    let pages = level_ends lot_cells (λ b. b.lot) page_rows (omega arith) 5 (lot_cells row) (mounts_at 5 (omega arith)) old new c.in_ok-rest.rest (rw (c.in_ok-rest.was) at first) in
     record { pages = rw (c.in-Some.is) (search rules) }
 
 pub returns : goal.returns
@@ -62,6 +62,6 @@ returns g c =
     let first =
     answers lot_table cost_label_key (λ k. level 5 0 (lot_cells k)) page_rows (terms Gt 5 0) shows order names cost_label_text asks_cost_label old mid row c.ask.result (rw (c.to_cell.ensures, c.to_cell-2.ensures, c.to_cell-3.ensures, c.to_cell-4.ensures, c.to_cell-5.ensures, c.to_cell-6.ensures, c.to_cell-7.ensures) at told.shown) told.same
     (rw (c.to_cell.ensures, c.to_cell-2.ensures, c.to_cell-3.ensures, c.to_cell-4.ensures, c.to_cell-5.ensures, c.to_cell-6.ensures, c.to_cell-7.ensures) at told.refused) told.device told.err told.crash in
-    let new = state g.S.Store c.behind_number.new.conn in
-    let later = c.behind_number.ensures.pages in
-    record { pages = rw (c.in-Some.is) (later_pages lot_cells (λ b. b.lot) page_rows (omega arith) 5 (lot_cells row) mounts_5 old mid c.in_ok-rest.rest (nil_from_length c.in_ok-rest.rest.items (search rules)) (rw (c.in_ok-rest.was) at first) new c.behind_number.result later) }
+    let new = state g.S.Store c.behind.new.conn in
+    let later = c.behind.ensures.pages in
+    record { pages = rw (c.in-Some.is) (later_pages lot_cells (λ b. b.lot) page_rows (omega arith) 5 (lot_cells row) (mounts_at 5 (omega arith)) old mid c.in_ok-rest.rest (nil_from_length c.in_ok-rest.rest.items (search rules)) (rw (c.in_ok-rest.was) at first) new c.behind.result later) }

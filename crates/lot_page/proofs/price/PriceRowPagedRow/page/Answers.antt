@@ -2,8 +2,8 @@ use Rattle.std.proofs.Common.{arith, rules}
 use Rattle.std.proofs.lemmas.List.{nil_from_length}
 use Rattle.sqlite.specs.Held.{state}
 use Rattle.sqlite_sql.specs.declared.ops.CompareOp.TheVariants.{Gt}
-use Rattle.lot_page.specs.Page.{page_rows}
-use Rattle.lot_page.proofs.LevelLemmas.{level, terms}
+use Rattle.lot_page.specs.Page.{level, page_rows}
+use Rattle.lot_page.proofs.LevelLemmas.{terms}
 use Rattle.lot_page.proofs.PageLemmas.{answers}
 use Rattle.lot_page.proofs.PriceLemmas.{all_prices, asks_day, day_key, day_text, mounts_2, names, order, shows}
 use Rattle.lot_page.proofs.WalkLemmas.{later_pages, level_ends, level_fails, level_pages}

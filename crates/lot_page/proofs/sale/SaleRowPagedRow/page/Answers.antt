@@ -2,8 +2,8 @@ use Rattle.std.proofs.Common.{arith, pos, refl, rules, ◌+ℤ◌}
 use Rattle.std.proofs.lemmas.List.{nil_from_length}
 use Rattle.sqlite.specs.Held.{state}
 use Rattle.sqlite_sql.specs.declared.ops.CompareOp.TheVariants.{Gt}
-use Rattle.lot_page.specs.Page.{page_rows}
-use Rattle.lot_page.proofs.LevelLemmas.{level, terms}
+use Rattle.lot_page.specs.Page.{level, page_rows}
+use Rattle.lot_page.proofs.LevelLemmas.{terms}
 use Rattle.lot_page.proofs.PageLemmas.{answers}
 use Rattle.lot_page.proofs.SaleLemmas.{all_sales, asks_posting, mounts_1, names, order, past_first, posting_key, posting_text, shows}
 use Rattle.lot_page.proofs.WalkLemmas.{later_pages, level_fails, level_pages}

@@ -1,0 +1,327 @@
+-- Sessions that follow one another, and a list that is sent again.
+use Rattle.std.proofs.Common.{◌≡◌, ◌∙◌, ◌≤◌, ◌-ℤ◌, inl, inr, ap, refl, subst, sym, arith, append_assoc, append-nil, ℕ, suc, List, [], ◌∷◌, ◌++◌, length, drop, Option, Some, None, cond}
+use Rattle.std.specs.List.{AllByRecursion}
+use Rattle.lot_base.proofs.TextLemmas.{one_text}
+use Rattle.lot_base.specs.Text.{same_text}
+use Rattle.lot_command.specs.Canonical.{canonical}
+use Rattle.lot_command.specs.declared.command.Command.{Command}
+use Rattle.lot_command.specs.declared.command.Command.TheVariants.{Opening, Closing, Declaring, Quoting, Transaction}
+use Rattle.lot_command.specs.declared.key.Key.{Key}
+use Rattle.lot_command.specs.declared.price.Price.{Price}
+use Rattle.lot_command.specs.declared.transaction.Transaction.{Transaction as TransactionOf}
+use Rattle.lot_book.proofs.CaseLemmas.{by_bool}
+use Rattle.lot_book.specs.Book.{IsBook, entry_of}
+use Rattle.lot_book.specs.Booking.{All, Bookings, Stopped}
+use Rattle.lot_book.specs.Facts.{Entry, Facts, facts_of, text_under}
+use Rattle.lot_book.specs.Gain.{cost_of, currency_of, gain_at, gain_from, has_other_currency, proceeds_at}
+use Rattle.lot_book.specs.Judged.{JudgesAll, JudgesOn}
+use Rattle.lot_book.specs.Sale.{SaleParts}
+use Rattle.lot_book.specs.Step.{DecidesBy, Judges, JudgesTransaction, Refuse, Repeat, accept_unless, concluded}
+use Rattle.lot_book.specs.declared.gain.Gain.{Gain}
+use Rattle.lot_book.specs.declared.leg.Leg.{Leg}
+use Rattle.lot_book.specs.declared.refusal.Refusal.{Refusal}
+use Rattle.lot_book.specs.declared.refusal.Refusal.TheVariants.{KeyReused}
+use Rattle.lot_book.specs.declared.verdict.Verdict.{Verdict}
+use Rattle.lot_book.specs.declared.verdict.Verdict.TheVariants.{Accepted, Refused, Repeated}
+use Rattle.lot_laws.proofs.GainLaws.{a_gain_is_proceeds_less_cost}
+use Rattle.lot_laws.proofs.JudgedLaws.{judged_alike, judged_book, some_judged}
+use Rattle.lot_laws.proofs.KeyLaws.{accepted_stands, is_repeat, remains}
+use Rattle.lot_laws.proofs.LawUnits.{held_as_bought}
+use Rattle.lot_store.specs.Session.{IsAfter, StopLeaves}
+use Rattle.lot_walk.proofs.SaleLegLemmas.{sale_legs}
+use Rattle.lot_cli.specs.Again.{AreBehind, IsOneRun, SentAgain}
+use Rattle.lot_cli.specs.Headline.{AddFirst, AddsFirst, AreUnderKeys, Headline, HoldsAcknowledged, IsLessCost, IsUnderKey, Sent, StopsLeave, count_accepted}
+
+-- ---- commands judged one after another
+
+judges_append : (before mid after : List Entry) (done more : List (Key × Command)) (vs ws : List Verdict) → JudgesAll before done vs mid
+    → JudgesAll mid more ws after → JudgesAll before (done ++ more) (vs ++ ws) after
+judges_append before mid after [] more [] ws all rest = subst (λ (b : List Entry). JudgesAll b more ws after) all rest
+judges_append before mid after [] more (v ∷ vs) ws all rest = absurd all
+judges_append before mid after (c ∷ done) more [] ws all rest = absurd all
+judges_append before mid after (c ∷ done) more (v ∷ vs) ws all rest = (all.0, all.1, judges_append all.0 mid after done more vs ws all.2 rest)
+
+judges_split : (before after : List Entry) (done more : List (Key × Command)) (vs : List Verdict) → JudgesAll before (done ++ more) vs after
+    → (ws us : List Verdict) × (mid : List Entry) × (vs ≡ ws ++ us) × JudgesAll before done ws mid × JudgesAll mid more us after
+judges_split before after [] more vs all = ([], vs, before, refl, refl, all)
+judges_split before after (c ∷ done) more [] all = absurd all
+judges_split before after (c ∷ done) more (v ∷ vs) all =
+    let rest = judges_split all.0 after done more vs all.2 in
+    (v ∷ rest.0, rest.1, rest.2, ap (λ (xs : List Verdict). v ∷ xs) rest.3, (all.0, all.1, rest.4), rest.5)
+
+-- the last of them
+judges_last : (before after : List Entry) (done : List (Key × Command)) (vs : List Verdict) (v : Verdict) → JudgesAll before done (vs ++ v ∷ []) after
+    → (first : List (Key × Command)) × (last : Key × Command) × (mid : List Entry) × (done ≡ first ++ last ∷ []) × JudgesAll before first vs mid × JudgesOn mid last.0 last.1 v after
+judges_last before after [] [] v all = absurd all
+judges_last before after [] (w ∷ vs) v all = absurd all
+judges_last before after (c ∷ []) [] v all = ([], c, before, refl, refl, subst (JudgesOn before c.0 c.1 v) (sym all.2) all.1)
+judges_last before after (c ∷ (d ∷ done)) [] v all = absurd all.2
+judges_last before after (c ∷ done) (w ∷ vs) v all =
+    let rest = judges_last all.0 after done vs v all.2 in
+    (c ∷ rest.0, rest.1, rest.2, ap (λ (cs : List (Key × Command)). c ∷ cs) rest.3, (all.0, all.1, rest.4), rest.5)
+
+as_many : (before after : List Entry) (done : List (Key × Command)) (vs : List Verdict) → JudgesAll before done vs after → length done ≡ length vs
+as_many before after [] [] all = refl
+as_many before after [] (v ∷ vs) all = absurd all
+as_many before after (c ∷ done) [] all = absurd all
+as_many before after (c ∷ done) (v ∷ vs) all = ap suc (as_many all.0 after done vs all.2)
+
+-- they add an entry for each that is accepted
+grows : (before after : List Entry) (commands : List (Key × Command)) (vs : List Verdict) → JudgesAll before commands vs after
+    → (added : List Entry) × (after ≡ before ++ added) × (length added ≡ count_accepted vs)
+grows before after [] [] all = ([], all ∙ sym (append-nil before), refl)
+grows before after [] (v ∷ vs) all = absurd all
+grows before after (c ∷ commands) [] all = absurd all
+grows before after (c ∷ commands) (Accepted ∷ vs) all =
+    let rest = grows all.0 after commands vs all.2 in
+    let entry = entry_of c.0 c.1 all.1.0 in
+    (entry ∷ rest.0, rest.1 ∙ ap (λ (b : List Entry). b ++ rest.0) all.1.2 ∙ append_assoc before (entry ∷ []) rest.0, ap suc rest.2)
+grows before after (c ∷ commands) (Repeated ∷ vs) all =
+    let rest = grows all.0 after commands vs all.2 in (rest.0, rest.1 ∙ ap (λ (b : List Entry). b ++ rest.0) all.1.1, rest.2)
+grows before after (c ∷ commands) (Refused refusal ∷ vs) all =
+    let rest = grows all.0 after commands vs all.2 in (rest.0, rest.1 ∙ ap (λ (b : List Entry). b ++ rest.0) all.1.1, rest.2)
+
+one_accepted_more : (vs : List Verdict) → count_accepted (vs ++ Accepted ∷ []) ≡ suc (count_accepted vs)
+one_accepted_more [] = refl
+one_accepted_more (Accepted ∷ vs) = ap suc (one_accepted_more vs)
+one_accepted_more (Repeated ∷ vs) = one_accepted_more vs
+one_accepted_more (Refused refusal ∷ vs) = one_accepted_more vs
+
+-- ---- a prefix of the accepted commands
+
+module _ (before : List Entry) (commands : List (Key × Command)) (book : List Entry) where
+  is_first : (vs : List Verdict) → IsAfter before commands vs book → (verdicts : List Verdict) (whole : List Entry) → JudgesAll before commands verdicts whole
+      → (rest : List Entry) × (whole ≡ book ++ rest)
+  is_first vs (left, on) verdicts whole all =
+      let parts = judges_split before whole on.done left verdicts (subst (λ (cs : List (Key × Command)). JudgesAll before cs verdicts whole) on.split all) in
+      let same : parts.2 ≡ book = (judged_alike before on.done parts.0 vs parts.2 book parts.4 on.judged).1 in
+      let more = grows parts.2 whole left parts.1 parts.5 in
+      (more.0, more.1 ∙ ap (λ (b : List Entry). b ++ more.0) same)
+
+adds : (before : List Entry) (sent : Sent) (book : List Entry) (vs : List Verdict) → IsAfter before sent.commands vs book
+    → count_accepted sent.replied ≤ count_accepted vs → count_accepted vs ≤ suc (count_accepted sent.replied) → AddsFirst before sent book
+adds before sent book vs after least most =
+    let g = grows before book after.1.done vs after.1.judged in
+    let run = some_judged before sent.commands in
+    let more = is_first before sent.commands book vs after run.0 run.1 run.2 in record {
+      verdicts = run.0;
+      whole = run.1;
+      judged = run.2;
+      added = g.0;
+      rest = more.0;
+      behind = g.1;
+      first = more.1;
+      least = omega (arith, g.2, least);
+      most = omega (arith, g.2, most);
+    }
+
+adds_first : (before : List Entry) (sent : Sent) (book : List Entry) → StopLeaves before sent.commands sent.replied book → AddsFirst before sent book
+adds_first before sent book (inl after) = adds before sent book sent.replied after (omega arith) (omega arith)
+adds_first before sent book (inr after) =
+    let one = one_accepted_more sent.replied in
+    adds before sent book (sent.replied ++ Accepted ∷ []) after (omega (arith, one)) (omega (arith, one))
+
+-- ---- what was acknowledged
+
+-- a command that repeats stands under its key
+no_repeat : (condition : Option Refusal) (legs : List Leg) → Repeat ≡ accept_unless condition legs → ⊥
+no_repeat None legs is = cc
+no_repeat (Some refusal) legs is = cc
+
+no_repeat_booked : (facts : Facts) (t : TransactionOf) (bookings : Bookings) → Repeat ≡ concluded facts t bookings → ⊥
+no_repeat_booked facts t (Stopped refusal) is = cc
+no_repeat_booked facts t (All booked) is = no_repeat _ _ is
+
+no_repeat_of : (facts : Facts) (t : TransactionOf) (condition : Option Refusal) → JudgesTransaction facts t condition Repeat → ⊥
+no_repeat_of facts t (Some refusal) is = cc
+no_repeat_of facts t None (bookings, books, is) = no_repeat_booked facts t bookings is
+
+judges_no_repeat : (facts : Facts) (command : Command) → Judges facts command Repeat → ⊥
+judges_no_repeat facts (Opening o) is = no_repeat _ _ is
+judges_no_repeat facts (Closing c) is = no_repeat _ _ is
+judges_no_repeat facts (Declaring d) is = no_repeat _ _ is
+judges_no_repeat facts (Quoting q) is = no_repeat _ _ is
+judges_no_repeat facts (Transaction t) is = no_repeat_of facts t _ is
+
+repeats_by : (text : Option (List ℕ)) (facts : Facts) (command : Command) → DecidesBy text facts command Repeat → text ≡ Some (canonical command)
+repeats_by None facts command is = absurd (judges_no_repeat facts command is)
+repeats_by (Some text) facts command is = by_bool (same_text text (canonical command))
+    (λ same. ap Some (one_text text (canonical command) same))
+    (λ other. let none : Repeat ≡ Refuse KeyReused = is ∙ ap (λ b. cond b Repeat (Refuse KeyReused)) other in absurd cc)
+
+remains_all : (before after : List Entry) (commands : List (Key × Command)) (vs : List Verdict) → JudgesAll before commands vs after
+    → (keyed : Key × Command) → IsUnderKey before keyed → IsUnderKey after keyed
+remains_all before after [] [] all keyed known = ap (λ (b : List Entry). text_under b keyed.0) all ∙ known
+remains_all before after [] (v ∷ vs) all keyed known = absurd all
+remains_all before after (c ∷ commands) [] all keyed known = absurd all
+remains_all before after (c ∷ commands) (v ∷ vs) all keyed known =
+    remains_all all.0 after commands vs all.2 keyed (remains before all.0 keyed.0 c.0 (canonical keyed.1) c.1 v known all.1)
+
+-- the commands that were judged stand, with whatever comes behind them
+stand_after : (before after : List Entry) (done left : List (Key × Command)) (vs : List Verdict) → JudgesAll before done vs after → AreUnderKeys after (done ++ left) vs
+stand_after before after [] left [] all = tt
+stand_after before after [] left (v ∷ vs) all = absurd all
+stand_after before after (c ∷ done) left [] all = absurd all
+stand_after before after (c ∷ done) left (Accepted ∷ vs) all = (
+  remains_all all.0 after done vs all.2 c (accepted_stands before all.0 c.0 c.1 all.1),
+  stand_after all.0 after done left vs all.2,
+)
+stand_after before after (c ∷ done) left (Repeated ∷ vs) all = (
+  remains_all all.0 after done vs all.2 c (ap (λ (b : List Entry). text_under b c.0) all.1.1 ∙ repeats_by (text_under before c.0) (facts_of before c.0) c.1 all.1.0),
+  stand_after all.0 after done left vs all.2,
+)
+stand_after before after (c ∷ done) left (Refused refusal ∷ vs) all = stand_after all.0 after done left vs all.2
+
+stand_still : (a b : List Entry) → ((keyed : Key × Command) → IsUnderKey a keyed → IsUnderKey b keyed) → (commands : List (Key × Command)) (vs : List Verdict)
+    → AreUnderKeys a commands vs → AreUnderKeys b commands vs
+stand_still a b still commands [] stand = tt
+stand_still a b still [] (v ∷ vs) stand = absurd stand
+stand_still a b still (c ∷ commands) (Accepted ∷ vs) stand = (still c stand.0, stand_still a b still commands vs stand.1)
+stand_still a b still (c ∷ commands) (Repeated ∷ vs) stand = (still c stand.0, stand_still a b still commands vs stand.1)
+stand_still a b still (c ∷ commands) (Refused refusal ∷ vs) stand = stand_still a b still commands vs stand
+
+but_last : (book : List Entry) (commands : List (Key × Command)) (vs : List Verdict) (v : Verdict) → AreUnderKeys book commands (vs ++ v ∷ []) → AreUnderKeys book commands vs
+but_last book commands [] v stand = tt
+but_last book [] (w ∷ vs) v stand = absurd stand
+but_last book (c ∷ commands) (Accepted ∷ vs) v stand = (stand.0, but_last book commands vs v stand.1)
+but_last book (c ∷ commands) (Repeated ∷ vs) v stand = (stand.0, but_last book commands vs v stand.1)
+but_last book (c ∷ commands) (Refused refusal ∷ vs) v stand = but_last book commands vs v stand
+
+-- ---- one session
+
+-- it leaves a book, in which what stood before stands, and what it acknowledged
+record Passes (before : List Entry) (sent : Sent) (book : List Entry) : Type 0 where
+  pub is_book : IsBook before → IsBook book
+  pub still : (keyed : Key × Command) → IsUnderKey before keyed → IsUnderKey book keyed
+  pub holds : HoldsAcknowledged book sent
+
+passes : (before : List Entry) (sent : Sent) (book : List Entry) → StopLeaves before sent.commands sent.replied book → Passes before sent book
+passes before sent book (inl after) = record {
+  is_book = λ is. judged_book before after.1.done sent.replied book is after.1.judged;
+  still = remains_all before book after.1.done sent.replied after.1.judged;
+  holds = subst (λ (cs : List (Key × Command)). AreUnderKeys book cs sent.replied) (sym after.1.split) (stand_after before book after.1.done after.0 sent.replied after.1.judged);
+}
+passes before sent book (inr after) =
+    let vs = sent.replied ++ Accepted ∷ [] in record {
+      is_book = λ is. judged_book before after.1.done vs book is after.1.judged;
+      still = remains_all before book after.1.done vs after.1.judged;
+      holds = but_last book sent.commands sent.replied Accepted
+          (subst (λ (cs : List (Key × Command)). AreUnderKeys book cs vs) (sym after.1.split) (stand_after before book after.1.done after.0 vs after.1.judged));
+    }
+
+-- ---- sessions that follow one another
+
+record PassAll (before : List Entry) (sessions : List Sent) (book : List Entry) : Type 0 where
+  pub is_book : IsBook before → IsBook book
+  pub still : (keyed : Key × Command) → IsUnderKey before keyed → IsUnderKey book keyed
+  pub adds : AddFirst before sessions book
+  pub holds : AllByRecursion (HoldsAcknowledged book) sessions
+
+pass_all : (before : List Entry) (sessions : List Sent) (book : List Entry) → StopsLeave before sessions book → PassAll before sessions book
+pass_all before [] book is = record {
+  is_book = λ was. subst IsBook (sym is) was;
+  still = λ keyed known. ap (λ (b : List Entry). text_under b keyed.0) is ∙ known;
+  adds = is;
+  holds = tt;
+}
+pass_all before (sent ∷ more) book (mid, stop, rest) =
+    let one = passes before sent mid stop in
+    let all = pass_all mid more book rest in record {
+      is_book = λ was. all.is_book (one.is_book was);
+      still = λ keyed known. all.still keyed (one.still keyed known);
+      adds = (mid, adds_first before sent mid stop, all.adds);
+      holds = (stand_still mid book all.still sent.commands sent.replied one.holds, all.holds);
+    }
+
+-- ---- gains
+
+less_cost_at : (price : Option Price) (sale : SaleParts) (gain : Gain) → gain_at price sale ≡ Some gain → gain.cost ≡ cost_of sale.legs
+less_cost_at None sale gain is = absurd cc
+less_cost_at (Some price) sale gain is = by_bool (has_other_currency (currency_of price) sale.legs)
+    (λ other. let none : None ≡ Some gain = sym (ap (λ b. cond b None (Some (gain_from (proceeds_at price sale.units sale.legs) (cost_of sale.legs)))) other) ∙ is in absurd cc)
+    (λ same.
+    let some : Some (gain_from (proceeds_at price sale.units sale.legs) (cost_of sale.legs)) ≡ Some gain =
+    sym (ap (λ b. cond b None (Some (gain_from (proceeds_at price sale.units sale.legs) (cost_of sale.legs)))) same) ∙ is in
+    let equal : gain_from (proceeds_at price sale.units sale.legs) (cost_of sale.legs) ≡ gain = cc in
+    sym (ap (λ (g : Gain). g.cost) equal))
+
+less_cost : (sale : SaleParts) → IsLessCost sale
+less_cost sale gain is = a_gain_is_proceeds_less_cost sale gain is ∙ ap (λ cost. gain.proceeds -ℤ cost) (less_cost_at sale.price sale gain is)
+
+all_less_cost : (sales : List (ℕ × (ℕ × SaleParts))) → AllByRecursion (λ (sale : ℕ × (ℕ × SaleParts)). IsLessCost sale.1.1) sales
+all_less_cost [] = tt
+all_less_cost (sale ∷ sales) = (less_cost sale.1.1, all_less_cost sales)
+
+-- ---- the headline
+
+pub headline : (sessions : List Sent) (book : List Entry) → StopsLeave [] sessions book → Headline sessions book
+headline sessions book leave =
+    let all = pass_all [] sessions book leave in
+    let is_book : IsBook book = all.is_book tt in record {
+      is_book = is_book;
+      accepted = all.adds;
+      acknowledged = all.holds;
+      units = λ account commodity. held_as_bought book account commodity is_book;
+      gains = λ sales are. record { lots = sale_legs book sales is_book are; gains = all_less_cost sales };
+    }
+
+-- ---- a list that is sent again
+
+drop_done : (done left : List (Key × Command)) (n : ℕ) → n ≡ length done → drop n (done ++ left) ≡ left
+drop_done [] left n is = ap (λ k. drop k left) is
+drop_done (c ∷ done) left n is = ap (λ k. drop k ((c ∷ done) ++ left)) is ∙ drop_done done left (length done) refl
+
+-- where the first verdict is `repeat`, it may be `accepted`
+first_accepted : (sessions : List (List Verdict)) (verdicts : List Verdict) → AreBehind sessions (Repeated ∷ verdicts) → AreBehind sessions (Accepted ∷ verdicts)
+first_accepted [] verdicts is = absurd cc
+first_accepted (replied ∷ more) verdicts ([], rest, but, behind, is) =
+    ([], Accepted ∷ verdicts, but, first_accepted more verdicts (subst (AreBehind more) (sym is) behind), refl)
+first_accepted (replied ∷ more) verdicts (v ∷ first, rest, inl same, behind, is) =
+    let head : v ≡ Repeated = cc in
+    let tail : verdicts ≡ first ++ rest = cc in
+    (Accepted ∷ first, rest, inr (first, same ∙ ap (λ (w : Verdict). w ∷ first) head, refl), behind, ap (λ (vs : List Verdict). Accepted ∷ vs) tail)
+first_accepted (replied ∷ more) verdicts (v ∷ first, rest, inr (left, repeated, accepted), behind, is) =
+    let head : v ≡ Repeated = cc in
+    let other : v ≡ Accepted = cc in
+    let none : Accepted ≡ Repeated = sym other ∙ head in absurd cc
+
+-- a command that stands under its key is a repeat
+repeats_first : (book after : List Entry) (c : Key × Command) (left : List (Key × Command)) (vs : List Verdict) → IsUnderKey book c → JudgesAll book (c ∷ left) vs after
+    → (more : List Verdict) × (vs ≡ Repeated ∷ more) × JudgesAll book left more after
+repeats_first book after c left [] known all = absurd all
+repeats_first book after c left (v ∷ vs) known all =
+    let is = is_repeat book all.0 c.0 c.1 v known all.1 in
+    (vs, ap (λ (w : Verdict). w ∷ vs) is.0, subst (λ (b : List Entry). JudgesAll b left vs after) is.1 all.2)
+
+pub one_run : (before : List Entry) (commands : List (Key × Command)) (replied : List Verdict) (again : List (List Verdict)) (book : List Entry)
+    → SentAgain before commands replied again book → IsOneRun before commands replied again book
+one_run before commands replied [] book all = record {
+  verdicts = [];
+  judged = subst (λ (vs : List Verdict). JudgesAll before commands vs book) (sym (append-nil replied)) all;
+  replies = refl;
+}
+one_run before commands replied (next ∷ more) book (mid, inl (left, on), rest) =
+    let run = one_run mid (drop (length replied) commands) next more book rest in
+    let sent : drop (length replied) commands ≡ left =
+    ap (drop (length replied)) on.split ∙ drop_done on.done left (length replied) (sym (as_many before mid on.done replied on.judged)) in
+    let judged = subst (λ (cs : List (Key × Command)). JudgesAll mid cs (next ++ run.verdicts) book) sent run.judged in record {
+      verdicts = next ++ run.verdicts;
+      judged = subst (λ (cs : List (Key × Command)). JudgesAll before cs (replied ++ (next ++ run.verdicts)) book) (sym on.split)
+          (judges_append before mid book on.done left replied (next ++ run.verdicts) on.judged judged);
+      replies = (next, run.verdicts, inl refl, run.replies, refl);
+    }
+one_run before commands replied (next ∷ more) book (mid, inr (left, on), rest) =
+    let run = one_run mid (drop (length replied) commands) next more book rest in
+    let last = judges_last before mid on.done replied Accepted on.judged in
+    let whole : commands ≡ last.0 ++ last.1 ∷ left =
+    on.split ∙ ap (λ (cs : List (Key × Command)). cs ++ left) last.3 ∙ append_assoc last.0 (last.1 ∷ []) left in
+    let sent : drop (length replied) commands ≡ last.1 ∷ left =
+    ap (drop (length replied)) whole ∙ drop_done last.0 (last.1 ∷ left) (length replied) (sym (as_many before last.2 last.0 replied last.4)) in
+    let judged = subst (λ (cs : List (Key × Command)). JudgesAll mid cs (next ++ run.verdicts) book) sent run.judged in
+    let again = repeats_first mid book last.1 left (next ++ run.verdicts) (accepted_stands last.2 mid last.1.0 last.1.1 last.5) judged in record {
+      verdicts = Accepted ∷ again.0;
+      judged = subst (λ (cs : List (Key × Command)). JudgesAll before cs (replied ++ (Accepted ∷ again.0)) book) (sym on.split)
+          (subst (λ (vs : List Verdict). JudgesAll before (on.done ++ left) vs book) (append_assoc replied (Accepted ∷ []) again.0)
+          (judges_append before mid book on.done left (replied ++ Accepted ∷ []) again.0 on.judged again.2));
+      replies = first_accepted (next ∷ more) again.0 (next, run.verdicts, inl refl, run.replies, sym again.1);
+    }
