@@ -106,7 +106,7 @@ class Crate:
         self.lines = sum(read(it).count("\n") for it in files_below(f"{SOURCES}/{name}") if it.endswith(".rt"))
         texts = "".join(read(it) for it in files_below(f"{SOURCES}/{name}/src") if not it.endswith("tests.rt"))
         functions = len(re.findall(r"(?m)^\s*(?:pub(?:\(\w+\))? )?(?:const )?fn ", texts))
-        self.functions, self.seconds = times.get(name, (functions, 20 + 4 * functions + 200 * self.is_program))
+        self.functions, self.seconds = times.get(name, (functions, 20 + 4 * functions + 100 * self.sqlite + 200 * self.is_program))
         self.begun = self.took = self.run = None
         self.counted, self.last, self.retried = functions, [], False
 
@@ -267,7 +267,15 @@ class Build:
             if idle <= 0 or (self.running and (room < crate.need() or any(it.retried for it in [crate, *self.running]))):
                 return
             spare = 1 + int(max(room / crate.need() - 1, 0) / 0.6)
-            self.begin(crate, 1 if crate.retried else max(1, min(MOST_JOBS, idle // (len(ready) - at), spare)))
+            share = -(-idle // (len(ready) - at))  # what is left over goes to the longest chain, which comes first
+            alone = crate.retried or self.awaits_longer(crate)
+            self.begin(crate, 1 if alone else max(1, min(MOST_JOBS, share, spare)))
+
+    def awaits_longer(self, crate):
+        """Whether a longer chain waits for another crate: it gets the processors that will be idle then."""
+        chains, ready = self.chains(), self.ready()
+        waiting = (it for it in self.todo if it.begun is None and it not in ready and crate.name not in it.names)
+        return any(chains[it.name] > chains[crate.name] for it in waiting)
 
     def begin(self, crate, jobs):
         furnish(crate)

@@ -9,7 +9,6 @@ command that was acknowledged. A line `ok NAME` or `FAILED NAME: ..` for each ca
 import argparse
 import os
 import random
-import shutil
 import subprocess
 import time
 
@@ -49,17 +48,8 @@ def answered(output):
 
 
 def entries(book):
-    """How many entries a book has, by a copy of its files: SQLite would mend the files that it looks into."""
-    copy = book + ".copy"
-    for end in ("", "-wal"):
-        if os.path.exists(book + end):
-            shutil.copyfile(book + end, copy + end)
-    with tables.connect(copy) as db:
-        count = db.execute("SELECT count(*) FROM entry").fetchone()[0]
-    for end in ("", "-wal", "-shm"):
-        if os.path.exists(copy + end):
-            os.remove(copy + end)
-    return count
+    """How many entries a book has, by a copy of its files."""
+    return len(tables.of_copy(book, tables.contents)["entry"])
 
 
 def uninterrupted(program, scratch, path):

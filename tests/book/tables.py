@@ -11,6 +11,7 @@
 import contextlib
 import datetime
 import os
+import shutil
 import sqlite3
 import sys
 
@@ -36,24 +37,96 @@ def contents(path):
         return {table: sorted(db.execute(f"SELECT * FROM {table}"), key=repr) for table in TABLES}
 
 
-def holdings(path):
-    """The lines that the program prints of these rows (docs/FORMATS.md, Holdings)."""
+def of_copy(path, read):
+    """What `read` finds in a copy of a book's files: SQLite would mend the files that it looks into."""
+    copy = path + ".copy"
+    for end in ("", "-wal"):
+        if os.path.exists(path + end):
+            shutil.copyfile(path + end, copy + end)
+    try:
+        return read(copy)
+    finally:
+        for end in ("", "-wal", "-shm"):
+            if os.path.exists(copy + end):
+                os.remove(copy + end)
+
+
+def number_of(day):
+    """The number of a day text."""
+    return (datetime.date.fromisoformat(day) - datetime.date(1970, 1, 1)).days
+
+
+def lot_text(number, currency, day, label):
+    end = f', "{label}"' if label else ""
+    return f"{{{model.number_text(number)} {currency}, {day_text(day)}{end}}}"
+
+
+def totals_of(name, totals):
+    return [f"total {name} {model.money_text(total, 16)} {currency}" for currency, total in sorted(totals.items())]
+
+
+def price_at(db, day, base, quote):
+    """The rate of the greatest day that isn't after this one, or none."""
+    found = db.execute("SELECT rate FROM price WHERE base = ? AND quote = ? AND day <= ? ORDER BY day DESC", (base, quote, day)).fetchone()
+    return found and found[0]
+
+
+def holdings(path, day=None):
+    """The lines that the program prints of these rows, with values at that day (docs/FORMATS.md, Holdings)."""
     with connect(path) as db:
         rows = [((account, commodity, 0), units) for account, commodity, units in db.execute("SELECT account, commodity, units FROM plain")]
         lots = db.execute("SELECT account, commodity, cost_day, cost_currency, cost_number, cost_label, units FROM lot")
         rows += [((account, commodity, 1, *key), units) for account, commodity, *key, units in lots]
-    lines, totals = [], {}
+        rates = {}
+        for (_, commodity, is_lot, *key), _ in rows:
+            if is_lot and day is not None:
+                rates[commodity, key[1]] = price_at(db, number_of(day), commodity, key[1])
+    lines, totals, values = [], {}, {}
     for (account, commodity, is_lot, *key), units in sorted(rows):
-        if is_lot:
-            day, currency, number, label = key
-            totals[currency] = totals.get(currency, 0) + units * number
-            end = f', "{label}"' if label else ""
-            cost = f"{{{model.number_text(number)} {currency}, {day_text(day)}{end}}}"
-            lines.append(f"{account} {model.number_text(units)} {commodity} {cost}")
-        else:
+        if not is_lot:
             lines.append(f"{account} {model.money_text(units)} {commodity}")
-    lines += [f"total cost {model.money_text(total, 16)} {currency}" for currency, total in sorted(totals.items())]
-    return lines or ["nothing held"]
+            continue
+        cost_day, currency, number, label = key
+        totals[currency] = totals.get(currency, 0) + units * number
+        line = f"{account} {model.number_text(units)} {commodity} {lot_text(number, currency, cost_day, label)}"
+        rate = rates.get((commodity, currency))
+        if rate is not None:
+            values[currency] = values.get(currency, 0) + units * rate
+            line += f" value {model.money_text(units * rate, 16)} {currency}"
+        elif day is not None:
+            line += " value none"
+        lines.append(line)
+    return lines + totals_of("cost", totals) + totals_of("value", values) or ["nothing held"]
+
+
+def gains(path):
+    """The lines that the program prints of these rows (docs/FORMATS.md, Gains)."""
+    lines, totals = [], {}
+    with connect(path) as db:
+        sales = "SELECT entry, posting, day, account, commodity, units, kind, amount, currency FROM sale ORDER BY entry, posting"
+        legs_of = "SELECT units, cost_number, cost_currency, cost_day, cost_label FROM leg WHERE entry = ? AND posting = ? ORDER BY place"
+        for entry, posting, day, account, commodity, units, kind, amount, currency in db.execute(sales):
+            legs = list(db.execute(legs_of, (entry, posting)))
+            line = f"{day_text(day)} {account} {model.number_text(units)} {commodity}"
+            if kind and all(leg[2] == currency for leg in legs):
+                cost = sum(-leg[0] * leg[1] for leg in legs)
+                proceeds = -units * amount if kind == 1 else (-amount if units > 0 else amount) * model.ONE
+                parts = {"proceeds": proceeds, "cost": cost, "gain": proceeds - cost}
+                lines.append(" ".join([line, *(f"{name} {model.money_text(it, 16)}" for name, it in parts.items()), currency]))
+                totals[currency] = totals.get(currency, 0) + proceeds - cost
+            else:
+                lines.append(line + " unpriced")
+            lines += [f"  {model.number_text(leg[0])} {commodity} {lot_text(*leg[1:])}" for leg in legs]
+    return lines + totals_of("gain", totals) or ["no gains"]
+
+
+def journal(path):
+    """The lines that the program prints of these rows (docs/FORMATS.md, Journal)."""
+    lines = []
+    with connect(path) as db:
+        for number, source, name, body in db.execute("SELECT number, source, name, body FROM entry ORDER BY number"):
+            lines += [f"; entry {number} key {source} {name}", *body.splitlines()]
+    return lines
 
 
 def damage(db):

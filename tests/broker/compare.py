@@ -175,4 +175,5 @@ def main():
             print(f"ok {kind}" if times >= AT_LEAST else f"FAILED {kind}: it occurs {times} times")
 
 
-main()
+if __name__ == "__main__":
+    main()
