@@ -4,5 +4,6 @@
 //! - `stops`: the log, or the database's file, fails at each of its calls.
 #![tactic(auto)]
 
+pub mod reopening;
 #[cfg(test)]
 mod stops;
