@@ -1,15 +1,12 @@
 -- What the values of options say, and which of them is outside its rule.
-use Rattle.std.proofs.Common.{◌≡◌, ℕ, Bool, true, false, Option, Some, None, IfOk, refl, subst}
-use Rattle.std.specs.Prelude.{Result, SomeIff, is_some, option_and_then, unwrap_or, ℤ}
-use Rattle.std.specs.Option.{option_map_or}
+use Rattle.std.proofs.Common.{◌≡◌, ℕ, zero, suc, ◌<◌, ◌≤◌, Bool, true, false, List, [], ◌∷◌, length, get_or, drop, Option, Some, None, refl, arith}
+use Rattle.std.specs.Prelude.{SomeIff, unwrap_or}
 use Rattle.std.proofs.lemmas.Bool.{le-leb, leb-true}
-use Rattle.clap.specs.Words.{Text}
+use Rattle.clap.specs.Words.{Row}
 use Rattle.clap.proofs.WalkLemmas.{both}
-use Rattle.lot_base.specs.Day.{named_day}
+use Rattle.lot_args.specs.Options.{first_bad, is_good}
 use Rattle.lot_args.specs.Start.{IsStart, greatest_start, is_start, start_at}
-use Rattle.lot_args.specs.Steps.{JudgesOption}
 use Rattle.lot_args.specs.declared.fault.BadOption.{BadOption}
-use Rattle.lot_args.specs.declared.fault.WordsFault.{WordsFault}
 
 -- ---- the start
 
@@ -23,28 +20,23 @@ start_from None number first h one = go (is_start number) refl
         let tests = both _ _ e in
         absurd (h (leb-true 1 number tests.0, leb-true number greatest_start tests.1))
 
--- ---- days
+-- ---- options
 
-pub absent_day : (v : Option Text) → None ≡ v → None ≡ option_and_then named_day v
-absent_day None e = refl
-absent_day (Some text) e = cc
+-- the option at a place, and those from there on
+pub bad_here : (rows : List Row) (options : List BadOption) (i : ℕ) (none : BadOption) → i < length options
+    → is_good rows (get_or options i none) ≡ false → first_bad rows (drop i options) ≡ Some (get_or options i none)
+bad_here rows [] i none lt bad = absurd (omega (arith, lt))
+bad_here rows (option ∷ options) zero none lt bad = rw bad refl
+bad_here rows (option ∷ options) (suc i) none lt bad = bad_here rows options i none (omega (arith, lt)) bad
 
-pub absent_is_good : (v : Option Text) → None ≡ v → option_map_or (λ text. is_some (named_day text)) v true ≡ true
-absent_is_good None e = refl
-absent_is_good (Some text) e = cc
+pub good_here : (rows : List Row) (options : List BadOption) (i : ℕ) (none : BadOption) → i < length options
+    → is_good rows (get_or options i none) ≡ true → first_bad rows (drop i options) ≡ first_bad rows (drop (suc i) options)
+good_here rows [] i none lt good = absurd (omega (arith, lt))
+good_here rows (option ∷ options) zero none lt good = rw good refl
+good_here rows (option ∷ options) (suc i) none lt good = good_here rows options i none (omega (arith, lt)) good
 
-pub present_day : (v : Option Text) (text : Text) (r : Result (Option ℤ) WordsFault) → Some text ≡ v → IfOk r (λ day. day ≡ named_day text)
-    → IfOk r (λ day. day ≡ option_and_then named_day v)
-present_day None text r e h = cc
-present_day (Some other) text r e h =
-    let same : text ≡ other = cc in
-    let Names : Text → Type 0 = λ t. IfOk r (λ day. day ≡ named_day t) in
-    subst Names same h
-
-pub present_judges : (v : Option Text) (text : Text) (option : BadOption) (r : Result (Option ℤ) WordsFault) → Some text ≡ v
-    → JudgesOption (is_some (named_day text)) option r → JudgesOption (option_map_or (λ t. is_some (named_day t)) v true) option r
-present_judges None text option r e h = cc
-present_judges (Some other) text option r e h =
-    let same : text ≡ other = cc in
-    let Judged : Text → Type 0 = λ t. JudgesOption (is_some (named_day t)) option r in
-    subst Judged same h
+pub none_left : (rows : List Row) (options : List BadOption) (i : ℕ) → length options ≤ i → first_bad rows (drop i options) ≡ None
+none_left rows [] zero le = refl
+none_left rows [] (suc i) le = refl
+none_left rows (option ∷ options) zero le = absurd (omega (arith, le))
+none_left rows (option ∷ options) (suc i) le = none_left rows options i (omega (arith, le))

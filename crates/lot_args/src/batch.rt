@@ -55,12 +55,19 @@ impl Batch {
         ensures good { IsOk result → IsTrue (is_batch text.now) }
         ensures bad { IsErrOf result Bad ↔ (is_batch text.now ≡ false) }
     {
-        if !is_batch(text) {
+        if !Batch::is_name(text) {
             return Err(BatchFault::Bad);
         }
         Ok(Batch {
             name: String::from_str(alloc, text)?,
         })
+    }
+
+    /// Returns whether there is a batch of that name.
+    pub fn is_name(text: &str) -> bool
+        ensures { result ≡ is_batch text.now }
+    {
+        !text.is_empty() && text.len() <= MAX_BATCH && are_batch_bytes(text.as_bytes())
     }
 
     /// Returns the name.
@@ -70,13 +77,6 @@ impl Batch {
     {
         self.name.as_str()
     }
-}
-
-/// Returns whether a text is the name of a batch.
-fn is_batch(text: &str) -> bool
-    ensures { result ≡ is_batch text.now }
-{
-    !text.is_empty() && text.len() <= MAX_BATCH && are_batch_bytes(text.as_bytes())
 }
 
 /// Returns whether each byte may stand in the name of a batch.

@@ -1,6 +1,6 @@
 -- From the parts of the way to the answer.
-use Rattle.std.proofs.Common.{inl, inr, ◌≡◌, ℕ, List, [], ◌++◌, length, refl, sym, ap, subst, append_assoc, append-nil}
-use Rattle.std.specs.Prelude.{IfSome, None, Some, ◌≤◌, Option, Result, Ok, Err, IsErrAnd}
+use Rattle.std.proofs.Common.{inl, inr, ◌≡◌, ◌≢◌, ◌<◌, arith, ℕ, List, [], ◌++◌, length, refl, sym, ap, subst, append_assoc, append-nil}
+use Rattle.std.specs.Prelude.{IfErr, IfSome, None, Some, ◌≤◌, Option, Result, Ok, Err, IsErrAnd}
 use Rattle.std.specs.Io.KnownBytes.{Appends, Keeps}
 use Rattle.std.proofs.KnownBytes.{Appends-kept, Appends-nil, Appends-trans}
 use Rattle.lot_stream.specs.declared.fault.Fault.{Fault}
@@ -21,10 +21,12 @@ use Rattle.lot_report.specs.Written.{AppendsPrefix}
 use Rattle.lot_report.specs.Holdings.{WritesReport, unvalued}
 use Rattle.lot_stream.specs.FaultLine.{fault_line}
 use Rattle.lot_check.specs.Key.{key_of}
-use Rattle.lot_stream.specs.Input.{longest_input}
-use Rattle.lot_stream.specs.Status.{Ends, code_of, status_of, fault_of_report}
+use Rattle.lot_stream.specs.Input.{CallsMade, EndsFor, EndsWell, longest_input}
+use Rattle.lot_stream.specs.declared.input.SlurpFault.{SlurpFault}
+use Rattle.lot_stream.proofs.CallLemmas.{ended_short, no_memory, too_many}
+use Rattle.lot_stream.specs.Status.{Ends, code_of, status_of, fault_of_input, fault_of_report}
 use Rattle.lot_check.specs.Answer.{IsOutcome, IsOutput, IsBegun, IsJudged, status_of_replies}
-use Rattle.lot_check.specs.Way.{RunsCommands, Reaches, ReportsFault, Concludes}
+use Rattle.lot_check.specs.Way.{RunsCommands, Reaches, ReportsFault, Concludes, HeardFor}
 use Rattle.lot_report.proofs.PrintLemmas.{prefix_behind}
 use Rattle.lot_book.specs.Recorded.{facts_in}
 
@@ -38,7 +40,7 @@ pub run_stopped : (input : List ℕ) (commands : List Command) (old new : Option
     → RunsCommands commands old new (Err fault) → Reaches input old new (Err fault)
 run_stopped input commands old new Fault.Write short reads (done, rest, verdicts, book, split, judged, part) =
     (replies 1 verdicts, inl (done, rest, verdicts, book, short, subst (Reads input) split reads, judged, refl), part)
-run_stopped input commands old new (Fault.MemoryAt number) short reads (done, command, rest, verdicts, book, split, judged, numbered, before) = (
+run_stopped input commands old new (Fault.MemoryAt number) short reads (done, command, rest, verdicts, book, split, judged, numbered, lack, before) = (
   replies 1 verdicts,
   inr (inl (
     number,
@@ -52,6 +54,7 @@ run_stopped input commands old new (Fault.MemoryAt number) short reads (done, co
       reads = subst (Reads input) split reads;
       judged = judged;
       numbered = numbered;
+      may_lack = lack;
     },
     refl,
     refl,
@@ -108,7 +111,7 @@ report_stopped input commands view rows status old mid new fault (Err e) short r
     )
     at ReportFault.Write (text, inr report, part) = (
       replies 1 verdicts ++ text,
-      inr (inr (code_of (status_of_replies verdicts), inl (inr (inr (inl (verdicts, rows, text, whole, report, refl, refl)))))),
+      inr (inr (code_of (status_of_replies verdicts), inr (inr (inl (verdicts, rows, text, whole, report, refl, refl))))),
       prefix_behind old mid new (replies 1 verdicts) text replied part,
     )
     at ReportFault.Memory (lines, first, written) = (
@@ -117,21 +120,50 @@ report_stopped input commands view rows status old mid new fault (Err e) short r
       Appends-trans old mid new (replies 1 verdicts) lines replied written,
     )
 
+-- ---- What the reader's calls came to.
+
+-- a text that was read
+pub heard_of_text : (all : CallsMade) (text : List ℕ) (count : ℕ) (old new : Option (List ℕ)) (result : Result Status Fault)
+    → EndsWell all count → count ≤ longest_input → length text ≤ longest_input → IfErr result (λ fault. fault ≢ Fault.Read)
+    → Reaches text old new result → HeardFor all result
+heard_of_text all text count old new (Ok status) heard few short had reached = ended_short all count heard few
+heard_of_text all text count old new (Err Fault.Read) heard few short had reached = absurd (had refl)
+heard_of_text all text count old new (Err Fault.TooLong) heard few short had reached = absurd (beyond reached.0)
+  where
+    beyond : longest_input < length text → ⊥
+    beyond long = omega (arith, long, short)
+heard_of_text all text count old new (Err (Fault.Text number fault)) heard few short had reached = ended_short all count heard few
+heard_of_text all text count old new (Err Fault.Range) heard few short had reached = ended_short all count heard few
+heard_of_text all text count old new (Err Fault.Write) heard few short had reached = ended_short all count heard few
+heard_of_text all text count old new (Err Fault.Memory) heard few short had reached = ended_short all count heard few
+heard_of_text all text count old new (Err (Fault.MemoryAt number)) heard few short had reached = ended_short all count heard few
+
+-- a reader that isn't read to its end
+pub heard_at : (all : CallsMade) (fault : SlurpFault) (result : Result Status Fault) → IsErrAnd result (λ e. e ≡ fault_of_input fault)
+    → EndsFor all fault → HeardFor all result
+heard_at all fault (Ok status) is heard = absurd is
+heard_at all fault (Err e) is heard = subst (λ f. HeardFor all (Err f)) (sym is) (at fault heard)
+  where
+    at : (f : SlurpFault) → EndsFor all f → HeardFor all (Err (fault_of_input f))
+    at SlurpFault.Read ends = ends
+    at SlurpFault.TooLong ends = ends
+    at SlurpFault.Memory ends = ends
+
 -- ---- The outcome.
 
 -- all of an output stands there
-written_whole : (input text : List ℕ) (status end : Status) (old new : Option (List ℕ))
-    → IsOutput input text (code_of status) → Ends (Ok status) end → Appends old new text
-    → (written : List ℕ) × Appends old new written × IsOutcome input written (code_of end)
-written_whole input text status end old new output (inl is) before =
-    (text, before, inl (subst (λ s. IsOutput input text (code_of s)) (sym is) output))
-written_whole input text status end old new output (inr is) before =
+written_whole : (all : CallsMade) (input text : List ℕ) (status end : Status) (old new : Option (List ℕ))
+    → IsOutput all input text (code_of status) → Ends (Ok status) end → Appends old new text
+    → (written : List ℕ) × Appends old new written × IsOutcome all input written (code_of end)
+written_whole all input text status end old new output (inl is) before =
+    (text, before, inl (subst (λ s. IsOutput all input text (code_of s)) (sym is) output))
+written_whole all input text status end old new output (inr is) before =
     (text, before, inr (inr ((code_of status, output), ap code_of is)))
 
 -- a prefix of what was begun stands there
-written_in_part : (input text : List ℕ) (end : Status) (old new : Option (List ℕ)) → IsBegun input text → AppendsPrefix old new text
-    → end ≡ Status.Stopped → (written : List ℕ) × Appends old new written × IsOutcome input written (code_of end)
-written_in_part input text end old new begun (prefix, proper, before) is =
+written_in_part : (all : CallsMade) (input text : List ℕ) (end : Status) (old new : Option (List ℕ)) → IsBegun all input text → AppendsPrefix old new text
+    → end ≡ Status.Stopped → (written : List ℕ) × Appends old new written × IsOutcome all input written (code_of end)
+written_in_part all input text end old new begun (prefix, proper, before) is =
     (prefix, before, inr (inl (text, begun, proper, ap code_of is)))
 
 -- nothing stands behind a text
@@ -139,51 +171,51 @@ nothing_behind : (old mid new : Option (List ℕ)) (text : List ℕ) → Appends
 nothing_behind old mid new text before nothing = subst (Appends old new) (append-nil text) (Appends-trans old mid new text [] before nothing)
 
 -- the line of a fault behind what was written of the answer, or a prefix of it
-with_line : (input kept : List ℕ) (fault : Fault) (old mid new : Option (List ℕ)) (concluded : Result Status PrintFault) (end : Status)
-    → IsOutput input (kept ++ fault_line fault) (code_of (status_of fault)) → Appends old mid kept
+with_line : (all : CallsMade) (input kept : List ℕ) (fault : Fault) (old mid new : Option (List ℕ)) (concluded : Result Status PrintFault) (end : Status)
+    → IsOutput all input (kept ++ fault_line fault) (code_of (status_of fault)) → Appends old mid kept
     → ReportsFault fault mid new concluded → Ends concluded end
-    → (written : List ℕ) × Appends old new written × IsOutcome input written (code_of end)
-with_line input kept fault old mid new (Ok status) end output before (line, is) ends =
-    written_whole input (kept ++ fault_line fault) (status_of fault) end old new output (subst (λ s. Ends (Ok s) end) is ends)
+    → (written : List ℕ) × Appends old new written × IsOutcome all input written (code_of end)
+with_line all input kept fault old mid new (Ok status) end output before (line, is) ends =
+    written_whole all input (kept ++ fault_line fault) (status_of fault) end old new output (subst (λ s. Ends (Ok s) end) is ends)
     (Appends-trans old mid new kept (fault_line fault) before line)
-with_line input kept fault old mid new (Err cut) end output before line ends =
-    written_in_part input (kept ++ fault_line fault) end old new (inr (inr (code_of (status_of fault), output)))
+with_line all input kept fault old mid new (Err cut) end output before line ends =
+    written_in_part all input (kept ++ fault_line fault) end old new (inr (code_of (status_of fault), output))
     (prefix_behind old mid new kept (fault_line fault) before line) ends
 
-pub outcome : (input : List ℕ) (old mid new : Option (List ℕ)) (reached : Result Status Fault) (concluded : Result Status PrintFault) (end : Status)
-    → Reaches input old mid reached → Concludes mid new reached concluded → Ends concluded end
-    → (written : List ℕ) × Appends old new written × IsOutcome input written (code_of end)
-outcome input old mid new (Ok status) (Ok final) end (text, whole, before) (nothing, is) ends =
-    written_whole input text status end old new (inl (inr (inr (inl whole)))) (subst (λ s. Ends (Ok s) end) is ends)
+pub outcome : (all : CallsMade) (input : List ℕ) (old mid new : Option (List ℕ)) (reached : Result Status Fault) (concluded : Result Status PrintFault) (end : Status)
+    → Reaches input old mid reached → HeardFor all reached → Concludes mid new reached concluded → Ends concluded end
+    → (written : List ℕ) × Appends old new written × IsOutcome all input written (code_of end)
+outcome all input old mid new (Ok status) (Ok final) end (text, whole, before) heard (nothing, is) ends =
+    written_whole all input text status end old new (inl (no_memory all heard, inr (inr (inl whole)))) (subst (λ s. Ends (Ok s) end) is ends)
     (nothing_behind old mid new text before nothing)
-outcome input old mid new (Ok status) (Err cut) end reached none ends = absurd none
-outcome input old mid new (Err Fault.Read) concluded end nothing reported ends =
-    with_line input [] Fault.Read old mid new concluded end (inr (inl (refl, refl))) nothing reported ends
-outcome input old mid new (Err Fault.TooLong) concluded end (long, nothing) reported ends =
-    with_line input [] Fault.TooLong old mid new concluded end (inl (inl (long, refl, refl))) nothing reported ends
-outcome input old mid new (Err (Fault.Text number fault)) concluded end (short, faulty, nothing) reported ends =
-    with_line input [] (Fault.Text number fault) old mid new concluded end (inl (inr (inl (short, number, fault, faulty, refl, refl)))) nothing reported ends
-outcome input old mid new (Err Fault.Range) concluded end (verdicts, rows, report, judged, broken, before) reported ends =
-    with_line input (replies 1 verdicts ++ report) Fault.Range old mid new concluded end
-    (inl (inr (inr (inr (verdicts, rows, report, judged, broken, append_assoc (replies 1 verdicts) report (fault_line Fault.Range), refl)))))
+outcome all input old mid new (Ok status) (Err cut) end reached heard none ends = absurd none
+outcome all input old mid new (Err Fault.Read) concluded end nothing heard reported ends =
+    with_line all input [] Fault.Read old mid new concluded end (inr (inl (heard, refl, refl))) nothing reported ends
+outcome all input old mid new (Err Fault.TooLong) concluded end (long, nothing) heard reported ends =
+    with_line all input [] Fault.TooLong old mid new concluded end (inl (too_many all heard, inl (long, refl, refl))) nothing reported ends
+outcome all input old mid new (Err (Fault.Text number fault)) concluded end (short, faulty, nothing) heard reported ends =
+    with_line all input [] (Fault.Text number fault) old mid new concluded end (inl (no_memory all heard, inr (inl (short, number, fault, faulty, refl, refl)))) nothing reported ends
+outcome all input old mid new (Err Fault.Range) concluded end (verdicts, rows, report, judged, broken, before) heard reported ends =
+    with_line all input (replies 1 verdicts ++ report) Fault.Range old mid new concluded end
+    (inl (no_memory all heard, inr (inr (inr (verdicts, rows, report, judged, broken, append_assoc (replies 1 verdicts) report (fault_line Fault.Range), refl)))))
     before reported ends
-outcome input old mid new (Err Fault.Write) (Ok final) end reached none ends = absurd none
-outcome input old mid new (Err Fault.Write) (Err cut) end (text, begun, (prefix, proper, before)) nothing ends =
-    written_in_part input text end old new begun (prefix, proper, nothing_behind old mid new prefix before nothing) ends
-outcome input old mid new (Err Fault.Memory) concluded end (kept, stops, before) reported ends =
-    with_line input kept Fault.Memory old mid new concluded end
-    (inr (inr (kept, fault_line Fault.Memory, stops, refl, refl))) before reported ends
-outcome input old mid new (Err (Fault.MemoryAt number)) concluded end (kept, stops, before) reported ends =
-    with_line input kept (Fault.MemoryAt number) old mid new concluded end
-    (inr (inr (kept, fault_line (Fault.MemoryAt number), stops, refl, refl))) before reported ends
+outcome all input old mid new (Err Fault.Write) (Ok final) end reached heard none ends = absurd none
+outcome all input old mid new (Err Fault.Write) (Err cut) end (text, part, (prefix, proper, before)) heard nothing ends =
+    written_in_part all input text end old new (inl (no_memory all heard, part)) (prefix, proper, nothing_behind old mid new prefix before nothing) ends
+outcome all input old mid new (Err Fault.Memory) concluded end (kept, stops, before) heard reported ends =
+    with_line all input kept Fault.Memory old mid new concluded end
+    (inr (inr (heard, (kept, fault_line Fault.Memory, stops, refl, refl)))) before reported ends
+outcome all input old mid new (Err (Fault.MemoryAt number)) concluded end (kept, stops, before) heard reported ends =
+    with_line all input kept (Fault.MemoryAt number) old mid new concluded end
+    (inr (inr (heard, (kept, fault_line (Fault.MemoryAt number), stops, refl, refl)))) before reported ends
 
 -- where the bytes of the reader are known
-pub outcome_of_input : (known : Option (List ℕ)) (old mid new last : Option (List ℕ)) (reached : Result Status Fault)
+pub outcome_of_input : (all : CallsMade) (known : Option (List ℕ)) (old mid new last : Option (List ℕ)) (reached : Result Status Fault)
     (concluded : Result Status PrintFault) (end : Status) (code : ℕ)
-    → IfSome known (λ input. Reaches input old mid reached) → Concludes mid new reached concluded
+    → IfSome known (λ input. Reaches input old mid reached) → HeardFor all reached → Concludes mid new reached concluded
     → Keeps new last → Ends concluded end → code ≡ code_of end
-    → IfSome known (λ input. (written : List ℕ) × Appends old last written × IsOutcome input written code)
-outcome_of_input None old mid new last reached concluded end code reaches concludes keeps ends is = tt
-outcome_of_input (Some input) old mid new last reached concluded end code reaches concludes keeps ends is =
-    let (written, before, so) = outcome input old mid new reached concluded end reaches concludes ends in
-    (written, Appends-kept old new last written before keeps, subst (IsOutcome input written) (sym is) so)
+    → IfSome known (λ input. (written : List ℕ) × Appends old last written × IsOutcome all input written code)
+outcome_of_input all None old mid new last reached concluded end code reaches heard concludes keeps ends is = tt
+outcome_of_input all (Some input) old mid new last reached concluded end code reaches heard concludes keeps ends is =
+    let (written, before, so) = outcome all input old mid new reached concluded end reaches heard concludes ends in
+    (written, Appends-kept old new last written before keeps, subst (IsOutcome all input written) (sym is) so)

@@ -11,14 +11,14 @@ use Rattle.lot_book.specs.declared.verdict.Verdict.{Verdict}
 use Rattle.lot_view.specs.declared.view.View.{View}
 use Rattle.lot_command.specs.declared.command.Command.{Command}
 use Rattle.lot_command.specs.declared.key.Key.{Key}
-use Rattle.lot_stream.specs.Status.{fault_at, status_after}
+use Rattle.lot_stream.specs.Status.{status_after}
 use Rattle.lot_report.specs.Written.{AppendsPrefix, WritesLine}
 use Rattle.lot_report.specs.Printed.{reply, replies}
 use Rattle.lot_book.specs.Facts.{Entry, Facts}
 use Rattle.lot_book.specs.Judged.{JudgesOn, JudgesAll, numbered}
 use Rattle.lot_view.specs.View.{known}
 use Rattle.lot_check.specs.Key.{key_of}
-use Rattle.lot_check.specs.Answer.{status_of_replies, status_of_verdict}
+use Rattle.lot_check.specs.Answer.{JudgingMayLackMemory, status_of_replies, status_of_verdict}
 use Rattle.lot_check.specs.Way.{JudgesKnown, Replies, RunsCommands}
 use Rattle.lot_laws.proofs.JudgedLaws.{judges_more}
 use Rattle.lot_report.proofs.PrintLemmas.{prefix_behind}
@@ -26,11 +26,12 @@ use Rattle.lot_report.proofs.ReplyLemmas.{replies_more}
 use Rattle.lot_check.proofs.KeyLemmas.{Stands, judged_as}
 
 -- a reply that isn't written whole
-pub reply_stops : (before after : Facts) (command : Command) (verdict : Verdict) (number : ℕ) (old new : Option (List ℕ)) (fault : PrintFault) (e : Fault)
-    → JudgesKnown before command verdict after → WritesLine old new (Err fault) (reply number verdict) → e ≡ fault_at number fault
-    → Replies before command number old new (Err e)
-reply_stops before after command verdict number old new PrintFault.Write e judged part is = rw (is) (verdict, after, judged, part)
-reply_stops before after command verdict number old new PrintFault.Memory e judged nothing is = rw (is) (refl, nothing)
+pub reply_stops : (before after : Facts) (command : Command) (verdict : Verdict) (number : ℕ) (old new : Option (List ℕ)) (fault : PrintFault)
+    → JudgesKnown before command verdict after → WritesLine old new (Err fault) (reply number verdict) → fault ≡ PrintFault.Write
+    → Replies before command number old new (Err Fault.Write)
+reply_stops before after command verdict number old new fault judged part is =
+    let cut : AppendsPrefix old new (reply number verdict) = subst (λ (f : PrintFault). WritesLine old new (Err f) (reply number verdict)) is part in
+    (verdict, after, judged, cut)
 
 -- ---- One command more.
 
@@ -142,7 +143,7 @@ run_stops commands left rest command count number view status Fault.Write old mi
       subst (AppendsPrefix old new) (sym (replies_more 1 verdicts verdict ∙ ap (λ n. replies 1 verdicts ++ reply n verdict) (sym place)))
           (prefix_behind old mid new (replies 1 verdicts) (reply number verdict) before part),
     )
-run_stops commands left rest command count number view status (Fault.MemoryAt stopped) old mid new so_far is numbered small (same, nothing) =
+run_stops commands left rest command count number view status (Fault.MemoryAt stopped) old mid new so_far is numbered small (same, lack, nothing) =
     let (done, verdicts, book, split, counted, all, stands, before, status_is) = so_far in (
       done,
       command,
@@ -152,6 +153,7 @@ run_stops commands left rest command count number view status (Fault.MemoryAt st
       split ∙ ap (λ cs. done ++ cs) is,
       all,
       same ∙ next_number number count verdicts counted numbered,
+      subst (λ facts. JudgingMayLackMemory facts command) stands.1 lack,
       subst (Appends old new) (append-nil (replies 1 verdicts)) (Appends-trans old mid new _ _ before nothing),
     )
 run_stops commands left rest command count number view status Fault.Memory old mid new so_far is numbered small none = none

@@ -7,15 +7,19 @@ use Rattle.lot_book.specs.declared.holding.Holding.{Holding}
 use Rattle.lot_book.specs.declared.verdict.Verdict.{Verdict}
 use Rattle.lot_read.specs.Text.{Reads, IsFaultAt}
 use Rattle.lot_read.specs.declared.fault.LineFault.{LineFault}
-use Rattle.lot_book.specs.Facts.{Entry}
+use Rattle.lot_book.specs.declared.change.Change.{Change}
+use Rattle.lot_book.specs.Facts.{Entry, Facts}
 use Rattle.lot_book.specs.Holding.{ListsHoldings}
 use Rattle.lot_book.specs.Judged.{JudgesAll, numbered}
+use Rattle.lot_book.specs.Step.{Accept, Decides}
+use Rattle.lot_ledger.specs.Decide.{MayLackMemory}
 use Rattle.lot_report.specs.Printed.{replies}
 use Rattle.lot_stream.specs.FaultLine.{fault_line}
 use Rattle.lot_check.specs.Key.{key_of}
 use Rattle.lot_report.specs.Holdings.{IsReport, IsReportToFault, AreFirstLines, AreKeptLines, unvalued}
 use Rattle.lot_report.specs.Written.{IsProperPrefixOf}
-use Rattle.lot_stream.specs.Input.{longest_input}
+use Rattle.lot_stream.specs.Input.{CallsMade, EndsFor, NoneFailed, longest_input}
+use Rattle.lot_stream.specs.declared.input.SlurpFault.TheVariants as slurp
 use Rattle.lot_stream.specs.Status.{code_of, status_after}
 use Rattle.lot_book.specs.Recorded.{facts_in}
 
@@ -90,7 +94,13 @@ AreLines input text =
 abbrev pub RunsOutInReading : List ℕ → List ℕ → List ℕ → Type 0
 RunsOutInReading input kept last = (kept ≡ []) × (last ≡ fault_line Fault.Memory)
 
--- the commands before the one of that number come to these verdicts, each on the book after those before it
+-- judging a command may lack memory: to decide it, or to record it where it is accepted
+abbrev pub JudgingMayLackMemory : Facts → Command → Type 0
+JudgingMayLackMemory before command =
+    MayLackMemory before command ⊎ ((change : Change) × Decides before command (Accept change.legs))
+
+-- the commands before the one of that number come to these verdicts, each on the book after those before it, and judging that one
+-- may lack memory
 pub record IsJudgedBefore (input : List ℕ) (number : ℕ) (verdicts : List Verdict) : Type 0 where
   pub short : length input ≤ longest_input
   pub done : List Command
@@ -100,6 +110,7 @@ pub record IsJudgedBefore (input : List ℕ) (number : ℕ) (verdicts : List Ver
   pub reads : Reads input (done ++ command ∷ rest)
   pub judged : JudgesAll [] (numbered key_of 1 done) verdicts book
   pub numbered : number ≡ length verdicts + 1
+  pub may_lack : JudgingMayLackMemory (facts_in book) command
 
 -- at a command: the replies to those before it, and the line with its number
 abbrev pub RunsOutAtCommand : List ℕ → List ℕ → List ℕ → Type 0
@@ -127,39 +138,45 @@ RunsOut input kept last =
 
 -- ---- What is written where the writer takes all of it.
 
--- the reader failed: the one line that reports it
-abbrev pub IsUnread : List ℕ → ℕ → Type 0
-IsUnread text status = (text ≡ fault_line Fault.Read) × (status ≡ 3)
+-- the reader can't be read: the one line that reports it
+abbrev pub IsUnread : CallsMade → List ℕ → ℕ → Type 0
+IsUnread all text status = EndsFor all slurp.Read × (text ≡ fault_line Fault.Read) × (status ≡ 3)
 
 -- memory ended before the answer was whole
 abbrev pub IsOutOfMemory : List ℕ → List ℕ → ℕ → Type 0
 IsOutOfMemory input text status = (kept : List ℕ) × (last : List ℕ) × RunsOut input kept last × (text ≡ kept ++ last) × (status ≡ 4)
 
--- the answer, or what stands for it where the reader failed or memory ended, and the status that goes with it
-abbrev pub IsOutput : List ℕ → List ℕ → ℕ → Type 0
-IsOutput input text status = IsAnswer input text status ⊎ IsUnread text status ⊎ IsOutOfMemory input text status
+-- The answer, where no call of the reader failed; or what stands for it where the reader can't be read, or where memory ended
+-- and no other fault of the reader was there. The status goes with it.
+abbrev pub IsOutput : CallsMade → List ℕ → List ℕ → ℕ → Type 0
+IsOutput all input text status =
+    (NoneFailed all × IsAnswer input text status) ⊎ IsUnread all text status ⊎ (EndsFor all slurp.Memory × IsOutOfMemory input text status)
 
 -- ---- What is written where the writer fails.
 
--- what was being written when the writer failed: the replies to the first commands, all replies and the first lines of
--- the report, or an output
-abbrev pub IsBegun : List ℕ → List ℕ → Type 0
-IsBegun input text = AreReplies input text ⊎ AreLines input text ⊎ ((status : ℕ) × IsOutput input text status)
+-- what is being written of an answer: the replies to the first commands, all replies and the first lines of the report, or
+-- all of it
+abbrev pub IsPart : List ℕ → List ℕ → Type 0
+IsPart input text = AreReplies input text ⊎ AreLines input text ⊎ ((status : ℕ) × IsAnswer input text status)
+
+-- what was being written when the writer failed: an answer, or an output
+abbrev pub IsBegun : CallsMade → List ℕ → List ℕ → Type 0
+IsBegun all input text = (NoneFailed all × IsPart input text) ⊎ ((status : ℕ) × IsOutput all input text status)
 
 -- a prefix of that, but not all of it; nothing more
-abbrev pub IsCut : List ℕ → List ℕ → ℕ → Type 0
-IsCut input written status = (text : List ℕ) × IsBegun input text × IsProperPrefixOf written text × (status ≡ 4)
+abbrev pub IsCut : CallsMade → List ℕ → List ℕ → ℕ → Type 0
+IsCut all input written status = (text : List ℕ) × IsBegun all input text × IsProperPrefixOf written text × (status ≡ 4)
 
 -- all was written, and the writer failed to flush it
-abbrev pub IsUnflushed : List ℕ → List ℕ → ℕ → Type 0
-IsUnflushed input written status = ((before : ℕ) × IsOutput input written before) × (status ≡ 4)
+abbrev pub IsUnflushed : CallsMade → List ℕ → List ℕ → ℕ → Type 0
+IsUnflushed all input written status = ((before : ℕ) × IsOutput all input written before) × (status ≡ 4)
 
 -- ---- The theorem.
 
--- What is written for an input, and the status. The answer with its status; or the one line that the reader failed,
--- with status 3; or, out of memory, with status 4, whole lines of the answer and the line that says at which command.
--- Or, with status 4: the writer failed, and a prefix of that is written but not all of it; or all of it is written, and
--- it failed to flush.
-abbrev pub IsOutcome : List ℕ → List ℕ → ℕ → Type 0
-IsOutcome input written status =
-    IsOutput input written status ⊎ IsCut input written status ⊎ IsUnflushed input written status
+-- What is written for an input that was read by these calls, and the status. The answer with its status; or the one line that
+-- the reader can't be read, with status 3; or, out of memory, with status 4, whole lines of the answer and the line that says
+-- at which command. Or, with status 4: the writer failed, and a prefix of that is written but not all of it; or all of it is
+-- written, and it failed to flush.
+abbrev pub IsOutcome : CallsMade → List ℕ → List ℕ → ℕ → Type 0
+IsOutcome all input written status =
+    IsOutput all input written status ⊎ IsCut all input written status ⊎ IsUnflushed all input written status

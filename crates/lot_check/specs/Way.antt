@@ -22,9 +22,10 @@ use Rattle.lot_report.specs.Holdings.{IsReportToFault, unvalued}
 use Rattle.lot_report.specs.Written.{AppendsPrefix}
 use Rattle.lot_stream.specs.FaultLine.{fault_line}
 use Rattle.lot_check.specs.Key.{key_of}
-use Rattle.lot_stream.specs.Input.{longest_input}
+use Rattle.lot_stream.specs.Input.{CallsMade, EndsFor, longest_input}
+use Rattle.lot_stream.specs.declared.input.SlurpFault.TheVariants as slurp
 use Rattle.lot_stream.specs.Status.{code_of, status_of}
-use Rattle.lot_check.specs.Answer.{status_of_replies, status_of_verdict, IsBegun, IsWhole, IsJudged, RunsOut}
+use Rattle.lot_check.specs.Answer.{status_of_replies, status_of_verdict, IsPart, IsWhole, IsJudged, JudgingMayLackMemory, RunsOut}
 use Rattle.lot_book.specs.Recorded.{facts_in, recorded}
 
 -- ---- Runs: commands judged on a fresh book, with a reply to each.
@@ -38,14 +39,15 @@ JudgesKnown before command Verdict.Repeated after = Decides before command Repea
 JudgesKnown before command (Verdict.Refused refusal) after = Decides before command (Refuse refusal) × (after ≡ before)
 
 -- a command of that number is judged on what is known, and its reply is written; or the writer fails within the reply; or,
--- out of memory at that number, nothing is written
+-- out of memory at that number, where judging it may lack memory, nothing is written
 abbrev pub Replies : Facts → Command → ℕ → Option (List ℕ) → Option (List ℕ) → Result (View × Status) Fault → Type 0
 Replies before command number old new (Ok replied) =
     (verdict : Verdict) × JudgesKnown before command verdict (known replied.0) × Appends old new (reply number verdict)
     × (replied.1 ≡ status_of_verdict verdict)
 Replies before command number old new (Err Fault.Write) =
     (verdict : Verdict) × (after : Facts) × JudgesKnown before command verdict after × AppendsPrefix old new (reply number verdict)
-Replies before command number old new (Err (Fault.MemoryAt stopped)) = (stopped ≡ number) × Appends old new []
+Replies before command number old new (Err (Fault.MemoryAt stopped)) =
+    (stopped ≡ number) × JudgingMayLackMemory before command × Appends old new []
 Replies before command number old new (Err Fault.Memory) = ⊥
 Replies before command number old new (Err Fault.Range) = ⊥
 Replies before command number old new (Err (Fault.Text line fault)) = ⊥
@@ -58,12 +60,12 @@ IsCutInRun commands old new =
     (done : List Command) × (rest : List Command) × (verdicts : List Verdict) × (book : List Entry)
     × (commands ≡ done ++ rest) × JudgesAll [] (numbered key_of 1 done) verdicts book × AppendsPrefix old new (replies 1 verdicts)
 
--- out of memory at the command of that number: the replies to those before it are written
+-- out of memory at the command of that number, where judging it may lack memory: the replies to those before it are written
 abbrev pub RunsOutInRun : List Command → ℕ → Option (List ℕ) → Option (List ℕ) → Type 0
 RunsOutInRun commands number old new =
     (done : List Command) × (command : Command) × (rest : List Command) × (verdicts : List Verdict) × (book : List Entry)
     × (commands ≡ done ++ command ∷ rest) × JudgesAll [] (numbered key_of 1 done) verdicts book × (number ≡ length verdicts + 1)
-    × Appends old new (replies 1 verdicts)
+    × JudgingMayLackMemory (facts_in book) command × Appends old new (replies 1 verdicts)
 
 -- what a run of commands on a fresh book writes and returns: the replies to all, and what is known of the book after
 -- them; or it stops at one of them
@@ -95,9 +97,20 @@ Reaches input old new (Err (Fault.Text number fault)) = (length input ≤ longes
 Reaches input old new (Err Fault.Range) =
     (verdicts : List Verdict) × (rows : List Holding) × (report : List ℕ) × IsJudged input verdicts rows
     × IsReportToFault (unvalued rows) report × Appends old new (replies 1 verdicts ++ report)
-Reaches input old new (Err Fault.Write) = (text : List ℕ) × IsBegun input text × AppendsPrefix old new text
+Reaches input old new (Err Fault.Write) = (text : List ℕ) × IsPart input text × AppendsPrefix old new text
 Reaches input old new (Err Fault.Memory) = StopsForMemory input Fault.Memory old new
 Reaches input old new (Err (Fault.MemoryAt number)) = StopsForMemory input (Fault.MemoryAt number) old new
+
+-- What the reader's calls came to where the run ends so: they have the cause of a fault of the reader, and of no fault else.
+abbrev pub HeardFor : CallsMade → Result Status Fault → Type 0
+HeardFor all (Ok status) = EndsFor all slurp.Memory
+HeardFor all (Err Fault.Read) = EndsFor all slurp.Read
+HeardFor all (Err Fault.TooLong) = EndsFor all slurp.TooLong
+HeardFor all (Err (Fault.Text number fault)) = EndsFor all slurp.Memory
+HeardFor all (Err Fault.Range) = EndsFor all slurp.Memory
+HeardFor all (Err Fault.Write) = EndsFor all slurp.Memory
+HeardFor all (Err Fault.Memory) = EndsFor all slurp.Memory
+HeardFor all (Err (Fault.MemoryAt number)) = EndsFor all slurp.Memory
 
 -- its lines up to one, or all of them, say commands
 abbrev pub HasMeaning : List ℕ → Type 0

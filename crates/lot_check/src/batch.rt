@@ -2,13 +2,13 @@
 //!
 //! - `report`: what the book holds, as it is written.
 
-ghost use Rattle.std.specs.Prelude.{◌≡◌, ◌≤◌, ℕ, List, length, IfOk, IfSome, IsErrOf};
+ghost use Rattle.std.specs.Prelude.{◌≡◌, ◌≢◌, ◌≤◌, ℕ, List, length, IfErr, IfOk, IfSome, IsErrOf, OnErr};
 ghost use Rattle.std.specs.Io.KnownBytes.{Appends};
 ghost use Rattle.lot_stream.specs.Status.{IsStatus};
-ghost use Rattle.lot_check.specs.Answer.{IsOutcome, status_of_verdict};
+ghost use Rattle.lot_check.specs.Answer.{IsOutcome, JudgingMayLackMemory, status_of_verdict};
 ghost use Rattle.lot_stream.specs.Input.{longest_input};
-ghost use Rattle.lot_check.specs.Way.{Concludes, HasMeaning, JudgesKnown, Reaches, Replies, RunsCommands};
-ghost use Rattle.lot_stream.specs.declared.fault.Fault.TheVariants.{Memory};
+ghost use Rattle.lot_check.specs.Way.{Concludes, HasMeaning, HeardFor, JudgesKnown, Reaches, Replies, RunsCommands};
+ghost use Rattle.lot_stream.specs.declared.fault.Fault.TheVariants.{Memory, Read as Unread};
 ghost use Rattle.lot_view.specs.View.{known};
 
 mod report;
@@ -16,11 +16,11 @@ mod report;
 use lot_command::Command;
 use lot_ledger::{Outcome, Stop, Verdict, View, decide};
 use lot_report::{PrintFault, print_reply};
-use lot_stream::{Fault, Status, finish, print_fault, slurp};
+use lot_stream::{CountedRead, Fault, Status, finish, print_fault, slurp};
 use lot_text::read;
 use report::print_holdings;
 use std::alloc::{AllocError, Global};
-use std::io::{Read, Write};
+use std::io::Write;
 
 /// Judges a ledger text on a fresh book: writes a reply to each of its commands, and then what the book holds.
 ///
@@ -33,12 +33,14 @@ use std::io::{Read, Write};
 ///
 /// Out of memory, whole lines are written and one more: without a number while the input is read and in the report, and
 /// with the number of the command at which it stopped in between. After a fault of the writer nothing more is written.
-/// When the reader or the writer fails, or memory ends, is shown by the tests alone.
-pub fn check<R: Read, W: Write>(alloc: Global, reader: &mut R, writer: &mut W) -> u8
+/// When the writer fails or memory ends, and that the writer is asked to flush, is shown by the tests alone.
+pub fn check<R: CountedRead, W: Write>(alloc: Global, reader: &mut R, writer: &mut W) -> u8
     ensures status { IsStatus result }
     // Where the bytes of the reader are known: what is written, where it is known what the writer holds.
     ensures answer { IfSome (R.remaining reader.old) (λ input. (written : List ℕ)
-        × Appends (W.contents writer.old) (W.contents writer.new) written × IsOutcome input written result) }
+        × Appends (W.contents writer.old) (W.contents writer.new) written
+        × IsOutcome (record { before = R.calls reader.old; after = R.calls reader.new })
+        input written result) }
 {
     let outcome = answer(alloc, reader, writer);
     let concluded = conclude(writer, outcome);
@@ -46,9 +48,15 @@ pub fn check<R: Read, W: Write>(alloc: Global, reader: &mut R, writer: &mut W) -
 }
 
 /// Reads, judges and writes, up to the end or the first fault, which isn't reported yet.
-fn answer<R: Read, W: Write>(alloc: Global, reader: &mut R, writer: &mut W) -> Result<Status, Fault>
-    ensures { IfSome (R.remaining reader.old) (λ input.
+fn answer<R: CountedRead, W: Write>(
+    alloc: Global,
+    reader: &mut R,
+    writer: &mut W,
+) -> Result<Status, Fault>
+    ensures way { IfSome (R.remaining reader.old) (λ input.
         Reaches input (W.contents writer.old) (W.contents writer.new) result) }
+    ensures heard { HeardFor (record { before = R.calls reader.old; after = R.calls reader.new })
+        result }
 {
     let text = slurp(alloc, reader)?;
     answer_text(alloc, &text, writer)
@@ -58,6 +66,8 @@ fn answer<R: Read, W: Write>(alloc: Global, reader: &mut R, writer: &mut W) -> R
 fn answer_text<W: Write>(alloc: Global, text: &[u8], writer: &mut W) -> Result<Status, Fault>
     requires { length text.now ≤ longest_input }
     ensures way { Reaches text.now (W.contents writer.old) (W.contents writer.new) result }
+    // A text that was read has no fault of a reader.
+    ensures had { IfErr result (λ fault. fault ≢ Unread) }
     // Out of memory comes before a faulty line, never at one.
     ensures memory { IsErrOf result Memory → HasMeaning text.now }
 {
@@ -101,7 +111,7 @@ fn reply<W: Write>(
     };
     match print_reply(writer, number, &verdict) {
         Ok(()) => Ok((view, status_of_verdict(&verdict))),
-        Err(fault) => Err(Fault::at(number, fault)),
+        Err(_) => Err(Fault::Write),
     }
 }
 
@@ -116,9 +126,11 @@ fn status_of_verdict(verdict: &Verdict) -> Status
 }
 
 /// Judges a command on what is known of the book, and returns the verdict with what is known then: of an accepted command
-/// its entry is recorded. The error is out of memory; the view is then lost.
+/// its entry is recorded. The error is out of memory; the view is then lost. It comes only where deciding the command may lack
+/// memory, or the command is accepted: never for a refusal that stores nothing.
 fn judge(alloc: Global, view: View, command: &Command) -> Result<(View, Verdict), AllocError>
-    ensures { IfOk result (λ judged. JudgesKnown (known view) command.now judged.1 (known judged.0)) }
+    ensures judged { IfOk result (λ judged. JudgesKnown (known view) command.now judged.1 (known judged.0)) }
+    ensures memory { OnErr result (JudgingMayLackMemory (known view) command.now) }
 {
     match decide(alloc, &view, command) {
         Ok(Outcome::Accept(change)) => Ok((view.record(command, &change)?, Verdict::Accepted)),

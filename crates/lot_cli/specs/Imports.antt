@@ -9,6 +9,7 @@ use Rattle.lot_import.specs.declared.accounts.Accounts.{Accounts}
 use Rattle.lot_import.specs.declared.fault.KeyedFault.{KeyedFault}
 use Rattle.lot_import.specs.declared.fault.KeyedFault.TheVariants as cash
 use Rattle.lot_import.specs.declared.row.Row.{Row}
+use Rattle.lot_cli.specs.Input.{Reading}
 use Rattle.lot_cli.specs.Keyed.{import_source}
 use Rattle.lot_cli.specs.Runs.{RunsInput}
 use Rattle.lot_cli.specs.declared.fault.InputFault.{InputFault}
@@ -24,13 +25,14 @@ abbrev pub HasCashFault : List Row → KeyedFault → Type 0
 HasCashFault rows (cash.InexactAmount number) = HasInexactRow rows number
 HasCashFault rows cash.Memory = ⊤
 
--- the input is no broker file, for that fault; or it is one, and the cash of a row isn't units
+-- The input is no broker file, for that fault; or it is one, and the cash of a row isn't units. Behind the rows memory ends
+-- only where it is one.
 abbrev pub IsFaultyFile : List ℕ → InputFault → Type 0
 IsFaultyFile input (Unread fault) = ⊥
 IsFaultyFile input (Text fault) = ⊥
 IsFaultyFile input (Rows fault) = HasFault input fault
 IsFaultyFile input (Cash fault) = (rows : List Row) × AreRows input rows × HasCashFault rows fault
-IsFaultyFile input Memory = ⊥
+IsFaultyFile input Memory = (rows : List Row) × AreRows input rows
 
-abbrev pub Imports : List ℕ → Accounts → ℕ → Option (List ℕ) → State → State → Option (List ℕ) → Option (List ℕ) → ℕ → Type 0
+abbrev pub Imports : List ℕ → Accounts → ℕ → Reading → State → State → Option (List ℕ) → Option (List ℕ) → ℕ → Type 0
 Imports batch accounts from = RunsInput (FileMeans batch accounts from) IsFaultyFile from

@@ -3,6 +3,7 @@ use Rattle.std.specs.Prelude.{◌≡◌, ℕ, List, Option}
 use Rattle.sqlite.specs.State.{State}
 use Rattle.lot_command.specs.declared.command.Command.{Command}
 use Rattle.lot_command.specs.declared.key.Key.{Key}
+use Rattle.lot_cli.specs.Input.{Reading}
 use Rattle.lot_cli.specs.Keyed.{keyed_from, post_source}
 use Rattle.lot_cli.specs.Runs.{RunsInput}
 use Rattle.lot_cli.specs.declared.fault.InputFault.{InputFault}
@@ -13,13 +14,14 @@ use Rattle.lot_read.specs.Text.{IsFaultOf, Reads}
 abbrev pub TextMeans : List ℕ → ℕ → List ℕ → List (Key × Command) → Type 0
 TextMeans batch from input keyed = (commands : List Command) × Reads input commands × (keyed ≡ keyed_from (post_source batch) from commands)
 
--- the input is no ledger text, and this is its first faulty line; or memory ends at a line before that
+-- The input is no ledger text, and this is its first faulty line; or memory ends at a line before that. Behind that memory
+-- ends only where it is ledger text.
 abbrev pub IsFaultyText : List ℕ → InputFault → Type 0
 IsFaultyText input (Unread fault) = ⊥
 IsFaultyText input (Text fault) = IsFaultOf input fault
 IsFaultyText input (Rows fault) = ⊥
 IsFaultyText input (Cash fault) = ⊥
-IsFaultyText input Memory = ⊥
+IsFaultyText input Memory = (commands : List Command) × Reads input commands
 
-abbrev pub Posts : List ℕ → ℕ → Option (List ℕ) → State → State → Option (List ℕ) → Option (List ℕ) → ℕ → Type 0
+abbrev pub Posts : List ℕ → ℕ → Reading → State → State → Option (List ℕ) → Option (List ℕ) → ℕ → Type 0
 Posts batch from = RunsInput (TextMeans batch from) IsFaultyText from

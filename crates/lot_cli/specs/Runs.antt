@@ -7,7 +7,7 @@ use Rattle.lot_stream.specs.declared.status.Status.TheVariants.{Accepted, Refuse
 use Rattle.lot_command.specs.declared.command.Command.{Command}
 use Rattle.lot_command.specs.declared.key.Key.{Key}
 use Rattle.lot_rows.specs.Tables.{Has, Tables}
-use Rattle.lot_cli.specs.Input.{Gives, GivesNone}
+use Rattle.lot_cli.specs.Input.{Gives, GivesNone, Reading}
 use Rattle.lot_cli.specs.Says.{Halts}
 use Rattle.lot_cli.specs.declared.fault.InputFault.{InputFault}
 use Rattle.lot_cli.specs.declared.halt.Halt.TheVariants as halt
@@ -71,7 +71,7 @@ RunsOn commands from old new before written status =
 -- What is read gives no commands, and nothing is done to the book; or those that it gives are run. `Means` tells which
 -- commands an input gives, and `IsFaulty` which fault it has. The first of the commands has that number.
 abbrev pub RunsInput : (List ℕ → List (Key × Command) → Type 0) → (List ℕ → InputFault → Type 0)
-    → ℕ → Option (List ℕ) → State → State → Option (List ℕ) → Option (List ℕ) → ℕ → Type 0
-RunsInput Means IsFaulty from known old new before written status =
-    ((fault : InputFault) × GivesNone IsFaulty known fault × IsUntouched old new × Halts (halt.Input fault) before written status)
-    ⊎ ((keyed : List (Key × Command)) × Gives Means known keyed × RunsOn keyed from old new before written status)
+    → ℕ → Reading → State → State → Option (List ℕ) → Option (List ℕ) → ℕ → Type 0
+RunsInput Means IsFaulty from reading old new before written status =
+    ((fault : InputFault) × GivesNone IsFaulty reading fault × IsUntouched old new × Halts (halt.Input fault) before written status)
+    ⊎ ((keyed : List (Key × Command)) × Gives Means reading keyed × RunsOn keyed from old new before written status)

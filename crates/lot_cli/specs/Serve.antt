@@ -6,6 +6,7 @@ use Rattle.lot_stream.specs.declared.status.Status.TheVariants.{Accepted}
 use Rattle.lot_stored.specs.StandFor.{Left, Stands}
 use Rattle.lot_report.specs.Printed.{line}
 use Rattle.lot_cli.specs.Imports.{Imports}
+use Rattle.lot_cli.specs.Input.{Reading}
 use Rattle.lot_cli.specs.Posts.{Posts}
 use Rattle.lot_cli.specs.Reports.{Reports}
 use Rattle.lot_cli.specs.Runs.{IsUntouched}
@@ -59,10 +60,10 @@ ReadsNothing (Holdings book day) = ⊤
 ReadsNothing (Gains book first last) = ⊤
 ReadsNothing (Journal book) = ⊤
 
--- a call: what is known of the bytes of the reader, the database before it and after it, what is known of the bytes that were
+-- a call: what is known of the reader, the database before it and after it, what is known of the bytes that were
 -- written before it and after it, and the status of the program
 pub record Call : Type 1 where
-  pub input : Option (List ℕ)
+  pub input : Reading
   pub old : State
   pub new : State
   pub before : Option (List ℕ)
@@ -73,7 +74,8 @@ pub record Call : Type 1 where
 -- and a crash may leave, after it.
 abbrev pub Serves : Action → Call → Type 0
 Serves Check c =
-    IsUntouched c.old c.new × IfSome c.input (λ input. (text : List ℕ) × Appends c.before c.written text × IsOutcome input text c.status)
+    IsUntouched c.old c.new × IfSome c.input.bytes (λ input. (text : List ℕ) × Appends c.before c.written text
+    × IsOutcome c.input.calls input text c.status)
 Serves (Init book) c = Makes c.old c.new c.before c.written c.status
 Serves (Post book batch from) c = Posts batch from c.input c.old c.new c.before c.written c.status
 Serves (Import book batch accounts from) c = Imports batch accounts from c.input c.old c.new c.before c.written c.status

@@ -13,10 +13,10 @@ use lot_args::Action;
 use lot_check::check;
 use lot_report::print_line;
 use lot_store::{HandedBack, create};
-use lot_stream::Status;
+use lot_stream::{CountedRead, Status};
 use sqlite::{Alter, Connection};
 use std::alloc::Global;
-use std::io::{Read, Write};
+use std::io::Write;
 
 /// What an action comes to.
 pub struct Served<S: Alter> {
@@ -39,7 +39,7 @@ pub struct Served<S: Alter> {
 /// A fault is one line (docs/FORMATS.md, Faults). Returns the status of the program: 0 where all commands were accepted or
 /// repeated, the book was made, or the report is whole; 1 where some were refused; 3 for a fault of the input; 4 for a fault of the book, of the
 /// output or of memory, which goes before 1.
-pub fn serve<R: Read, W: Write, S: Alter>(
+pub fn serve<R: CountedRead, W: Write, S: Alter>(
     alloc: Global,
     action: &Action,
     reader: &mut R,
@@ -49,7 +49,10 @@ pub fn serve<R: Read, W: Write, S: Alter>(
     requires outside { conn.in_transaction ≡ false }
     requires unlimited { conn.step_limit ≡ None }
     ensures serves { Serves action.now (record {
-      input = R.remaining reader.old;
+      input = record {
+        bytes = R.remaining reader.old;
+        calls = record { before = R.calls reader.old; after = R.calls reader.new };
+      };
       old = state S.Store conn;
       new = state S.Store result.conn;
       before = W.contents writer.old;

@@ -12,16 +12,16 @@ use crate::run::{halted, run};
 use lot_args::{Batch, Start};
 use lot_command::{Command, Key};
 use lot_import::{Accounts, keyed_commands, read_rows};
-use lot_stream::slurp;
+use lot_stream::{CountedRead, slurp};
 use sqlite::{Alter, Connection};
 use std::alloc::Global;
-use std::io::{Read, Write};
+use std::io::Write;
 
 /// Posts all that a reader has to accounts of the book that is there, as a broker file: its rows from that number on, each
 /// under the key of the row in the batch.
 ///
 /// All is read, and each row is converted, before the book is taken up.
-pub(crate) fn import<R: Read, W: Write, S: Alter>(
+pub(crate) fn import<R: CountedRead, W: Write, S: Alter>(
     alloc: Global,
     batch: &Batch,
     accounts: &Accounts,
@@ -32,7 +32,10 @@ pub(crate) fn import<R: Read, W: Write, S: Alter>(
 ) -> Served<S>
     requires outside { conn.in_transaction ≡ false }
     requires unlimited { conn.step_limit ≡ None }
-    ensures imports { Imports batch.now accounts.now from (R.remaining reader.old) (state S.Store conn) (state S.Store result.conn)
+    ensures imports { Imports batch.now accounts.now from (record {
+      bytes = R.remaining reader.old;
+      calls = record { before = R.calls reader.old; after = R.calls reader.new };
+    }) (state S.Store conn) (state S.Store result.conn)
         (W.contents writer.old) (W.contents writer.new) result.status }
     ensures status { IsStatus result.status }
 {
@@ -44,7 +47,7 @@ pub(crate) fn import<R: Read, W: Write, S: Alter>(
 }
 
 /// Returns the commands of the rows of all that a reader has, from that number on, each under its key.
-fn keyed_rows<R: Read>(
+fn keyed_rows<R: CountedRead>(
     alloc: Global,
     batch: &Batch,
     accounts: &Accounts,
@@ -52,8 +55,14 @@ fn keyed_rows<R: Read>(
     reader: &mut R,
 ) -> Result<Vec<(Key, Command)>, InputFault>
     requires { 1 ≤ from }
-    ensures ok { IfOk result (λ keyed. Gives (FileMeans batch.now accounts.now from) (R.remaining reader.old) keyed.items) }
-    ensures err { IfErr result (GivesNone IsFaultyFile (R.remaining reader.old)) }
+    ensures ok { IfOk result (λ keyed. Gives (FileMeans batch.now accounts.now from) (record {
+      bytes = R.remaining reader.old;
+      calls = record { before = R.calls reader.old; after = R.calls reader.new };
+    }) keyed.items) }
+    ensures err { IfErr result (GivesNone IsFaultyFile (record {
+      bytes = R.remaining reader.old;
+      calls = record { before = R.calls reader.old; after = R.calls reader.new };
+    })) }
 {
     let file = slurp(alloc, reader)?;
     let rows = read_rows(alloc, &file)?;

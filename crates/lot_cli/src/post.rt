@@ -11,17 +11,17 @@ use crate::keyed::keyed;
 use crate::run::{halted, run};
 use lot_args::{Batch, Start};
 use lot_command::{Command, Key};
-use lot_stream::slurp;
+use lot_stream::{CountedRead, slurp};
 use lot_text::read;
 use sqlite::{Alter, Connection};
 use std::alloc::Global;
-use std::io::{Read, Write};
+use std::io::Write;
 
 /// Posts all that a reader has to the book that is there, as ledger text: its commands from that number on, each under the
 /// key of its number in the batch.
 ///
 /// All is read before the book is taken up.
-pub(crate) fn post<R: Read, W: Write, S: Alter>(
+pub(crate) fn post<R: CountedRead, W: Write, S: Alter>(
     alloc: Global,
     batch: &Batch,
     from: Start,
@@ -31,7 +31,10 @@ pub(crate) fn post<R: Read, W: Write, S: Alter>(
 ) -> Served<S>
     requires outside { conn.in_transaction ≡ false }
     requires unlimited { conn.step_limit ≡ None }
-    ensures posts { Posts batch.now from (R.remaining reader.old) (state S.Store conn) (state S.Store result.conn)
+    ensures posts { Posts batch.now from (record {
+      bytes = R.remaining reader.old;
+      calls = record { before = R.calls reader.old; after = R.calls reader.new };
+    }) (state S.Store conn) (state S.Store result.conn)
         (W.contents writer.old) (W.contents writer.new) result.status }
     ensures status { IsStatus result.status }
 {
@@ -43,15 +46,21 @@ pub(crate) fn post<R: Read, W: Write, S: Alter>(
 }
 
 /// Returns the commands of all that a reader has, from that number on, each under its key.
-fn keyed_text<R: Read>(
+fn keyed_text<R: CountedRead>(
     alloc: Global,
     batch: &Batch,
     from: usize,
     reader: &mut R,
 ) -> Result<Vec<(Key, Command)>, InputFault>
     requires { 1 ≤ from }
-    ensures ok { IfOk result (λ keyed. Gives (TextMeans batch.now from) (R.remaining reader.old) keyed.items) }
-    ensures err { IfErr result (GivesNone IsFaultyText (R.remaining reader.old)) }
+    ensures ok { IfOk result (λ keyed. Gives (TextMeans batch.now from) (record {
+      bytes = R.remaining reader.old;
+      calls = record { before = R.calls reader.old; after = R.calls reader.new };
+    }) keyed.items) }
+    ensures err { IfErr result (GivesNone IsFaultyText (record {
+      bytes = R.remaining reader.old;
+      calls = record { before = R.calls reader.old; after = R.calls reader.new };
+    })) }
 {
     let text = slurp(alloc, reader)?;
     let commands = read(alloc, &text)?;

@@ -1,14 +1,12 @@
 -- How the rows of a file, or its fault, follow from the records that are read one after another.
-use Rattle.std.proofs.Common.{◌≡◌, ℕ, ◌+◌, ◌<◌, ◌≤◌, List, [], ◌∷◌, ◌++◌, length, get_or, sym, ◌∙◌, ap, arith}
-use Rattle.std.proofs.lemmas.List.{append-nil, append_assoc}
+use Rattle.std.proofs.Common.{◌≡◌, ℕ, ◌+◌, ◌<◌, ◌≤◌, List, [], ◌∷◌, ◌++◌, Bor, Result, Ok, Err, IsErrAnd, IfErr, length, get_or, sym, ◌∙◌, ap, subst, inr, arith}
+use Rattle.std.proofs.lemmas.List.{append-nil, append_assoc, length_push}
+use Rattle.csv.specs.declared.reader.Reader.{Reader}
 use Rattle.std.proofs.lemmas.Slice.Zip.{AllZip-long}
 use Rattle.lot_import.specs.File.{HasBadRecord, HasExtraRecord, HasFault, HasNoHeader, HasRecords, SayRows, file_records, most_rows}
-use Rattle.lot_import.specs.Column.{IsRowFault}
-use Rattle.lot_import.specs.Reading.{HasRecordFault, of_row}
+use Rattle.lot_import.specs.Reading.{EndsInRows, GivesRow, HasRecordFault, records_left}
 use Rattle.lot_import.specs.Row.{IsFaulty, IsRow, columns}
 use Rattle.lot_import.specs.declared.fault.Cause.{Cause}
-use Rattle.lot_import.specs.declared.fault.RowFault.{RowFault}
-use Rattle.lot_import.specs.declared.fault.RowFault.TheVariants.{Bad, Memory}
 use Rattle.lot_import.specs.declared.fault.RowsFault.{RowsFault}
 use Rattle.lot_import.specs.declared.fault.RowsFault.TheVariants as Faults
 use Rattle.lot_import.specs.declared.row.Row.{Row}
@@ -60,12 +58,39 @@ extra_record version all done left more written rows e f said many =
       many = sym (AllZip-long (IsRow version) done rows said) ∙ many;
     }
 
--- the fault of a record, which is that of the file
-pub at_record : (version : Version) (all done left more : List (List (List ℕ))) (written : List (List ℕ)) (rows : List Row) (fault : RowFault)
-    → all ≡ done ++ left → left ≡ written ∷ more → SayRows version done rows → IsRowFault version written fault → length rows < most_rows
-    → HasRecordFault version all (of_row (length rows + 1) fault)
-at_record version all done left more written rows (Bad cause) e f said why few = bad_record version all done left more written rows cause e f said why few
-at_record version all done left more written rows Memory e f said why few = tt
+-- the fault that a record gives, which is that of the file
+pub at_record : (version : Version) (all done left more : List (List (List ℕ))) (written : List (List ℕ)) (rows : List Row) (fault : RowsFault)
+    → all ≡ done ++ left → left ≡ written ∷ more → SayRows version done rows → length rows ≤ most_rows
+    → GivesRow version (length rows + 1) written (Err fault) → HasRecordFault version all fault
+at_record version all done left more written rows Faults.BadHeader e f said few gives = absurd gives
+at_record version all done left more written rows (Faults.BadRow number cause) e f said few gives =
+    subst (λ (n : ℕ). HasBadRecord version all n cause) (sym gives.0)
+    (bad_record version all done left more written rows cause e f said gives.2 (omega (arith, gives.1)))
+at_record version all done left more written rows Faults.TooManyRows e f said few gives =
+    extra_record version all done left more written rows e f said (omega (arith, few, gives))
+at_record version all done left more written rows Faults.Memory e f said few gives = tt
+
+-- memory ended behind a record that was read and says a row
+pub behind_row : (version : Version) (all done left : List (List (List ℕ))) (reader : Reader (Bor (List ℕ))) (written : List (List ℕ))
+    (rows : List Row) (row : Row) → all ≡ done ++ left → left ≡ written ∷ records_left reader → SayRows version done rows
+    → length rows + 1 ≤ most_rows → IsRow version written row → EndsInRows version all reader
+behind_row version all done left reader written rows row e f said few is =
+    inr (record {
+      before = done ++ written ∷ [];
+      all = moved all done left (records_left reader) written e f;
+      rows = rows ++ row ∷ [];
+      said = more_rows version done rows written row said is;
+      few = omega (arith, few, AllZip-long (IsRow version) done rows said, length_push done written);
+    })
+
+-- a fault that is handed on
+pub handed : {T E : Type 0} (r : Result T E) (P : E → Type 0) (fault : E) → IsErrAnd r (λ e. e ≡ fault) → P fault → IfErr r P
+handed (Ok value) P fault is h = absurd is
+handed (Err e) P fault is h = subst P (sym is) h
+
+pub handed_as : {T E : Type 0} (r : Result T E) (fault told : E) → IsErrAnd r (λ e. e ≡ fault) → r ≡ Err told → fault ≡ told
+handed_as (Ok value) fault told is e = absurd is
+handed_as (Err other) fault told is e = let same : other ≡ told = cc in sym is ∙ same
 
 -- no record is left
 pub all_read : (version : Version) (all done left : List (List (List ℕ))) (rows : List Row)

@@ -1,18 +1,16 @@
 -- The fields of a record, and its first faulty column.
-use Rattle.std.specs.Prelude.{◌==◌, false, Result, Ok, Err, IsErrAnd, MatchResult, codes, ⊤}
+use Rattle.std.specs.Prelude.{◌==◌, false, Result, Ok, Err, IsErrAnd, MatchResult, codes}
 use Rattle.std.proofs.Common.{◌≡◌, ℕ, zero, suc, List, [], ◌∷◌, length, get_or, Option, Some, None, ℤ, refl, sym, ◌∙◌, ap, subst, inl, inr, arith}
 use Rattle.std.proofs.lemmas.Option.{same_Some}
 use Rattle.csv.specs.Records as csv
-use Rattle.lot_import.specs.Column.{GivesField, IsRowFault}
-use Rattle.lot_import.specs.Row.{Passes, FirstFailing, HasLot, IsRow, SaysAction, SaysCommodity, SaysDay, SaysFee, SaysLabel, SaysRate, at_column, causes, columns}
+use Rattle.lot_import.specs.Column.{GivesField, row_of}
+use Rattle.lot_import.specs.Row.{Passes, FirstFailing, HasLot, IsFaulty, IsRow, SaysAction, SaysCommodity, SaysDay, SaysFee, SaysLabel, SaysRate, at_column, columns}
 use Rattle.lot_import.specs.declared.fault.Cause.{Cause}
 use Rattle.lot_import.specs.declared.fault.Cause.TheVariants as Causes
-use Rattle.lot_import.specs.declared.fault.RowFault.{RowFault}
-use Rattle.lot_import.specs.declared.fault.RowFault.TheVariants.{Bad, Memory}
 use Rattle.lot_import.specs.declared.row.Action.{Action}
 use Rattle.lot_import.specs.declared.row.Action.TheVariants.{Buy, Sell}
-use Rattle.lot_import.specs.declared.row.Row.{Row}
 use Rattle.lot_import.specs.declared.version.Version.{Version}
+use Rattle.lot_import.specs.declared.written.SaidRow.{SaidRow}
 
 -- ---- The field at a place.
 
@@ -58,54 +56,43 @@ from_date = Causes.Date ∷ from_action
 abbrev pub from_ref : List Cause
 from_ref = Causes.Ref ∷ from_date
 
--- the fault of a record by these causes
-abbrev pub FaultBy : (Cause → Type 0) → List Cause → RowFault → Type 0
-FaultBy Passing cs (Bad cause) = FirstFailing Passing cs cause
-FaultBy Passing cs Memory = ⊤
+pub pass : (Passing : Cause → Type 0) (c : Cause) (cs : List Cause) (cause : Cause) → Passing c → FirstFailing Passing cs cause
+    → FirstFailing Passing (c ∷ cs) cause
+pass Passing c cs cause p h = inr (p, h)
 
-pub pass : (Passing : Cause → Type 0) (c : Cause) (cs : List Cause) (fault : RowFault) → Passing c → FaultBy Passing cs fault → FaultBy Passing (c ∷ cs) fault
-pass Passing c cs (Bad cause) p h = inr (p, h)
-pass Passing c cs Memory p h = tt
-
-pub stop : {A : Type 0} (Says : A → Type 0) (Passing : Cause → Type 0) (c : Cause) (cs : List Cause) (fault : RowFault)
-    → (Passing c → (value : A) × Says value) → GivesField Says c (Err fault) → FaultBy Passing (c ∷ cs) fault
-stop Says Passing c cs (Bad cause) value h = inl (h.0, λ p. h.1 (value p).0 (value p).1)
-stop Says Passing c cs Memory value h = tt
+pub stop : {A : Type 0} (Says : A → Type 0) (Passing : Cause → Type 0) (c : Cause) (cs : List Cause) (cause : Cause)
+    → (Passing c → (value : A) × Says value) → (cause ≡ c) × ((value : A) → Says value → ⊥) → FirstFailing Passing (c ∷ cs) cause
+stop Says Passing c cs cause value h = inl (h.0, λ p. h.1 (value p).0 (value p).1)
 
 -- the same of a column whose field was read
-pub stop_at : {A : Type 0} (Says : List ℕ → A → Type 0) (Passing : Cause → Type 0) (c : Cause) (cs : List Cause) (fault : RowFault) (f g : List ℕ)
-    → f ≡ g → (Passing c → (value : A) × Says g value) → GivesField (Says f) c (Err fault) → FaultBy Passing (c ∷ cs) fault
-stop_at Says Passing c cs fault f g e value h = stop (Says g) Passing c cs fault value (subst (λ (x : List ℕ). GivesField (Says x) c (Err fault)) e h)
+pub stop_at : {A : Type 0} (Says : List ℕ → A → Type 0) (Passing : Cause → Type 0) (c : Cause) (cs : List Cause) (cause : Cause) (f g : List ℕ)
+    → f ≡ g → (Passing c → (value : A) × Says g value) → (cause ≡ c) × ((value : A) → Says f value → ⊥) → FirstFailing Passing (c ∷ cs) cause
+stop_at {A} Says Passing c cs cause f g e value h =
+    stop (Says g) Passing c cs cause value (subst (λ (x : List ℕ). (cause ≡ c) × ((v : A) → Says x v → ⊥)) e h)
 
 pub said : {A : Type 0} (Says : List ℕ → A → Type 0) (f g : List ℕ) → f ≡ g → (value : A) → Says f value → (value : A) × Says g value
 said Says f g e value h = (value, subst (λ (x : List ℕ). Says x value) e h)
 
-by_causes : (version : Version) (written : List (List ℕ)) (fault : RowFault) → FaultBy (Passes version written) causes fault → IsRowFault version written fault
-by_causes version written (Bad cause) h = h
-by_causes version written Memory h = tt
-
 -- the columns up to `symbol` pass
-pub symbol_passes : (version : Version) (written : List (List ℕ)) (fault : RowFault) (f0 f1 f2 f3 : List ℕ) (name : List ℕ) (day : ℤ) (action : Action) (symbol : List ℕ)
+pub symbol_passes : (version : Version) (written : List (List ℕ)) (cause : Cause) (f0 f1 f2 f3 : List ℕ) (name : List ℕ) (day : ℤ) (action : Action) (symbol : List ℕ)
     → length written ≡ length (columns version)
     → f0 ≡ at_column written 0 → SaysLabel f0 name → f1 ≡ at_column written 1 → SaysDay f1 day
     → f2 ≡ at_column written 2 → SaysAction f2 action → f3 ≡ at_column written 3 → SaysCommodity f3 symbol
-    → FaultBy (Passes version written) from_units fault → IsRowFault version written fault
-symbol_passes version written fault f0 f1 f2 f3 name day action symbol whole e0 h0 e1 h1 e2 h2 e3 h3 rest =
-    by_causes version written fault
-    (pass (Passes version written) Causes.Length from_ref fault whole
-    (pass (Passes version written) Causes.Ref from_date fault (said SaysLabel f0 (at_column written 0) e0 name h0)
-    (pass (Passes version written) Causes.Date from_action fault (said SaysDay f1 (at_column written 1) e1 day h1)
-    (pass (Passes version written) Causes.Action from_symbol fault (said SaysAction f2 (at_column written 2) e2 action h2)
-    (pass (Passes version written) Causes.Symbol from_units fault (said SaysCommodity f3 (at_column written 3) e3 symbol h3) rest)))))
+    → FirstFailing (Passes version written) from_units cause → IsFaulty version written cause
+symbol_passes version written cause f0 f1 f2 f3 name day action symbol whole e0 h0 e1 h1 e2 h2 e3 h3 rest =
+    pass (Passes version written) Causes.Length from_ref cause whole
+    (pass (Passes version written) Causes.Ref from_date cause (said SaysLabel f0 (at_column written 0) e0 name h0)
+    (pass (Passes version written) Causes.Date from_action cause (said SaysDay f1 (at_column written 1) e1 day h1)
+    (pass (Passes version written) Causes.Action from_symbol cause (said SaysAction f2 (at_column written 2) e2 action h2)
+    (pass (Passes version written) Causes.Symbol from_units cause (said SaysCommodity f3 (at_column written 3) e3 symbol h3) rest))))
 
 -- ---- A fee that is given is a rate.
 
-pub fee_said : (field : List ℕ) (cause : Cause) (result : Result ℕ RowFault) → (length field == 0) ≡ false
+pub fee_said : (field : List ℕ) (cause : Cause) (result : Result ℕ Cause) → (length field == 0) ≡ false
     → GivesField (SaysRate field) cause result → GivesField (SaysFee field) cause result
 fee_said [] cause result e h = cc
 fee_said (b ∷ bytes) cause (Ok fee) e h = h
-fee_said (b ∷ bytes) cause (Err (Bad c)) e h = h
-fee_said (b ∷ bytes) cause (Err Memory) e h = tt
+fee_said (b ∷ bytes) cause (Err c) e h = h
 
 -- ---- The label of a lot goes by the one action that the record says.
 
@@ -123,7 +110,7 @@ lot_of version written f action e h p =
 
 -- ---- A fault that is handed on.
 
-pub row_fault : (version : Version) (written : List (List ℕ)) (fault : RowFault) (result : Result Row RowFault) → IsErrAnd result (λ e. e ≡ fault)
-    → IsRowFault version written fault → MatchResult result (λ row. IsRow version written row) (λ e. IsRowFault version written e)
-row_fault version written fault (Ok row) is h = absurd is
-row_fault version written fault (Err e) is h = rw (is) h
+pub row_fault : (version : Version) (written : List (List ℕ)) (cause : Cause) (result : Result SaidRow Cause) → IsErrAnd result (λ e. e ≡ cause)
+    → IsFaulty version written cause → MatchResult result (λ said. IsRow version written (row_of said)) (λ e. IsFaulty version written e)
+row_fault version written cause (Ok row) is h = absurd is
+row_fault version written cause (Err e) is h = rw (is) h

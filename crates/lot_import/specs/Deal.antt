@@ -29,6 +29,10 @@ pub record IsCash (row : Row) (cash : ℤ) : Type 0 where
   pub in_range : IsUnits cash
   pub exact : cash_weight row ≡ cash *ℤ pos one
 
+-- the cash that a row moves is exactly units
+abbrev pub IsExact : Row → Type 0
+IsExact row = (cash : ℤ) × IsCash row cash
+
 -- ---- Its postings.
 
 -- without braces and without a price

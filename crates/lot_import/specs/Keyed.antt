@@ -3,7 +3,7 @@ use Rattle.std.specs.Prelude.{◌≡◌, ℕ, ◌+◌, ◌-◌, ℤ, List, [], �
 use Rattle.std.specs.List.{AllZip}
 use Rattle.lot_command.specs.declared.command.Command.{Command}
 use Rattle.lot_command.specs.declared.key.Key.{Key}
-use Rattle.lot_import.specs.Deal.{IsCash, IsCommandOf}
+use Rattle.lot_import.specs.Deal.{IsCash, IsCommandOf, IsExact}
 use Rattle.lot_import.specs.declared.accounts.Accounts.{Accounts}
 use Rattle.lot_import.specs.declared.row.Row.{Row}
 
@@ -28,7 +28,7 @@ pub record AreKeyedFrom (source : List ℕ) (accounts : Accounts) (from : ℕ) (
 -- the cash that each of the rows moves is exactly units
 abbrev pub AreExact : List Row → Type 0
 AreExact [] = ⊤
-AreExact (row ∷ rows) = ((cash : ℤ) × IsCash row cash) × AreExact rows
+AreExact (row ∷ rows) = IsExact row × AreExact rows
 
 -- the first row whose cash isn't units is that one, counted from 1
 pub record HasInexactRow (rows : List Row) (number : ℕ) : Type 0 where

@@ -1,14 +1,14 @@
 -- What a reader of a broker file has left, for the code alone.
-use Rattle.std.specs.Prelude.{◌≡◌, ◌+◌, ℕ, List, [], length, true, Option, Some, None, IsSome, ⊤}
-use Rattle.csv.specs.Reading.{default_config, is_flexible, reader_config, reader_state, reader_trim, Ready, records_from, source_of}
+use Rattle.std.specs.Prelude.{◌≡◌, ◌⊎◌, ◌≤◌, ◌<◌, ◌+◌, ◌++◌, ◌∷◌, ℕ, List, [], length, true, Option, Some, None, IsSome, Result, Ok, Err, ⊤}
+use Rattle.csv.specs.Reading.{default_config, has_failed, is_flexible, reader_config, reader_state, reader_trim, Ready, records_from, source_of}
 use Rattle.csv.specs.declared.parser.State.{State}
 use Rattle.csv.specs.declared.reader.Reader.{Reader}
 use Rattle.csv.specs.declared.reader.Trim.TheVariants as trim
-use Rattle.lot_import.specs.File.{HasBadRecord, HasExtraRecord}
-use Rattle.lot_import.specs.declared.fault.RowFault.{RowFault}
-use Rattle.lot_import.specs.declared.fault.RowFault.TheVariants.{Bad, Memory}
+use Rattle.lot_import.specs.File.{HasBadRecord, HasExtraRecord, SayRows, most_rows}
+use Rattle.lot_import.specs.Row.{columns, IsFaulty, IsRow}
 use Rattle.lot_import.specs.declared.fault.RowsFault.{RowsFault}
 use Rattle.lot_import.specs.declared.fault.RowsFault.TheVariants as Faults
+use Rattle.lot_import.specs.declared.row.Row.{Row}
 use Rattle.lot_import.specs.declared.version.Version.{Version}
 use denote.Ref.{Bor}
 
@@ -33,6 +33,13 @@ pub record IsOpen (reader : Reader (Bor (List ℕ))) : Type 0 where
   pub ready : Ready reader
   pub known : IsSome (bytes_left reader)
 
+-- why there is no version: the records don't begin with a header, or memory ended while the first was read
+abbrev pub HasHeaderFault : List (List (List ℕ)) → Reader (Bor (List ℕ)) → RowsFault → Type 0
+HasHeaderFault all reader Faults.BadHeader = (version : Version) (written : List (List (List ℕ))) → all ≡ columns version ∷ written → ⊥
+HasHeaderFault all reader (Faults.BadRow number cause) = ⊥
+HasHeaderFault all reader Faults.TooManyRows = ⊥
+HasHeaderFault all reader Faults.Memory = has_failed reader ≡ true
+
 -- the fault of the records behind the header
 abbrev pub HasRecordFault : Version → List (List (List ℕ)) → RowsFault → Type 0
 HasRecordFault version written Faults.BadHeader = ⊥
@@ -40,7 +47,22 @@ HasRecordFault version written (Faults.BadRow number cause) = HasBadRecord versi
 HasRecordFault version written Faults.TooManyRows = HasExtraRecord version written
 HasRecordFault version written Faults.Memory = ⊤
 
--- the fault of a file for that of its row of that number
-abbrev pub of_row : ℕ → RowFault → RowsFault
-of_row number (Bad cause) = Faults.BadRow number cause
-of_row number Memory = Faults.Memory
+-- what the record of that number gives; out of memory only where a file may have that row, and the record says one
+abbrev pub GivesRow : Version → ℕ → List (List ℕ) → Result Row RowsFault → Type 0
+GivesRow version number written (Ok row) = (number ≤ most_rows) × IsRow version written row
+GivesRow version number written (Err Faults.BadHeader) = ⊥
+GivesRow version number written (Err (Faults.BadRow place cause)) = (place ≡ number) × (number ≤ most_rows) × IsFaulty version written cause
+GivesRow version number written (Err Faults.TooManyRows) = most_rows < number
+GivesRow version number written (Err Faults.Memory) = (number ≤ most_rows) × ((row : Row) × IsRow version written row)
+
+-- those of the records that aren't left say rows, and aren't too many
+pub record ReadRows (version : Version) (written left : List (List (List ℕ))) : Type 0 where
+  pub before : List (List (List ℕ))
+  pub all : written ≡ before ++ left
+  pub rows : List Row
+  pub said : SayRows version before rows
+  pub few : length before ≤ most_rows
+
+-- where memory ends: while a record was read, or behind records that say rows
+abbrev pub EndsInRows : Version → List (List (List ℕ)) → Reader (Bor (List ℕ)) → Type 0
+EndsInRows version written reader = (has_failed reader ≡ true) ⊎ ReadRows version written (records_left reader)

@@ -2,15 +2,13 @@
 ghost use Rattle.std.specs.Prelude.{◌≡◌, IsUtf8, IsSome, IfSome, IfNone};
 ghost use Rattle.csv.specs.Records.{fields_of};
 ghost use Rattle.lot_import.specs.Row.{NamesLot, SaysAction, SaysCommodity, SaysDay, SaysFee, SaysLabel, SaysLot, SaysRate, SaysUnits, at_column};
-ghost use Rattle.lot_import.specs.Column.{GivesField};
-ghost use Rattle.lot_import.specs.declared.fault.RowFault.TheVariants as Faults;
+ghost use Rattle.lot_import.specs.Column.{GivesField, GivesLot, GivesName};
 
-use crate::fault::{Cause, RowFault};
+use crate::fault::Cause;
 use crate::row::Action;
 use csv::ByteRecord;
-use lot_base::{Commodity, Day, Label, NameFault};
+use lot_base::{Commodity, Day, Label};
 use lot_num::{Rate, Units};
-use std::alloc::Global;
 
 /// Returns the field of a record at a column, counted from 0; it is empty where the record is shorter.
 pub(crate) fn field(written: &ByteRecord, column: usize) -> &[u8]
@@ -23,48 +21,40 @@ pub(crate) fn field(written: &ByteRecord, column: usize) -> &[u8]
 }
 
 /// Returns the label that a field says, or else that cause.
-pub(crate) fn label(alloc: Global, field: &[u8], cause: Cause) -> Result<Label, RowFault>
-    ensures { GivesField (SaysLabel field.now) cause result }
+pub(crate) fn label(field: &[u8], cause: Cause) -> Result<&str, Cause>
+    ensures { GivesName (SaysLabel field.now) cause result }
 {
-    let Some(text) = text(field) else {
-        return Err(RowFault::Bad(cause));
-    };
-    match Label::new(alloc, text) {
-        Ok(label) => Ok(label),
-        Err(NameFault::BadLabel) => Err(RowFault::Bad(cause)),
-        Err(_) => Err(RowFault::Memory),
+    match text(field) {
+        Some(text) if Label::is_name(text) => Ok(text),
+        _ => Err(cause),
     }
 }
 
 /// Returns the commodity that a field says, or else that cause.
-pub(crate) fn commodity(alloc: Global, field: &[u8], cause: Cause) -> Result<Commodity, RowFault>
-    ensures { GivesField (SaysCommodity field.now) cause result }
+pub(crate) fn commodity(field: &[u8], cause: Cause) -> Result<&str, Cause>
+    ensures { GivesName (SaysCommodity field.now) cause result }
 {
-    let Some(text) = text(field) else {
-        return Err(RowFault::Bad(cause));
-    };
-    match Commodity::new(alloc, text) {
-        Ok(commodity) => Ok(commodity),
-        Err(NameFault::BadCommodity) => Err(RowFault::Bad(cause)),
-        Err(_) => Err(RowFault::Memory),
+    match text(field) {
+        Some(text) if Commodity::is_name(text) => Ok(text),
+        _ => Err(cause),
     }
 }
 
 /// Returns the day that a field says, or else that cause.
-pub(crate) fn day(field: &[u8], cause: Cause) -> Result<Day, RowFault>
+pub(crate) fn day(field: &[u8], cause: Cause) -> Result<Day, Cause>
     ensures { GivesField (SaysDay field.now) cause result }
 {
     let Some(text) = text(field) else {
-        return Err(RowFault::Bad(cause));
+        return Err(cause);
     };
     match Day::parse(text) {
         Ok(day) => Ok(day),
-        Err(_) => Err(RowFault::Bad(cause)),
+        Err(_) => Err(cause),
     }
 }
 
 /// Returns the action that a field says, or else that cause.
-pub(crate) fn action(field: &[u8], cause: Cause) -> Result<Action, RowFault>
+pub(crate) fn action(field: &[u8], cause: Cause) -> Result<Action, Cause>
     ensures { GivesField (SaysAction field.now) cause result }
 {
     if field == b"BUY".as_slice() {
@@ -72,38 +62,38 @@ pub(crate) fn action(field: &[u8], cause: Cause) -> Result<Action, RowFault>
     } else if field == b"SELL".as_slice() {
         Ok(Action::Sell)
     } else {
-        Err(RowFault::Bad(cause))
+        Err(cause)
     }
 }
 
 /// Returns the units that a field says, which aren't below zero, or else that cause.
-pub(crate) fn units(field: &[u8], cause: Cause) -> Result<Units, RowFault>
+pub(crate) fn units(field: &[u8], cause: Cause) -> Result<Units, Cause>
     ensures { GivesField (SaysUnits field.now) cause result }
 {
     let Some(text) = text(field) else {
-        return Err(RowFault::Bad(cause));
+        return Err(cause);
     };
     match Units::parse_total(text) {
         Ok(units) => Ok(units),
-        Err(_) => Err(RowFault::Bad(cause)),
+        Err(_) => Err(cause),
     }
 }
 
 /// Returns the rate that a field says, or else that cause.
-pub(crate) fn rate(field: &[u8], cause: Cause) -> Result<Rate, RowFault>
+pub(crate) fn rate(field: &[u8], cause: Cause) -> Result<Rate, Cause>
     ensures { GivesField (SaysRate field.now) cause result }
 {
     let Some(text) = text(field) else {
-        return Err(RowFault::Bad(cause));
+        return Err(cause);
     };
     match Rate::parse(text) {
         Ok(rate) => Ok(rate),
-        Err(_) => Err(RowFault::Bad(cause)),
+        Err(_) => Err(cause),
     }
 }
 
 /// Returns the fee that a field says, which is zero where it is empty, or else that cause.
-pub(crate) fn fee(field: &[u8], cause: Cause) -> Result<Rate, RowFault>
+pub(crate) fn fee(field: &[u8], cause: Cause) -> Result<Rate, Cause>
     ensures { GivesField (SaysFee field.now) cause result }
 {
     if field.is_empty() {
@@ -123,22 +113,21 @@ fn no_fee() -> Rate
 }
 
 /// Returns the label of the lot that a field says beside the reference of the row, none where it is empty, or else that cause.
-pub(crate) fn lot(
-    alloc: Global,
+pub(crate) fn lot<'a>(
     action: Action,
     reference: &[u8],
-    field: &[u8],
+    field: &'a [u8],
     cause: Cause,
-) -> Result<Option<Label>, RowFault>
-    ensures { GivesField (SaysLot action reference.now field.now) cause result }
+) -> Result<Option<&'a str>, Cause>
+    ensures { GivesLot (SaysLot action reference.now field.now) cause result }
 {
     if field.is_empty() {
         return Ok(None);
     }
     if action == Action::Buy && field != reference {
-        return Err(RowFault::Bad(cause));
+        return Err(cause);
     }
-    Ok(Some(label(alloc, field, cause)?))
+    Ok(Some(label(field, cause)?))
 }
 
 /// Returns a field as text, or `None` where it isn't UTF-8.

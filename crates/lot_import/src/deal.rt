@@ -1,5 +1,5 @@
-ghost use Rattle.std.specs.Prelude.{◌≡◌, ℤ, pos, neg_ℤ, ◌++◌, IfOk, IfErr, IfSome, IfNone, OnOk};
-ghost use Rattle.lot_import.specs.Deal.{IsCash, IsCommandOf, bought, sold, elided, fee_posting, plain, postings};
+ghost use Rattle.std.specs.Prelude.{◌≡◌, ℤ, pos, neg_ℤ, ◌++◌, Err, IfOk, IfErr, IfSome, IfNone, OnOk};
+ghost use Rattle.lot_import.specs.Deal.{IsCash, IsCommandOf, IsExact, bought, sold, elided, fee_posting, plain, postings};
 ghost use Rattle.lot_import.specs.declared.fault.CommandFault.TheVariants.{InexactAmount};
 
 use crate::accounts::Accounts;
@@ -14,10 +14,12 @@ use std::alloc::{AllocError, Global};
 
 /// Returns the transaction that a row stands for, posted to the accounts (docs/FORMATS.md, Broker files).
 ///
-/// The error is `InexactAmount`, exactly where the cash that the row moves isn't units, or else out of memory.
+/// The error is `InexactAmount` exactly where the cash that the row moves isn't units, which is looked at first; else it is out of
+/// memory.
 pub fn command(alloc: Global, row: &Row, accounts: &Accounts) -> Result<Command, CommandFault>
     ensures ok { IfOk result (λ command. IsCommandOf accounts.now row.now command) }
     ensures inexact { IfErr result (λ fault. fault ≡ InexactAmount → (cash : ℤ) → IsCash row.now cash → ⊥) }
+    ensures memory { result ≡ Err CommandFault.Memory → IsExact row.now }
 {
     let Some(cash) = cash(row) else {
         return Err(CommandFault::InexactAmount);
@@ -35,7 +37,7 @@ pub fn command(alloc: Global, row: &Row, accounts: &Accounts) -> Result<Command,
 }
 
 /// Returns the cash that a row moves, or `None` where it isn't exactly units.
-fn cash(row: &Row) -> Option<Units>
+pub(crate) fn cash(row: &Row) -> Option<Units>
     ensures some { IfSome result (λ cash. IsCash row.now cash) }
     ensures none { IfNone result ((cash : ℤ) → IsCash row.now cash → ⊥) }
 {

@@ -53,15 +53,6 @@ pub enum Cause {
     Lot,
 }
 
-/// Why a record gives no row.
-#[derive(Drop)]
-pub(crate) enum RowFault {
-    /// It is faulty, by that cause.
-    Bad(Cause),
-    /// Out of memory.
-    Memory,
-}
-
 impl<T: Drop> From<AllocFailed<T>> for RowsFault {
     ghost use Rattle.std.specs.Prelude.{◌≡◌};
     ghost use Rattle.lot_import.specs.declared.fault.RowsFault.TheVariants.{Memory};

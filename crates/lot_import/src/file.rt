@@ -1,12 +1,14 @@
-ghost use Rattle.std.specs.Prelude.{◌≡◌, ◌≤◌, ◌+◌, ◌++◌, ◌∷◌, [], length, true, false, IfOk, IfErr, OnOk};
+ghost use Rattle.std.specs.Prelude.{◌≡◌, ◌≤◌, ◌+◌, ◌++◌, ◌∷◌, [], length, true, false, Err, IfOk, IfErr, OnOk};
+ghost use Rattle.csv.specs.Reading.{has_failed};
 ghost use Rattle.csv.specs.Records.{fields_of};
 ghost use Rattle.lot_import.specs.File.{AreRows, HasFault, SayRows, file_records, most_rows};
-ghost use Rattle.lot_import.specs.Reading.{HasRecordFault, IsOpen, of_row, records_left};
+ghost use Rattle.lot_import.specs.Reading.{EndsInRows, GivesRow, HasHeaderFault, HasRecordFault, IsOpen, records_left};
+ghost use Rattle.lot_import.specs.Row.{columns};
 
-use crate::fault::{RowFault, RowsFault};
+use crate::fault::RowsFault;
 use crate::row::Row;
 use crate::version::Version;
-use crate::written::row;
+use crate::written::said;
 use csv::{ByteRecord, ErrorKind, Reader, ReaderBuilder};
 use std::alloc::Global;
 
@@ -17,19 +19,14 @@ const MOST_ROWS: usize = 100_000;
 ///
 /// The error is `BadHeader` exactly where the file has the header of no version, `BadRow` exactly where one of its first
 /// 100,000 rows is faulty, with the number of the first such row and its first faulty column, `TooManyRows` exactly where it
-/// has more rows and none of the first 100,000 is faulty, or else out of memory.
+/// has more rows and none of the first 100,000 is faulty, or else out of memory. Memory may end at each record that is read, and
+/// where a row is kept, which is then looked at before; a record that was read and is faulty is never told as out of memory.
 pub fn read_rows(alloc: Global, bytes: &[u8]) -> Result<Vec<Row>, RowsFault>
     ensures rows { IfOk result (λ rows. AreRows bytes.now rows.items) }
     ensures fault { IfErr result (λ fault. HasFault bytes.now fault) }
 {
     let mut reader = reader(alloc, bytes);
-    let mut header = ByteRecord::new(alloc);
-    if !next(&mut reader, &mut header)? {
-        return Err(RowsFault::BadHeader);
-    }
-    let Some(version) = Version::of(&header) else {
-        return Err(RowsFault::BadHeader);
-    };
+    let version = version(alloc, &mut reader)?;
     rows_behind(alloc, version, &mut reader)
 }
 
@@ -51,6 +48,7 @@ fn next(reader: &mut Reader<&[u8]>, written: &mut ByteRecord) -> Result<bool, Ro
     ensures some { IfOk result (λ found. found ≡ true → records_left reader.old ≡ fields_of written.new ∷ records_left reader.new) }
     ensures none { IfOk result (λ found. found ≡ false → records_left reader.old ≡ []) }
     ensures memory { IfErr result (λ fault. fault ≡ RowsFault.Memory) }
+    ensures failed { IfErr result (λ fault. has_failed reader.new ≡ true) }
 {
     match reader.read_byte_record(written) {
         Ok(found) => Ok(found),
@@ -59,6 +57,24 @@ fn next(reader: &mut Reader<&[u8]>, written: &mut ByteRecord) -> Result<bool, Ro
             // Records may be of any length, and bytes aren't looked at as text.
             _ => unreachable!(),
         },
+    }
+}
+
+/// Reads the header, and returns the version that has it.
+fn version(alloc: Global, reader: &mut Reader<&[u8]>) -> Result<Version, RowsFault>
+    requires { IsOpen reader.old }
+    ensures open { OnOk result (IsOpen reader.new) }
+    ensures some { IfOk result (λ version. records_left reader.old
+        ≡ columns version ∷ records_left reader.new) }
+    ensures fault { IfErr result (HasHeaderFault (records_left reader.old) reader.new) }
+{
+    let mut header = ByteRecord::new(alloc);
+    if !next(reader, &mut header)? {
+        return Err(RowsFault::BadHeader);
+    }
+    match Version::of(&header) {
+        Some(version) => Ok(version),
+        None => Err(RowsFault::BadHeader),
     }
 }
 
@@ -72,27 +88,32 @@ fn rows_behind(
     ensures said { IfOk result (λ rows. SayRows version (records_left reader.old) rows.items) }
     ensures few { OnOk result (length (records_left reader.old) ≤ most_rows) }
     ensures fault { IfErr result (λ fault. HasRecordFault version (records_left reader.old) fault) }
+    ensures memory { result ≡ Err RowsFault.Memory
+        → EndsInRows version (records_left reader.old) reader.new }
 {
     let mut written = ByteRecord::new(alloc);
     let mut rows = Vec::new(alloc);
     while next(reader, &mut written)? {
-        if rows.len() == MOST_ROWS {
-            return Err(RowsFault::TooManyRows);
-        }
-        match row(alloc, version, &written) {
-            Ok(row) => rows.push(row)?,
-            Err(fault) => return Err(at_row(rows.len() + 1, fault)),
-        }
+        let row = row_at(alloc, version, rows.len() + 1, &written)?;
+        rows.push(row)?;
     }
     Ok(rows)
 }
 
-/// Returns the fault of a file for that of its row of this number.
-fn at_row(row: usize, fault: RowFault) -> RowsFault
-    ensures { result ≡ of_row row fault }
+/// Returns the row of that number, counted from 1, that a record says.
+fn row_at(
+    alloc: Global,
+    version: Version,
+    number: usize,
+    written: &ByteRecord,
+) -> Result<Row, RowsFault>
+    ensures { GivesRow version number (fields_of written.now) result }
 {
-    match fault {
-        RowFault::Bad(cause) => RowsFault::BadRow { row, cause },
-        RowFault::Memory => RowsFault::Memory,
+    if number > MOST_ROWS {
+        return Err(RowsFault::TooManyRows);
+    }
+    match said(version, written) {
+        Ok(said) => said.kept(alloc),
+        Err(cause) => Err(RowsFault::BadRow { row: number, cause }),
     }
 }

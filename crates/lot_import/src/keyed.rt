@@ -1,11 +1,11 @@
 //! The commands of the rows of a file, each under its key.
-ghost use Rattle.std.specs.Prelude.{◌≡◌, ◌≤◌, ℕ, ℤ, Err, IfOk};
-ghost use Rattle.lot_import.specs.Deal.{IsCash};
-ghost use Rattle.lot_import.specs.Keyed.{AreKeyed, AreKeyedFrom, HasInexactRow, IsKeyed};
+ghost use Rattle.std.specs.Prelude.{◌≡◌, ◌≤◌, ℕ, Err, IfOk, IfErr, IfSome, IfNone};
+ghost use Rattle.lot_import.specs.Deal.{IsExact};
+ghost use Rattle.lot_import.specs.Keyed.{AreExact, AreKeyed, AreKeyedFrom, HasInexactRow, IsKeyed};
 ghost use Rattle.lot_import.specs.declared.fault.KeyedFault.TheVariants.{InexactAmount};
 
 use crate::accounts::Accounts;
-use crate::deal::command;
+use crate::deal::{cash, command};
 use crate::fault::{CommandFault, KeyedFault};
 use crate::row::Row;
 use lot_base::Label;
@@ -16,7 +16,7 @@ use std::alloc::Global;
 /// 1, none is returned (docs/RULES.md, Keys and repeats).
 ///
 /// The error is `InexactAmount` with the number of the first row of all whose cash isn't units, also of one that is before
-/// that number, or else out of memory.
+/// that number, exactly where there is one: all rows are looked at before a command is made. Else it is out of memory.
 pub fn keyed_commands(
     alloc: Global,
     source: &Label,
@@ -27,46 +27,63 @@ pub fn keyed_commands(
     requires { 1 ≤ from }
     ensures keyed { IfOk result (λ keyed. AreKeyedFrom source.now accounts.now from rows.now keyed.items) }
     ensures inexact { (number : ℕ) → result ≡ Err (InexactAmount number) → HasInexactRow rows.now number }
+    ensures memory { result ≡ Err KeyedFault.Memory → AreExact rows.now }
 {
+    if let Some(row) = first_inexact(rows) {
+        return Err(KeyedFault::InexactAmount { row });
+    }
     let mut keyed = all_keyed(alloc, source, accounts, rows)?;
     let skipped = (from - 1).min(keyed.len());
     Ok(keyed.split_off(skipped)?)
 }
 
-/// Returns the commands of all rows, each under its key.
+/// Returns the number, counted from 1, of the first row whose cash isn't units.
+fn first_inexact(rows: &[Row]) -> Option<usize>
+    ensures some { IfSome result (HasInexactRow rows.now) }
+    ensures none { IfNone result (AreExact rows.now) }
+{
+    for (index, row) in rows.iter().enumerate() {
+        if cash(row).is_none() {
+            return Some(index + 1);
+        }
+    }
+    None
+}
+
+/// Returns the commands of all rows, each under its key. The only error is out of memory.
 fn all_keyed(
     alloc: Global,
     source: &Label,
     accounts: &Accounts,
     rows: &[Row],
 ) -> Result<Vec<(Key, Command)>, KeyedFault>
+    requires { AreExact rows.now }
     ensures keyed { IfOk result (λ keyed. AreKeyed source.now accounts.now rows.now keyed.items) }
-    ensures inexact { (number : ℕ) → result ≡ Err (InexactAmount number) → HasInexactRow rows.now number }
+    ensures memory { IfErr result (λ fault. fault ≡ KeyedFault.Memory) }
 {
     let mut all = Vec::new(alloc);
-    for (index, row) in rows.iter().enumerate() {
-        match keyed_command(alloc, source, accounts, row) {
-            Ok(one) => all.push(one)?,
-            Err(CommandFault::InexactAmount) => {
-                return Err(KeyedFault::InexactAmount { row: index + 1 });
-            }
-            Err(CommandFault::Memory) => return Err(KeyedFault::Memory),
-        }
+    for row in rows.iter() {
+        all.push(keyed_command(alloc, source, accounts, row)?)?;
     }
     Ok(all)
 }
 
-/// Returns the command of a row under its key.
+/// Returns the command of a row under its key. The only error is out of memory.
 fn keyed_command(
     alloc: Global,
     source: &Label,
     accounts: &Accounts,
     row: &Row,
-) -> Result<(Key, Command), CommandFault>
+) -> Result<(Key, Command), KeyedFault>
+    requires { IsExact row.now }
     ensures ok { IfOk result (IsKeyed source.now accounts.now row.now) }
-    ensures inexact { result ≡ Err CommandFault.InexactAmount → (cash : ℤ) → IsCash row.now cash → ⊥ }
+    ensures memory { IfErr result (λ fault. fault ≡ KeyedFault.Memory) }
 {
-    let command = command(alloc, row, accounts)?;
+    let command = match command(alloc, row, accounts) {
+        Ok(command) => command,
+        Err(CommandFault::InexactAmount) => unreachable!(),
+        Err(CommandFault::Memory) => return Err(KeyedFault::Memory),
+    };
     let key = Key {
         source: source.copy()?,
         name: row.name.copy()?,

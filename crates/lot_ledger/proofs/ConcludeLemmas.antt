@@ -1,6 +1,7 @@
 -- The last conditions of a transaction, as they are looked at.
 use Rattle.std.proofs.Common.{◌≡◌, ◌++◌, ◌∷◌, [], ℕ, List, Option, None, Some, refl, sym, ap, subst, ◌∙◌, ℤ}
 use Rattle.std.specs.Option.{option_or}
+use Rattle.lot_command.specs.declared.transaction.Posting.{Posting}
 use Rattle.lot_command.specs.declared.transaction.Transaction.{Transaction as TransactionOf}
 use Rattle.lot_book.specs.declared.leg.Leg.{Leg}
 use Rattle.lot_book.specs.declared.refusal.Refusal.{Refusal}
@@ -41,6 +42,15 @@ then_lots facts t legs now rs none is =
     first_of-append (residual_conditions facts t legs rs) others
     ∙ ap (λ found. option_or found (first_of others)) none
     ∙ ap (λ ls. option_or (too_many_lots facts ls t.postings) (option_or (book_full facts) None)) (sym is)
+
+-- where no lots and no entries are too many either, none of the conditions holds
+pub none_holds : (facts : Facts) (t : TransactionOf) (legs now : List Leg) (rs : List (List ℕ × ℤ)) (items : List Posting)
+    → first_of (residual_conditions facts t legs rs) ≡ None → now ≡ legs_with_fill facts t legs rs → items ≡ t.postings
+    → too_many_lots facts now items ≡ None → book_full facts ≡ None → first_of (conditions_on facts t legs rs) ≡ None
+none_holds facts t legs now rs items none is same few room =
+    then_lots facts t legs now rs none is
+    ∙ ap (λ found. option_or found (option_or (book_full facts) None)) (ap (too_many_lots facts now) (sym same) ∙ few)
+    ∙ ap (λ found. option_or found None) room
 
 -- what the last conditions come to is what becomes of a transaction whose postings with amounts are booked
 pub judged_last : (facts : Facts) (t : TransactionOf) (draft : Draft) (found : Stop) → first_of (first_conditions facts t) ≡ None → DraftsAll facts t draft

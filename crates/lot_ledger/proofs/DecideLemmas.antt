@@ -1,18 +1,22 @@
 -- The postings of a transaction, booked one after another.
-use Rattle.std.proofs.Common.{◌≡◌, ℕ, suc, List, [], ◌∷◌, ◌++◌, Option, Some, None, refl, sym, ap, subst, ◌∙◌, ℤ, append_assoc, append-nil, arith, add-one, ◌+◌, ◌<◌, length, drop, slice_index_or}
+use Rattle.std.proofs.Common.{◌≡◌, ◌⊎◌, Bool, false, inl, inr, ℕ, suc, List, [], ◌∷◌, ◌++◌, Option, Some, None, refl, sym, ap, subst, ◌∙◌, ℤ, append_assoc, append-nil, arith, add-one, ◌+◌, ◌<◌, length, drop, slice_index_or}
 use Rattle.std.proofs.Math.Seq.{drop-cons, drop-length}
+use Rattle.std.specs.Prelude.{◌||◌, is_some}
+use Rattle.std.proofs.lemmas.Bool.{true≢false}
+use Rattle.lot_cost.specs.declared.cost.Cost.{Cost}
 use Rattle.lot_command.specs.declared.transaction.Amount.{Amount}
+use Rattle.lot_command.specs.declared.transaction.Transaction.{Transaction as TransactionOf}
 use Rattle.lot_command.specs.declared.transaction.Posting.{Posting}
 use Rattle.lot_posting.specs.declared.draft.Draft.{Draft}
 use Rattle.lot_book.specs.declared.leg.Leg.{Leg}
 use Rattle.lot_book.specs.declared.refusal.Refusal.{Refusal}
 use Rattle.lot_book.specs.declared.refusal.Stop.TheVariants as stop
-use Rattle.lot_book.specs.Balance.{AreWithin, residuals, weights_in}
-use Rattle.lot_book.specs.Booking.{All, Booked, Bookings, Books as BooksOne, BooksAll, Fails, Stopped, follow, legs_in}
-use Rattle.lot_ledger.specs.Decide.{BooksNext, IsDraft, StopsNext}
+use Rattle.lot_book.specs.Balance.{AreWithin, elided_postings, residuals, weights_in}
+use Rattle.lot_book.specs.Booking.{All, Booked, Bookings, Books as BooksOne, BooksAll, BooksWith, Fails, HasLegs, Line, Stopped, follow, legs_in, line_of}
+use Rattle.lot_ledger.specs.Decide.{BooksNext, DraftsAll, EndMayLackMemory, FillMayLackMemory, IsDraft, NextMayLackMemory, StopsNext, StoresAt, StoresFirst, amount_at_cost, has_braces}
 use Rattle.lot_book.specs.Facts.{Facts}
 use Rattle.lot_book.specs.Sale.{sales_in, sales_of}
-use Rattle.lot_posting.specs.Posting.{Books}
+use Rattle.lot_posting.specs.Posting.{Books, StoresFor}
 use Rattle.lot_posting.proofs.BalanceResiduals.{AreWithin-more, weights_in-push}
 
 -- what postings come to, behind others that are booked
@@ -42,6 +46,76 @@ pub sales_in-push : (day : ℤ) (booked : List Booked) (next : Booked) → sales
 sales_in-push day [] next = append-nil (sales_of day next)
 sales_in-push day (first ∷ booked) next = ap (λ sales. sales_of day first ++ sales) (sales_in-push day booked next) ∙ sym (append_assoc (sales_of day first) (sales_in day booked) (sales_of day next))
 
+-- ---- where memory may lack
+
+-- something is stored for a posting that has legs
+stores_legs : (line : Line) (cost : Option Cost) (reduces : Bool) (legs : List Leg) → HasLegs line cost reduces legs → StoresFor line cost
+stores_legs line None reduces legs has = tt
+stores_legs line (Some cost) reduces legs has = inr (reduces, has.0, has.1)
+
+-- so it is for the first posting with an amount, where all of them are booked; else there is none
+stores_with : (facts : Facts) (day : ℤ) (place : ℕ) (account : List ℕ) (amount : Option Amount) (left : List Posting) (booked : List Booked)
+    → BooksWith (λ legs others. BooksAll facts day legs (suc place) left others) facts day [] place account amount (All booked)
+    → (BooksAll facts day [] (suc place) left (All booked) → StoresFirst facts day (suc place) left ⊎ ((booked ≡ []) × (has_braces left ≡ false)))
+    → StoresAt facts day place account amount (StoresFirst facts day (suc place) left)
+    ⊎ ((booked ≡ []) × ((is_some (amount_at_cost amount) || has_braces left) ≡ false))
+stores_with facts day place account None left booked h rest = rest h
+stores_with facts day place account (Some amount) left booked (BooksOne one, is, others) rest =
+    inl (stores_legs (line_of facts day [] place account amount) amount.cost one.reduces one.legs is.legs)
+stores_with facts day place account (Some amount) left booked (Fails refusal, is, stopped) rest = cc
+
+pub stores_first : (facts : Facts) (day : ℤ) (place : ℕ) (postings : List Posting) (booked : List Booked)
+    → BooksAll facts day [] place postings (All booked)
+    → StoresFirst facts day place postings ⊎ ((booked ≡ []) × (has_braces postings ≡ false))
+stores_first facts day place [] booked h = inr (cc, refl)
+stores_first facts day place (posting ∷ postings) booked h =
+    stores_with facts day place posting.account posting.amount postings booked h (stores_first facts day (suc place) postings booked)
+
+-- Something is stored for the first posting with an amount of all: it stands among those before, or it does so where it is so
+-- of those that are left, and then there are no legs so far.
+abbrev pub FirstOf : Facts → ℤ → List Posting → Draft → ℕ → List Posting → Type 0
+FirstOf facts day all draft place left =
+    ((draft.tally.legs ≡ []) × (StoresFirst facts day place left → StoresFirst facts day 1 all)) ⊎ StoresFirst facts day 1 all
+
+-- something is stored for a posting with an amount
+first_stored : (facts : Facts) (day : ℤ) (all : List Posting) (old : Draft) (place : ℕ) (account : List ℕ) (amount : Amount) (left : List Posting)
+    → FirstOf facts day all old place (record { account = account; amount = Some amount } ∷ left)
+    → StoresFor (line_of facts day old.tally.legs place account amount) amount.cost → StoresFirst facts day 1 all
+first_stored facts day all old place account amount left (inl first) stored =
+    first.1 (subst (λ (legs : List Leg). StoresFor (line_of facts day legs place account amount) amount.cost) first.0 stored)
+first_stored facts day all old place account amount left (inr first) stored = first
+
+-- where booking a posting may lack memory
+pub first_lacks : (facts : Facts) (day : ℤ) (all : List Posting) (old : Draft) (place : ℕ) (account : List ℕ) (amount : Option Amount) (left : List Posting)
+    → FirstOf facts day all old place (record { account = account; amount = amount } ∷ left)
+    → NextMayLackMemory facts day place account amount old → StoresFirst facts day 1 all
+first_lacks facts day all old place account None left first lacks = absurd lacks
+first_lacks facts day all old place account (Some amount) left first (inl stored) = first_stored facts day all old place account amount left first stored
+first_lacks facts day all old place account (Some amount) left (inl first) (inr some) = absurd (some first.0)
+first_lacks facts day all old place account (Some amount) left (inr first) (inr some) = first
+
+-- where what follows may lack memory
+no_fill : (elided : List (ℕ × List ℕ)) → FillMayLackMemory elided [] → ⊥
+no_fill [] lacks = lacks
+no_fill (one ∷ more) lacks = lacks refl
+
+end_stores : (facts : Facts) (t : TransactionOf) (draft : Draft) (drafts : DraftsAll facts t draft)
+    → EndMayLackMemory facts t draft.tally.legs draft.residuals
+    → StoresFirst facts t.day 1 t.postings ⊎ ((drafts.booked ≡ []) × (has_braces t.postings ≡ false))
+    → StoresFirst facts t.day 1 t.postings
+end_stores facts t draft drafts lacks (inl stores) = stores
+end_stores facts t draft drafts (inl fill) (inr none) =
+    let nothing : draft.residuals ≡ [] = drafts.is.residuals ∙ ap (λ (booked : List Booked). residuals (weights_in booked)) none.0 in
+    absurd (no_fill (elided_postings 1 t.postings) (subst (FillMayLackMemory (elided_postings 1 t.postings)) nothing fill))
+end_stores facts t draft drafts (inr heads) (inr none) = absurd (true≢false (sym heads.1 ∙ none.1))
+
+pub end_lacks : (facts : Facts) (t : TransactionOf) (draft : Draft) → DraftsAll facts t draft
+    → EndMayLackMemory facts t draft.tally.legs draft.residuals → StoresFirst facts t.day 1 t.postings
+end_lacks facts t draft drafts lacks =
+    end_stores facts t draft drafts lacks (stores_first facts t.day 1 t.postings drafts.booked drafts.all)
+
+-- ---- one posting after another
+
 -- What is so after some postings: those with amounts are booked as the draft has it, its residuals are within their count,
 -- and what the others come to decides what all come to.
 pub record Booking (facts : Facts) (day : ℤ) (all : List Posting) (draft : Draft) (count place : ℕ) (left : List Posting) : Type 0 where
@@ -49,6 +123,7 @@ pub record Booking (facts : Facts) (day : ℤ) (all : List Posting) (draft : Dra
   pub is : IsDraft facts day draft booked
   pub within : AreWithin count draft.residuals
   pub others : (more : Bookings) → BooksAll facts day draft.tally.legs place left more → BooksAll facts day [] 1 all (follow_all booked more)
+  pub first : FirstOf facts day all draft place left
 
 -- a draft with one posting more
 pub drafts-more : (facts : Facts) (day : ℤ) (place : ℕ) (account : List ℕ) (amount : Amount) (old new : Draft) (booked : List Booked)
@@ -69,6 +144,7 @@ booking-more facts day all old new count place account None left so same = recor
   is = subst (λ (draft : Draft). IsDraft facts day draft so.booked) (sym same) so.is;
   within = subst (λ (draft : Draft). AreWithin (suc count) draft.residuals) (sym same) (AreWithin-more count (suc count) old.residuals (grind arith) so.within);
   others = λ more h. so.others more (subst (λ (draft : Draft). BooksAll facts day draft.tally.legs (suc place) left more) same h);
+  first = subst (λ (draft : Draft). FirstOf facts day all draft (suc place) left) (sym same) so.first;
 }
 booking-more facts day all old new count place account (Some amount) left so books = record {
   booked = so.booked ++ books.booked ∷ [];
@@ -78,6 +154,11 @@ booking-more facts day all old new count place account (Some amount) left so boo
       let h_old = subst (λ (legs : List Leg). BooksAll facts day legs (suc place) left more) books.legs h in
       subst (BooksAll facts day [] 1 all) (sym (follow_all-push so.booked books.booked more))
       (so.others (follow books.booked more) (BooksOne books.booked, books.is, (more, h_old, refl)));
+  first =
+      let line = line_of facts day old.tally.legs place account amount in
+      inr
+      (first_stored facts day all old place account amount left so.first
+      (stores_legs line amount.cost books.booked.reduces books.booked.legs books.is.legs));
 }
 
 -- a posting that stops decides

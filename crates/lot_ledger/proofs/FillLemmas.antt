@@ -1,8 +1,13 @@
 -- What the elided posting takes.
-use Rattle.std.specs.Prelude.{◌≡◌, ℕ, suc, Bool, true, false, cond, List, [], ◌∷◌, map, find, Option, None, Some, ℤ, Result, Ok, Err}
+use Rattle.std.specs.Prelude.{◌≡◌, ℕ, suc, ◌<◌, ◌≤◌, nat_lt, Bool, true, false, cond, List, [], ◌∷◌, length, map, find, position, Option, None, Some, ℤ, Result, Ok, Err}
+use Rattle.std.specs.List.{position_or_len}
 use Rattle.std.specs.Option.{option_map, option_or}
 use Rattle.std.specs.Result.{IfErr, IsErrAnd}
-use Rattle.std.proofs.Common.{refl, sym, ap, subst}
+use Rattle.std.proofs.Common.{arith, inl, inr, refl, sym, ap, subst, ◌∙◌, slice_index_or}
+use Rattle.std.proofs.lemmas.Bool.{cases_Bool}
+use Rattle.std.proofs.lemmas.Bool.Decides.{nat_tests}
+use Rattle.std.proofs.lemmas.List.Folds.{find_at}
+use Rattle.std.proofs.lemmas.Option.{slice_get_past, slice_get_read}
 use Rattle.lot_inv.specs.Inventory.{Held}
 use Rattle.lot_book.specs.declared.leg.Leg.{Leg}
 use Rattle.lot_book.specs.declared.refusal.Refusal.{Refusal}
@@ -39,6 +44,42 @@ barred-fills standing (r ∷ rs) = by (bars standing r.0) (barred-fills standing
         ≡ option_map (λ (r : List ℕ × ℤ). r.0) (cond b (Some r) (find (λ (r : List ℕ × ℤ). bars standing r.0) rs))
     by true rest = refl
     by false rest = rest
+
+-- ---- the first that passes
+
+is_below : (a b : ℕ) → nat_lt a b ≡ true → a < b
+is_below a b e = grind (arith, nat_tests)
+
+isnt_below : (a b : ℕ) → nat_lt a b ≡ false → b ≤ a
+isnt_below a b e = grind (arith, nat_tests)
+
+-- where there is a first place of one that passes, what stands there is found
+pub found_first : {X : Type 0} (passes : X → Bool) (items : List X) (index : ℕ) (item : X) → position passes items ≡ Some index
+    → item ≡ slice_index_or items index item → find passes items ≡ Some item
+found_first passes items index item at is =
+    let first = position_or_len passes items in
+    elim (cases_Bool (nat_lt first (length items))) [
+      | inl within ↦
+          let same : Some first ≡ Some index = sym (ap (λ b. cond b (Some first) None) within) ∙ at in
+          let place : first ≡ index = cc in
+          find_at passes items
+          ∙ slice_get_read items (length items) first item refl (is_below first (length items) within)
+          (is ∙ ap (λ i. slice_index_or items i item) (sym place))
+      | inr past ↦
+          let none : None ≡ Some index = sym (ap (λ b. cond b (Some first) None) past) ∙ at in
+          cc
+    ]
+
+-- where there is none, nothing is found
+pub found_none : {X : Type 0} (passes : X → Bool) (items : List X) → position passes items ≡ None → find passes items ≡ None
+found_none passes items at =
+    let first = position_or_len passes items in
+    elim (cases_Bool (nat_lt first (length items))) [
+      | inl within ↦
+          let some : Some first ≡ None = sym (ap (λ b. cond b (Some first) None) within) ∙ at in
+          cc
+      | inr past ↦ find_at passes items ∙ slice_get_past items first (isnt_below first (length items) past)
+    ]
 
 -- ---- the legs of the fills
 

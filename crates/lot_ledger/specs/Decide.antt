@@ -1,6 +1,9 @@
 -- What deciding a command gives beside its outcome.
-use Rattle.std.specs.Prelude.{◌≡◌, ℕ, suc, is_some, if◌then◌else◌, List, [], ◌∷◌, ◌++◌, Option, None, Some, ℤ, ⊤}
+use Rattle.std.specs.Prelude.{◌≡◌, ◌≢◌, ◌⊎◌, ℕ, suc, Bool, true, is_some, if◌then◌else◌, List, [], ◌∷◌, ◌++◌, Option, None, Some, ℤ, ⊤}
+use Rattle.std.specs.List.{list_any}
 use Rattle.lot_command.specs.declared.command.Command.{Command}
+use Rattle.lot_command.specs.declared.command.Command.TheVariants.{Opening, Closing, Declaring, Quoting, Transaction}
+use Rattle.lot_command.specs.declared.transaction.Posting.{Posting}
 use Rattle.lot_command.specs.declared.transaction.Transaction.{Transaction as TransactionOf}
 use Rattle.lot_command.specs.declared.transaction.Amount.{Amount}
 use Rattle.lot_book.specs.declared.leg.Leg.{Leg}
@@ -14,12 +17,13 @@ use Rattle.lot_ledger.specs.declared.decision.Outcome.TheVariants as decided
 use Rattle.lot_posting.specs.declared.draft.Draft.{Draft}
 use Rattle.lot_book.specs.declared.refusal.Stop.{Stop}
 use Rattle.lot_book.specs.declared.refusal.Stop.TheVariants.{Refused, Memory}
-use Rattle.lot_book.specs.Balance.{elided_postings, fill_of, residuals, weights_in}
+use Rattle.lot_book.specs.Balance.{elided_postings, fill_of, left_over, residuals, weights_in}
 use Rattle.lot_book.specs.Booking.{All, Booked, BooksAll, Stopped, legs_in, line_of}
 use Rattle.lot_book.specs.Change.{IsAcceptedWith, Lists, ListsSums}
 use Rattle.lot_book.specs.Facts.{Facts}
-use Rattle.lot_posting.specs.Posting.{Books, StopsPosting}
+use Rattle.lot_posting.specs.Posting.{Books, MayLackMemory as PostingMayLackMemory, StopsPosting, StoresFor}
 use Rattle.lot_book.specs.Sale.{sales_in}
+use Rattle.lot_book.specs.Step.{first_conditions, first_of}
 use Rattle.lot_book.specs.Step.{Accept, Decides, Judges, Refuse, Repeat}
 
 -- a command whose key is new is accepted with the change
@@ -32,7 +36,7 @@ abbrev pub Comes : Facts → Command → Decided → Type 0
 Comes facts command (decided.Accept change) = IsAcceptedWith facts command change
 Comes facts command decided.Repeat = Decides facts command Repeat
 
--- deciding stops at the refusal of the step, or out of memory
+-- deciding stops at the refusal of the step, or out of memory, of which the clause `memory` says where
 abbrev pub StopsStep : Facts → Command → Stop → Type 0
 StopsStep facts command (Refused refusal) = Decides facts command (Refuse refusal)
 StopsStep facts command Memory = ⊤
@@ -57,7 +61,7 @@ pub record DraftsAll (facts : Facts) (t : TransactionOf) (draft : Draft) : Type 
   pub all : BooksAll facts t.day [] 1 t.postings (All booked)
   pub is : IsDraft facts t.day draft booked
 
--- booking them stops at the refusal of the first that isn't booked, or out of memory
+-- booking them stops at the refusal of the first that isn't booked, or out of memory, of which the clause `memory` says where
 abbrev pub StopsBooking : Facts → TransactionOf → Stop → Type 0
 StopsBooking facts t (Refused refusal) = BooksAll facts t.day [] 1 t.postings (Stopped refusal)
 StopsBooking facts t Memory = ⊤
@@ -116,3 +120,51 @@ conditions_on facts t legs rs =
     ++ too_many_lots facts (legs_with_fill facts t legs rs) t.postings
     ∷ book_full facts
     ∷ []
+
+-- ---- where memory may lack
+
+-- something is stored for a posting at that place on no legs so far, or, where it has no amount, the others decide
+abbrev pub StoresAt : Facts → ℤ → ℕ → List ℕ → Option Amount → Type 0 → Type 0
+StoresAt facts day place account None Others = Others
+StoresAt facts day place account (Some amount) Others = StoresFor (line_of facts day [] place account amount) amount.cost
+
+-- something is stored for the first posting with an amount, of those from that place on
+abbrev pub StoresFirst : Facts → ℤ → ℕ → List Posting → Type 0
+StoresFirst facts day place [] = ⊥
+StoresFirst facts day place (posting ∷ postings) =
+    StoresAt facts day place posting.account posting.amount (StoresFirst facts day (suc place) postings)
+
+-- judging a command whose key is new may lack memory: it is a transaction, none of the first conditions holds, and something
+-- is stored for its first posting with an amount
+abbrev pub JudgingMayLackMemory : Facts → Command → Type 0
+JudgingMayLackMemory facts (Opening o) = ⊥
+JudgingMayLackMemory facts (Closing c) = ⊥
+JudgingMayLackMemory facts (Declaring d) = ⊥
+JudgingMayLackMemory facts (Quoting q) = ⊥
+JudgingMayLackMemory facts (Transaction t) =
+    (first_of (first_conditions facts t) ≡ None) × StoresFirst facts t.day 1 t.postings
+
+-- so may deciding a command, also for its text where one stands under its key
+abbrev pub MayLackMemory : Facts → Command → Type 0
+MayLackMemory facts command = (facts.text ≢ None) ⊎ JudgingMayLackMemory facts command
+
+-- booking a posting may lack memory, if it has an amount
+abbrev pub NextMayLackMemory : Facts → ℤ → ℕ → List ℕ → Option Amount → Draft → Type 0
+NextMayLackMemory facts day place account None old = ⊥
+NextMayLackMemory facts day place account (Some amount) old =
+    PostingMayLackMemory old.tally.legs (line_of facts day old.tally.legs place account amount)
+
+-- taking up the residuals may lack memory: for the fill, where a residual isn't zero. Without an elided posting it never does.
+abbrev pub FillMayLackMemory : List (ℕ × List ℕ) → List (List ℕ × ℤ) → Type 0
+FillMayLackMemory [] rs = ⊥
+FillMayLackMemory (elided ∷ more) rs = left_over rs ≢ []
+
+-- whether some posting has braces
+abbrev pub has_braces : List Posting → Bool
+has_braces postings = list_any (λ (p : Posting). is_some (amount_at_cost p.amount)) postings
+
+-- so may what follows the postings with amounts, also for the days at cost where no condition holds
+abbrev pub EndMayLackMemory : Facts → TransactionOf → List Leg → List (List ℕ × ℤ) → Type 0
+EndMayLackMemory facts t legs rs =
+    FillMayLackMemory (elided_postings 1 t.postings) rs
+    ⊎ ((first_of (conditions_on facts t legs rs) ≡ None) × (has_braces t.postings ≡ true))

@@ -1,10 +1,14 @@
-ghost use Rattle.std.specs.Prelude.{◌≡◌, ◌≤◌, ◌-◌, [], None, Some, length, IfErr, IfOk, IsOk, OnOk};
+ghost use Rattle.std.specs.Prelude.{◌≡◌, ◌≤◌, ◌-◌, [], None, Some, true, false, length, IfErr, IfOk, IsErrOf, IsOk, OnOk};
 ghost use Rattle.std.specs.BTreeMap.{IsEmpty};
-ghost use Rattle.lot_book.specs.Balance.{AreWithin};
+ghost use Rattle.lot_base.specs.Text.{same_text};
+ghost use Rattle.lot_ledger.specs.declared.decision.Outcome.TheVariants.{Repeat};
+ghost use Rattle.lot_book.specs.declared.refusal.Refusal.TheVariants.{KeyReused};
+ghost use Rattle.lot_book.specs.declared.refusal.Stop.TheVariants.{Memory};
+ghost use Rattle.lot_book.specs.Balance.{AreWithin, elided_postings};
 ghost use Rattle.lot_book.specs.Change.{ListsHeads, ListsSums};
 ghost use Rattle.lot_command.specs.declared.command.Command.TheVariants.{Opening as OpeningOf, Closing as ClosingOf, Declaring as DeclaringOf, Quoting as QuotingOf, Transaction as TransactionOf};
 ghost use Rattle.lot_command.specs.declared.command.Quoting.{Quoting as QuotingParts};
-ghost use Rattle.lot_ledger.specs.Decide.{Accepts, BooksNext, Comes, DraftsAll, IsElided, StopsBooking, StopsJudging, StopsNext, StopsStep, conditions_on, legs_with_fill, residual_conditions};
+ghost use Rattle.lot_ledger.specs.Decide.{Accepts, BooksNext, Comes, DraftsAll, EndMayLackMemory, FillMayLackMemory, IsElided, JudgingMayLackMemory, MayLackMemory, NextMayLackMemory, StopsBooking, StopsJudging, StopsNext, StopsStep, StoresFirst, conditions_on, legs_with_fill, residual_conditions};
 ghost use Rattle.lot_book.specs.Refusals.{Stops, most_postings};
 ghost use Rattle.lot_book.specs.Step.{Judges, Refuse, first_conditions, first_of};
 ghost use Rattle.lot_view.specs.View.{known};
@@ -18,10 +22,11 @@ use crate::heads::heads_of;
 use lot_base::Day;
 use lot_book::{Change, Pair, Refusal, Stop};
 use lot_command::{Closing, Command, Declaring, Items, Opening, Posting, Transaction, canonical};
-use lot_posting::{Draft, Site, Tally, book_posting};
+use lot_posting::{Draft, Residuals, Site, Tally, book_posting};
 use lot_view::View;
 use std::alloc::Global;
 use std::collections::BTreeMap;
+use std::mem;
 
 /// What becomes of a command that isn't refused.
 #[derive(Drop)]
@@ -34,16 +39,18 @@ pub enum Outcome {
 
 /// Returns what becomes of a command on what a view knows, or why it is refused, or out of memory. The view is that of the
 /// command's key: it has the text that stands under it, if there is one.
+///
+/// Memory may lack where a text stands under the key, since it is compared with that of the command. Where the key is new it
+/// may lack for a transaction alone, and only where no check that comes before its booking refuses it and something is
+/// stored for its first posting with an amount (`MayLackMemory`).
 pub fn decide(alloc: Global, view: &View, command: &Command) -> Result<Outcome, Stop>
     ensures decided { IfOk result (λ outcome. Comes (known view.now) command.now outcome) }
     ensures stops { IfErr result (λ stop. StopsStep (known view.now) command.now stop) }
+    ensures memory { IsErrOf result Memory → MayLackMemory (known view.now) command.now }
 {
     if let Some(text) = view.text() {
-        return if text == canonical::body(alloc, command)?.as_str() {
-            Ok(Outcome::Repeat)
-        } else {
-            Err(Refusal::KeyReused.into())
-        };
+        let body = canonical::body(alloc, command)?;
+        return Ok(repeated(text, body.as_str())?);
     }
     let change = match command {
         Command::Opening(opening) => decide_opening(alloc, view, opening)?,
@@ -55,7 +62,21 @@ pub fn decide(alloc: Global, view: &View, command: &Command) -> Result<Outcome, 
     Ok(Outcome::Accept(change))
 }
 
-/// The same for an opening whose key is new.
+/// Returns that a command is a repeat, by its text, or `KeyReused` where another text stands under its key.
+fn repeated(standing: &str, text: &str) -> Result<Outcome, Refusal>
+    ensures repeat { IfOk result (λ outcome.
+        (outcome ≡ Repeat) × (same_text standing.now text.now ≡ true)) }
+    ensures reused { IfErr result (λ refusal.
+        (refusal ≡ KeyReused) × (same_text standing.now text.now ≡ false)) }
+{
+    if standing == text {
+        Ok(Outcome::Repeat)
+    } else {
+        Err(Refusal::KeyReused)
+    }
+}
+
+/// Returns the change of an opening whose key is new, or why it is refused.
 fn decide_opening(alloc: Global, view: &View, opening: &Opening) -> Result<Change, Refusal>
     ensures accepted { IfOk result (λ change. Accepts (known view.now) (OpeningOf opening.now) change) }
     ensures refused { IfErr result (λ refusal. Judges (known view.now) (OpeningOf opening.now) (Refuse refusal)) }
@@ -110,6 +131,8 @@ fn decide_quoting(alloc: Global, view: &View) -> Result<Change, Refusal>
 fn decide_transaction(alloc: Global, view: &View, transaction: &Transaction) -> Result<Change, Stop>
     ensures accepted { IfOk result (λ change. Accepts (known view.now) (TransactionOf transaction.now) change) }
     ensures stops { IfErr result (λ stop. StopsJudging (known view.now) (TransactionOf transaction.now) stop) }
+    ensures memory { IsErrOf result Memory
+        → JudgingMayLackMemory (known view.now) (TransactionOf transaction.now) }
 {
     let elided = check_first(view, transaction)?;
     let draft = book_amounts(alloc, view, transaction)?;
@@ -150,6 +173,8 @@ fn conclude(
     ensures positions { IfOk result (λ change. ListsSums (known view.now) change.legs change.positions.entries) }
     ensures heads { IfOk result (λ change. ListsHeads (TransactionOf transaction.now) change.heads) }
     ensures stops { IfErr result (λ stop. Stops (first_of (conditions_on (known view.now) transaction.now draft.tally.legs draft.residuals)) stop) }
+    ensures memory { IsErrOf result Memory
+        → EndMayLackMemory (known view.now) transaction.now draft.tally.legs draft.residuals }
 {
     let mut draft = draft;
     take_up(alloc, view, transaction, elided, &mut draft)?;
@@ -159,7 +184,8 @@ fn conclude(
     Ok(change_of(draft, heads))
 }
 
-/// Adds the fill where there is an elided posting, and else returns `NotBalanced` where a residual isn't zero.
+/// Adds the fill where there is an elided posting, and else returns `NotBalanced` where a residual isn't zero. The residuals
+/// are used up.
 fn take_up(
     alloc: Global,
     view: &View,
@@ -174,10 +200,15 @@ fn take_up(
     ensures lists { OnOk result (ListsSums (known view.now) draft.new.tally.legs draft.new.tally.positions.entries) }
     ensures sales { OnOk result (draft.new.sales ≡ draft.old.sales) }
     ensures stops { IfErr result (λ stop. Stops (first_of (residual_conditions (known view.now) transaction.now draft.old.tally.legs draft.old.residuals)) stop) }
+    ensures memory { IsErrOf result Memory
+        → FillMayLackMemory (elided_postings 1 transaction.now.postings) draft.old.residuals }
 {
     match elided {
         Some(elided) => fill(alloc, view, elided, draft),
-        None => draft.residuals.balanced(),
+        None => {
+            let residuals = mem::replace(&mut draft.residuals, Residuals::new(alloc));
+            Ok(residuals.balanced()?)
+        }
     }
 }
 
@@ -187,6 +218,8 @@ fn book_amounts(alloc: Global, view: &View, transaction: &Transaction) -> Result
     requires { length transaction.now.postings ≤ most_postings }
     ensures drafts { IfOk result (λ draft. DraftsAll (known view.now) transaction.now draft) }
     ensures stops { IfErr result (λ stop. StopsBooking (known view.now) transaction.now stop) }
+    ensures memory { IsErrOf result Memory
+        → StoresFirst (known view.now) transaction.now.day 1 transaction.now.postings }
 {
     let mut draft = Draft::new(alloc);
     for (index, posting) in transaction.postings.as_slice().iter().enumerate() {
@@ -208,6 +241,8 @@ fn book_next(
     requires room { AreWithin (most_postings - 1) draft.old.residuals }
     ensures books { OnOk result (BooksNext (known view.now) day place posting.now.account posting.now.amount draft.old draft.new) }
     ensures stops { IfErr result (λ stop. StopsNext (known view.now) day place posting.now.account posting.now.amount draft.old stop) }
+    ensures memory { IsErrOf result Memory
+        → NextMayLackMemory (known view.now) day place posting.now.account posting.now.amount draft.old }
 {
     let Some(amount) = &posting.amount else {
         return Ok(());

@@ -1,9 +1,10 @@
-ghost use Rattle.std.specs.Prelude.{◌≡◌, ◌∷◌, [], ◌++◌, suc, None, IfErr, IfOk, OnOk};
+ghost use Rattle.std.specs.Prelude.{◌≡◌, ◌≢◌, ◌∷◌, [], ◌++◌, suc, None, Some, IfErr, IfOk, IsErrOf, IsOk, OnErr, OnOk};
 ghost use Rattle.std.specs.Option.{option_map, option_or};
 ghost use Rattle.lot_book.specs.declared.refusal.Refusal.TheVariants.{FillNotAllowed};
+ghost use Rattle.lot_book.specs.declared.refusal.Stop.TheVariants.{Memory};
 ghost use Rattle.lot_book.specs.Balance.{fill_of};
 ghost use Rattle.lot_book.specs.Change.{ListsSums};
-ghost use Rattle.lot_ledger.specs.Decide.{filled, first_barred};
+ghost use Rattle.lot_ledger.specs.Decide.{FillMayLackMemory, filled, first_barred};
 ghost use Rattle.lot_book.specs.Refusals.{Stops, fill_not_allowed, fill_out_of_range, inexact_fill};
 ghost use Rattle.lot_view.specs.View.{known};
 
@@ -16,7 +17,7 @@ use lot_view::View;
 use std::alloc::{AllocError, Global};
 
 /// Adds the legs of the elided posting, which take the residuals. The refusal is `InexactFill`, `FillNotAllowed` or
-/// `Range`, each over all residuals before the next.
+/// `Range`, each over all residuals before the next. Memory may lack only where there is something to take.
 pub(crate) fn fill(
     alloc: Global,
     view: &View,
@@ -36,32 +37,40 @@ pub(crate) fn fill(
         (option_or (fill_not_allowed (known view.now) (elided.entry ∷ []) draft.old.residuals)
         (fill_out_of_range (known view.now) (elided.entry ∷ []) draft.old.tally.legs
         (fill_of (suc (known view.now).entries) (elided.entry ∷ []) draft.old.residuals)))) stop) }
+    ensures memory { IsErrOf result Memory → FillMayLackMemory (elided.entry ∷ []) draft.old.residuals }
 {
     let fills = draft.residuals.fills(alloc)?;
-    every_fill_allowed(view, elided.account, &fills)?;
-    let legs = legs_of_fills(alloc, view, &elided, fills)?;
+    let allowed = every_fill_allowed(view, elided.account, fills)?;
+    let legs = legs_of_fills(alloc, view, &elided, allowed)?;
     draft.tally.post_all(view, legs)
 }
 
-/// Returns `FillNotAllowed` with the first currency with which the account wasn't opened, if there is one.
+/// Returns the fills as they are, or `FillNotAllowed` with the first currency with which the account wasn't opened. The
+/// refusal takes its currency over from the fills, so it needs no memory.
 fn every_fill_allowed(
     view: &View,
     account: &Account,
-    fills: &[(Commodity, Units)],
-) -> Result<(), Stop>
-    ensures ok { OnOk result (first_barred ((known view.now).standing account.now) fills.now ≡ None) }
-    ensures refused { IfErr result (λ stop. Stops (option_map FillNotAllowed (first_barred ((known view.now).standing account.now) fills.now)) stop) }
+    fills: Vec<(Commodity, Units)>,
+) -> Result<Vec<(Commodity, Units)>, Refusal>
+    ensures same { IfOk result (λ allowed. allowed.items ≡ fills.items) }
+    ensures ok { IsOk result → first_barred ((known view.now).standing account.now) fills.items ≡ None }
+    ensures refused { IfErr result (λ refusal.
+        option_map FillNotAllowed (first_barred ((known view.now).standing account.now) fills.items) ≡ Some refusal) }
 {
     let Some(standing) = view.standing(account) else {
-        return Ok(());
+        return Ok(fills);
     };
-    for fill in fills {
-        if !standing.allowed.allows(&fill.0) {
-            let currency = fill.0.copy()?;
-            return Err(Refusal::FillNotAllowed { currency }.into());
+    match fills
+        .iter()
+        .position(|fill| !standing.allowed.allows(&fill.0))
+    {
+        Some(index) => {
+            let mut fills = fills;
+            let (currency, _) = fills.swap_remove(index);
+            Err(Refusal::FillNotAllowed { currency })
         }
+        None => Ok(fills),
     }
-    Ok(())
 }
 
 /// Returns the legs of the elided posting: one plain leg for each fill.
@@ -71,7 +80,9 @@ fn legs_of_fills(
     elided: &Elided<'_>,
     fills: Vec<(Commodity, Units)>,
 ) -> Result<Vec<Leg>, AllocError>
-    ensures { IfOk result (λ legs. legs.items ≡ filled (suc (known view.now).entries) elided.now.0 elided.now.1 0 fills.items) }
+    ensures legs { IfOk result (λ legs. legs.items
+        ≡ filled (suc (known view.now).entries) elided.now.0 elided.now.1 0 fills.items) }
+    ensures memory { OnErr result (fills.items ≢ []) }
 {
     let mut legs = Vec::new(alloc);
     for (place, (commodity, units)) in fills.into_iter().enumerate() {

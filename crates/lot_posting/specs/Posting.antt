@@ -1,5 +1,7 @@
 -- Booking one posting of a transaction: what it adds to what is booked so far.
-use Rattle.std.specs.Prelude.{◌≡◌, ℕ, suc, List, ◌++◌, ℤ, ⊤}
+use Rattle.std.specs.Prelude.{◌≡◌, ◌≢◌, ◌⊎◌, ℕ, suc, Bool, List, [], ◌++◌, Option, None, Some, ℤ, ⊤}
+use Rattle.lot_cost.specs.declared.cost.Cost.{Cost}
+use Rattle.lot_cost.specs.declared.lot_key.LotKey.{LotKey}
 use Rattle.lot_command.specs.declared.transaction.Amount.{Amount}
 use Rattle.lot_posting.specs.declared.draft.Draft.{Draft}
 use Rattle.lot_book.specs.declared.leg.Leg.{Leg}
@@ -8,8 +10,8 @@ use Rattle.lot_book.specs.declared.refusal.Stop.TheVariants.{Refused, Memory}
 use Rattle.lot_book.specs.Balance.{AreWithin, residuals, weights_of}
 use Rattle.lot_booking.specs.declared.fault.BookingFault.{BookingFault}
 use Rattle.lot_booking.specs.declared.fault.BookingFault.TheVariants as fault
-use Rattle.lot_booking.specs.Booking.{Braced, ComesTo, Refused as Rejected}
-use Rattle.lot_book.specs.Booking.{IsRefusalOf, Booked, BooksTo, Fails, HasNoLegs, IsBooked, Line, line_of}
+use Rattle.lot_booking.specs.Booking.{Braced, ComesTo, Legs, Refused as Rejected, Stores}
+use Rattle.lot_book.specs.Booking.{IsRefusalOf, Booked, BooksTo, Fails, HasNoLegs, IsBooked, Line, braced, line_of}
 use Rattle.lot_book.specs.Change.{ListsSums}
 use Rattle.lot_book.specs.Facts.{Facts}
 use Rattle.lot_book.specs.Sale.{sales_of}
@@ -26,15 +28,29 @@ pub record Books (facts : Facts) (day : ℤ) (place : ℕ) (account : List ℕ) 
   pub within : (count : ℕ) → AreWithin count old.residuals → AreWithin (suc count) new.residuals
   pub sales : new.sales ≡ old.sales ++ sales_of day booked
 
--- a posting stops at its refusal, or out of memory
+-- a posting stops at its refusal, or out of memory, of which the clause `memory` says where
 abbrev pub StopsPosting : Line → Stop → Type 0
 StopsPosting line (Refused refusal) = BooksTo line (Fails refusal)
 StopsPosting line Memory = ⊤
 
--- the same, of a posting that has no legs
+-- the same, of a posting with braces that has no legs
 abbrev pub StopsWithoutLegs : Line → Stop → Type 0
 StopsWithoutLegs line (Refused refusal) = HasNoLegs line line.amount.cost refusal
 StopsWithoutLegs line Memory = ⊤
+
+-- ---- memory
+
+-- something is stored for a posting with that cost: without braces its leg; with braces its legs, or what its booking stores
+abbrev pub StoresFor : Line → Option Cost → Type 0
+StoresFor line None = ⊤
+StoresFor line (Some cost) =
+    Stores (braced line cost) ⊎ ((reduces : Bool) × (lots : List (LotKey × ℤ)) × ComesTo (braced line cost) (Legs reduces lots))
+
+-- booking a posting may lack memory: something is stored for it, or for the lots that legs before it have changed
+abbrev pub MayLackMemory : List Leg → Line → Type 0
+MayLackMemory before line = StoresFor line line.amount.cost ⊎ (before ≢ [])
+
+-- ---- bookings
 
 -- the fault of a booking, as the refusal of the posting at that place, or out of memory
 abbrev pub IsStopOf : ℕ → BookingFault → Stop → Type 0

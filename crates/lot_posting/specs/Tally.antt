@@ -1,5 +1,5 @@
 -- How booking the legs of one posting ends where a sum leaves the range of units.
-use Rattle.std.specs.Prelude.{◌≡◌, ℕ, Bool, true, ◌&&◌, is_some, if◌then◌else◌, List, ℤ, pos, ◌+ℤ◌, ⊤}
+use Rattle.std.specs.Prelude.{◌≡◌, ℕ, Bool, true, false, ◌&&◌, is_some, if◌then◌else◌, List, [], ◌∷◌, ℤ, pos, ◌+ℤ◌, ⊤}
 use Rattle.std.specs.List.{AllByRecursion}
 use Rattle.std.specs.Ordering.{int_eq}
 use Rattle.lot_num.specs.Amount.{IsUnits}
@@ -18,16 +18,22 @@ use Rattle.lot_book.specs.Leg.{leave_range}
 abbrev pub AreOf : List ℕ → ℕ → List Leg → Type 0
 AreOf account posting legs = AllByRecursion (λ (leg : Leg). (leg.position.account ≡ account) × (leg.posting ≡ posting)) legs
 
--- a leg leaves its position out of range, or there is no memory
+-- a leg leaves its position out of range, or there is no memory, of which the clause `memory` says where
 abbrev pub StopsAtLeg : Facts → List Leg → Leg → Stop → Type 0
 StopsAtLeg facts before leg (Refused refusal) =
     (IsUnits (units_after facts before leg.position +ℤ leg.units) → ⊥) × (refusal ≡ Range leg.posting)
 StopsAtLeg facts before leg Memory = ⊤
 
--- the legs of a posting leave some sum of their account out of range, or there is no memory
+-- the legs of a posting leave some sum of their account out of range, or there is no memory, of which the clause `memory`
+-- says where
 abbrev pub StopsAt : Held → ℕ → List Leg → Stop → Type 0
 StopsAt held posting legs (Refused refusal) = (leave_range held legs ≡ true) × (refusal ≡ Range posting)
 StopsAt held posting legs Memory = ⊤
+
+-- there are legs, and the first of them leaves its sum in range
+abbrev pub BeginInRange : Held → List Leg → Type 0
+BeginInRange held [] = ⊥
+BeginInRange held (leg ∷ legs) = leave_range held (leg ∷ []) ≡ false
 
 -- whether a position is a lot of the commodity in the account
 abbrev pub is_lot_of : List ℕ → List ℕ → Position → Bool

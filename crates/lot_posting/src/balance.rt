@@ -1,4 +1,5 @@
-ghost use Rattle.std.specs.Prelude.{◌≡◌, ◌≤◌, ◌*◌, ◌-◌, ◌++◌, ◌+ℤ◌, ℕ, suc, ℤ, List, [], None, not, map, unsigned_abs, IfOk, IfErr, OnOk};
+ghost use Rattle.std.specs.Prelude.{◌≡◌, ◌≢◌, ◌≤◌, ◌*◌, ◌-◌, ◌++◌, ◌+ℤ◌, ℕ, suc, ℤ, List, [], None, Some, not, map, unsigned_abs, IfOk, IfErr, IsErrOf, OnOk};
+ghost use Rattle.lot_book.specs.declared.refusal.Stop.TheVariants.{Memory};
 ghost use Rattle.std.specs.Option.{option_map};
 ghost use Rattle.lot_num.specs.Amount.{IsWide, rate_limit, units_limit};
 ghost use Rattle.lot_book.specs.declared.refusal.Refusal.TheVariants.{InexactFill};
@@ -31,7 +32,7 @@ impl Model for Residuals {
 
 impl Residuals {
     /// Returns the residuals before anything is booked: none.
-    pub(crate) fn new(alloc: Global) -> Residuals
+    pub fn new(alloc: Global) -> Residuals
         ensures { result ≡ [] }
     {
         Residuals {
@@ -88,27 +89,29 @@ impl Residuals {
         Ok(())
     }
 
-    /// Returns `NotBalanced` with the first currency whose residual isn't zero, if there is one.
-    pub fn balanced(&self) -> Result<(), Stop>
-        ensures ok { OnOk result (not_balanced [] self.now ≡ None) }
-        ensures refused { IfErr result (λ stop. Stops (not_balanced [] self.now) stop) }
+    /// Returns `NotBalanced` with the first currency whose residual isn't zero, if there is one. The refusal takes that
+    /// currency over, so it needs no memory.
+    pub fn balanced(self) -> Result<(), Refusal>
+        ensures ok { OnOk result (not_balanced [] self ≡ None) }
+        ensures refused { IfErr result (λ refusal. not_balanced [] self ≡ Some refusal) }
     {
-        for (currency, sum) in &self.sums {
+        for (currency, sum) in self.sums {
             if sum.mantissa() != 0 {
-                let currency = currency.copy()?;
-                return Err(Refusal::NotBalanced { currency }.into());
+                return Err(Refusal::NotBalanced { currency });
             }
         }
         Ok(())
     }
 
     /// Returns what the elided posting takes: the opposite of each residual that isn't zero, as units. The refusal is
-    /// `InexactFill` with the first currency whose residual isn't that of units.
+    /// `InexactFill` with the first currency whose residual isn't that of units. Memory may lack only where a residual isn't
+    /// zero.
     pub fn fills(&self, alloc: Global) -> Result<Vec<(Commodity, Units)>, Stop>
         ensures exact { OnOk result (first_currency (λ r. not (fits_units r.1)) self.now ≡ None) }
         ensures fills { IfOk result (λ fills. fills.items ≡ map (λ r. (r.0, opposite r.1)) (left_over self.now)) }
         ensures refused { IfErr result (λ stop.
             Stops (option_map InexactFill (first_currency (λ r. not (fits_units r.1)) self.now)) stop) }
+        ensures memory { IsErrOf result Memory → left_over self.now ≢ [] }
     {
         let mut fills = Vec::new(alloc);
         for (currency, sum) in &self.sums {

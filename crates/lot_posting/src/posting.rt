@@ -1,12 +1,13 @@
-ghost use Rattle.std.specs.Prelude.{◌≡◌, ◌≤◌, ◌-◌, ◌∷◌, [], suc, true, false, IfErr, IfOk, OnOk, Some, None, ℤ};
+ghost use Rattle.std.specs.Prelude.{◌≡◌, ◌≤◌, ◌-◌, ◌∷◌, [], suc, true, false, IfErr, IfOk, IsErrOf, OnOk, Some, None, ℤ};
 ghost use Rattle.std.specs.FinMap as finite;
 ghost use Rattle.lot_inv.specs.Inventory.{Held, lots_of};
-ghost use Rattle.lot_booking.specs.Booking.{ComesTo, Legs, posting_of};
+ghost use Rattle.lot_booking.specs.Booking.{ComesTo, Legs, Stores, posting_of};
+ghost use Rattle.lot_book.specs.declared.refusal.Stop.TheVariants.{Memory};
 ghost use Rattle.lot_book.specs.Balance.{AreWithin};
 ghost use Rattle.lot_book.specs.Booking.{braced, line_of, method_of, plain_leg};
 ghost use Rattle.lot_book.specs.Change.{ListsSums};
 ghost use Rattle.lot_book.specs.Leg.{leg_at, legs_at_lots, with_legs};
-ghost use Rattle.lot_posting.specs.Posting.{Books, IsStopOf, StopsOn, StopsPosting, StopsWithoutLegs};
+ghost use Rattle.lot_posting.specs.Posting.{Books, IsStopOf, MayLackMemory, StopsOn, StopsPosting, StopsWithoutLegs};
 ghost use Rattle.lot_book.specs.Refusals.{most_postings};
 ghost use Rattle.lot_book.specs.Sale.{AreLegsOf};
 ghost use Rattle.lot_view.specs.View.{known};
@@ -35,7 +36,8 @@ pub struct Site<'a> {
     pub amount: &'a Amount,
 }
 
-/// Books a posting with an amount on what is booked so far. The error is its refusal, or out of memory.
+/// Books a posting with an amount on what is booked so far. The error is its refusal, or out of memory. That is only where
+/// something is stored for it (`MayLackMemory`): never for the first posting where its booking stores nothing.
 pub fn book_posting(
     alloc: Global,
     view: &View,
@@ -47,6 +49,9 @@ pub fn book_posting(
     requires room { AreWithin (most_postings - 1) draft.old.residuals }
     ensures books { OnOk result (Books (known view.now) site.now.day site.now.posting site.now.account.now site.now.amount.now draft.old draft.new) }
     ensures stops { IfErr result (λ stop. StopsPosting (line_of (known view.now) site.now.day draft.old.tally.legs site.now.posting site.now.account.now site.now.amount.now) stop) }
+    ensures memory { IsErrOf result Memory → MayLackMemory draft.old.tally.legs
+        (line_of (known view.now) site.now.day draft.old.tally.legs site.now.posting
+        site.now.account.now site.now.amount.now) }
 {
     match &site.amount.cost {
         Some(cost) => book_at_cost(alloc, view, site, cost, draft),
@@ -82,6 +87,9 @@ fn book_at_cost(
     requires room { AreWithin (most_postings - 1) draft.old.residuals }
     ensures books { OnOk result (Books (known view.now) site.now.day site.now.posting site.now.account.now site.now.amount.now draft.old draft.new) }
     ensures stops { IfErr result (λ stop. StopsPosting (line_of (known view.now) site.now.day draft.old.tally.legs site.now.posting site.now.account.now site.now.amount.now) stop) }
+    ensures memory { IsErrOf result Memory → MayLackMemory draft.old.tally.legs
+        (line_of (known view.now) site.now.day draft.old.tally.legs site.now.posting
+        site.now.account.now site.now.amount.now) }
 {
     let _in_range = site.amount.units.mantissa(); // says to the prover that they are below the limit of units
     let Booked {
@@ -112,6 +120,9 @@ fn book_lots(
         (Legs booked.reduces booked.legs.items)) }
     ensures stops { IfErr result (λ stop. StopsWithoutLegs
         (line_of (known view.now) site.now.day tally.now.legs site.now.posting site.now.account.now site.now.amount.now) stop) }
+    ensures memory { IsErrOf result Memory → MayLackMemory tally.now.legs
+        (line_of (known view.now) site.now.day tally.now.legs site.now.posting
+        site.now.account.now site.now.amount.now) }
 {
     let method = method_of(view, site.account);
     if tally.has_changed(site.account, &site.amount.commodity) {
@@ -148,6 +159,9 @@ fn book_on(
     ensures stops { IfErr result (λ stop. StopsOn
         (posting_of method held.now site.now.amount.now.commodity site.now.amount.now.units cost.now site.now.day)
         site.now.posting stop) }
+    ensures memory { IsErrOf result Memory → Stores
+        (posting_of method held.now site.now.amount.now.commodity site.now.amount.now.units
+        cost.now site.now.day) }
 {
     let amount = site.amount;
     match book(

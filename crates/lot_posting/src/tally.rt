@@ -1,11 +1,12 @@
-ghost use Rattle.std.specs.Prelude.{◌≡◌, [], ◌∷◌, ◌++◌, ◌+ℤ◌, IfErr, IfOk, OnOk, SomeIff, IsFalse, true, false, length, ℕ, List};
+ghost use Rattle.std.specs.Prelude.{◌≡◌, ◌≢◌, [], ◌∷◌, ◌++◌, ◌+ℤ◌, IfErr, IfOk, IsErrOf, OnOk, SomeIff, IsFalse, IsTrue, true, false, length, ℕ, List};
+ghost use Rattle.lot_book.specs.declared.refusal.Stop.TheVariants.{Memory};
 ghost use Rattle.lot_inv.specs.Inventory.{lots_of};
 ghost use Rattle.lot_inv.specs.Zeros.{HasNoZeros};
 ghost use Rattle.lot_num.specs.Amount.{IsUnits};
 ghost use Rattle.lot_book.specs.Change.{ListsSums, units_after};
 ghost use Rattle.lot_book.specs.Facts.{Facts};
 ghost use Rattle.lot_book.specs.Leg.{leave_range, with_legs};
-ghost use Rattle.lot_posting.specs.Tally.{AreOf, StopsAt, StopsAtLeg, is_lot_of, lot_count};
+ghost use Rattle.lot_posting.specs.Tally.{AreOf, BeginInRange, StopsAt, StopsAtLeg, is_lot_of, lot_count};
 ghost use Rattle.lot_view.specs.View.{known};
 
 use lot_base::{Account, Commodity};
@@ -51,13 +52,16 @@ impl Tally {
         }
     }
 
-    /// Adds one more leg. The refusal is `Range` where its position is out of the range of units after it.
+    /// Adds one more leg. The refusal is `Range` where its position is out of the range of units after it, and needs no
+    /// memory.
     fn post(&mut self, view: &View, leg: Leg) -> Result<(), Stop>
         requires lists { ListsSums (known view.now) self.old.legs self.old.positions.entries }
         ensures legs { OnOk result (self.new.legs ≡ self.old.legs ++ leg ∷ []) }
         ensures lists { OnOk result (ListsSums (known view.now) self.new.legs self.new.positions.entries) }
         ensures in_range { OnOk result (IsUnits (units_after (known view.now) self.old.legs leg.position +ℤ leg.units)) }
         ensures stops { IfErr result (λ stop. StopsAtLeg (known view.now) self.old.legs leg stop) }
+        ensures memory { IsErrOf result Memory
+            → IsUnits (units_after (known view.now) self.old.legs leg.position +ℤ leg.units) }
     {
         let Some(units) = self.units(view, &leg.position).checked_add(leg.units) else {
             let posting = leg.posting;
@@ -68,7 +72,8 @@ impl Tally {
         Ok(())
     }
 
-    /// Adds the legs of a posting. The refusal is `Range` where a position is out of the range of units after one of them.
+    /// Adds the legs of a posting. The refusal is `Range` where a position is out of the range of units after one of them, and
+    /// needs no memory where that is the first leg.
     pub fn post_all(&mut self, view: &View, legs: Vec<Leg>) -> Result<(), Stop>
         requires lists { ListsSums (known view.now) self.old.legs self.old.positions.entries }
         ensures legs { OnOk result (self.new.legs ≡ self.old.legs ++ legs.items) }
@@ -77,6 +82,10 @@ impl Tally {
             → leave_range (with_legs account ((known view.now).held account) self.old.legs) legs.items ≡ false) }
         ensures stops { IfErr result (λ stop. (account : List ℕ) (posting : ℕ) → AreOf account posting legs.items
             → StopsAt (with_legs account ((known view.now).held account) self.old.legs) posting legs.items stop) }
+        ensures memory { IsErrOf result Memory → (account : List ℕ) (posting : ℕ)
+            → AreOf account posting legs.items
+            → BeginInRange (with_legs account ((known view.now).held account) self.old.legs)
+            legs.items }
     {
         for leg in legs {
             self.post(view, leg)?;
@@ -86,9 +95,14 @@ impl Tally {
 
     /// Returns whether a leg so far is in a lot of that account and commodity.
     pub(crate) fn has_changed(&self, account: &Account, commodity: &Commodity) -> bool
-        ensures { IsFalse result → (facts : Facts) → HasNoZeros (facts.held account.now) → ListsSums facts self.now.legs self.now.positions.entries
+        ensures unchanged { IsFalse result → (facts : Facts) → HasNoZeros (facts.held account.now)
+            → ListsSums facts self.now.legs self.now.positions.entries
             → lots_of (with_legs account.now (facts.held account.now) self.now.legs) commodity.now ≡ lots_of (facts.held account.now) commodity.now }
+        ensures begun { IsTrue result → self.now.legs ≢ [] }
     {
+        if self.legs.as_slice().is_empty() {
+            return false;
+        }
         for position in self.positions.keys() {
             if is_lot_of(position, account, commodity) {
                 return true;

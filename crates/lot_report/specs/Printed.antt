@@ -7,6 +7,8 @@ use Rattle.lot_book.specs.declared.refusal.Refusal.{Refusal}
 use Rattle.lot_book.specs.declared.refusal.Refusal.TheVariants.{KeyReused, AlreadyOpen, UnknownAccount, NotOpenYet, Closed, AlreadyDeclared, CurrencyNotAllowed, TooManyPostings, TwoElided, BackDated, NoMatch, Ambiguous, NotEnough, IncompleteCost, InexactCost, ZeroUnits, Range, InexactFill, FillNotAllowed, NotBalanced, TooManyLots, BookFull}
 use Rattle.lot_book.specs.declared.verdict.Verdict.{Verdict}
 use Rattle.lot_book.specs.declared.verdict.Verdict.TheVariants.{Accepted, Repeated, Refused}
+use Rattle.lot_report.specs.declared.reply.Argument.{Argument}
+use Rattle.lot_report.specs.declared.reply.Argument.TheVariants.{Posting, Currency}
 use Rattle.lot_report.specs.declared.lot.Valuation.{Valuation}
 use Rattle.lot_report.specs.declared.lot.Valuation.TheVariants.{Unasked, Missing, At}
 
@@ -77,6 +79,12 @@ argument_text (NotEnough posting) = posting_text posting
 argument_text (IncompleteCost posting) = posting_text posting
 argument_text (InexactCost posting) = posting_text posting
 argument_text (ZeroUnits posting) = posting_text posting
+
+-- an argument as it is printed behind the name
+abbrev pub shown : Argument → List ℕ
+shown Argument.None = []
+shown (Posting posting) = posting_text posting
+shown (Currency currency) = currency_text currency.now
 
 abbrev pub accepted_line : ℕ → List ℕ
 accepted_line number = line (decimal number ++ codes " accepted")

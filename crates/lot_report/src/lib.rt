@@ -25,6 +25,6 @@ pub use fault::{ReportFault, RowFault};
 pub use gains::Gains;
 pub use holdings::{Holdings, ValuedHolding};
 pub use journal::{Entry, Journal, JournalFault};
-pub use line::{PrintFault, print_line};
+pub use line::{PrintFault, print_line, print_texts};
 pub use lot::Valuation;
 pub use reply::print_reply;

@@ -65,6 +65,33 @@ fn line_of<T: Display + Drop>(text: T) -> Result<ArrayString<LONGEST>, PrintFaul
     }
 }
 
+/// Writes a line, given as the texts that it consists of, its line end among them. It takes no memory: the only fault is that of
+/// the writer, after which a prefix of the line is written, but not all of it. A line of at most `LONGEST` bytes goes to the
+/// writer in one piece.
+pub fn print_texts<W: Write>(writer: &mut W, texts: &[&str]) -> Result<(), PrintFault>
+    ensures bytes { WritesLine (W.contents writer.old) (W.contents writer.new) result
+        (flat_map (λ text. text.now) texts.now) }
+    ensures fault { IfErr result (λ fault. fault ≡ PrintFault.Write) }
+{
+    match joined(texts) {
+        Some(line) => put(writer, line.as_str().as_bytes()),
+        None => put_all(writer, texts),
+    }
+}
+
+/// Returns texts one behind another, if there is room for them.
+fn joined(texts: &[&str]) -> Option<ArrayString<LONGEST>>
+    ensures { IfSome result (λ line. line.bytes ≡ flat_map (λ text. text.now) texts.now) }
+{
+    let mut line = ArrayString::new();
+    for text in texts {
+        let Ok(()) = line.try_push_str(text) else {
+            return None;
+        };
+    }
+    Some(line)
+}
+
 /// Writes texts one behind another. It takes no memory: the only fault is that of the writer, after which a prefix of them is
 /// written, but not all.
 pub(crate) fn put_all<W: Write>(writer: &mut W, texts: &[&str]) -> Result<(), PrintFault>

@@ -1,38 +1,62 @@
-ghost use Rattle.std.specs.Prelude.{◌≡◌, ◌≤◌, length, IsErrOf};
-ghost use Rattle.lot_report.specs.Printed.{argument_text, name_text, reply};
-ghost use Rattle.lot_report.specs.Written.{WritesLine, longest_written};
+ghost use Rattle.std.specs.Prelude.{◌≡◌, IfErr};
+ghost use Rattle.lot_report.specs.Printed.{argument_text, name_text, refused_line, reply, shown};
+ghost use Rattle.lot_report.specs.Written.{WritesLine};
 
-use crate::line::{PrintFault, print_line};
+use crate::line::{PrintFault, print_texts};
+use itoa::Buffer;
+use lot_base::Commodity;
 use lot_book::{Refusal, Verdict};
-use std::fmt;
 use std::io::Write;
 
 /// Writes the reply to the command of that number: that it was accepted, that it stands already, or why it was refused.
 ///
-/// Returns what `print_line` returned: after `Memory` the writer is as it was, after `Write` a prefix of the line is
-/// written, but not all of it.
+/// It takes no memory. The only fault is that of the writer, after which a prefix of the line is written, but not all of it.
 pub fn print_reply<W: Write>(
     writer: &mut W,
     number: usize,
     verdict: &Verdict,
 ) -> Result<(), PrintFault>
     ensures bytes { WritesLine (W.contents writer.old) (W.contents writer.new) result (reply number verdict.now) }
-    ensures memory { IsErrOf result PrintFault.Memory → writer.new ≡ writer.old }
-    ensures write { IsErrOf result PrintFault.Write → length (reply number verdict.now) ≤ longest_written }
+    ensures fault { IfErr result (λ fault. fault ≡ PrintFault.Write) }
 {
+    let mut digits = Buffer::new();
     match verdict {
-        Verdict::Accepted => print_line(writer, format_args!("{number} accepted")),
-        Verdict::Repeated => print_line(writer, format_args!("{number} repeat")),
-        Verdict::Refused(refusal) => {
-            let name = name(refusal);
-            let argument = Argument(refusal);
-            print_line(writer, format_args!("{number} refused {name}{argument}"))
+        Verdict::Accepted => print_texts(writer, &[digits.format(number), " accepted\n"]),
+        Verdict::Repeated => print_texts(writer, &[digits.format(number), " repeat\n"]),
+        Verdict::Refused(refusal) => print_refused(writer, number, refusal),
+    }
+}
+
+/// Writes why the command of that number was refused.
+fn print_refused<W: Write>(
+    writer: &mut W,
+    number: usize,
+    refusal: &Refusal,
+) -> Result<(), PrintFault>
+    ensures bytes { WritesLine (W.contents writer.old) (W.contents writer.new) result
+        (refused_line number refusal.now) }
+    ensures fault { IfErr result (λ fault. fault ≡ PrintFault.Write) }
+{
+    let mut digits = Buffer::new();
+    let number = digits.format(number);
+    let name = name(refusal);
+    match argument_of(refusal) {
+        Argument::None => print_texts(writer, &[number, " refused ", name, "\n"]),
+        Argument::Posting(posting) => {
+            let mut digits = Buffer::new();
+            let posting = digits.format(posting);
+            let texts = [number, " refused ", name, " posting ", posting, "\n"];
+            print_texts(writer, &texts)
+        }
+        Argument::Currency(currency) => {
+            let texts = [number, " refused ", name, " ", currency.as_str(), "\n"];
+            print_texts(writer, &texts)
         }
     }
 }
 
 /// Returns the code and the name of a refusal.
-fn name(refusal: &Refusal) -> &'static str
+fn name(refusal: &Refusal) -> &str
     ensures { result.now ≡ name_text refusal.now }
 {
     match refusal {
@@ -61,42 +85,43 @@ fn name(refusal: &Refusal) -> &'static str
     }
 }
 
-/// The argument of a refusal as it is printed behind its name: a posting, a currency, or nothing where it has none.
-#[derive(Clone, Copy)]
-struct Argument<'a>(&'a Refusal);
+/// The argument of a refusal.
+enum Argument<'a> {
+    None,
+    /// The place of a posting, from 1.
+    Posting(usize),
+    Currency(&'a Commodity),
+}
 
-impl fmt::Display for Argument<'_> {
-    ghost use Rattle.std.specs.Prelude.{Some};
-
-    ghost output = { λ argument. Some (argument_text argument.0.now) };
-
-    fn fmt<W: fmt::Write>(&self, f: &mut fmt::Formatter<W>) -> fmt::Result {
-        match self.0 {
-            Refusal::UnknownAccount { posting }
-            | Refusal::NotOpenYet { posting }
-            | Refusal::Closed { posting } => match posting {
-                Some(posting) => write!(f, " posting {posting}"),
-                None => Ok(()),
-            },
-            Refusal::CurrencyNotAllowed { posting }
-            | Refusal::BackDated { posting }
-            | Refusal::NoMatch { posting }
-            | Refusal::Ambiguous { posting }
-            | Refusal::NotEnough { posting }
-            | Refusal::IncompleteCost { posting }
-            | Refusal::InexactCost { posting }
-            | Refusal::ZeroUnits { posting }
-            | Refusal::Range { posting }
-            | Refusal::TooManyLots { posting } => write!(f, " posting {posting}"),
-            Refusal::InexactFill { currency }
-            | Refusal::FillNotAllowed { currency }
-            | Refusal::NotBalanced { currency } => write!(f, " {currency}"),
-            Refusal::KeyReused
-            | Refusal::AlreadyOpen
-            | Refusal::AlreadyDeclared
-            | Refusal::TooManyPostings
-            | Refusal::TwoElided
-            | Refusal::BookFull => Ok(()),
-        }
+/// Returns the argument of a refusal.
+fn argument_of(refusal: &Refusal) -> Argument<'_>
+    ensures { shown result ≡ argument_text refusal.now }
+{
+    match refusal {
+        Refusal::UnknownAccount { posting }
+        | Refusal::NotOpenYet { posting }
+        | Refusal::Closed { posting } => match posting {
+            Some(posting) => Argument::Posting(*posting),
+            None => Argument::None,
+        },
+        Refusal::CurrencyNotAllowed { posting }
+        | Refusal::BackDated { posting }
+        | Refusal::NoMatch { posting }
+        | Refusal::Ambiguous { posting }
+        | Refusal::NotEnough { posting }
+        | Refusal::IncompleteCost { posting }
+        | Refusal::InexactCost { posting }
+        | Refusal::ZeroUnits { posting }
+        | Refusal::Range { posting }
+        | Refusal::TooManyLots { posting } => Argument::Posting(*posting),
+        Refusal::InexactFill { currency }
+        | Refusal::FillNotAllowed { currency }
+        | Refusal::NotBalanced { currency } => Argument::Currency(currency),
+        Refusal::KeyReused
+        | Refusal::AlreadyOpen
+        | Refusal::AlreadyDeclared
+        | Refusal::TooManyPostings
+        | Refusal::TwoElided
+        | Refusal::BookFull => Argument::None,
     }
 }

@@ -1,148 +1,194 @@
-//! Stops: the log, or the database's file, fails at each of its calls while a book is made and a small ledger is posted. Opened
-//! again, the files hold what was acknowledged, and at most one command more; sent again, the ledger is whole.
+//! A stop at each call of the log, and of the database's file, while a ledger is sent to a book; and, of
+//! the smallest, a second one at each call while what has no reply is sent again.
+//!
+//! After each stop the files are opened again, once with all that was written and once with what was synced alone. The book is
+//! then that of the commands that were replied to, or has one more whose commit was in doubt; and sent again from the first
+//! command without a reply, the ledger comes to the book of one uninterrupted run.
 
-use lot_cli::{Action, Batch, Served, Start, serve};
-use sqlite::{Alter, Connection, FileStore, Files, Options};
-use sqlite_disk::{Crash, Fuse, Memory};
-use std::alloc::{AllocError, Global};
-use std::test::Fail;
+use crate::disk::{CALLS, Image, NO_STOP, SIDES, Stop};
+use crate::ledgers::{DOUBT, EVERY_KIND, Ledger, PRICES, SALE};
+use crate::program::reports;
+use crate::sent::{Left, Whole, all_written, assert_text, sent, uninterrupted};
+use std::process::Abort;
 
-type Disk = Fuse<Memory>;
-
-type Book = Connection<FileStore<Disk>>;
-
-/// Two accounts, a purchase, and a sale of a part of it.
-const LEDGER: &[u8] = b"2020-01-01 open Assets:Broker \"FIFO\"\n\
-    2020-01-01 open Assets:Cash\n\
-    2020-01-01 open Income:Gains\n\
-    2020-01-02 *\n  Assets:Broker 10 HOOL {100 USD}\n  Assets:Cash\n\
-    2020-02-01 *\n  Assets:Broker -4 HOOL {} @ 130 USD\n  Assets:Cash 520 USD\n  Income:Gains\n";
-
-const COMMANDS: usize = 5;
-
-/// More calls than there are.
-const CALLS: u64 = 160;
-
-/// Which of the two files fails.
+/// What a run that was sent the rest of a ledger told.
 #[derive(Clone, Copy)]
-enum Side {
-    Log,
-    Database,
+struct Told {
+    /// How many commands were replied to, those before the run included.
+    replied: usize,
+    /// How many of the commands the book has at least, and at most.
+    least: usize,
+    most: usize,
 }
 
-/// Empty files, one of which fails after so many calls.
-fn files(alloc: Global, side: Side, calls: u64) -> Files<Disk> {
-    let (log, db) = match side {
-        Side::Log => (calls, u64::MAX),
-        Side::Database => (u64::MAX, calls),
+/// Asserts what holds of a run.
+fn assert_that(rt: &impl Abort, holds: bool, at: &str) {
+    assert!(rt; holds, "{at}");
+}
+
+/// The reply to the command at that index, where the book has so many of them already.
+fn reply(rt: &(impl Abort + AllocGlobal), ledger: &Ledger, index: usize, kept: usize) -> Vec<u8> {
+    let number = index.saturating_add(1);
+    let repeat = format!(in rt.alloc(); "{number} repeat\n").expect(rt, "memory");
+    let line = match ledger.sent.get(index) {
+        Some((_, reply)) if index >= kept => *reply,
+        _ => repeat.as_str(),
     };
-    Files {
-        log: Fuse::new(Memory::new(alloc), log),
-        db: Fuse::new(Memory::new(alloc), db),
-    }
+    line.as_bytes().to_vec(rt.alloc()).expect(rt, "memory")
 }
 
-/// Opens files, or hands back what is left of them.
-fn open(alloc: Global, files: Files<Disk>) -> Result<Book, Files<Disk>> {
-    if !files.may_be_used() {
-        return Err(files);
-    }
-    Connection::open_files(alloc, files, Options::new(7)).map_err(|(_, left)| left.into_files())
-}
-
-/// What an action writes, or nothing where a transaction is open.
-fn act<S: Alter>(alloc: Global, action: &Action, conn: Connection<S>) -> (Vec<u8>, Connection<S>) {
-    let mut reader = LEDGER;
-    let mut written = Vec::new(alloc);
-    let mut conn = conn;
-    conn.set_step_limit(None);
-    if !conn.is_autocommit() {
-        return (written, conn);
-    }
-    let Served { status: _, conn } = serve(alloc, action, &mut reader, &mut written, conn);
-    (written, conn)
-}
-
-/// How many lines end with that word.
-fn count(written: &[u8], word: &[u8]) -> usize {
-    written
-        .split(|byte| *byte == b'\n')
-        .filter(|line| line.ends_with(word))
-        .count()
-}
-
-/// Makes a book and posts the ledger to it, until the disk fails: whether the book was told to be made, how many commands
-/// were told to be accepted, and what is left of the files.
-fn stopped(
-    alloc: Global,
-    post: &Action,
-    side: Side,
-    calls: u64,
-) -> Result<(bool, usize, Files<Disk>), Fail> {
-    let init = Action::Init {
-        book: String::new(alloc),
-    };
-    match open(alloc, files(alloc, side, calls)) {
-        Ok(conn) => {
-            let (made, conn) = act(alloc, &init, conn);
-            let (posted, conn) = act(alloc, post, conn);
-            let accepted = count(&posted, b" accepted");
-            Ok((
-                count(&made, b"book ready") == 1,
-                accepted,
-                conn.into_store().close(),
-            ))
+/// How many commands are replied to once a run has written that, and what is written behind the replies.
+fn replied<'a>(
+    rt: &(impl Abort + AllocGlobal),
+    ledger: &Ledger,
+    from: &Left,
+    written: &'a [u8],
+) -> (usize, &'a [u8]) {
+    let (mut replied, mut rest) = (from.replied, written);
+    for index in from.replied..ledger.sent.len() {
+        let reply = reply(rt, ledger, index, from.kept);
+        match rest.strip_prefix(&reply) {
+            Some(behind) => {
+                rest = behind;
+                replied = replied.saturating_add(1);
+            }
+            None => break,
         }
-        Err(left) => Ok((false, 0, left)),
     }
+    (replied, rest)
 }
 
-/// What a post writes after a crash to the book that is left; nothing where the files can't be opened again.
-fn resent(alloc: Global, post: &Action, left: Files<Disk>) -> Vec<u8> {
-    let mut left = left;
-    left.log.crash();
-    left.db.crash();
-    match open(alloc, left) {
-        Ok(conn) => {
-            let (again, _conn) = act(alloc, post, conn);
-            again
-        }
-        Err(_left) => Vec::new(alloc),
-    }
-}
-
-/// A post of the ledger to a new batch.
-fn posting(alloc: Global) -> Result<Action, Fail> {
-    let Ok(batch) = Batch::new(alloc, "a") else {
-        return Err(Fail::from(AllocError));
+/// What a run told that may have been stopped. Asserts that behind the replies there is nothing, where all were replied to or the
+/// files weren't opened, or the line of a fault of the disk.
+fn judge(
+    rt: &(impl Abort + AllocGlobal),
+    ledger: &Ledger,
+    from: &Left,
+    written: &[u8],
+    at: &str,
+) -> Told {
+    let (replied, rest) = replied(rt, ledger, from, written);
+    let number = replied.saturating_add(1);
+    let device = format!(in rt.alloc(); "{number} fault S4 Device\n").expect(rt, "memory");
+    let in_doubt = format!(in rt.alloc(); "{number} fault S5 InDoubt\n").expect(rt, "memory");
+    let is_in_doubt = rest == in_doubt.as_bytes();
+    let is_at_once = rest.len() == written.len();
+    let is_told = match rest {
+        b"" => is_at_once || replied == ledger.sent.len(),
+        b"fault S4 Device\n" => is_at_once,
+        _ => is_in_doubt || rest == device.as_bytes(),
     };
-    Ok(Action::Post {
-        book: String::new(alloc),
-        batch,
-        from: Start::at_first(),
-    })
+    if !is_told {
+        assert_text(rt, written, b"replies, and a fault of the disk", at);
+    }
+    let least = replied.max(from.kept);
+    let most = if is_in_doubt { number } else { replied };
+    Told {
+        replied,
+        least,
+        most: most.max(least),
+    }
+}
+
+/// How many of the commands the book of an image has: as few of them as come to what it says.
+fn kept(
+    rt: &(impl Abort + AllocGlobal),
+    whole: &Whole<'_>,
+    image: &Image,
+    told: Told,
+    at: &str,
+) -> usize {
+    let found = reports(rt, image);
+    for count in told.least..=told.most {
+        if whole.books.get(count).is_some_and(|book| *book == found) {
+            return count;
+        }
+    }
+    assert_text(rt, &found, b"the book of the commands replied to", at);
+    told.least
+}
+
+/// Asserts that the rest of a ledger, sent without a stop, comes to the book of one uninterrupted run.
+fn assert_comes_whole(rt: &(impl Abort + AllocGlobal), whole: &Whole<'_>, left: &Left, at: &str) {
+    let from = left.replied.saturating_add(1);
+    let (written, remains) = sent(rt, &left.image, NO_STOP, from, &whole.text);
+    let (replied, rest) = replied(rt, whole.ledger, left, &written);
+    assert_text(rt, rest, b"", at);
+    assert_that(rt, replied == whole.ledger.sent.len(), at);
+    let book = reports(rt, &all_written(rt, remains));
+    assert_that(rt, whole.books.last() == Some(&book), at);
+}
+
+/// Asserts what a stop leaves of a book while the rest of a ledger is sent, and adds that to what was met. Returns whether there was
+/// a stop.
+fn assert_stop(
+    rt: &(impl Abort + AllocGlobal),
+    whole: &Whole<'_>,
+    from: &Left,
+    stop: Stop,
+    met: &mut Vec<Left>,
+) -> bool {
+    let name = whole.ledger.name;
+    let at = format!(in rt.alloc(); "{name} from {}: {stop:?}", from.replied).expect(rt, "memory");
+    let at = at.as_str();
+    let first = from.replied.saturating_add(1);
+    let (written, remains) = sent(rt, &from.image, stop, first, &whole.text);
+    let told = judge(rt, whole.ledger, from, &written, at);
+    assert_that(
+        rt,
+        remains.is_stopped || told.replied == whole.ledger.sent.len(),
+        at,
+    );
+    for image in remains.images {
+        let is_same = |left: &&Left| left.replied == told.replied && left.image == image;
+        if let Some(left) = met.iter().find(is_same) {
+            assert_that(rt, told.least <= left.kept && left.kept <= told.most, at);
+        } else {
+            let kept = kept(rt, whole, &image, told, at);
+            let left = Left {
+                image,
+                replied: told.replied,
+                kept,
+            };
+            assert_comes_whole(rt, whole, &left, at);
+            met.push(left).expect(rt, "memory");
+        }
+    }
+    remains.is_stopped
+}
+
+/// Has each file stop at each of its calls while the rest of a ledger is sent, up to the first run without a stop. Returns all that is
+/// left, each once.
+fn stops(rt: &(impl Abort + AllocGlobal), whole: &Whole<'_>, from: &Left) -> Vec<Left> {
+    let mut met = Vec::new(rt.alloc());
+    for side in SIDES {
+        let mut is_stopped = true;
+        for calls in 0..CALLS {
+            is_stopped = assert_stop(rt, whole, from, Stop { side, calls }, &mut met);
+            if !is_stopped {
+                break;
+            }
+        }
+        assert_that(rt, !is_stopped, "more calls than there may be");
+    }
+    met
 }
 
 #[test]
-fn a_stop_at_each_call(rt: HostRuntime) -> Result<(), Fail> {
-    let post = posting(rt.alloc())?;
-    for side in [Side::Log, Side::Database] {
-        for calls in 0..CALLS {
-            let (is_made, accepted, left) = stopped(rt.alloc(), &post, side, calls)?;
-            let again = resent(rt.alloc(), &post, left);
-            // Without a book nothing was told to be made; with one, what was told stands, and at most one command more.
-            if again.as_slice() == b"fault S1 NotABook\n".as_slice() {
-                assert!(rt; !is_made);
-            } else {
-                let kept = count(&again, b" repeat");
-                assert!(rt; kept == accepted || kept == accepted.saturating_add(1));
-                assert_eq!(rt; kept.saturating_add(count(&again, b" accepted")), COMMANDS);
-            }
-        }
-        // With as many calls nothing stops, so the loop has met each of them.
-        let (is_made, accepted, _left) = stopped(rt.alloc(), &post, side, CALLS)?;
-        assert!(rt; is_made);
-        assert_eq!(rt; accepted, COMMANDS);
+fn a_stop_at_each_call(rt: HostRuntime) {
+    let rt = &rt;
+    for ledger in [&DOUBT, &PRICES, &SALE, &EVERY_KIND] {
+        let whole = uninterrupted(rt, ledger);
+        stops(rt, &whole, &whole.start);
     }
-    Ok(())
+}
+
+/// All pairs of stops of the smallest ledger.
+#[test]
+fn a_second_stop_at_each_call(rt: HostRuntime) {
+    let rt = &rt;
+    let whole = uninterrupted(rt, &DOUBT);
+    for left in &stops(rt, &whole, &whole.start) {
+        stops(rt, &whole, left);
+    }
 }

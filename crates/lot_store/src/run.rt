@@ -8,10 +8,11 @@ ghost use Rattle.sqlite.specs.Tree.{Trees};
 
 use crate::book::{Ack, Book, Condition};
 use crate::fault::{ApplyFault, StoreFault};
+use itoa::Buffer;
 use lot_command::{Command, Key};
 use lot_ledger::Verdict;
 use lot_load::Kept;
-use lot_report::{PrintFault, print_line, print_reply};
+use lot_report::{PrintFault, print_reply, print_texts};
 use sqlite::Alter;
 use std::io::{self, Write};
 
@@ -148,8 +149,9 @@ fn write_reply<W: Write>(writer: &mut W, number: usize, verdict: &Verdict) -> Re
 fn stop<W: Write>(writer: &mut W, number: usize, fault: StoreFault) -> Ending
     ensures { StopsWith number fault (W.contents writer.old) (W.contents writer.new) result }
 {
-    let name = fault.name();
-    let printed = print_line(writer, format_args!("{number} fault {name}"));
+    let mut digits = Buffer::new();
+    let texts = [digits.format(number), " fault ", fault.name(), "\n"];
+    let printed = print_texts(writer, &texts);
     match flush_line(writer, printed) {
         Ok(()) => Ending::Stopped(fault),
         Err(ending) => ending,

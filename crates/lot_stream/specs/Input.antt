@@ -1,8 +1,9 @@
 -- What is made of the bytes of a reader, call by call (docs/RULES.md, Limits).
-use Rattle.std.specs.Prelude.{◌≡◌, ◌≢◌, ℕ, ◌+◌, ◌<◌, ◌≤◌, List, ◌++◌, length, take, Result, Ok, Err}
+use Rattle.std.specs.Prelude.{◌≡◌, ◌≢◌, ◌⊎◌, ℕ, ◌+◌, ◌<◌, ◌≤◌, List, ◌++◌, length, take, Option, Result, Ok, Err}
 use Rattle.std.specs.IoError.{error_kind}
 use Rattle.std.specs.declared.io.Error.{Error}
 use Rattle.std.specs.declared.io.ErrorKind.{ErrorKind}
+use Rattle.lot_stream.specs.Calls.{Calls, Counts}
 use Rattle.lot_stream.specs.declared.input.Progress.{Progress}
 use Rattle.lot_stream.specs.declared.input.Progress.TheVariants.{Ended, Goes}
 use Rattle.lot_stream.specs.declared.input.SlurpFault.{SlurpFault}
@@ -11,6 +12,10 @@ use Rattle.lot_stream.specs.declared.input.SlurpFault.TheVariants.{Read, TooLong
 -- the most bytes that an input may have: 16 MiB
 abbrev pub longest_input : ℕ
 longest_input = 16777216
+
+-- the most calls that are made on a reader, the interrupted ones included
+abbrev pub most_calls : ℕ
+most_calls = 20000000
 
 -- how many bytes a reader is asked for at a time
 abbrev pub chunk_size : ℕ
@@ -39,3 +44,31 @@ abbrev pub TookBefore : SlurpFault → ℕ → Type 0
 TookBefore Read count = count ≤ longest_input
 TookBefore TooLong count = (longest_input < count) × (count ≤ longest_input + chunk_size)
 TookBefore Memory count = count ≤ longest_input
+
+-- ---- why reading ends, by what its calls came to
+
+-- what is known of all calls of a reader before some were made, and after them
+pub record CallsMade : Type 0 where
+  pub before : Option Calls
+  pub after : Option Calls
+
+-- The cause of a fault. The reader can't be read: a call failed, the last one, or as many were made as may be; and no more
+-- bytes came than may. It is too long: more came, and no call failed. Memory ended: neither is so.
+abbrev pub IsCause : SlurpFault → Calls → Type 0
+IsCause Read calls =
+    ((calls.failed ≡ 1) ⊎ ((calls.failed ≡ 0) × (calls.made ≡ most_calls))) × (calls.given ≤ longest_input)
+IsCause TooLong calls = (calls.failed ≡ 0) × (longest_input < calls.given)
+IsCause Memory calls = (calls.failed ≡ 0) × (calls.given ≤ longest_input)
+
+-- calls were made until that fault, for its cause
+abbrev pub EndsFor : CallsMade → SlurpFault → Type 0
+EndsFor all fault = (calls : Calls) × Counts all.before all.after calls × (calls.made ≤ most_calls) × IsCause fault calls
+
+-- calls were made until the reader was at its end: none failed, and they gave so many bytes
+abbrev pub EndsWell : CallsMade → ℕ → Type 0
+EndsWell all count =
+    (calls : Calls) × Counts all.before all.after calls × (calls.made ≤ most_calls) × (calls.failed ≡ 0) × (calls.given ≡ count)
+
+-- calls were made of which none failed
+abbrev pub NoneFailed : CallsMade → Type 0
+NoneFailed all = (calls : Calls) × Counts all.before all.after calls × (calls.failed ≡ 0)

@@ -1,3 +1,5 @@
+pub mod Calls
+pub mod Counted
 pub mod Status
 pub mod Input
 pub mod FaultLine

@@ -38,11 +38,6 @@ abbrev pub Ends : Result Status PrintFault → Status → Type 0
 Ends (Ok status) end = (end ≡ status) ⊎ (end ≡ Stopped)
 Ends (Err cut) end = end ≡ Stopped
 
--- what a fault of the reply to the command of that number is for a run
-abbrev pub fault_at : ℕ → PrintFault → Fault
-fault_at number PrintFault.Write = Write
-fault_at number PrintFault.Memory = MemoryAt number
-
 -- a fault of the input is the input's; every other one stops the run
 abbrev pub status_of : Fault → Status
 status_of Read = BadInput

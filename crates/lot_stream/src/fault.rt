@@ -1,12 +1,13 @@
-ghost use Rattle.std.specs.Prelude.{◌≡◌};
+ghost use Rattle.std.specs.Prelude.{◌≡◌, IfErr};
 ghost use Rattle.lot_stream.specs.FaultLine.{fault_line, name_text};
-ghost use Rattle.lot_stream.specs.Status.{fault_at, status_of};
+ghost use Rattle.lot_stream.specs.Status.{status_of};
 ghost use Rattle.lot_report.specs.Written.{WritesLine};
 
 use crate::input::SlurpFault;
 use crate::status::Status;
+use itoa::Buffer;
 use lot_read::{LineFault, TextFault};
-use lot_report::{PrintFault, ReportFault, print_line};
+use lot_report::{PrintFault, ReportFault, print_texts};
 use std::alloc::AllocError;
 use std::io::Write;
 use thiserror::Error;
@@ -93,16 +94,6 @@ impl From<ReportFault> for Fault {
 }
 
 impl Fault {
-    /// Returns what a fault of the reply to the command of that number is for the run.
-    pub fn at(number: usize, fault: PrintFault) -> Fault
-        ensures { result ≡ fault_at number fault }
-    {
-        match fault {
-            PrintFault::Write => Fault::Write,
-            PrintFault::Memory => Fault::MemoryAt { number },
-        }
-    }
-
     /// Returns how a run with this fault ends.
     pub fn status(self) -> Status
         ensures { result ≡ status_of self }
@@ -114,21 +105,27 @@ impl Fault {
     }
 }
 
-/// Writes the line that reports a fault. It takes no memory, which may have ended. A fault of the writer has no line.
+/// Writes the line that reports a fault. It takes no memory, which may have ended: the only fault is that of the writer. A fault of
+/// the writer has no line.
 pub fn print_fault<W: Write>(writer: &mut W, fault: Fault) -> Result<(), PrintFault>
-    ensures { WritesLine (W.contents writer.old) (W.contents writer.new) result (fault_line fault) }
+    ensures bytes { WritesLine (W.contents writer.old) (W.contents writer.new) result
+        (fault_line fault) }
+    ensures fault { IfErr result (λ fault. fault ≡ PrintFault.Write) }
 {
+    let mut digits = Buffer::new();
     match fault {
-        Fault::Read => print_line(writer, "fault K1 Read"),
-        Fault::TooLong => print_line(writer, "fault K2 TooLong"),
+        Fault::Read => print_texts(writer, &["fault K1 Read\n"]),
+        Fault::TooLong => print_texts(writer, &["fault K2 TooLong\n"]),
         Fault::Text { line, fault } => {
-            let name = name(fault);
-            print_line(writer, format_args!("fault line {line} {name}"))
+            let texts = ["fault line ", digits.format(line), " ", name(fault), "\n"];
+            print_texts(writer, &texts)
         }
-        Fault::Range => print_line(writer, "fault P1 Range"),
+        Fault::Range => print_texts(writer, &["fault P1 Range\n"]),
         Fault::Write => Ok(()),
-        Fault::Memory => print_line(writer, "fault Memory"),
-        Fault::MemoryAt { number } => print_line(writer, format_args!("{number} fault Memory")),
+        Fault::Memory => print_texts(writer, &["fault Memory\n"]),
+        Fault::MemoryAt { number } => {
+            print_texts(writer, &[digits.format(number), " fault Memory\n"])
+        }
     }
 }
 

@@ -1,10 +1,11 @@
 ghost use Rattle.std.specs.Prelude.{◌≡◌, ◌≢◌, ◌<◌, ◌≤◌, ◌+◌, ◌++◌, ◌↔◌, ℕ, List, length, vec_len, IfOk, IfErr, IfSome, OnOk, IsErrOf};
 ghost use Rattle.std.specs.Io.{ReadsAtMost};
 ghost use Rattle.std.specs.Io.KnownBytes.{Consumes, IsAtEnd};
-ghost use Rattle.lot_stream.specs.Input.{TakesIn, TookBefore, chunk_size, longest_input};
+ghost use Rattle.lot_stream.specs.Input.{EndsFor, EndsWell, TakesIn, TookBefore, chunk_size, longest_input};
 
+use crate::calls::CountedRead;
 use std::alloc::{AllocError, Global};
-use std::io::{self, ErrorKind, Read};
+use std::io::{self, ErrorKind};
 use thiserror::Error;
 
 /// The most bytes that an input may have: 16 MiB.
@@ -45,9 +46,9 @@ impl From<AllocError> for SlurpFault {
 ///
 /// A read that was interrupted is tried again. Returns `TooLong` where there are more bytes, of which up to 64 KiB past
 /// the limit are taken from the reader; `Memory` where there is no memory for them; and `Read` where the reader fails,
-/// or isn't at its end after 20,000,000 calls. What is made of each call is proved; that the reader is called so, and so
-/// often, is shown by the tests alone.
-pub fn slurp<R: Read>(alloc: Global, reader: &mut R) -> Result<Vec<u8>, SlurpFault>
+/// or isn't at its end after 20,000,000 calls. That memory had ended is shown by the tests alone; that no other fault was there
+/// is proved.
+pub fn slurp<R: CountedRead>(alloc: Global, reader: &mut R) -> Result<Vec<u8>, SlurpFault>
     // Where the reader's bytes are known, these are all of them, and it is at its end.
     ensures every_byte { IfOk result (λ bytes. IfSome (R.remaining reader.old) (λ known. bytes.items ≡ known)) }
     ensures end { OnOk result (IsAtEnd (R.remaining reader.new)) }
@@ -59,11 +60,17 @@ pub fn slurp<R: Read>(alloc: Global, reader: &mut R) -> Result<Vec<u8>, SlurpFau
         → IfSome (R.remaining reader.old) (λ known. longest_input < length known) }
     ensures taken { IfErr result (λ fault. (taken : List ℕ)
         × Consumes (R.remaining reader.old) (R.remaining reader.new) taken × TookBefore fault (length taken)) }
+
+    // Where it is known what the reader's calls came to: none failed where all was read, and each fault has its cause in them.
+    ensures calls { IfOk result (λ bytes.
+        EndsWell (record { before = R.calls reader.old; after = R.calls reader.new }) (vec_len bytes)) }
+    ensures cause { IfErr result
+        (EndsFor (record { before = R.calls reader.old; after = R.calls reader.new })) }
 {
     let mut bytes = Vec::new(alloc);
     let mut chunk = zeros(alloc, CHUNK)?;
-    for _ in 0..CALLS {
-        let outcome = reader.read(chunk.as_mut_slice());
+    for _made in 0..CALLS {
+        let outcome = reader.read_counted(chunk.as_mut_slice());
         match take_in(&mut bytes, &chunk, outcome)? {
             Progress::Ended => return Ok(bytes),
             Progress::Goes => {}

@@ -40,7 +40,8 @@ impl Status {
     }
 }
 
-/// Flushes what was written, where that is all, and returns the status then.
+/// Flushes what was written, where that is all, and returns the status then. That the writer is asked to flush is shown by the
+/// tests alone: no contract of a writer tells one that was from one that wasn't.
 pub fn finish<W: Write>(writer: &mut W, concluded: Result<Status, PrintFault>) -> Status
     ensures kept { Keeps (W.contents writer.old) (W.contents writer.new) }
     ensures end { Ends concluded result }

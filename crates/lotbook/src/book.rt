@@ -4,7 +4,7 @@ ghost use Rattle.std.specs.Prelude.{◌≡◌, None, false};
 
 use crate::output::Output;
 use crate::{STOPPED, out_of_memory};
-use lot_cli::{Action, Served, serve};
+use lot_cli::{Action, Counted, Served, serve};
 use sqlite::{Alter, Connection, Error, ErrorCode, File, FileStore};
 use std::path::Path;
 use std::{fs, io};
@@ -85,7 +85,8 @@ fn served<S: Alter>(
     requires outside { conn.in_transaction ≡ false }
     requires unlimited { conn.step_limit ≡ None }
 {
-    serve(rt.alloc(), action, &mut rt.reader(), output, conn)
+    let mut input = Counted::new(rt.reader());
+    serve(rt.alloc(), action, &mut input, output, conn)
 }
 
 /// Returns whether there is no file of that path in a folder that is there.

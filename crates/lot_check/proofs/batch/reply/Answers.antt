@@ -4,4 +4,4 @@ use Rattle.lot_check.proofs.batch.reply.Goals as goal
 
 pub returns-in-Err : goal.returns-in-Err
 returns-in-Err g c =
-    reply_stops (known c.args.view) (known c.in-Ok.view) c.args.command.now c.in-Ok.verdict c.args.number _ _ c.in-Err.fault c.at.result c.in-Ok.ensures c.in-Err.ensures.bytes c.at.ensures
+    reply_stops (known c.args.view) (known c.in-Ok.view) c.args.command.now c.in-Ok.verdict c.args.number _ _ _ c.in-Ok.ensures.judged c.in-Err.ensures.bytes c.in-Err.ensures.fault

@@ -3,5 +3,5 @@ use Rattle.std.proofs.Common.{take}
 use Rattle.lot_import.specs.Keyed.{AreKeyed}
 use Rattle.lot_import.proofs.keyed.all_keyed.Given as goal
 
-abbrev pub invariant-loop-index : goal.invariant-loop-index
-invariant-loop-index l = AreKeyed l.source l.accounts (take l.index l.rows) l.all.items
+abbrev pub invariant-loop-row : goal.invariant-loop-row
+invariant-loop-row l = AreKeyed l.source l.accounts (take l.row-index l.rows) l.all.items

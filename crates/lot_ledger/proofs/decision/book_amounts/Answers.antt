@@ -1,5 +1,6 @@
 -- Each posting is booked on the draft of those before it, and what the others come to decides.
-use Rattle.std.proofs.Common.{◌≡◌, ◌<◌, ◌+◌, ◌-◌, ◌∷◌, [], ℕ, suc, List, length, drop, refl, sym, ap, subst, ◌∙◌, arith, add-one, ℤ, append-nil, slice_index_or}
+use Rattle.std.proofs.Common.{Err, Result, inl, ◌≡◌, ◌<◌, ◌+◌, ◌-◌, ◌∷◌, [], ℕ, suc, List, length, drop, refl, sym, ap, subst, ◌∙◌, arith, add-one, ℤ, append-nil, slice_index_or}
+use Rattle.std.specs.Result.{IsErrAnd}
 use Rattle.lot_command.specs.declared.transaction.Posting.{Posting}
 use Rattle.lot_posting.specs.declared.draft.Draft.{Draft}
 use Rattle.lot_book.specs.declared.refusal.Stop.{Stop}
@@ -13,7 +14,7 @@ use Rattle.lot_book.specs.Facts.{Facts}
 use Rattle.lot_book.specs.Refusals.{most_postings}
 use Rattle.lot_view.specs.View.{known}
 use Rattle.lot_posting.proofs.BalanceResiduals.{AreWithin-more}
-use Rattle.lot_ledger.proofs.DecideLemmas.{Booking, booking-more, booking-stops, follow_all-all, left_with, no_left}
+use Rattle.lot_ledger.proofs.DecideLemmas.{Booking, booking-more, booking-stops, first_lacks, follow_all-all, left_with, no_left}
 use Rattle.lot_book.proofs.StopLemmas.{passed_on}
 use Rattle.lot_ledger.proofs.decision.book_amounts.Goals as goal
 
@@ -30,6 +31,7 @@ loop-index-init c =
       };
       within = subst (AreWithin 0) (sym c.new-draft.ensures.residuals) tt;
       others = λ more h. subst (λ legs. BooksAll (known c.args.view.now) c.args.transaction.now.day legs 1 c.args.transaction.now.postings more) c.new-draft.ensures.legs h;
+      first = inl (c.new-draft.ensures.legs, λ stores. stores);
     }
 
 pub book_next-requires-clause-room : goal.book_next-requires-clause-room
@@ -87,3 +89,16 @@ returns-clause-drafts c =
           (so.others (All []) (subst (λ left. BooksAll facts t.day draft.tally.legs (c.loop-index.index + 1) left (All [])) (sym none) refl));
       is = so.is;
     }
+
+pub returns-in_err-book_next-clause-memory : goal.returns-in_err-book_next-clause-memory
+returns-in_err-book_next-clause-memory c = λ lacks.
+    let facts = known c.args.view.now in
+    let t = c.args.transaction.now in
+    let index = c.loop-index.index in
+    let posting = c.posting-item.result in
+    let draft = c.loop-index.draft in
+    let so = left_now facts t.day t.postings c.as_slice-posting-items.result.now draft index posting c.as_slice-posting-items.ensures c.loop-index-test.true c.posting-item.is c.loop-index.invariant in
+    let stop = c.in_err-book_next.field-0.0 in
+    let memory : Memory ≡ stop = subst (λ (r : Result _ Stop). IsErrAnd r (λ e. e ≡ stop)) lacks c.from_residual.ensures.1 in
+    first_lacks facts t.day t.postings draft (index + 1) posting.account posting.amount (drop (index + 1) t.postings) so.first
+    (c.in_err-book_next.ensures.memory (ap Err (sym memory)))

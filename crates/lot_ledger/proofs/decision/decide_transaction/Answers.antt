@@ -3,6 +3,7 @@ use Rattle.std.proofs.Common.{refl}
 use Rattle.std.proofs.lemmas.Result.{IfErr-weaker}
 use Rattle.lot_view.specs.View.{known}
 use Rattle.lot_ledger.proofs.ConcludeLemmas.{judged_last}
+use Rattle.lot_ledger.proofs.DecideLemmas.{end_lacks}
 use Rattle.lot_ledger.proofs.decision.decide_transaction.Goals as goal
 
 pub returns-clause-stops : goal.returns-clause-stops
@@ -10,3 +11,9 @@ returns-clause-stops c =
     IfErr-weaker c.conclude.result _ _
     (λ found is. judged_last (known c.args.view.now) c.args.transaction.now c.in_ok-draft.draft found (c.in_ok-elided.ensures.passed refl) c.in_ok-draft.ensures.drafts is)
     c.conclude.ensures.stops
+
+pub returns-clause-memory : goal.returns-clause-memory
+returns-clause-memory c = λ lacks. (
+  c.in_ok-elided.ensures.passed refl,
+  end_lacks (known c.args.view.now) c.args.transaction.now c.in_ok-draft.draft c.in_ok-draft.ensures.drafts (c.conclude.ensures.memory lacks),
+)

@@ -1,11 +1,14 @@
 -- The legs are those at the lots that the posting comes to; they move as much as the posting.
-use Rattle.std.proofs.Common.{◌≡◌, ◌++◌, ◌∷◌, [], Bool, List, ℤ, sym, ap, subst, ◌∙◌, arith}
+use Rattle.std.proofs.Common.{◌≡◌, ◌++◌, ◌∷◌, [], Bool, Err, Result, List, ℤ, sym, ap, subst, ◌∙◌, arith}
 use Rattle.std.proofs.lemmas.Result.{err_from_is_err_and}
+use Rattle.std.specs.Result.{IsErrAnd}
 use Rattle.lot_cost.specs.declared.lot_key.LotKey.{LotKey}
 use Rattle.lot_booking.specs.Booking.{ComesTo, Legs}
 use Rattle.lot_booking.specs.Choice.{held_in}
 use Rattle.lot_posting.specs.declared.draft.Draft.{Draft}
 use Rattle.lot_book.specs.declared.leg.Leg.{Leg}
+use Rattle.lot_book.specs.declared.refusal.Stop.{Stop}
+use Rattle.lot_book.specs.declared.refusal.Stop.TheVariants.{Memory}
 use Rattle.lot_book.specs.Booking.{Booked, braced, line_of}
 use Rattle.lot_book.specs.Leg.{legs_at_lots, units_moved}
 use Rattle.lot_book.specs.Sale.{lots_in_legs}
@@ -81,3 +84,9 @@ returns-clause-books c =
           (record { legs = added.legs; lists = added.lists; sum = added.sum; within = added.within; in_range = added.in_range })
           (no_sale site.day booked old.sales c.add.new.self.sales w.if-reduces.false added.sales))
     ]
+
+pub returns-in_err-reduces-clause-memory : goal.returns-in_err-reduces-clause-memory
+returns-in_err-reduces-clause-memory c = λ lacks.
+    let stop = c.in_err-reduces.field-0.0 in
+    let memory : Memory ≡ stop = subst (λ (r : Result _ Stop). IsErrAnd r (λ e. e ≡ stop)) lacks c.from_residual.ensures.1 in
+    c.in_err-reduces.ensures.memory (ap Err (sym memory))

@@ -1,16 +1,17 @@
 -- What the posting comes to on an inventory with the same lots of its commodity it comes to on what its account holds.
-use Rattle.std.proofs.Common.{◌≡◌, Option, Some, Result, Ok, Err, refl, sym, ap, subst, ◌∙◌}
+use Rattle.std.proofs.Common.{◌≡◌, Option, Some, Result, Ok, Err, inl, refl, sym, ap, subst, ◌∙◌}
 use Rattle.std.specs.Result.{IfOk, IfErr}
 use Rattle.lot_inv.specs.Inventory.{Held, lots_of}
 use Rattle.lot_booking.specs.declared.booking.Booked.{Booked}
 use Rattle.lot_cost.specs.declared.cost.Cost.{Cost}
 use Rattle.lot_cost.specs.declared.method.Method.{Method}
-use Rattle.lot_booking.specs.Booking.{Braced, ComesTo, Legs, Outcome, Refused as Rejected, posting_of}
-use Rattle.lot_booking.proofs.SameLots.{same_outcome}
+use Rattle.lot_booking.specs.declared.fault.BookingFault.TheVariants as fault
+use Rattle.lot_booking.specs.Booking.{Braced, ComesTo, Legs, Outcome, Refused as Rejected, Stores, posting_of}
+use Rattle.lot_booking.proofs.SameLots.{same_outcome, same_stop}
 use Rattle.lot_book.specs.declared.refusal.Stop.{Stop}
 use Rattle.lot_book.specs.declared.refusal.Stop.TheVariants.{Refused, Memory}
 use Rattle.lot_book.specs.Booking.{HasNoLegs, Line, braced, line_of}
-use Rattle.lot_posting.specs.Posting.{StopsOn, StopsWithoutLegs}
+use Rattle.lot_posting.specs.Posting.{StopsOn, StopsWithoutLegs, StoresFor}
 use Rattle.lot_view.specs.View.{known}
 use Rattle.lot_posting.proofs.posting.book_lots.Goals as goal
 
@@ -44,6 +45,13 @@ module _ (line : Line) (cost : Cost) (method : Method) (held : Held) (is : metho
   stops_on braces (Ok booked) stops = tt
   stops_on braces (Err stop) stops = stops_at braces stop stops
 
+  stores_on : line.amount.cost ≡ Some cost → Stores (under method) → StoresFor line line.amount.cost
+  stores_on braces stores =
+      subst (StoresFor line) (sym braces)
+      (inl
+      (same_stop line.method held line.held line.amount.commodity line.amount.units cost line.day same fault.Memory
+      (subst (λ (m : Method). Stores (under m)) is stores)))
+
 -- ---- some lot of the commodity has changed
 
 pub returns-then-has_changed-clause-booked : goal.returns-then-has_changed-clause-booked
@@ -66,7 +74,7 @@ same_in-Some : (c : goal.After-book_on-in-Some) → let site = c.args.site.now i
     SameLots (line_of (known c.args.view.now) site.day c.args.tally.now.legs site.posting site.account.now site.amount.now) c.in-Some.held.now
 same_in-Some c =
     ap (λ (held : Held). lots_of held c.args.site.now.amount.now.commodity) c.in-Some.ensures.value
-    ∙ sym (c.if-has_changed.ensures refl (known c.args.view.now) c.in-Some.ensures.no_zeros c.requires.lists)
+    ∙ sym (c.if-has_changed.ensures.unchanged refl (known c.args.view.now) c.in-Some.ensures.no_zeros c.requires.lists)
 
 pub returns-in-Some-clause-booked : goal.returns-in-Some-clause-booked
 returns-in-Some-clause-booked c =
@@ -88,7 +96,7 @@ same_in-None : (c : goal.After-drop-new) → let site = c.args.site.now in
     SameLots (line_of (known c.args.view.now) site.day c.args.tally.now.legs site.posting site.account.now site.amount.now) c.new.result
 same_in-None c =
     ap (λ (held : Held). lots_of held c.args.site.now.amount.now.commodity) (c.new.ensures ∙ sym c.in-None.ensures.value)
-    ∙ sym (c.if-has_changed.ensures refl (known c.args.view.now) c.in-None.ensures.no_zeros c.requires.lists)
+    ∙ sym (c.if-has_changed.ensures.unchanged refl (known c.args.view.now) c.in-None.ensures.no_zeros c.requires.lists)
 
 pub returns-in-None-clause-booked : goal.returns-in-None-clause-booked
 returns-in-None-clause-booked c =
@@ -103,3 +111,19 @@ returns-in-None-clause-stops c =
     let line = line_of (known c.args.view.now) site.day c.args.tally.now.legs site.posting site.account.now site.amount.now in
     stops_on line c.args.cost.now c.method_of-method.result c.new.result c.method_of-method.ensures (same_in-None c)
     c.requires.cost c.book_on-in-None-2.result c.book_on-in-None-2.ensures.stops
+
+pub returns-in-Some-clause-memory : goal.returns-in-Some-clause-memory
+returns-in-Some-clause-memory c = λ lacks.
+    let site = c.args.site.now in
+    let line = line_of (known c.args.view.now) site.day c.args.tally.now.legs site.posting site.account.now site.amount.now in
+    inl
+    (stores_on line c.args.cost.now c.method_of-method.result c.in-Some.held.now c.method_of-method.ensures (same_in-Some c)
+    c.requires.cost (c.book_on-in-Some.ensures.memory lacks))
+
+pub returns-in-None-clause-memory : goal.returns-in-None-clause-memory
+returns-in-None-clause-memory c = λ lacks.
+    let site = c.args.site.now in
+    let line = line_of (known c.args.view.now) site.day c.args.tally.now.legs site.posting site.account.now site.amount.now in
+    inl
+    (stores_on line c.args.cost.now c.method_of-method.result c.new.result c.method_of-method.ensures (same_in-None c)
+    c.requires.cost (c.book_on-in-None-2.ensures.memory lacks))

@@ -1,4 +1,5 @@
-use Rattle.std.proofs.Common.{inr, sym}
+use Rattle.std.proofs.Common.{◌≡◌, ◌∙◌, [], ◌∷◌, ◌++◌, ap, append_assoc, inr, subst, sym}
+use Rattle.std.specs.Prelude.{codes, decimal}
 use Rattle.lot_report.specs.Written.{WritesLine}
 use Rattle.lot_store.specs.Run.{fault_line}
 use Rattle.lot_store.proofs.RunLemmas.{line_cut}
@@ -6,6 +7,12 @@ use Rattle.lot_store.proofs.run.stop.Goals as goal
 
 pub returns-in-Err : goal.returns-in-Err
 returns-in-Err g c =
-    let written : WritesLine (g.W.Write.contents c.args.writer.now) (g.W.Write.contents c.print_line-printed.new.writer) c.print_line-printed.result (fault_line c.args.number c.args.fault) =
-    rw (sym c.name-name.ensures) c.print_line-printed.ensures.bytes in
-    inr (line_cut c.print_line-printed.result _ _ _ (fault_line c.args.number c.args.fault) c.in-Err.ending written c.in-Err.ensures)
+    let digits = c.format.result.now in
+    let name = c.name.result.now in
+    let is : digits ++ (codes " fault " ++ (name ++ 10 ∷ [])) ≡ fault_line c.args.number c.args.fault =
+    sym (append_assoc digits (codes " fault " ++ name) (10 ∷ []))
+    ∙ ap (λ d. (d ++ (codes " fault " ++ name)) ++ 10 ∷ []) c.format.ensures.text
+    ∙ ap (λ n. (decimal c.args.number ++ (codes " fault " ++ n)) ++ 10 ∷ []) c.name.ensures in
+    let written : WritesLine (g.W.Write.contents c.args.writer.now) (g.W.Write.contents c.print_texts-printed.new.writer) c.print_texts-printed.result (fault_line c.args.number c.args.fault) =
+    subst (WritesLine (g.W.Write.contents c.args.writer.now) (g.W.Write.contents c.print_texts-printed.new.writer) c.print_texts-printed.result) is c.print_texts-printed.ensures.bytes in
+    inr (line_cut c.print_texts-printed.result _ _ _ (fault_line c.args.number c.args.fault) c.in-Err.ending written c.in-Err.ensures)

@@ -6,8 +6,8 @@ use Rattle.lot_posting.specs.Tally.{is_lot_of}
 use Rattle.lot_posting.proofs.TallyLemmas.{lots-unchanged, none_of}
 use Rattle.lot_posting.proofs.tally.Tally.has_changed.Goals as goal
 
-pub returns : goal.returns
-returns c = λ never facts kept lists.
+pub returns-clause-unchanged : goal.returns-clause-unchanged
+returns-clause-unchanged c = λ never facts kept lists.
     let account = c.args.account.now in
     let commodity = c.args.commodity.now in
     let rows = c.args.self.now.positions.entries in

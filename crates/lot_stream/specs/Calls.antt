@@ -1,0 +1,51 @@
+-- What calls of `read` on a reader come to.
+use Rattle.std.specs.Prelude.{◌≡◌, ◌≢◌, ◌⊎◌, ℕ, ◌+◌, ◌-◌, ◌^◌, min, Option, None, Some, Result, Ok, Err, ⊤}
+use Rattle.std.specs.IoError.{error_kind}
+use Rattle.std.specs.declared.io.Error.{Error}
+use Rattle.std.specs.declared.io.ErrorKind.{ErrorKind}
+
+-- how many calls were made, how many of them failed, and how many bytes they gave
+pub record Calls : Type 0 where
+  pub made : ℕ
+  pub failed : ℕ
+  pub given : ℕ
+
+-- no call was made
+abbrev pub no_calls : Calls
+no_calls = record { made = 0; failed = 0; given = 0 }
+
+-- a count stops at the largest number of 64 bits
+abbrev pub counted : ℕ → ℕ
+counted count = min count (2 ^ 64 - 1)
+
+-- ---- one call
+
+-- how many failed calls a call with that error is: none where it was interrupted and may be made again, else one
+abbrev pub IsFailure : Error → ℕ → Type 0
+IsFailure error failed =
+    ((error_kind error ≡ ErrorKind.Interrupted) × (failed ≡ 0)) ⊎ ((error_kind error ≢ ErrorKind.Interrupted) × (failed ≡ 1))
+
+-- what one call comes to
+abbrev pub IsCall : Result ℕ Error → Calls → Type 0
+IsCall (Ok count) call = (call.made ≡ 1) × (call.failed ≡ 0) × (call.given ≡ count)
+IsCall (Err error) call = (call.made ≡ 1) × IsFailure error call.failed × (call.given ≡ 0)
+
+-- ---- more calls
+
+-- what all calls came to grows by what more calls came to
+abbrev pub GrowsBy : Calls → Calls → Calls → Type 0
+GrowsBy old new more =
+    (counted new.made ≡ counted (old.made + more.made)) × (counted new.failed ≡ counted (old.failed + more.failed))
+    × (counted new.given ≡ counted (old.given + more.given))
+
+-- the same, where it is known what all calls came to
+abbrev pub Counts : Option Calls → Option Calls → Calls → Type 0
+Counts None new more = ⊤
+Counts (Some old) None more = ⊥
+Counts (Some old) (Some new) more = GrowsBy old new more
+
+-- the same of one call with that outcome
+abbrev pub CountsCall : Option Calls → Option Calls → Result ℕ Error → Type 0
+CountsCall None new outcome = ⊤
+CountsCall (Some old) None outcome = ⊥
+CountsCall (Some old) (Some new) outcome = (call : Calls) × IsCall outcome call × GrowsBy old new call

@@ -1,0 +1,75 @@
+ghost use Rattle.std.specs.Prelude.{◌≡◌, ℕ, List, Option, None, Some};
+ghost use Rattle.std.specs.Io.{ReadsAtMost};
+ghost use Rattle.std.specs.Io.KnownBytes.{ReadConsumes};
+ghost use Rattle.lot_stream.specs.Calls.{Calls, CountsCall, no_calls};
+ghost use Rattle.lot_stream.specs.Counted.{counts_of, reader_of};
+
+use std::io::{self, ErrorKind, Read};
+
+/// A reader of which it may be known what its calls came to: how many were made, how many failed, and how many bytes they gave.
+///
+/// Each reader is one of which that isn't known. Of one that is `Counted` it is.
+pub trait CountedRead {
+    // The bytes that calls will give from here on, where they are known.
+    ghost remaining: { Self → Option (List ℕ) };
+
+    // What all calls came to so far, where that is known.
+    ghost calls: { Self → Option Calls };
+
+    /// Makes one call of `read`, which puts the bytes that it gives at the start of the chunk.
+    fn read_counted(&mut self, chunk: &mut [u8]) -> io::Result<usize>
+        ensures bound { ReadsAtMost result chunk.new }
+        ensures bytes { ReadConsumes (remaining self.old) (remaining self.new) result chunk.new }
+        ensures calls { CountsCall (calls self.old) (calls self.new) result };
+}
+
+impl<R: Read> CountedRead for R {
+    ghost remaining = { R.remaining };
+
+    ghost calls = { λ _. None };
+
+    fn read_counted(&mut self, chunk: &mut [u8]) -> io::Result<usize> {
+        self.read(chunk)
+    }
+}
+
+/// A reader whose calls are counted. A count stops at `u64::MAX`.
+#[derive(Drop)]
+pub struct Counted<R> {
+    reader: R,
+    /// How many calls were made.
+    made: u64,
+    /// How many of them failed, those aside that were interrupted.
+    failed: u64,
+    /// How many bytes they gave.
+    given: u64,
+}
+
+impl<R> Counted<R> {
+    /// Returns the reader, of which no call was counted yet.
+    pub fn new(reader: R) -> Counted<R> {
+        Counted {
+            reader,
+            made: 0,
+            failed: 0,
+            given: 0,
+        }
+    }
+}
+
+impl<R: Read> CountedRead for Counted<R> {
+    ghost remaining = { λ counted. R.remaining (reader_of counted) };
+
+    ghost calls = { λ counted. Some (counts_of counted) };
+
+    fn read_counted(&mut self, chunk: &mut [u8]) -> io::Result<usize> {
+        let outcome = self.reader.read(chunk);
+        self.made = self.made.saturating_add(1);
+        match &outcome {
+            Ok(count) => self.given = self.given.saturating_add(*count as u64),
+            Err(error) if error.kind() == ErrorKind::Interrupted => {}
+            Err(_) => self.failed = self.failed.saturating_add(1),
+        }
+        outcome
+    }
+}
