@@ -54,31 +54,32 @@ continued before (entry ∷ entries) more h =
 abbrev pub posted : List ℕ → Option Amount → Posting
 posted account amount = record { account = account; amount = amount }
 
--- what holds of no postings, and of one posting more, holds of all
-module _ (facts : Facts) (day : ℤ) (P : List Leg → List Posting → List Booked → Type 0)
-    (none : (before : List Leg) → P before [] [])
-    (elided : (before : List Leg) (account : List ℕ) (postings : List Posting) (booked : List Booked) → P before postings booked
-    → P before (posted account None ∷ postings) booked)
+-- what holds of no postings, and of one posting more at the place before them, holds of all
+module _ (facts : Facts) (day : ℤ) (P : ℕ → List Leg → List Posting → List Booked → Type 0)
+    (none : (place : ℕ) (before : List Leg) → P place before [] [])
+    (elided : (place : ℕ) (before : List Leg) (account : List ℕ) (postings : List Posting) (booked : List Booked)
+    → P (suc place) before postings booked → P place before (posted account None ∷ postings) booked)
     (one : (before : List Leg) (place : ℕ) (account : List ℕ) (amount : Amount) (postings : List Posting) (first : Booked) (more : List Booked)
-    → IsBooked (line_of facts day before place account amount) first → P (before ++ first.legs) postings more
-    → P before (posted account (Some amount) ∷ postings) (first ∷ more)) where
+    → IsBooked (line_of facts day before place account amount) first → P (suc place) (before ++ first.legs) postings more
+    → P place before (posted account (Some amount) ∷ postings) (first ∷ more)) where
   abbrev Rest : ℕ → List Posting → Type 0
-  Rest place postings = (before : List Leg) (booked : List Booked) → BooksAll facts day before place postings (All booked) → P before postings booked
+  Rest place postings =
+      (before : List Leg) (booked : List Booked) → BooksAll facts day before place postings (All booked) → P place before postings booked
 
   followed : (before : List Leg) (place : ℕ) (account : List ℕ) (amount : Amount) (postings : List Posting) (booked : List Booked) (first : Booked) (others : Bookings)
       → Rest (suc place) postings → IsBooked (line_of facts day before place account amount) first
       → BooksAll facts day (before ++ first.legs) (suc place) postings others → All booked ≡ follow first others
-      → P before (posted account (Some amount) ∷ postings) booked
+      → P place before (posted account (Some amount) ∷ postings) booked
   followed before place account amount postings booked first (Stopped refused) rest is books e = absurd cc
   followed before place account amount postings booked first (All more) rest is books e =
       let all : first ∷ more ≡ booked = cc in
-      subst (λ (bs : List Booked). P before (posted account (Some amount) ∷ postings) bs) all
+      subst (λ (bs : List Booked). P place before (posted account (Some amount) ∷ postings) bs) all
       (one before place account amount postings first more is (rest (before ++ first.legs) more books))
 
   continues : (before : List Leg) (place : ℕ) (account : List ℕ) (amount : Amount) (postings : List Posting) (booked : List Booked) (booking : Booking)
       → Rest (suc place) postings → BooksTo (line_of facts day before place account amount) booking
       → Continue (λ legs others. BooksAll facts day legs (suc place) postings others) before (All booked) booking
-      → P before (posted account (Some amount) ∷ postings) booked
+      → P place before (posted account (Some amount) ∷ postings) booked
   continues before place account amount postings booked (Fails refused) rest books h = absurd cc
   continues before place account amount postings booked (Books first) rest books h =
       followed before place account amount postings booked first h.0 rest books h.1 h.2
@@ -86,13 +87,25 @@ module _ (facts : Facts) (day : ℤ) (P : List Leg → List Posting → List Boo
   with_first : (before : List Leg) (place : ℕ) (account : List ℕ) (amount : Option Amount) (postings : List Posting) (booked : List Booked)
       → Rest (suc place) postings
       → BooksWith (λ legs others. BooksAll facts day legs (suc place) postings others) facts day before place account amount (All booked)
-      → P before (posted account amount ∷ postings) booked
-  with_first before place account None postings booked rest books = elided before account postings booked (rest before booked books)
+      → P place before (posted account amount ∷ postings) booked
+  with_first before place account None postings booked rest books = elided place before account postings booked (rest before booked books)
   with_first before place account (Some amount) postings booked rest books =
       continues before place account amount postings booked books.0 rest books.1 books.2
 
-  pub over_booked : (place : ℕ) (postings : List Posting) → Rest place postings
-  over_booked place [] before booked books =
-      let all : [] ≡ booked = cc in subst (λ (bs : List Booked). P before [] bs) all (none before)
-  over_booked place (posting ∷ postings) before booked books =
-      with_first before place posting.account posting.amount postings booked (over_booked (suc place) postings) books
+  pub over_placed : (place : ℕ) (postings : List Posting) → Rest place postings
+  over_placed place [] before booked books =
+      let all : [] ≡ booked = cc in subst (λ (bs : List Booked). P place before [] bs) all (none place before)
+  over_placed place (posting ∷ postings) before booked books =
+      with_first before place posting.account posting.amount postings booked (over_placed (suc place) postings) books
+
+-- the same of what speaks of no place
+module _ (facts : Facts) (day : ℤ) (P : List Leg → List Posting → List Booked → Type 0)
+    (none : (before : List Leg) → P before [] [])
+    (elided : (before : List Leg) (account : List ℕ) (postings : List Posting) (booked : List Booked) → P before postings booked
+    → P before (posted account None ∷ postings) booked)
+    (one : (before : List Leg) (place : ℕ) (account : List ℕ) (amount : Amount) (postings : List Posting) (first : Booked) (more : List Booked)
+    → IsBooked (line_of facts day before place account amount) first → P (before ++ first.legs) postings more
+    → P before (posted account (Some amount) ∷ postings) (first ∷ more)) where
+  pub over_booked : (place : ℕ) (postings : List Posting) (before : List Leg) (booked : List Booked)
+      → BooksAll facts day before place postings (All booked) → P before postings booked
+  over_booked = over_placed facts day (λ place. P) (λ place. none) (λ place. elided) one

@@ -46,9 +46,14 @@ all_fail : {X : Type 0} (p : X → Bool) (xs : List X) → ((k : ℕ) (x : X) �
 all_fail p [] each = tt
 all_fail p (x ∷ xs) each = (each 0 x (omega arith), all_fail p xs (λ k y below. each (suc k) y (omega (arith, below))))
 
-first_none : (condition : Option Refusal) (conditions : List (Option Refusal)) → first_of (condition ∷ conditions) ≡ None → condition ≡ None
+pub first_none : (condition : Option Refusal) (conditions : List (Option Refusal)) → first_of (condition ∷ conditions) ≡ None → condition ≡ None
 first_none None conditions e = refl
 first_none (Some refusal) conditions e = cc
+
+pub others_none : (condition : Option Refusal) (conditions : List (Option Refusal)) → first_of (condition ∷ conditions) ≡ None
+    → first_of conditions ≡ None
+others_none None conditions e = e
+others_none (Some refusal) conditions e = absurd cc
 
 abbrev IsKnown : List Entry → Posting → Type 0
 IsKnown book posting = is_none (standing_of book posting.account) ≡ false

@@ -46,7 +46,7 @@ use Rattle.lot_book.proofs.CaseLemmas.{by_bool}
 -- ---- The legs of a posting.
 
 -- a leg that is taken is taken from what is held
-takes_held : (posting : Braced) (leg : LotKey × ℤ) → TakesFrom (candidates posting) leg → TakesHeld posting.held posting.commodity leg
+pub takes_held : (posting : Braced) (leg : LotKey × ℤ) → TakesFrom (candidates posting) leg → TakesHeld posting.held posting.commodity leg
 takes_held posting leg takes =
     let held = posting.held in
     let name = posting.commodity in

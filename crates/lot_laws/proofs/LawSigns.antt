@@ -42,7 +42,7 @@ sign_less : (held units other : ℤ) → other_sign held units ≡ true → unsi
     → other_sign (held +ℤ units) other ≡ false
 sign_less held units other e within g = grind (arith, ints)
 
-sign_none : (units : ℤ) → other_sign (pos 0) units ≡ false
+pub sign_none : (units : ℤ) → other_sign (pos 0) units ≡ false
 sign_none units = grind (arith, ints)
 
 -- ---- Lots of one sign.

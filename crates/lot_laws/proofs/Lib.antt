@@ -21,3 +21,6 @@ pub mod LawLeft
 pub mod LawNone
 pub mod JudgedLaws
 pub mod GainLaws
+pub mod OpeningLemmas
+pub mod OpeningBooks
+pub mod OpeningOrders

@@ -1,2 +1,4 @@
 pub mod Collects
 pub mod Laws
+pub mod OpeningNumber
+pub mod OpeningOrder

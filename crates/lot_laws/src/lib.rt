@@ -4,8 +4,10 @@
 //! - `steps`: what a command comes to.
 //! - `books`: entries, what they hold, and judging a list of commands.
 //! - `gains`: sales and their gains.
+//! - `opening_numbers`: which lot was opened before which, and the orders by that.
 #![tactic(auto)]
 
 pub mod books;
 pub mod gains;
+pub mod opening_numbers;
 pub mod steps;

@@ -1,0 +1,53 @@
+-- Opening numbers: which lot was opened before which (docs/PROMISES.md, Migration). They say it of legs alone, and no code
+-- uses them yet.
+use Rattle.std.specs.Prelude.{◌≡◌, ◌≢◌, ℕ, ◌+◌, ◌-◌, ◌*◌, ◌&&◌, Bool, if◌then◌else◌, List, [], ◌∷◌, ◌++◌, Option, None, Some, pos}
+use Rattle.std.specs.Option.{option_map, option_or}
+use Rattle.std.specs.Ordering.{int_eq}
+use Rattle.lot_book.specs.declared.leg.Leg.{Leg}
+use Rattle.lot_book.specs.declared.leg.Position.{Position}
+use Rattle.lot_book.specs.Leg.{same_position, sum_at}
+use Rattle.lot_book.specs.Refusals.{most_postings}
+
+-- ---- What is so.
+
+-- the number of a leg's posting in its book, as if each transaction had the most postings: entries and postings count from 1
+abbrev pub posting_number : Leg → ℕ
+posting_number leg = most_postings * (leg.entry - 1) + leg.posting
+
+-- a leg opens a lot behind other legs: it stands there, and before it the sum of units there is zero
+pub record Opens (lot : Position) (before : List Leg) (leg : Leg) : Type 0 where
+  pub there : leg.position ≡ lot
+  pub none_before : sum_at before lot ≡ pos 0
+
+-- of legs that leave some units in a lot, the last one that opens it
+pub record IsLastToOpen (legs : List Leg) (lot : Position) (leg : Leg) : Type 0 where
+  pub before : List Leg
+  pub behind : List Leg
+  pub split : legs ≡ before ++ leg ∷ behind
+  pub opens : Opens lot before leg
+  pub last : (between : List Leg) (later : Leg) (rest : List Leg)
+      → behind ≡ between ++ later ∷ rest → Opens lot (before ++ leg ∷ between) later → ⊥
+  pub some_left : sum_at legs lot ≢ pos 0
+
+-- the opening number of a lot
+pub record HasOpeningNumber (legs : List Leg) (lot : Position) (number : ℕ) : Type 0 where
+  pub leg : Leg
+  pub last : IsLastToOpen legs lot leg
+  pub of_posting : number ≡ posting_number leg
+
+-- ---- The same as a value; the law `a_lot_has_one_opening_number` ties the two.
+
+-- whether a leg opens a lot behind other legs
+abbrev pub does_open : Position → List Leg → Leg → Bool
+does_open lot before leg = same_position lot leg.position && int_eq (sum_at before lot) (pos 0)
+
+-- of legs behind others, the last one that opens the lot
+abbrev pub last_to_open : Position → List Leg → List Leg → Option Leg
+last_to_open lot before [] = None
+last_to_open lot before (leg ∷ legs) =
+    option_or (last_to_open lot (before ++ leg ∷ []) legs) (if does_open lot before leg then Some leg else None)
+
+-- the opening number of a lot, none where it holds nothing
+abbrev pub opening_number : List Leg → Position → Option ℕ
+opening_number legs lot =
+    if int_eq (sum_at legs lot) (pos 0) then None else option_map posting_number (last_to_open lot [] legs)

@@ -1,0 +1,31 @@
+-- In which order the next edition takes lots: ties go to the lot that was opened first (docs/PROMISES.md, Migration). No code
+-- uses these orders yet.
+use Rattle.std.specs.Prelude.{ℕ, Bool}
+use Rattle.std.specs.declared.cmp.Ordering.{Ordering}
+use Rattle.std.specs.Ordering.{nat_cmp, int_cmp, is_lt, ordering_then}
+use Rattle.lot_cost.specs.LotKey.{lot_cmp}
+use Rattle.lot_cost.specs.declared.lot_key.LotKey.{LotKey}
+
+-- the key of a lot, beside its opening number
+abbrev pub OpenedLot : Type 0
+OpenedLot = LotKey × ℕ
+
+-- the lot that was opened first, and of lots with one opening number the first by key
+abbrev pub opened_cmp : OpenedLot → OpenedLot → Ordering
+opened_cmp a b = ordering_then (nat_cmp a.1 b.1) (lot_cmp a.0 b.0)
+
+-- the oldest lot first: by day, of one day the lot that was opened first
+abbrev pub oldest_opened_cmp : OpenedLot → OpenedLot → Ordering
+oldest_opened_cmp a b = ordering_then (int_cmp a.0.day b.0.day) (opened_cmp a b)
+
+-- the newest lot first: by day descending, of one day the lot that was opened first
+abbrev pub newest_opened_cmp : OpenedLot → OpenedLot → Ordering
+newest_opened_cmp a b = ordering_then (int_cmp b.0.day a.0.day) (opened_cmp a b)
+
+-- the lot of the highest cost first: by number descending, of one number the lot that was opened first
+abbrev pub highest_opened_cmp : OpenedLot → OpenedLot → Ordering
+highest_opened_cmp a b = ordering_then (nat_cmp b.0.number a.0.number) (opened_cmp a b)
+
+-- a comparison as an order of keys, each of which has an opening number
+abbrev pub by_opening : (OpenedLot → OpenedLot → Ordering) → (LotKey → ℕ) → LotKey → LotKey → Bool
+by_opening compare opening a b = is_lt (compare (a, opening a) (b, opening b))

@@ -1,0 +1,77 @@
+//! Laws of opening numbers, and of the orders by them. No code uses either yet.
+ghost use Rattle.std.specs.Prelude.{◌≡◌, ◌≢◌, ◌↔◌, ℕ, ◌≤◌, ◌*◌, Some, None, List, [], ◌∷◌, ◌++◌, length, ℤ, pos};
+ghost use Rattle.std.specs.Ordering.{nat_cmp, int_cmp, ordering_then};
+ghost use Rattle.lot_cost.specs.declared.lot_key.LotKey.{LotKey};
+ghost use Rattle.lot_inv.specs.Inventory.{units_at};
+ghost use Rattle.lot_booking.specs.Order.{IsOrder};
+ghost use Rattle.lot_book.specs.declared.leg.Leg.{Leg};
+ghost use Rattle.lot_book.specs.declared.leg.Position.{Position};
+ghost use Rattle.lot_book.specs.Book.{IsBook};
+ghost use Rattle.lot_book.specs.Facts.{Entry, legs_of};
+ghost use Rattle.lot_book.specs.Leg.{inventory_of, sum_at};
+ghost use Rattle.lot_book.specs.Refusals.{most_postings};
+ghost use Rattle.lot_laws.specs.Laws.{lot_at};
+ghost use Rattle.lot_laws.specs.OpeningNumber.{HasOpeningNumber, opening_number, posting_number};
+ghost use Rattle.lot_laws.specs.OpeningOrder.{OpenedLot, by_opening};
+ghost use Rattle.lot_laws.specs.OpeningOrder.{highest_opened_cmp, newest_opened_cmp, oldest_opened_cmp};
+
+/// A lot has an opening number exactly where some units are held in it, and only one, which the definition that computes
+/// answers.
+pub fn a_lot_has_one_opening_number()
+    ensures held { (legs : List Leg) (account commodity : List ℕ) (lot : LotKey)
+        → (units_at (inventory_of legs account) (commodity, Some lot) ≢ pos 0)
+        ↔ ((number : ℕ) × HasOpeningNumber legs (lot_at account commodity lot) number) }
+    ensures one { (legs : List Leg) (lot : Position) (a b : ℕ)
+        → HasOpeningNumber legs lot a → HasOpeningNumber legs lot b → a ≡ b }
+    ensures computed { (legs : List Leg) (lot : Position) (number : ℕ)
+        → (opening_number legs lot ≡ Some number) ↔ HasOpeningNumber legs lot number }
+{}
+
+/// A leg changes the opening number of its lot alone, and that only where the lot held nothing or holds nothing then: a lot
+/// that it opens has the number of its posting, one that it empties has none, and any other keeps its own.
+pub fn a_leg_changes_the_opening_number_of_its_lot_alone()
+    ensures elsewhere { (legs : List Leg) (leg : Leg) (lot : Position) → leg.position ≢ lot
+        → opening_number (legs ++ leg ∷ []) lot ≡ opening_number legs lot }
+    ensures kept { (legs : List Leg) (leg : Leg) → sum_at legs leg.position ≢ pos 0
+        → sum_at (legs ++ leg ∷ []) leg.position ≢ pos 0
+        → opening_number (legs ++ leg ∷ []) leg.position ≡ opening_number legs leg.position }
+    ensures opened { (legs : List Leg) (leg : Leg) → sum_at legs leg.position ≡ pos 0
+        → sum_at (legs ++ leg ∷ []) leg.position ≢ pos 0
+        → opening_number (legs ++ leg ∷ []) leg.position ≡ Some (posting_number leg) }
+    ensures emptied { (legs : List Leg) (leg : Leg) → sum_at (legs ++ leg ∷ []) leg.position ≡ pos 0
+        → opening_number (legs ++ leg ∷ []) leg.position ≡ None }
+{}
+
+/// No two lots of a book have one opening number: each posting opens at most one lot.
+pub fn no_two_lots_of_a_book_share_an_opening_number()
+    ensures { (entries : List Entry) (account commodity other name : List ℕ) (lot key : LotKey) (number : ℕ)
+        → IsBook entries
+        → HasOpeningNumber (legs_of entries) (lot_at account commodity lot) number
+        → HasOpeningNumber (legs_of entries) (lot_at other name key) number
+        → lot_at account commodity lot ≡ lot_at other name key }
+{}
+
+/// In a book an opening number is at least 1, and at most that of the last posting that there could be.
+pub fn opening_numbers_count_from_one()
+    ensures { (entries : List Entry) (account commodity : List ℕ) (lot : LotKey) (number : ℕ)
+        → IsBook entries → HasOpeningNumber (legs_of entries) (lot_at account commodity lot) number
+        → (1 ≤ number) × (number ≤ most_postings * length entries) }
+{}
+
+/// Whatever opening number each key has, each of the three orders by opening is an order of keys.
+pub fn the_orders_by_opening_are_orders()
+    ensures oldest { (opening : LotKey → ℕ) → IsOrder (by_opening oldest_opened_cmp opening) }
+    ensures newest { (opening : LotKey → ℕ) → IsOrder (by_opening newest_opened_cmp opening) }
+    ensures highest { (opening : LotKey → ℕ) → IsOrder (by_opening highest_opened_cmp opening) }
+{}
+
+/// Where two lots have distinct opening numbers, as in a book, the order of keys never decides between them: they are
+/// ordered by day, or by number, and then by opening.
+pub fn distinct_openings_decide_ties()
+    ensures oldest { (a b : OpenedLot) → a.1 ≢ b.1
+        → oldest_opened_cmp a b ≡ ordering_then (int_cmp a.0.day b.0.day) (nat_cmp a.1 b.1) }
+    ensures newest { (a b : OpenedLot) → a.1 ≢ b.1
+        → newest_opened_cmp a b ≡ ordering_then (int_cmp b.0.day a.0.day) (nat_cmp a.1 b.1) }
+    ensures highest { (a b : OpenedLot) → a.1 ≢ b.1
+        → highest_opened_cmp a b ≡ ordering_then (nat_cmp b.0.number a.0.number) (nat_cmp a.1 b.1) }
+{}
