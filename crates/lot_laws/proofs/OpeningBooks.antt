@@ -38,7 +38,7 @@ use Rattle.lot_book.specs.Refusals.{back_dated, closed, currency_not_allowed, ho
 use Rattle.lot_book.specs.Step.{Accept, Step, fill_legs, first_conditions, first_of}
 use Rattle.lot_book.proofs.LegLemmas.{with_legs-append}
 use Rattle.lot_laws.specs.Laws.{BooksCommand, lot_at}
-use Rattle.lot_laws.specs.OpeningNumber.{HasOpeningNumber, Opens, posting_number}
+use Rattle.lot_laws.specs.OpeningNumber.{HasOpeningNumber, IsLastToOpen, Opens, posting_number}
 use Rattle.lot_laws.proofs.LawBalance.{command_booked}
 use Rattle.lot_laws.proofs.LawBooks.{accepted, over_placed}
 use Rattle.lot_laws.proofs.LawHoldings.{holds_sum}
@@ -112,6 +112,18 @@ one_beside low (x ∷ xs) high number p q h is other = elim is [
   ]
 ]
 
+-- what stands first has the smaller number
+ascend_apart : (low : ℕ) (xs ys : List (ℕ × Position)) (high : ℕ) (x y : ℕ × Position) → Ascend low (xs ++ ys) high
+    → Among x xs → Among y ys → x.0 < y.0
+ascend_apart low [] ys high x y h first second = absurd first
+ascend_apart low (z ∷ xs) ys high x y h first second = elim first [
+  | inl same ↦
+      let one : z.0 ≡ x.0 = ap (λ (w : ℕ × Position). w.0) same in
+      let above = (among_within (suc z.0) (xs ++ ys) high y h.1 (among-append y xs ys second)).0 in
+      omega (arith, one, above)
+  | inr later ↦ ascend_apart (suc z.0) xs ys high x y h.1 later second
+]
+
 -- ---- The legs that open lots: the number of the posting of each, beside its lot.
 
 abbrev opens_lot : List Leg → Leg → Bool
@@ -137,19 +149,25 @@ opened-append before (leg ∷ legs) more =
     ∙ first_then b leg (opened (before ++ leg ∷ []) legs) (opened (before ++ leg ∷ legs) more)
 
 -- a leg that opens a lot is one of them
+opener_first : (before : List Leg) (leg : Leg) (behind : List Leg) (account commodity : List ℕ) (lot : LotKey)
+    → Opens (lot_at account commodity lot) before leg
+    → Among (posting_number leg, lot_at account commodity lot) (opened before (leg ∷ behind))
+opener_first before leg behind account commodity lot opens =
+    let p = lot_at account commodity lot in
+    let rest = opened (before ++ leg ∷ []) behind in
+    let does : opens_lot before leg ≡ true =
+    ap (λ (q : Position). is_some q.lot && int_eq (sum_at before q) (pos 0)) opens.there ∙ is_zero (sum_at before p) opens.none_before in
+    subst (λ b. Among (posting_number leg, p) (with_first b leg rest)) (sym does)
+    (inl (ap (λ (q : Position). (posting_number leg, q)) opens.there))
+
 opener_among : (before : List Leg) (leg : Leg) (behind : List Leg) (account commodity : List ℕ) (lot : LotKey)
     → Opens (lot_at account commodity lot) before leg
     → Among (posting_number leg, lot_at account commodity lot) (opened [] (before ++ leg ∷ behind))
 opener_among before leg behind account commodity lot opens =
     let p = lot_at account commodity lot in
-    let rest = opened (before ++ leg ∷ []) behind in
-    let does : opens_lot before leg ≡ true =
-    ap (λ (q : Position). is_some q.lot && int_eq (sum_at before q) (pos 0)) opens.there ∙ is_zero (sum_at before p) opens.none_before in
-    let own : Among (posting_number leg, p) (opened before (leg ∷ behind)) =
-    subst (λ b. Among (posting_number leg, p) (with_first b leg rest)) (sym does)
-    (inl (ap (λ (q : Position). (posting_number leg, q)) opens.there)) in
     subst (Among (posting_number leg, p)) (sym (opened-append [] before (leg ∷ behind)))
-    (among-append (posting_number leg, p) (opened [] before) (opened before (leg ∷ behind)) own)
+    (among-append (posting_number leg, p) (opened [] before) (opened before (leg ∷ behind))
+    (opener_first before leg behind account commodity lot opens))
 
 number_among : (legs : List Leg) (account commodity : List ℕ) (lot : LotKey) (number : ℕ)
     → HasOpeningNumber legs (lot_at account commodity lot) number → Among (number, lot_at account commodity lot) (opened [] legs)
@@ -398,10 +416,54 @@ lots_differ entries account commodity other name lot key number book a b =
     (number_among (legs_of entries) account commodity lot number a)
     (number_among (legs_of entries) other name key number b)
 
-pub numbers_within : (entries : List Entry) (account commodity : List ℕ) (lot : LotKey) (number : ℕ) → IsBook entries
+-- ---- What was opened first.
+
+-- of two places in a list the later one is behind the first
+later_behind : (first : List Leg) (a : Leg) (rest second : List Leg) (b : Leg) (behind : List Leg)
+    → first ++ a ∷ rest ≡ second ++ b ∷ behind → length first < length second
+    → (between : List Leg) × (second ≡ first ++ a ∷ between)
+later_behind [] a rest [] b behind e less = absurd (omega (arith, less))
+later_behind [] a rest (l ∷ second) b behind e less = let same : a ≡ l = cc in (second, ap (λ (x : Leg). x ∷ second) (sym same))
+later_behind (f ∷ first) a rest [] b behind e less = absurd (omega (arith, less))
+later_behind (f ∷ first) a rest (l ∷ second) b behind e less =
+    let same : f ≡ l = cc in
+    let others : first ++ a ∷ rest ≡ second ++ b ∷ behind = cc in
+    let later = later_behind first a rest second b behind others (omega (arith, less)) in
+    (later.0, ap (λ (x : Leg). x ∷ second) (sym same) ∙ ap (λ (ls : List Leg). f ∷ ls) later.1)
+
+pub opened_in_order : (entries : List Entry) (account commodity other name : List ℕ) (lot key : LotKey) (a b : Leg) → IsBook entries
+    → (first : IsLastToOpen (legs_of entries) (lot_at account commodity lot) a)
+    → (second : IsLastToOpen (legs_of entries) (lot_at other name key) b)
+    → length first.before < length second.before → posting_number a < posting_number b
+opened_in_order entries account commodity other name lot key a b book first second less =
+    let p = lot_at account commodity lot in
+    let q = lot_at other name key in
+    let later = later_behind first.before a first.behind second.before b second.behind (sym first.split ∙ second.split) less in
+    let front = first.before ++ a ∷ later.0 in
+    let split : legs_of entries ≡ front ++ b ∷ second.behind =
+    second.split ∙ ap (λ (ls : List Leg). ls ++ b ∷ second.behind) later.1 in
+    let all : Ascend 1 (opened [] front ++ opened front (b ∷ second.behind)) (base entries + 1) =
+    subst (λ xs. Ascend 1 xs (base entries + 1)) (ap (opened []) split ∙ opened-append [] front (b ∷ second.behind))
+    (entries_ascend [] entries book) in
+    ascend_apart 1 (opened [] front) (opened front (b ∷ second.behind)) (base entries + 1) (posting_number a, p) (posting_number b, q) all
+    (opener_among first.before a later.0 account commodity lot first.opens)
+    (opener_first front b second.behind other name key
+    (subst (λ (ls : List Leg). Opens q ls b) later.1 second.opens))
+
+-- ---- How far the numbers go.
+
+numbers_within : (entries : List Entry) (account commodity : List ℕ) (lot : LotKey) (number : ℕ) → IsBook entries
     → HasOpeningNumber (legs_of entries) (lot_at account commodity lot) number
     → (1 ≤ number) × (number ≤ most_postings * length entries)
 numbers_within entries account commodity lot number book h =
     let within = among_within 1 (opened [] (legs_of entries)) (base entries + 1) (number, lot_at account commodity lot)
     (entries_ascend [] entries book) (number_among (legs_of entries) account commodity lot number h) in
     (within.0, omega (arith, within.1))
+
+pub from_one : (entries : List Entry) (account commodity : List ℕ) (lot : LotKey) (number : ℕ) → IsBook entries
+    → HasOpeningNumber (legs_of entries) (lot_at account commodity lot) number → 1 ≤ number
+from_one entries account commodity lot number book h = (numbers_within entries account commodity lot number book h).0
+
+pub to_most : (entries : List Entry) (account commodity : List ℕ) (lot : LotKey) (number : ℕ) → IsBook entries
+    → HasOpeningNumber (legs_of entries) (lot_at account commodity lot) number → number ≤ most_postings * length entries
+to_most entries account commodity lot number book h = (numbers_within entries account commodity lot number book h).1

@@ -1,5 +1,5 @@
 //! Laws of opening numbers, and of the orders by them. No code uses either yet.
-ghost use Rattle.std.specs.Prelude.{◌≡◌, ◌≢◌, ◌↔◌, ℕ, ◌≤◌, ◌*◌, Some, None, List, [], ◌∷◌, ◌++◌, length, ℤ, pos};
+ghost use Rattle.std.specs.Prelude.{◌≡◌, ◌≢◌, ◌↔◌, ℕ, ◌<◌, ◌≤◌, ◌*◌, Some, None, List, [], ◌∷◌, ◌++◌, length, ℤ, pos};
 ghost use Rattle.std.specs.Ordering.{nat_cmp, int_cmp, ordering_then};
 ghost use Rattle.lot_cost.specs.declared.lot_key.LotKey.{LotKey};
 ghost use Rattle.lot_inv.specs.Inventory.{units_at};
@@ -11,7 +11,8 @@ ghost use Rattle.lot_book.specs.Facts.{Entry, legs_of};
 ghost use Rattle.lot_book.specs.Leg.{inventory_of, sum_at};
 ghost use Rattle.lot_book.specs.Refusals.{most_postings};
 ghost use Rattle.lot_laws.specs.Laws.{lot_at};
-ghost use Rattle.lot_laws.specs.OpeningNumber.{HasOpeningNumber, opening_number, posting_number};
+ghost use Rattle.lot_laws.specs.OpeningNumber.{HasOpeningNumber, IsLastToOpen};
+ghost use Rattle.lot_laws.specs.OpeningNumber.{opening_number, posting_number};
 ghost use Rattle.lot_laws.specs.OpeningOrder.{OpenedLot, by_opening};
 ghost use Rattle.lot_laws.specs.OpeningOrder.{highest_opened_cmp, newest_opened_cmp, oldest_opened_cmp};
 
@@ -42,20 +43,34 @@ pub fn a_leg_changes_the_opening_number_of_its_lot_alone()
         → opening_number (legs ++ leg ∷ []) leg.position ≡ None }
 {}
 
-/// No two lots of a book have one opening number: each posting opens at most one lot.
+/// No two lots of a book have one opening number, whatever their accounts and commodities.
 pub fn no_two_lots_of_a_book_share_an_opening_number()
-    ensures { (entries : List Entry) (account commodity other name : List ℕ) (lot key : LotKey) (number : ℕ)
-        → IsBook entries
+    ensures distinct { (entries : List Entry) (account commodity other name : List ℕ)
+        (lot key : LotKey) (number : ℕ) → IsBook entries
         → HasOpeningNumber (legs_of entries) (lot_at account commodity lot) number
         → HasOpeningNumber (legs_of entries) (lot_at other name key) number
         → lot_at account commodity lot ≡ lot_at other name key }
 {}
 
+/// Of two lots of a book the one that was opened first has the smaller opening number: the leg that opened it stands before
+/// the one that opened the other.
+pub fn the_lot_opened_first_has_the_smaller_number()
+    ensures ascending { (entries : List Entry) (account commodity other name : List ℕ)
+        (lot key : LotKey) (a b : Leg) → IsBook entries
+        → (first : IsLastToOpen (legs_of entries) (lot_at account commodity lot) a)
+        → (second : IsLastToOpen (legs_of entries) (lot_at other name key) b)
+        → length first.before < length second.before → posting_number a < posting_number b }
+{}
+
 /// In a book an opening number is at least 1, and at most that of the last posting that there could be.
 pub fn opening_numbers_count_from_one()
-    ensures { (entries : List Entry) (account commodity : List ℕ) (lot : LotKey) (number : ℕ)
-        → IsBook entries → HasOpeningNumber (legs_of entries) (lot_at account commodity lot) number
-        → (1 ≤ number) × (number ≤ most_postings * length entries) }
+    ensures least { (entries : List Entry) (account commodity : List ℕ) (lot : LotKey) (number : ℕ)
+        → IsBook entries
+        → HasOpeningNumber (legs_of entries) (lot_at account commodity lot) number → 1 ≤ number }
+    ensures most { (entries : List Entry) (account commodity : List ℕ) (lot : LotKey) (number : ℕ)
+        → IsBook entries
+        → HasOpeningNumber (legs_of entries) (lot_at account commodity lot) number
+        → number ≤ most_postings * length entries }
 {}
 
 /// Whatever opening number each key has, each of the three orders by opening is an order of keys.
