@@ -12,13 +12,9 @@ use Rattle.std.proofs.lemmas.Map.Views.{lookup-from_Contains}
 use Rattle.lot_cost.specs.declared.lot_key.LotKey.{LotKey}
 use Rattle.lot_cost.specs.LotKey.{lot_cmp}
 use Rattle.lot_cost.proofs.OrderLemmas.{lots_total}
-use Rattle.lot_booking.specs.declared.fault.TakeFault.{TakeFault}
-use Rattle.lot_booking.specs.declared.fault.TakeFault.TheVariants.{NotEnough as TooFew, Memory as NoMemory}
 use Rattle.lot_booking.specs.Choice.{Choice, HasNoChoice, HaveDistinctKeys, InTurn, IsChoice, IsWhole, OneOrWhole, Takes, held_in}
-use Rattle.lot_booking.specs.Fault.{booking_fault}
 use Rattle.lot_booking.specs.Order.{oldest_first}
-use Rattle.lot_booking.specs.Way.{StopsStrict}
-use Rattle.lot_booking.proofs.ChoiceLemmas.{given-from_whole, whole-from_given}
+use Rattle.lot_booking.proofs.ChoiceLemmas.{given-cons, given-from_whole, held_in-cons, whole-from_given}
 use Rattle.lot_cost.proofs.ListLemmas.{all_weaker}
 use Rattle.lot_booking.proofs.ListLemmas.{each_member}
 
@@ -28,12 +24,6 @@ each_always : {X : Type 0} (P : X → Type 0) → ((x : X) → P x) → (xs : Li
 each_always P h xs = each_member P xs (λ x member. h x)
 
 -- ---- the choice that takes each lot whole
-
-never_itself : (key : LotKey) → oldest_first key key ≡ true → ⊥
-never_itself key e =
-    let same : is_lt (lot_cmp key key) ≡ true = e in
-    let never : is_lt (lot_cmp key key) ≡ false = ap is_lt (tied_itself lots_total key) in
-    cc
 
 whole_choice : List (LotKey × ℤ) → Choice
 whole_choice lots key = unsigned_abs (unwrap_or (lookup (is_at (lot_cmp key)) lots) (pos 0))
@@ -54,26 +44,6 @@ none_of_several lots amount several differ choice is = elim is.allowed [
   | inr all ↦ differ (sym (given-from_whole choice lots all) ∙ is.sum)
 ]
 
-alone : (lots : List (LotKey × ℤ)) (choice : Choice) → length lots < 2 → InTurn oldest_first lots choice
-alone [] choice short = tt
-alone (lot ∷ []) choice short = (((λ e. absurd (never_itself lot.0 e)), tt), tt)
-alone (lot ∷ next ∷ lots) choice short = absurd (omega arith)
-
--- one lot has a choice in turn where it has one under STRICT
-pub none_of_one : (lots : List (LotKey × ℤ)) (amount : ℕ) → length lots < 2 → HasNoChoice (InTurn oldest_first) lots amount → HasNoChoice OneOrWhole lots amount
-none_of_one lots amount short none choice is = none choice (record { within = is.within; sum = is.sum; allowed = alone lots choice short })
-
--- lots that hold exactly the amount have a choice
-pub enough_held : (lots : List (LotKey × ℤ)) (amount : ℕ) → HaveDistinctKeys lots → held_in lots ≡ amount → HasNoChoice (InTurn oldest_first) lots amount → ⊥
-enough_held lots amount distinct same none =
-    let choice = whole_choice lots in
-    let all = whole lots distinct in
-    none choice (record {
-      within = all_weaker (IsWhole choice) (λ (lot : LotKey × ℤ). choice lot.0 ≤ unsigned_abs lot.1) (λ lot e. omega (arith, e)) lots all;
-      sum = given-from_whole choice lots all ∙ same;
-      allowed = each_always _ (λ lot. all_weaker (IsWhole choice) _ (λ earlier e before gets. e) lots all) lots;
-    })
-
 one_or_whole : (lots : List (LotKey × ℤ)) (amount : ℕ) (choice : Choice) → (2 ≤ length lots → held_in lots ≡ amount)
     → IsChoice (InTurn oldest_first) lots amount choice → OneOrWhole lots choice
 one_or_whole [] amount choice exact is = inr tt
@@ -93,14 +63,26 @@ taken_strictly lots units legs exact takes = record {
   chosen = takes.chosen;
 }
 
--- why STRICT takes nothing where nothing is taken in turn
-pub strict_stops : (lots : List (LotKey × ℤ)) (units : ℤ) (fault : TakeFault) → HaveDistinctKeys lots → (2 ≤ length lots → held_in lots ≡ unsigned_abs units)
-    → (fault ≡ TooFew → HasNoChoice (InTurn oldest_first) lots (unsigned_abs units)) → StopsStrict lots units (booking_fault fault)
-strict_stops lots units NoMemory distinct exact none = tt
-strict_stops [] units TooFew distinct exact none = (omega arith, none_of_one [] (unsigned_abs units) (omega arith) (none refl))
-strict_stops (lot ∷ []) units TooFew distinct exact none = (omega arith, none_of_one (lot ∷ []) (unsigned_abs units) (omega arith) (none refl))
-strict_stops (lot ∷ next ∷ lots) units TooFew distinct exact none =
-    absurd (enough_held (lot ∷ next ∷ lots) (unsigned_abs units) distinct (exact (omega arith)) (none refl))
+-- lots that hold enough, and exactly the amount where there are several, have a choice
+pub strict_choice : (lots : List (LotKey × ℤ)) (amount : ℕ) → HaveDistinctKeys lots → (2 ≤ length lots → held_in lots ≡ amount)
+    → amount ≤ held_in lots → (choice : Choice) × IsChoice OneOrWhole lots amount choice
+strict_choice [] amount distinct exact enough =
+    ((λ key. 0), record { within = tt; sum = omega (arith, enough); allowed = inr tt })
+strict_choice (lot ∷ []) amount distinct exact enough =
+    let more = held_in-cons lot [] in
+    let sum = given-cons (λ key. amount) lot [] in
+    ((λ key. amount), record { within = (omega (arith, enough, more), tt); sum = omega (arith, sum); allowed = inl refl })
+strict_choice (lot ∷ next ∷ rest) amount distinct exact enough =
+    let lots = lot ∷ next ∷ rest in
+    let choice = whole_choice lots in
+    let all = whole lots distinct in (
+      choice,
+      record {
+        within = all_weaker (IsWhole choice) (λ (lot : LotKey × ℤ). choice lot.0 ≤ unsigned_abs lot.1) (λ lot e. omega (arith, e)) lots all;
+        sum = given-from_whole choice lots all ∙ exact (omega arith);
+        allowed = inr all;
+      },
+    )
 
 -- ---- the lots that may be taken
 

@@ -1,5 +1,5 @@
 -- A walk along lots takes each whole before the next one.
-use Rattle.std.specs.Prelude.{◌≡◌, ◌≢◌, ℕ, ◌+◌, ◌-◌, ◌≤◌, min, nat_eq, Bool, true, false, ◌||◌, cond, if◌then◌else◌, List, [], ◌∷◌, ◌++◌, ℤ, unsigned_abs, IfOk, IsOk, IsPermutation, Ok, Err, Result, ⊤}
+use Rattle.std.specs.Prelude.{◌≡◌, ◌≢◌, ℕ, ◌+◌, ◌-◌, ◌≤◌, min, nat_eq, Bool, true, false, ◌||◌, cond, if◌then◌else◌, List, [], ◌∷◌, ◌++◌, ℤ, unsigned_abs, IsPermutation, ⊤}
 use Rattle.std.specs.Cmp.{IsStrictWeakOrder}
 use Rattle.std.specs.List.{AllByRecursion}
 use Rattle.std.specs.List.Sorted.{IsSortedBy}
@@ -221,9 +221,3 @@ pub takes-walked : (before : LotKey → LotKey → Bool) → IsOrder before → 
 takes-walked before order lots listed units legs distinct same sorted enough walked_legs =
     takes-in_order before order lots listed units legs distinct same
     (in_order-from_sorted before order listed (distinct-permuted lots listed same distinct) sorted) enough walked_legs
-
--- where a result is a value a fact holds, and with it what is known of the value says more
-pub if_ok-with : {T E : Type 0} (result : Result T E) (P Q : T → Type 0) (fact : Type 0) → (IsOk result → fact) → (fact → (value : T) → P value → Q value)
-    → IfOk result P → IfOk result Q
-if_ok-with (Ok value) P Q fact known more is = more (known refl) value is
-if_ok-with (Err fault) P Q fact known more is = tt

@@ -5,11 +5,11 @@ ghost use Rattle.lot_inv.specs.Inventory.{matching, other_sign};
 ghost use Rattle.lot_cost.specs.declared.method.Method.{Method};
 ghost use Rattle.lot_cost.specs.declared.cost.Cost.{Cost};
 ghost use Rattle.lot_booking.specs.Booking.{ComesTo, IsOneLeg, Legs, Stops, fitting, posting_of, with_number};
-ghost use Rattle.lot_booking.specs.Choice.{HaveDistinctKeys, OneOrWhole, Takes, held_in};
+ghost use Rattle.lot_booking.specs.Choice.{HaveDistinctKeys, OneOrWhole, Takes};
 ghost use Rattle.lot_booking.specs.Order.{oldest_first};
 ghost use Rattle.lot_booking.specs.Way.{StopsStrict, StopsOpening};
 
-use crate::choice::take;
+use crate::choice::{held_in, take, take_enough};
 use crate::cost::{given, number};
 use crate::fault::BookingFault;
 use crate::order::{Highest, LotOrder, Newest, Oldest};
@@ -143,7 +143,7 @@ fn fitting_at(
     Ok(lots)
 }
 
-/// Returns the legs that take the one lot, or each of several whole.
+/// Returns the legs that take the one lot, or each of several whole. Memory may lack only where there is such a choice.
 fn take_strict(
     alloc: Global,
     lots: Vec<(LotKey, Units)>,
@@ -154,21 +154,14 @@ fn take_strict(
     ensures taken { IfOk result (λ legs. Takes OneOrWhole oldest_first lots.items units legs.items) }
     ensures stops { IfErr result (λ fault. StopsStrict lots.items units fault) }
 {
+    let held = held_in(&lots);
     let wanted = u128::from(units.mantissa().unsigned_abs());
-    if 1 < lots.len() && held_in(&lots) != wanted {
+    if 1 < lots.len() && held != wanted {
         return Err(BookingFault::Ambiguous);
     }
-    // The oldest lots first is the order of the keys.
-    Ok(take::<Oldest>(alloc, lots, units)?)
-}
-
-/// Returns what the lots hold, sign aside.
-fn held_in(lots: &[(LotKey, Units)]) -> u128
-    ensures { result ≡ held_in lots.now }
-{
-    let mut held = 0;
-    for lot in lots {
-        held += u128::from(lot.1.mantissa().unsigned_abs());
+    if held < wanted {
+        return Err(BookingFault::NotEnough);
     }
-    held
+    // The oldest lots first is the order of the keys.
+    Ok(take_enough::<Oldest>(alloc, lots, units)?)
 }

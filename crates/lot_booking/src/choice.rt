@@ -1,4 +1,4 @@
-ghost use Rattle.std.specs.Prelude.{◌≡◌, true, IfOk, IsOk, IsErrOf, ℤ, ◌<◌, ◌≤◌, unsigned_abs};
+ghost use Rattle.std.specs.Prelude.{◌≡◌, true, IfOk, IsOk, IsErrOf, OnErr, ℤ, ◌<◌, ◌≤◌, unsigned_abs};
 ghost use Rattle.std.specs.List.{AllByRecursion};
 ghost use Rattle.std.specs.Ordering.{is_lt};
 ghost use Rattle.lot_inv.specs.Inventory.{other_sign};
@@ -10,15 +10,15 @@ use crate::fault::TakeFault;
 use crate::order::LotOrder;
 use lot_cost::LotKey;
 use lot_num::Units;
-use std::alloc::Global;
+use std::alloc::{AllocError, Global};
 use std::cmp::Ordering;
 
 /// Returns the legs that units take of lots in an order: each lot whole before the next one, until the units are used up.
 /// They have the sign of the units, and stand in the order.
 ///
 /// The lots have distinct keys, and each has the other sign than the units. The error is `NotEnough` only where the lots
-/// hold less than the units, and else `Memory`, where there is no memory for the legs: only of units that aren't zero, and
-/// of lots that hold some.
+/// hold less than the units, which needs no memory. It is `Memory` where they hold enough and there is no memory for the
+/// legs: only of units that aren't zero.
 pub fn take<O: LotOrder>(
     alloc: Global,
     lots: Vec<(LotKey, Units)>,
@@ -30,11 +30,39 @@ pub fn take<O: LotOrder>(
     ensures enough { IsOk result → unsigned_abs units ≤ held_in lots.items }
     ensures less { IsErrOf result NotEnough → held_in lots.items < unsigned_abs units }
     ensures not_enough { IsErrOf result NotEnough → HasNoChoice (InTurn O.before) lots.items (unsigned_abs units) }
-    ensures memory { IsErrOf result Memory → (0 < unsigned_abs units) × (0 < held_in lots.items) }
+    ensures memory { IsErrOf result Memory → (0 < unsigned_abs units) × (unsigned_abs units ≤ held_in lots.items) }
+{
+    if held_in(&lots) < u128::from(units.mantissa().unsigned_abs()) {
+        return Err(TakeFault::NotEnough);
+    }
+    Ok(take_enough::<O>(alloc, lots, units)?)
+}
+
+/// The same of lots that hold enough. The only error is out of memory.
+pub(crate) fn take_enough<O: LotOrder>(
+    alloc: Global,
+    lots: Vec<(LotKey, Units)>,
+    units: Units,
+) -> Result<Vec<(LotKey, Units)>, AllocError>
+    requires distinct { HaveDistinctKeys lots.items }
+    requires enough { unsigned_abs units ≤ held_in lots.items }
+    ensures taken { IfOk result (λ legs. Takes (InTurn O.before) O.before lots.items units legs.items) }
+    ensures memory { OnErr result (0 < unsigned_abs units) }
 {
     let mut lots = lots;
     lots.sort_unstable_by(|a, b| compare::<O>(&a.0, &b.0));
     in_turn(alloc, lots, units)
+}
+
+/// Returns what the lots hold, sign aside.
+pub(crate) fn held_in(lots: &[(LotKey, Units)]) -> u128
+    ensures { result ≡ held_in lots.now }
+{
+    let mut held = 0;
+    for lot in lots {
+        held += u128::from(lot.1.mantissa().unsigned_abs());
+    }
+    held
 }
 
 /// Returns how an order compares two keys.
@@ -55,11 +83,9 @@ fn in_turn(
     alloc: Global,
     lots: Vec<(LotKey, Units)>,
     units: Units,
-) -> Result<Vec<(LotKey, Units)>, TakeFault>
+) -> Result<Vec<(LotKey, Units)>, AllocError>
     ensures legs { IfOk result (λ legs. legs.items ≡ walked units (unsigned_abs units) lots.items) }
-    ensures enough { IsOk result → unsigned_abs units ≤ held_in lots.items }
-    ensures not_enough { IsErrOf result NotEnough → held_in lots.items < unsigned_abs units }
-    ensures memory { IsErrOf result Memory → (0 < unsigned_abs units) × (0 < held_in lots.items) }
+    ensures memory { OnErr result (0 < unsigned_abs units) }
 {
     let mut legs = Vec::new(alloc);
     let mut left = units.mantissa().unsigned_abs();
@@ -71,11 +97,7 @@ fn in_turn(
         legs.push((key, with_sign_of(units, part)))?;
         left -= part;
     }
-    if left == 0 {
-        Ok(legs)
-    } else {
-        Err(TakeFault::NotEnough)
-    }
+    Ok(legs)
 }
 
 /// Returns a part of units, with their sign.

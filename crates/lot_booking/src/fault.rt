@@ -38,13 +38,13 @@ pub enum TakeFault {
     Memory,
 }
 
-impl<T: Drop> From<AllocFailed<T>> for TakeFault {
+impl From<AllocError> for TakeFault {
     ghost use Rattle.std.specs.Prelude.{◌≡◌};
     ghost use Rattle.lot_booking.specs.declared.fault.TakeFault.TheVariants.{Memory};
 
     ghost from_gives = { λ _ e. e ≡ Memory };
 
-    fn from(_failed: AllocFailed<T>) -> TakeFault {
+    fn from(_error: AllocError) -> TakeFault {
         TakeFault::Memory
     }
 }

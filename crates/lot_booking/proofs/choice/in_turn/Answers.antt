@@ -2,7 +2,7 @@
 use Rattle.std.proofs.Common.{rules, arith, ◌≡◌, ◌∙◌, ◌++◌, [], ◌∷◌, ℤ, sym, ap, unsigned_abs}
 use Rattle.std.specs.Prelude.{min}
 use Rattle.lot_cost.specs.declared.lot_key.LotKey.{LotKey}
-use Rattle.lot_booking.proofs.ChoiceLemmas.{held_in-cons}
+use Rattle.lot_inv.proofs.SetLemmas.{on_err}
 use Rattle.lot_booking.proofs.TakeLemmas.{all_after_none, all_after_some, left_after}
 use Rattle.lot_booking.proofs.choice.in_turn.Goals as goal
 
@@ -36,12 +36,9 @@ loop-key-preserved c =
 
 -- a leg is appended only where some units are left, and its lot holds some
 pub returns-in_err-push-clause-memory : goal.returns-in_err-push-clause-memory
-returns-in_err-push-clause-memory c = λ memory.
-    let lot : LotKey × ℤ = (c.in-Some.key, c.in-Some.held) in
-    let lots = c.next.new.self.rest.items in
+returns-in_err-push-clause-memory c =
     let part : c.min-part.result ≡ min c.loop-key.left (unsigned_abs c.in-Some.held) = search rules in
     let left = rw c.in-Some.ensures.steps.0 at c.loop-key.invariant.left in
     let within = c.loop-key.invariant.within in
     let some = c.if-part-eq0.false in
-    let more = held_in-cons lot lots in
-    (omega arith, omega arith)
+    on_err c.from_residual.result (omega arith)
