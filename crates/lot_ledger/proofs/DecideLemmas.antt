@@ -15,8 +15,9 @@ use Rattle.lot_book.specs.Balance.{AreWithin, elided_postings, residuals, weight
 use Rattle.lot_book.specs.Booking.{All, Booked, Bookings, Books as BooksOne, BooksAll, BooksWith, Fails, HasLegs, Line, Stopped, follow, legs_in, line_of}
 use Rattle.lot_ledger.specs.Decide.{BooksNext, DraftsAll, EndMayLackMemory, FillMayLackMemory, IsDraft, NextMayLackMemory, StopsNext, StoresAt, StoresFirst, amount_at_cost, has_braces}
 use Rattle.lot_book.specs.Facts.{Facts}
+use Rattle.lot_book.specs.Leg.{leave_range}
 use Rattle.lot_book.specs.Sale.{sales_in, sales_of}
-use Rattle.lot_posting.specs.Posting.{Books, StoresFor}
+use Rattle.lot_posting.specs.Posting.{Books, CopiesLots, StoresFor}
 use Rattle.lot_posting.proofs.BalanceResiduals.{AreWithin-more, weights_in-push}
 
 -- what postings come to, behind others that are booked
@@ -49,9 +50,15 @@ sales_in-push day (first ∷ booked) next = ap (λ sales. sales_of day first ++ 
 -- ---- where memory may lack
 
 -- something is stored for a posting that has legs
-stores_legs : (line : Line) (cost : Option Cost) (reduces : Bool) (legs : List Leg) → HasLegs line cost reduces legs → StoresFor line cost
-stores_legs line None reduces legs has = tt
-stores_legs line (Some cost) reduces legs has = inr (reduces, has.0, has.1)
+stores_legs : (line : Line) (cost : Option Cost) (reduces : Bool) (legs : List Leg) → HasLegs line cost reduces legs
+    → leave_range line.held legs ≡ false → StoresFor line cost
+stores_legs line None reduces legs has within = ap (leave_range line.held) (sym has.1) ∙ within
+stores_legs line (Some cost) reduces legs has within = inr (reduces, has.0, has.1)
+
+-- lots that no legs have changed aren't copied
+none_copied : (before : List Leg) (cost : Option Cost) → CopiesLots before cost → before ≡ [] → ⊥
+none_copied before None copies none = copies
+none_copied before (Some cost) copies none = copies none
 
 -- so it is for the first posting with an amount, where all of them are booked; else there is none
 stores_with : (facts : Facts) (day : ℤ) (place : ℕ) (account : List ℕ) (amount : Option Amount) (left : List Posting) (booked : List Booked)
@@ -61,7 +68,7 @@ stores_with : (facts : Facts) (day : ℤ) (place : ℕ) (account : List ℕ) (am
     ⊎ ((booked ≡ []) × ((is_some (amount_at_cost amount) || has_braces left) ≡ false))
 stores_with facts day place account None left booked h rest = rest h
 stores_with facts day place account (Some amount) left booked (BooksOne one, is, others) rest =
-    inl (stores_legs (line_of facts day [] place account amount) amount.cost one.reduces one.legs is.legs)
+    inl (stores_legs (line_of facts day [] place account amount) amount.cost one.reduces one.legs is.legs is.range)
 stores_with facts day place account (Some amount) left booked (Fails refusal, is, stopped) rest = cc
 
 pub stores_first : (facts : Facts) (day : ℤ) (place : ℕ) (postings : List Posting) (booked : List Booked)
@@ -91,8 +98,9 @@ pub first_lacks : (facts : Facts) (day : ℤ) (all : List Posting) (old : Draft)
     → NextMayLackMemory facts day place account amount old → StoresFirst facts day 1 all
 first_lacks facts day all old place account None left first lacks = absurd lacks
 first_lacks facts day all old place account (Some amount) left first (inl stored) = first_stored facts day all old place account amount left first stored
-first_lacks facts day all old place account (Some amount) left (inl first) (inr some) = absurd (some first.0)
-first_lacks facts day all old place account (Some amount) left (inr first) (inr some) = first
+first_lacks facts day all old place account (Some amount) left (inl first) (inr copies) =
+    absurd (none_copied old.tally.legs amount.cost copies first.0)
+first_lacks facts day all old place account (Some amount) left (inr first) (inr copies) = first
 
 -- where what follows may lack memory
 no_fill : (elided : List (ℕ × List ℕ)) → FillMayLackMemory elided [] → ⊥
@@ -158,7 +166,7 @@ booking-more facts day all old new count place account (Some amount) left so boo
       let line = line_of facts day old.tally.legs place account amount in
       inr
       (first_stored facts day all old place account amount left so.first
-      (stores_legs line amount.cost books.booked.reduces books.booked.legs books.is.legs));
+      (stores_legs line amount.cost books.booked.reduces books.booked.legs books.is.legs books.is.range));
 }
 
 -- a posting that stops decides

@@ -1,5 +1,5 @@
 -- The legs of one posting: whose they are, how much they move, and what a draft has once they are added.
-use Rattle.std.proofs.Common.{◌≡◌, ◌≢◌, ◌≤◌, ◌+◌, ℕ, suc, Bool, true, false, cond, nat_eq, inl, inr, arith, List, [], ◌∷◌, ◌++◌, Option, Some, None, Result, Ok, Err, refl, sym, ap, subst, ◌∙◌, ℤ, pos, unsigned_abs}
+use Rattle.std.proofs.Common.{◌≡◌, ◌≢◌, ◌≤◌, ◌+◌, ℕ, suc, Bool, true, false, cond, nat_eq, inl, inr, arith, List, [], ◌∷◌, ◌++◌, Option, Some, None, Result, Ok, Err, refl, sym, ap, subst, ◌∙◌, ℤ, pos, ◌+ℤ◌, unsigned_abs}
 use Rattle.std.specs.List.{list_all}
 use Rattle.std.specs.Prelude.{◌&&◌}
 use Rattle.std.specs.Result.{IfErr, OnOk}
@@ -16,16 +16,19 @@ use Rattle.lot_booking.proofs.BookingLaws.{size_of-sign, units_of_legs}
 use Rattle.lot_command.specs.declared.transaction.Amount.{Amount}
 use Rattle.lot_posting.specs.declared.draft.Draft.{Draft}
 use Rattle.lot_book.specs.declared.leg.Leg.{Leg}
+use Rattle.lot_book.specs.declared.refusal.Refusal.TheVariants.{Range}
 use Rattle.lot_book.specs.declared.refusal.Stop.{Stop}
 use Rattle.lot_book.specs.declared.refusal.Stop.TheVariants.{Refused, Memory}
 use Rattle.lot_book.specs.Balance.{AreWithin, residuals, weights_by}
-use Rattle.lot_book.specs.Booking.{Booked, HasLegs, Line, braced, line_of}
-use Rattle.lot_book.specs.Change.{ListsSums}
+use Rattle.lot_book.specs.Booking.{Booked, HasLegs, Line, braced, line_of, plain_leg}
+use Rattle.lot_book.specs.Change.{ListsSums, units_after}
 use Rattle.lot_book.specs.Facts.{Facts}
 use Rattle.lot_book.specs.Leg.{leave_range, leg_at, legs_at_lots, units_moved, with_legs}
 use Rattle.lot_book.specs.Sale.{lots_in_legs, sales_of, AreLegsOf, SaleParts, same_sign}
-use Rattle.lot_posting.specs.Posting.{Books, StopsPosting}
-use Rattle.lot_posting.specs.Tally.{AreOf, StopsAt}
+use Rattle.lot_book.proofs.LegLemmas.{leave_range-passes, leave_range-stops}
+use Rattle.lot_num.specs.Amount.{IsUnits}
+use Rattle.lot_posting.specs.Posting.{Books, MayLackMemory, StopsPosting, StoresFor}
+use Rattle.lot_posting.specs.Tally.{AreOf, StopsAt, plain}
 
 -- ---- legs at lots
 
@@ -227,3 +230,32 @@ pub stops_of : {T : Type 0} (facts : Facts) (day : ℤ) (before : List Leg) (pla
 stops_of facts day before place account amount reduces legs (Ok x) has stops = tt
 stops_of facts day before place account amount reduces legs (Err stop) has stops =
     stops_with facts day before place account amount reduces legs stop has stops
+
+-- ---- a posting without braces
+
+-- what its account holds after it, lots aside
+abbrev plain_after : Facts → List Leg → List ℕ → Amount → ℤ
+plain_after facts before account amount = units_after facts before (plain account amount.commodity) +ℤ amount.units
+
+-- it is refused where that is out of range
+pub plain_out : (facts : Facts) (day : ℤ) (before : List Leg) (place : ℕ) (account : List ℕ) (amount : Amount) → amount.cost ≡ None
+    → (IsUnits (plain_after facts before account amount) → ⊥)
+    → StopsPosting (line_of facts day before place account amount) (Refused (Range place))
+plain_out facts day before place account amount is out =
+    let line = line_of facts day before place account amount in
+    let leg = plain_leg line in
+    inr
+    (record {
+      reduces = false;
+      legs = leg ∷ [];
+      has = subst (λ (cost : Option Cost). HasLegs line cost false (leg ∷ [])) (sym is) (refl, refl);
+      leave = leave_range-stops line.held leg [] out;
+      refusal = refl;
+    })
+
+-- else something is stored for it
+pub plain_in : (facts : Facts) (day : ℤ) (before : List Leg) (place : ℕ) (account : List ℕ) (amount : Amount) → amount.cost ≡ None
+    → IsUnits (plain_after facts before account amount) → MayLackMemory before (line_of facts day before place account amount)
+plain_in facts day before place account amount is within =
+    let line = line_of facts day before place account amount in
+    inl (subst (StoresFor line) (sym is) (leave_range-passes line.held (plain_leg line) [] within))

@@ -1,10 +1,11 @@
 -- What an account holds after legs, told by the rows that list it: the lots of a commodity, and their number.
-use Rattle.std.specs.Prelude.{◌≡◌, ℕ, Bool, true, false, cond, ◌&&◌, ◌||◌, List, [], ◌∷◌, None, Some, is_some, ℤ}
+use Rattle.std.specs.Prelude.{◌≡◌, ℕ, Bool, true, false, cond, ◌&&◌, ◌||◌, List, [], ◌∷◌, Option, None, Some, is_none, is_some, ℤ}
 use Rattle.std.specs.FinMap.{get}
 use Rattle.std.specs.List.{AllByRecursion, list_any}
 use Rattle.std.specs.List.Sorted.{IsStrictlySortedBy}
 use Rattle.std.specs.Map.{keys_of, lookup}
 use Rattle.std.proofs.Common.{refl, sym, ap, ◌∙◌}
+use Rattle.std.proofs.lemmas.Bool.{false_from_ne_true, true≢false}
 use Rattle.std.proofs.lemmas.Map.Keys.{sorted_head, sorted_tail}
 use Rattle.lot_base.specs.Text.{same_text}
 use Rattle.lot_base.proofs.MapLemmas.{none_below}
@@ -18,9 +19,9 @@ use Rattle.lot_book.specs.declared.leg.Position.{Position}
 use Rattle.lot_book.specs.Change.{ListsSums}
 use Rattle.lot_book.specs.Facts.{Facts}
 use Rattle.lot_book.specs.Leg.{position_cmp, same_position, with_legs}
-use Rattle.lot_posting.specs.Tally.{is_lot_of}
+use Rattle.lot_posting.specs.Tally.{is_lot_of, is_plain_of, plain}
 use Rattle.lot_book.proofs.HeldLemmas.{at, get-with_legs, get-with_row, no_zeros-set, settled}
-use Rattle.lot_book.proofs.OrderLemmas.{one_position}
+use Rattle.lot_book.proofs.OrderLemmas.{one_position, same_position-itself}
 use Rattle.lot_book.specs.Recorded.{with_row}
 
 -- ---- inventories without zeros
@@ -131,3 +132,30 @@ none_of account commodity (p ∷ positions) none =
       both.0,
       none_of account commodity positions both.1,
     )
+
+-- ---- the plain units of a pair
+
+none_given : (lot : Option LotKey) → is_none lot ≡ true → None ≡ lot
+none_given None e = refl
+none_given (Some key) e = cc
+
+plain-itself : (account commodity : List ℕ) → is_plain_of account commodity (plain account commodity) ≡ true
+plain-itself account commodity = λ i. same_text-itself account i && same_text-itself commodity i
+
+plain-parts : (account commodity : List ℕ) (p : Position) → is_plain_of account commodity p ≡ true → plain account commodity ≡ p
+plain-parts account commodity p e =
+    let names = second_true (is_none p.lot) (same_text p.account account && same_text p.commodity commodity) e in
+    let lot = none_given p.lot (first_true (is_none p.lot) (same_text p.account account && same_text p.commodity commodity) e) in
+    let one = one_text p.account account (first_true (same_text p.account account) (same_text p.commodity commodity) names) in
+    let other = one_text p.commodity commodity (second_true (same_text p.account account) (same_text p.commodity commodity) names) in
+    λ i. record { account = sym one i; commodity = sym other i; lot = lot i }
+
+-- a position is that of the plain units where it is the same
+pub same_plain : (account commodity : List ℕ) (p : Position) → is_plain_of account commodity p ≡ same_position (plain account commodity) p
+same_plain account commodity p = by (same_position (plain account commodity) p) refl
+  where
+    by : (b : Bool) → same_position (plain account commodity) p ≡ b → is_plain_of account commodity p ≡ b
+    by true e = ap (is_plain_of account commodity) (sym (one_position (plain account commodity) p e)) ∙ plain-itself account commodity
+    by false e =
+        false_from_ne_true (is_plain_of account commodity p)
+        (λ is. true≢false (sym (same_position-itself (plain account commodity)) ∙ ap (same_position (plain account commodity)) (plain-parts account commodity p is) ∙ e))

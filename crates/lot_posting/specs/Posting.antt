@@ -1,5 +1,5 @@
 -- Booking one posting of a transaction: what it adds to what is booked so far.
-use Rattle.std.specs.Prelude.{◌≡◌, ◌≢◌, ◌⊎◌, ℕ, suc, Bool, List, [], ◌++◌, Option, None, Some, ℤ, ⊤}
+use Rattle.std.specs.Prelude.{◌≡◌, ◌≢◌, ◌⊎◌, ℕ, suc, Bool, false, List, [], ◌∷◌, ◌++◌, Option, None, Some, ℤ, ⊤}
 use Rattle.lot_cost.specs.declared.cost.Cost.{Cost}
 use Rattle.lot_cost.specs.declared.lot_key.LotKey.{LotKey}
 use Rattle.lot_command.specs.declared.transaction.Amount.{Amount}
@@ -11,9 +11,10 @@ use Rattle.lot_book.specs.Balance.{AreWithin, residuals, weights_of}
 use Rattle.lot_booking.specs.declared.fault.BookingFault.{BookingFault}
 use Rattle.lot_booking.specs.declared.fault.BookingFault.TheVariants as fault
 use Rattle.lot_booking.specs.Booking.{Braced, ComesTo, Legs, Refused as Rejected, Stores}
-use Rattle.lot_book.specs.Booking.{IsRefusalOf, Booked, BooksTo, Fails, HasNoLegs, IsBooked, Line, braced, line_of}
+use Rattle.lot_book.specs.Booking.{IsRefusalOf, Booked, BooksTo, Fails, HasNoLegs, IsBooked, Line, braced, line_of, plain_leg}
 use Rattle.lot_book.specs.Change.{ListsSums}
 use Rattle.lot_book.specs.Facts.{Facts}
+use Rattle.lot_book.specs.Leg.{leave_range}
 use Rattle.lot_book.specs.Sale.{sales_of}
 
 -- ---- one posting
@@ -40,15 +41,21 @@ StopsWithoutLegs line Memory = ⊤
 
 -- ---- memory
 
--- something is stored for a posting with that cost: without braces its leg; with braces its legs, or what its booking stores
+-- something is stored for a posting with that cost: without braces its leg, unless that leaves its sum out of range; with braces
+-- its legs, or what its booking stores
 abbrev pub StoresFor : Line → Option Cost → Type 0
-StoresFor line None = ⊤
+StoresFor line None = leave_range line.held (plain_leg line ∷ []) ≡ false
 StoresFor line (Some cost) =
     Stores (braced line cost) ⊎ ((reduces : Bool) × (lots : List (LotKey × ℤ)) × ComesTo (braced line cost) (Legs reduces lots))
 
--- booking a posting may lack memory: something is stored for it, or for the lots that legs before it have changed
+-- lots that legs before it have changed are copied for a posting with that cost: only where it has braces
+abbrev pub CopiesLots : List Leg → Option Cost → Type 0
+CopiesLots before None = ⊥
+CopiesLots before (Some cost) = before ≢ []
+
+-- booking a posting may lack memory: something is stored for it, or lots are copied
 abbrev pub MayLackMemory : List Leg → Line → Type 0
-MayLackMemory before line = StoresFor line line.amount.cost ⊎ (before ≢ [])
+MayLackMemory before line = StoresFor line line.amount.cost ⊎ CopiesLots before line.amount.cost
 
 -- ---- bookings
 

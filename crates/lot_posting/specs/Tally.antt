@@ -1,5 +1,5 @@
 -- How booking the legs of one posting ends where a sum leaves the range of units.
-use Rattle.std.specs.Prelude.{◌≡◌, ℕ, Bool, true, false, ◌&&◌, is_some, if◌then◌else◌, List, [], ◌∷◌, ℤ, pos, ◌+ℤ◌, ⊤}
+use Rattle.std.specs.Prelude.{◌≡◌, ℕ, Bool, true, false, ◌&&◌, is_none, is_some, if◌then◌else◌, List, [], ◌∷◌, None, ℤ, pos, ◌+ℤ◌, ⊤}
 use Rattle.std.specs.List.{AllByRecursion}
 use Rattle.std.specs.Ordering.{int_eq}
 use Rattle.lot_num.specs.Amount.{IsUnits}
@@ -35,10 +35,19 @@ abbrev pub BeginInRange : Held → List Leg → Type 0
 BeginInRange held [] = ⊥
 BeginInRange held (leg ∷ legs) = leave_range held (leg ∷ []) ≡ false
 
+-- the position of the plain units of a commodity in an account
+abbrev pub plain : List ℕ → List ℕ → Position
+plain account commodity = record { account = account; commodity = commodity; lot = None }
+
 -- whether a position is a lot of the commodity in the account
 abbrev pub is_lot_of : List ℕ → List ℕ → Position → Bool
 is_lot_of account commodity position =
     is_some position.lot && (same_text position.account account && same_text position.commodity commodity)
+
+-- whether a position is that of the plain units of the commodity in the account
+abbrev pub is_plain_of : List ℕ → List ℕ → Position → Bool
+is_plain_of account commodity position =
+    is_none position.lot && (same_text position.account account && same_text position.commodity commodity)
 
 -- how many lots units make: none where they are zero
 abbrev pub lot_count : ℤ → ℕ

@@ -37,7 +37,8 @@ pub struct Site<'a> {
 }
 
 /// Books a posting with an amount on what is booked so far. The error is its refusal, or out of memory. That is only where
-/// something is stored for it (`MayLackMemory`): never for the first posting where its booking stores nothing.
+/// something is stored for it (`MayLackMemory`): never for a posting without braces that is refused, nor for the first posting
+/// where its booking stores nothing.
 pub fn book_posting(
     alloc: Global,
     view: &View,
@@ -59,7 +60,7 @@ pub fn book_posting(
     }
 }
 
-/// Books a posting without braces.
+/// Books a posting without braces. Its refusal needs no memory.
 fn book_plain(alloc: Global, view: &View, site: &Site<'_>, draft: &mut Draft) -> Result<(), Stop>
     requires plain { site.now.amount.now.cost ≡ None }
     requires entry { site.now.entry ≡ suc (known view.now).entries }
@@ -67,10 +68,21 @@ fn book_plain(alloc: Global, view: &View, site: &Site<'_>, draft: &mut Draft) ->
     requires room { AreWithin (most_postings - 1) draft.old.residuals }
     ensures books { OnOk result (Books (known view.now) site.now.day site.now.posting site.now.account.now site.now.amount.now draft.old draft.new) }
     ensures stops { IfErr result (λ stop. StopsPosting (line_of (known view.now) site.now.day draft.old.tally.legs site.now.posting site.now.account.now site.now.amount.now) stop) }
+    ensures memory { IsErrOf result Memory → MayLackMemory draft.old.tally.legs
+        (line_of (known view.now) site.now.day draft.old.tally.legs site.now.posting
+        site.now.account.now site.now.amount.now) }
 {
-    let _in_range = site.amount.units.mantissa(); // says to the prover that they are below the limit of units
-    let leg = leg_of(site, 0, None, site.amount.units)?;
-    draft.add(view, site.amount, vec![in alloc; leg]?)
+    let amount = site.amount;
+    let _in_range = amount.units.mantissa(); // says to the prover that they are below the limit of units
+    let held = draft
+        .tally
+        .plain_units(view, site.account, &amount.commodity);
+    let Some(_after) = held.checked_add(amount.units) else {
+        let posting = site.posting;
+        return Err(Refusal::Range { posting }.into());
+    };
+    let leg = leg_of(site, 0, None, amount.units)?;
+    draft.add(view, amount, vec![in alloc; leg]?)
 }
 
 /// Books a posting with braces.

@@ -6,7 +6,7 @@ ghost use Rattle.lot_num.specs.Amount.{IsUnits};
 ghost use Rattle.lot_book.specs.Change.{ListsSums, units_after};
 ghost use Rattle.lot_book.specs.Facts.{Facts};
 ghost use Rattle.lot_book.specs.Leg.{leave_range, with_legs};
-ghost use Rattle.lot_posting.specs.Tally.{AreOf, BeginInRange, StopsAt, StopsAtLeg, is_lot_of, lot_count};
+ghost use Rattle.lot_posting.specs.Tally.{AreOf, BeginInRange, StopsAt, StopsAtLeg, is_lot_of, is_plain_of, lot_count, plain};
 ghost use Rattle.lot_view.specs.View.{known};
 
 use lot_base::{Account, Commodity};
@@ -50,6 +50,19 @@ impl Tally {
                 position.lot.as_ref(),
             ),
         }
+    }
+
+    /// Returns what an account holds of a commodity beside its lots after the legs so far.
+    pub fn plain_units(&self, view: &View, account: &Account, commodity: &Commodity) -> Units
+        requires { ListsSums (known view.now) self.now.legs self.now.positions.entries }
+        ensures { result ≡ units_after (known view.now) self.now.legs (plain account.now commodity.now) }
+    {
+        for (position, units) in &self.positions {
+            if is_plain_of(position, account, commodity) {
+                return *units;
+            }
+        }
+        view.units(account, commodity, None)
     }
 
     /// Adds one more leg. The refusal is `Range` where its position is out of the range of units after it, and needs no
@@ -162,6 +175,13 @@ fn lot_count(units: Units) -> u128
     ensures { result ≡ lot_count units }
 {
     u128::from(units != Units::ZERO)
+}
+
+/// Returns whether a position is that of the plain units of that account and commodity.
+fn is_plain_of(position: &Position, account: &Account, commodity: &Commodity) -> bool
+    ensures { result ≡ is_plain_of account.now commodity.now position.now }
+{
+    position.lot.is_none() && position.account == *account && position.commodity == *commodity
 }
 
 /// Returns whether a position is a lot of that account and commodity.

@@ -1,5 +1,5 @@
 -- What the posting comes to on an inventory with the same lots of its commodity it comes to on what its account holds.
-use Rattle.std.proofs.Common.{◌≡◌, Option, Some, Result, Ok, Err, inl, refl, sym, ap, subst, ◌∙◌}
+use Rattle.std.proofs.Common.{◌≡◌, Option, Some, Result, Ok, Err, inl, inr, refl, sym, ap, subst, ◌∙◌}
 use Rattle.std.specs.Result.{IfOk, IfErr}
 use Rattle.lot_inv.specs.Inventory.{Held, lots_of}
 use Rattle.lot_booking.specs.declared.booking.Booked.{Booked}
@@ -11,7 +11,7 @@ use Rattle.lot_booking.proofs.SameLots.{same_outcome, same_stop}
 use Rattle.lot_book.specs.declared.refusal.Stop.{Stop}
 use Rattle.lot_book.specs.declared.refusal.Stop.TheVariants.{Refused, Memory}
 use Rattle.lot_book.specs.Booking.{HasNoLegs, Line, braced, line_of}
-use Rattle.lot_posting.specs.Posting.{StopsOn, StopsWithoutLegs, StoresFor}
+use Rattle.lot_posting.specs.Posting.{CopiesLots, StopsOn, StopsWithoutLegs, StoresFor}
 use Rattle.lot_view.specs.View.{known}
 use Rattle.lot_posting.proofs.posting.book_lots.Goals as goal
 
@@ -67,6 +67,14 @@ returns-then-has_changed-clause-stops c =
     let line = line_of (known c.args.view.now) site.day c.args.tally.now.legs site.posting site.account.now site.amount.now in
     stops_on line c.args.cost.now c.method_of-method.result c.in_ok-lots.lots c.method_of-method.ensures c.in_ok-lots.ensures
     c.requires.cost c.book_on.result c.book_on.ensures.stops
+
+pub returns-in_err-lots-clause-memory : goal.returns-in_err-lots-clause-memory
+returns-in_err-lots-clause-memory c = λ _.
+    inr (subst (CopiesLots c.args.tally.now.legs) (sym c.requires.cost) (c.if-has_changed.ensures.begun refl))
+
+pub returns-then-has_changed-clause-memory : goal.returns-then-has_changed-clause-memory
+returns-then-has_changed-clause-memory c = λ _.
+    inr (subst (CopiesLots c.args.tally.now.legs) (sym c.requires.cost) (c.if-has_changed.ensures.begun refl))
 
 -- ---- none has, and the account holds something
 
