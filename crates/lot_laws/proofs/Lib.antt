@@ -23,4 +23,5 @@ pub mod JudgedLaws
 pub mod GainLaws
 pub mod OpeningLemmas
 pub mod OpeningBooks
+pub mod OpeningPostings
 pub mod OpeningOrders

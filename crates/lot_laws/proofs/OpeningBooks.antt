@@ -292,7 +292,7 @@ posting_ascends before line (Some cost) reduces legs is h =
 abbrev base : List Entry → ℕ
 base entries = most_postings * length entries
 
-number_at : (entries place : ℕ) → most_postings * (suc entries - 1) + place ≡ most_postings * entries + place
+pub number_at : (entries place : ℕ) → most_postings * (suc entries - 1) + place ≡ most_postings * entries + place
 number_at entries place = omega arith
 
 postings_ascend : (book : List Entry) (key : Key) (day : ℤ) (postings : List Posting) (booked : List Booked)
@@ -335,7 +335,7 @@ not_held : (b : Bool) (refusal : Refusal) → holds_as b refusal ≡ None → b 
 not_held true refusal e = absurd cc
 not_held false refusal e = refl
 
-few : (book : List Entry) (key : Key) (t : TransactionOf) (legs : List Leg) → Step book key (Transaction t) (Accept legs)
+pub few : (book : List Entry) (key : Key) (t : TransactionOf) (legs : List Leg) → Step book key (Transaction t) (Accept legs)
     → length t.postings ≤ most_postings
 few book key t legs step =
     let facts = facts_of book key in

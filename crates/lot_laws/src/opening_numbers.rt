@@ -1,5 +1,6 @@
 //! Laws of opening numbers, and of the orders by them. No code uses either yet.
-ghost use Rattle.std.specs.Prelude.{◌≡◌, ◌≢◌, ◌↔◌, ℕ, ◌<◌, ◌≤◌, ◌*◌, Some, None, List, [], ◌∷◌, ◌++◌, length, ℤ, pos};
+ghost use Rattle.std.specs.Prelude.{◌≡◌, ◌≢◌, ◌↔◌, ℕ, ◌+◌, ◌<◌, ◌≤◌, ◌*◌, Some, None, List, [], ◌∷◌, ◌++◌, length, ℤ, pos};
+ghost use Rattle.std.specs.List.{Contains};
 ghost use Rattle.std.specs.Ordering.{nat_cmp, int_cmp, ordering_then};
 ghost use Rattle.lot_cost.specs.declared.lot_key.LotKey.{LotKey};
 ghost use Rattle.lot_inv.specs.Inventory.{units_at};
@@ -41,6 +42,19 @@ pub fn a_leg_changes_the_opening_number_of_its_lot_alone()
         → opening_number (legs ++ leg ∷ []) leg.position ≡ Some (posting_number leg) }
     ensures emptied { (legs : List Leg) (leg : Leg) → sum_at (legs ++ leg ∷ []) leg.position ≡ pos 0
         → opening_number (legs ++ leg ∷ []) leg.position ≡ None }
+{}
+
+/// The number of a leg's posting in a book: the place of the posting, from 1, behind as many numbers for each entry before
+/// its own as a transaction may have postings.
+pub fn a_posting_is_numbered_by_its_place_in_the_book()
+    ensures number { (before more : List Entry) (entry : Entry) (leg : Leg)
+        → IsBook (before ++ entry ∷ more) → Contains entry.legs leg
+        → posting_number leg ≡ most_postings * length before + leg.posting }
+    ensures least { (before more : List Entry) (entry : Entry) (leg : Leg)
+        → IsBook (before ++ entry ∷ more) → Contains entry.legs leg → 1 ≤ leg.posting }
+    ensures most { (before more : List Entry) (entry : Entry) (leg : Leg)
+        → IsBook (before ++ entry ∷ more) → Contains entry.legs leg
+        → leg.posting ≤ most_postings }
 {}
 
 /// No two lots of a book have one opening number, whatever their accounts and commodities.
