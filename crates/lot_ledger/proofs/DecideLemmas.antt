@@ -105,7 +105,7 @@ first_lacks facts day all old place account (Some amount) left (inr first) (inr 
 -- where what follows may lack memory
 no_fill : (elided : List (ℕ × List ℕ)) → FillMayLackMemory elided [] → ⊥
 no_fill [] lacks = lacks
-no_fill (one ∷ more) lacks = lacks refl
+no_fill (one ∷ more) lacks = lacks.1 refl
 
 end_stores : (facts : Facts) (t : TransactionOf) (draft : Draft) (drafts : DraftsAll facts t draft)
     → EndMayLackMemory facts t draft.tally.legs draft.residuals

@@ -154,10 +154,11 @@ NextMayLackMemory facts day place account None old = ⊥
 NextMayLackMemory facts day place account (Some amount) old =
     PostingMayLackMemory old.tally.legs (line_of facts day old.tally.legs place account amount)
 
--- taking up the residuals may lack memory: for the fill, where a residual isn't zero. Without an elided posting it never does.
+-- taking up the residuals may lack memory: for the fill, where each residual is that of units, and one isn't zero. Without an
+-- elided posting it never does.
 abbrev pub FillMayLackMemory : List (ℕ × List ℕ) → List (List ℕ × ℤ) → Type 0
 FillMayLackMemory [] rs = ⊥
-FillMayLackMemory (elided ∷ more) rs = left_over rs ≢ []
+FillMayLackMemory (elided ∷ more) rs = (inexact_fill (elided ∷ more) rs ≡ None) × (left_over rs ≢ [])
 
 -- whether some posting has braces
 abbrev pub has_braces : List Posting → Bool

@@ -1,23 +1,25 @@
-ghost use Rattle.std.specs.Prelude.{◌≡◌, ◌≢◌, ◌∷◌, [], ◌++◌, suc, None, Some, IfErr, IfOk, IsErrOf, IsOk, OnErr, OnOk};
+ghost use Rattle.std.specs.Prelude.{◌≡◌, ◌≢◌, ◌∷◌, [], ◌++◌, suc, None, Some, not, IfErr, IfOk, IsErrOf, IsOk, OnErr, OnOk};
 ghost use Rattle.std.specs.Option.{option_map, option_or};
 ghost use Rattle.lot_book.specs.declared.refusal.Refusal.TheVariants.{FillNotAllowed};
 ghost use Rattle.lot_book.specs.declared.refusal.Stop.TheVariants.{Memory};
-ghost use Rattle.lot_book.specs.Balance.{fill_of};
+ghost use Rattle.lot_book.specs.Balance.{fill_of, fits_units};
 ghost use Rattle.lot_book.specs.Change.{ListsSums};
 ghost use Rattle.lot_ledger.specs.Decide.{FillMayLackMemory, filled, first_barred};
-ghost use Rattle.lot_book.specs.Refusals.{Stops, fill_not_allowed, fill_out_of_range, inexact_fill};
+ghost use Rattle.lot_book.specs.Refusals.{Stops, fill_not_allowed, fill_out_of_range, first_currency, inexact_fill};
 ghost use Rattle.lot_view.specs.View.{known};
 
 use crate::checks::Elided;
 use lot_base::{Account, Commodity};
 use lot_book::{Leg, Position, Refusal, Stop};
 use lot_num::Units;
-use lot_posting::Draft;
+use lot_posting::{Draft, Residuals};
 use lot_view::View;
 use std::alloc::{AllocError, Global};
+use std::mem;
 
 /// Adds the legs of the elided posting, which take the residuals. The refusal is `InexactFill`, `FillNotAllowed` or
-/// `Range`, each over all residuals before the next. Memory may lack only where there is something to take.
+/// `Range`, each over all residuals before the next. Memory may lack only where each residual is that of units, and there is
+/// something to take.
 pub(crate) fn fill(
     alloc: Global,
     view: &View,
@@ -25,6 +27,39 @@ pub(crate) fn fill(
     draft: &mut Draft,
 ) -> Result<(), Stop>
     requires { ListsSums (known view.now) draft.old.tally.legs draft.old.tally.positions.entries }
+    ensures exact { OnOk result (inexact_fill (elided.entry ∷ []) draft.old.residuals ≡ None) }
+    ensures allowed { OnOk result (fill_not_allowed (known view.now) (elided.entry ∷ []) draft.old.residuals ≡ None) }
+    ensures in_range { OnOk result (fill_out_of_range (known view.now) (elided.entry ∷ []) draft.old.tally.legs
+        (fill_of (suc (known view.now).entries) (elided.entry ∷ []) draft.old.residuals) ≡ None) }
+    ensures legs { OnOk result (draft.new.tally.legs ≡ draft.old.tally.legs
+        ++ fill_of (suc (known view.now).entries) (elided.entry ∷ []) draft.old.residuals) }
+    ensures lists { OnOk result (ListsSums (known view.now) draft.new.tally.legs draft.new.tally.positions.entries) }
+    ensures sales { OnOk result (draft.new.sales ≡ draft.old.sales) }
+    ensures stops { IfErr result (λ stop. Stops (option_or (inexact_fill (elided.entry ∷ []) draft.old.residuals)
+        (option_or (fill_not_allowed (known view.now) (elided.entry ∷ []) draft.old.residuals)
+        (fill_out_of_range (known view.now) (elided.entry ∷ []) draft.old.tally.legs
+        (fill_of (suc (known view.now).entries) (elided.entry ∷ []) draft.old.residuals)))) stop) }
+    ensures memory { IsErrOf result Memory → FillMayLackMemory (elided.entry ∷ []) draft.old.residuals }
+{
+    if draft.residuals.are_units() {
+        return fill_exactly(alloc, view, elided, draft);
+    }
+    let residuals = mem::replace(&mut draft.residuals, Residuals::new(alloc));
+    match residuals.exact() {
+        Ok(()) => unreachable!(),
+        Err(refusal) => Err(refusal.into()),
+    }
+}
+
+/// The same where each residual is that of units.
+fn fill_exactly(
+    alloc: Global,
+    view: &View,
+    elided: Elided<'_>,
+    draft: &mut Draft,
+) -> Result<(), Stop>
+    requires lists { ListsSums (known view.now) draft.old.tally.legs draft.old.tally.positions.entries }
+    requires exact { first_currency (λ r. not (fits_units r.1)) draft.old.residuals ≡ None }
     ensures exact { OnOk result (inexact_fill (elided.entry ∷ []) draft.old.residuals ≡ None) }
     ensures allowed { OnOk result (fill_not_allowed (known view.now) (elided.entry ∷ []) draft.old.residuals ≡ None) }
     ensures in_range { OnOk result (fill_out_of_range (known view.now) (elided.entry ∷ []) draft.old.tally.legs

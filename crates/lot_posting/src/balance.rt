@@ -1,15 +1,14 @@
-ghost use Rattle.std.specs.Prelude.{◌≡◌, ◌≢◌, ◌≤◌, ◌*◌, ◌-◌, ◌++◌, ◌+ℤ◌, ℕ, suc, ℤ, List, [], None, Some, not, map, unsigned_abs, IfOk, IfErr, IsErrOf, OnOk};
-ghost use Rattle.lot_book.specs.declared.refusal.Stop.TheVariants.{Memory};
-ghost use Rattle.std.specs.Option.{option_map};
+ghost use Rattle.std.specs.Prelude.{◌≡◌, ◌≢◌, ◌≤◌, ◌*◌, ◌-◌, ◌++◌, ◌+ℤ◌, ℕ, suc, ℤ, List, [], None, Some, not, map, unsigned_abs, IfOk, IfErr, OnErr, OnOk};
+ghost use Rattle.std.specs.Option.{is_none, option_map};
 ghost use Rattle.lot_num.specs.Amount.{IsWide, rate_limit, units_limit};
 ghost use Rattle.lot_book.specs.declared.refusal.Refusal.TheVariants.{InexactFill};
 ghost use Rattle.lot_book.specs.Balance.{AreWithin, add_weight, fits_units, left_over, opposite, residual_in, residuals, weight_at_price, weight_of, weights_by, with_sign};
 ghost use Rattle.lot_book.specs.Leg.{units_moved};
-ghost use Rattle.lot_book.specs.Refusals.{Stops, first_currency, most_postings, not_balanced};
+ghost use Rattle.lot_book.specs.Refusals.{first_currency, most_postings, not_balanced};
 
 use indexmap::IndexMap;
 use lot_base::Commodity;
-use lot_book::{Leg, Refusal, Stop};
+use lot_book::{Leg, Refusal};
 use lot_command::{Amount, Price};
 use lot_num::{Units, Wide, weight};
 use std::alloc::{AllocError, Global};
@@ -103,25 +102,48 @@ impl Residuals {
         Ok(())
     }
 
-    /// Returns what the elided posting takes: the opposite of each residual that isn't zero, as units. The refusal is
-    /// `InexactFill` with the first currency whose residual isn't that of units. Memory may lack only where a residual isn't
-    /// zero.
-    pub fn fills(&self, alloc: Global) -> Result<Vec<(Commodity, Units)>, Stop>
-        ensures exact { OnOk result (first_currency (λ r. not (fits_units r.1)) self.now ≡ None) }
+    /// Returns whether each residual is that of units.
+    pub fn are_units(&self) -> bool
+        ensures { result ≡ is_none (first_currency (λ r. not (fits_units r.1)) self.now) }
+    {
+        for (_, sum) in &self.sums {
+            let Some(units) = sum.to_units() else {
+                return false;
+            };
+            let _in_range = units.mantissa(); // says to the prover that they are below the limit of units
+        }
+        true
+    }
+
+    /// Returns `InexactFill` with the first currency whose residual isn't that of units, if there is one. The refusal takes
+    /// that currency over, so it needs no memory.
+    pub fn exact(self) -> Result<(), Refusal>
+        ensures ok { OnOk result (first_currency (λ r. not (fits_units r.1)) self ≡ None) }
+        ensures refused { IfErr result (λ refusal.
+            option_map InexactFill (first_currency (λ r. not (fits_units r.1)) self) ≡ Some refusal) }
+    {
+        for (currency, sum) in self.sums {
+            let Some(units) = sum.to_units() else {
+                return Err(Refusal::InexactFill { currency });
+            };
+            let _in_range = units.mantissa(); // says to the prover that they are below the limit of units
+        }
+        Ok(())
+    }
+
+    /// Returns what the elided posting takes: the opposite of each residual that isn't zero, as units, where each is that of
+    /// units. The only error is out of memory, and comes only where a residual isn't zero.
+    pub fn fills(&self, alloc: Global) -> Result<Vec<(Commodity, Units)>, AllocError>
+        requires { first_currency (λ r. not (fits_units r.1)) self.now ≡ None }
         ensures fills { IfOk result (λ fills. fills.items ≡ map (λ r. (r.0, opposite r.1)) (left_over self.now)) }
-        ensures refused { IfErr result (λ stop.
-            Stops (option_map InexactFill (first_currency (λ r. not (fits_units r.1)) self.now)) stop) }
-        ensures memory { IsErrOf result Memory → left_over self.now ≢ [] }
+        ensures memory { OnErr result (left_over self.now ≢ []) }
     {
         let mut fills = Vec::new(alloc);
         for (currency, sum) in &self.sums {
             match sum.to_units() {
                 Some(units) if units.mantissa() == 0 => {}
                 Some(units) => fills.push((currency.copy()?, units.negated()))?,
-                None => {
-                    let currency = currency.copy()?;
-                    return Err(Refusal::InexactFill { currency }.into());
-                }
+                None => unreachable!(),
             }
         }
         Ok(fills)

@@ -1,88 +1,13 @@
--- The fills are exact and allowed, and their legs are those of the elided posting.
-use Rattle.std.proofs.Common.{◌≡◌, ◌++◌, ℕ, suc, List, ℤ, None, refl, subst, sym, ap, ◌∙◌}
-use Rattle.std.specs.Option.{option_map}
-use Rattle.std.proofs.lemmas.Result.{MatchResult-weaker}
-use Rattle.lot_book.specs.declared.refusal.Refusal.TheVariants.{FillNotAllowed, InexactFill, Range}
-use Rattle.lot_book.specs.declared.refusal.Stop.{Stop}
-use Rattle.lot_book.specs.declared.refusal.Stop.TheVariants.{Refused}
-use Rattle.lot_book.specs.Balance.{fill_from, left_over}
-use Rattle.lot_ledger.specs.Decide.{filled, first_barred}
-use Rattle.lot_book.specs.Leg.{leave_range, with_legs}
-use Rattle.lot_book.specs.Refusals.{Stops, bars, first_currency, holds_as}
-use Rattle.lot_posting.specs.Tally.{AreOf, BeginInRange, StopsAt}
-use Rattle.lot_view.specs.View.{known}
-use Rattle.lot_ledger.proofs.FillLemmas.{barred-fills, filled-fills, filled-own, passed_on, stops-barred, stops-range}
-use Rattle.lot_ledger.proofs.fill.fill.Goals.{After-post_all}
+-- Where each residual is that of units they are filled; else the first that isn't is refused.
+use Rattle.std.proofs.Common.{◌≡◌, Bool, true, Option, None, Some, sym, ◌∙◌}
+use Rattle.std.proofs.lemmas.Bool.{true≢false}
+use Rattle.std.specs.Option.{is_none}
 use Rattle.lot_ledger.proofs.fill.fill.Goals as goal
 
-pub returns-in_err-allowed-clause-stops : goal.returns-in_err-allowed-clause-stops
-returns-in_err-allowed-clause-stops c =
-    let account : c.elided.inside.account.now ≡ c.args.elided.1 = ap (λ (e : ℕ × List ℕ). e.1) c.elided.view_is in
-    let standing = (known c.args.view.now).standing in
-    let left = left_over c.args.draft.now.residuals in
-    let barred : first_barred (standing c.elided.inside.account.now) c.in_ok-fills.fills.items
-    ≡ first_currency (λ (r : List ℕ × ℤ). bars (standing c.args.elided.1) r.0) left =
-    (λ i. first_barred (standing (account i)) (c.in_ok-fills.ensures.fills i)) ∙ barred-fills (standing c.args.elided.1) left in
-    let stop : Stop = Refused c.in_err-allowed.field-0.0 in
-    let stops : Stops (option_map FillNotAllowed (first_currency (λ (r : List ℕ × ℤ). bars (standing c.args.elided.1) r.0) left))
-    stop =
-    subst (λ o. Stops (option_map FillNotAllowed o) stop) barred c.in_err-allowed.ensures.refused in
-    passed_on c.from_residual-in_err-allowed.result stop _ c.from_residual-in_err-allowed.ensures.1
-    (stops-barred _ _ _ stop (ap (option_map InexactFill) c.in_ok-fills.ensures.exact) stops)
+-- what isn't some is none
+none-is : {X : Type 0} (o : Option X) (b : Bool) → b ≡ is_none o → b ≡ true → o ≡ None
+none-is None b same is = cc
+none-is (Some x) b same is = absurd (true≢false (sym is ∙ same))
 
--- the legs of the fills are those of the residuals
-legs_are : (c : After-post_all) → c.in_ok-legs.legs.items
-    ≡ fill_from (suc c.args.view.now.entries) c.args.elided.0 c.args.elided.1 0 (left_over c.args.draft.now.residuals)
-legs_are c =
-    c.in_ok-legs.ensures.legs
-    ∙ ap (filled (suc c.args.view.now.entries) c.args.elided.0 c.args.elided.1 0)
-    (c.in_ok-allowed.ensures.same ∙ c.in_ok-fills.ensures.fills)
-    ∙ filled-fills (suc c.args.view.now.entries) c.args.elided.0 c.args.elided.1 0 (left_over c.args.draft.now.residuals)
-
-legs_own : (c : After-post_all) → AreOf c.args.elided.1 c.args.elided.0 c.in_ok-legs.legs.items
-legs_own c =
-    subst (AreOf c.args.elided.1 c.args.elided.0) (sym (legs_are c))
-    (filled-own (suc c.args.view.now.entries) c.args.elided.0 c.args.elided.1 0 (left_over c.args.draft.now.residuals))
-
-none_barred : (c : After-post_all)
-    → first_currency (λ (r : List ℕ × ℤ). bars ((known c.args.view.now).standing c.args.elided.1) r.0)
-    (left_over c.args.draft.now.residuals)
-    ≡ None
-none_barred c =
-    let account : c.elided.inside.account.now ≡ c.args.elided.1 = ap (λ (e : ℕ × List ℕ). e.1) c.elided.view_is in
-    let standing = (known c.args.view.now).standing in
-    sym (barred-fills (standing c.args.elided.1) (left_over c.args.draft.now.residuals))
-    ∙ sym (λ i. first_barred (standing (account i)) (c.in_ok-fills.ensures.fills i))
-    ∙ c.in_ok-allowed.ensures.ok refl
-
-pub returns-clause-legs : goal.returns-clause-legs
-returns-clause-legs c =
-    MatchResult-weaker c.post_all.result c.post_all.ensures.legs
-    (λ x h. h ∙ ap (λ legs. c.args.draft.now.tally.legs ++ legs) (legs_are c)) (λ x h. h)
-
-pub returns-clause-allowed : goal.returns-clause-allowed
-returns-clause-allowed c =
-    MatchResult-weaker c.post_all.result c.post_all.ensures.legs (λ x h. ap (option_map FillNotAllowed) (none_barred c))
-    (λ x h. h)
-
-pub returns-clause-in_range : goal.returns-clause-in_range
-returns-clause-in_range c =
-    let held = with_legs c.args.elided.1 ((known c.args.view.now).held c.args.elided.1) c.args.draft.now.tally.legs in
-    MatchResult-weaker c.post_all.result c.post_all.ensures.in_range
-    (λ x h. ap (λ b. holds_as b (Range c.args.elided.0))
-    (ap (leave_range held) (sym (legs_are c)) ∙ h c.args.elided.1 c.args.elided.0 (legs_own c)))
-    (λ x h. h)
-
-pub returns-clause-stops : goal.returns-clause-stops
-returns-clause-stops c =
-    let held = with_legs c.args.elided.1 ((known c.args.view.now).held c.args.elided.1) c.args.draft.now.tally.legs in
-    MatchResult-weaker c.post_all.result c.post_all.ensures.stops (λ x h. h)
-    (λ stop h. stops-range _ _ held c.args.elided.0 _ stop
-    (ap (option_map InexactFill) c.in_ok-fills.ensures.exact) (ap (option_map FillNotAllowed) (none_barred c))
-    (subst (λ legs. StopsAt held c.args.elided.0 legs stop) (legs_are c) (h c.args.elided.1 c.args.elided.0 (legs_own c))))
-
-pub returns-clause-memory : goal.returns-clause-memory
-returns-clause-memory c = λ lacks none.
-    let held = with_legs c.args.elided.1 ((known c.args.view.now).held c.args.elided.1) c.args.draft.now.tally.legs in
-    subst (λ (left : List (List ℕ × ℤ)). BeginInRange held (fill_from (suc c.args.view.now.entries) c.args.elided.0 c.args.elided.1 0 left)) none
-    (subst (BeginInRange held) (legs_are c) (c.post_all.ensures.memory lacks c.args.elided.1 c.args.elided.0 (legs_own c)))
+pub fill_exactly-requires-clause-exact : goal.fill_exactly-requires-clause-exact
+fill_exactly-requires-clause-exact c = none-is _ c.are_units.result c.are_units.ensures c.if-are_units.true

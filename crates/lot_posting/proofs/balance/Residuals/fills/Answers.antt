@@ -30,15 +30,15 @@ loop-currency-preserved c =
           ∙ c.loop-currency.invariant.exact;
     }
 
-pub returns-in-None-to_units-clause-refused : goal.returns-in-None-to_units-clause-refused
-returns-in-None-to_units-clause-refused c =
+pub unreachable-requires : goal.unreachable-requires
+unreachable-requires c =
     let currency = c.in-Some.currency.now in
     let sum = c.in-Some.sum.now in
     let none : (u : ℤ) → IsUnits u → sum ≡ u *ℤ pos one → ⊥ = λ u within same.
     let found = c.in-None-to_units.ensures.every u within same in cc in
-    rw c.into.ensures
-    (ap (option_map InexactFill)
-    (sym c.loop-currency.invariant.exact
+    let some : first_currency misfits_units c.args.self.now ≡ Some currency =
+    sym c.loop-currency.invariant.exact
     ∙ ap (first_currency misfits_units) c.in-Some.ensures.steps
-    ∙ misfit-stops currency sum c.next.new.self none
-    ∙ ap Some (sym c.in_ok-currency-in-None-to_units.ensures)))
+    ∙ misfit-stops currency sum c.next.new.self none in
+    let whole = c.requires in
+    cc
