@@ -1,27 +1,28 @@
 -- What calls come to, one after another, and why reading ends.
-use Rattle.std.proofs.Common.{◌≡◌, ◌≤◌, ◌∙◌, inl, inr, ℕ, List, length, take, ◌++◌, sym, ap, subst, arith, refl, length-append}
+use Rattle.std.proofs.Common.{◌≡◌, ◌<◌, ◌≤◌, ◌∙◌, inl, inr, ℕ, zero, suc, List, length, take, ◌++◌, sym, ap, subst, arith, refl, length-append}
 use Rattle.std.specs.Prelude.{◌+◌, Option, None, Some, Result, Ok, Err, IfErr, IsErrAnd}
 use Rattle.std.specs.Io.{ReadsAtMost}
 use Rattle.std.specs.Io.KnownBytes.{Consumes, ReadConsumes}
 use Rattle.std.proofs.KnownBytes.{Consumes-kept, Consumes-trans}
 use Rattle.std.specs.declared.io.Error.{Error}
-use Rattle.lot_stream.specs.Calls.{Calls, Counts, CountsCall, GrowsBy, IsCall}
+use Rattle.lot_stream.specs.Calls.{Calls, Counts, CountsCall, GrowsBy, IsCall, ends}
 use Rattle.lot_stream.specs.Input.{CallsMade, EndsFor, EndsWell, NoneFailed, TakesIn, longest_input, most_calls}
 use Rattle.lot_stream.specs.declared.input.Progress.TheVariants.{Ended, Goes}
 use Rattle.lot_stream.specs.declared.input.SlurpFault.{SlurpFault}
 
 -- what calls come to together
 abbrev AreTogether : Calls → Calls → Calls → Type 0
-AreTogether a b both = (both.made ≡ a.made + b.made) × (both.failed ≡ a.failed + b.failed) × (both.given ≡ a.given + b.given)
+AreTogether a b both =
+    (both.made ≡ a.made + b.made) × (both.failed ≡ a.failed + b.failed) × (both.ended ≡ a.ended + b.ended) × (both.given ≡ a.given + b.given)
 
 grows_on : (old mid new a b both : Calls) → GrowsBy old mid a → GrowsBy mid new b → AreTogether a b both → GrowsBy old new both
 grows_on old mid new a b both one two is =
-    (omega (arith, one.0, two.0, is.0), omega (arith, one.1, two.1, is.1), omega (arith, one.2, two.2, is.2))
+    (omega (arith, one.0, two.0, is.0), omega (arith, one.1, two.1, is.1), omega (arith, one.2, two.2, is.2), omega (arith, one.3, two.3, is.3))
 
 -- no calls were made
-pub none_made : (known : Option Calls) → Counts known known (record { made = 0; failed = 0; given = 0 })
+pub none_made : (known : Option Calls) → Counts known known (record { made = 0; failed = 0; ended = 0; given = 0 })
 none_made None = tt
-none_made (Some calls) = (omega arith, omega arith, omega arith)
+none_made (Some calls) = (omega arith, omega arith, omega arith, omega arith)
 
 -- one call more
 one_more : (old mid new : Option Calls) (so_far after : Calls) (outcome : Result ℕ Error) → Counts old mid so_far → CountsCall mid new outcome
@@ -32,29 +33,40 @@ one_more (Some old) (Some mid) None so_far after outcome counts called together 
 one_more (Some old) (Some mid) (Some new) so_far after outcome counts (call, is, grows) together =
     grows_on old mid new so_far call after counts grows (together call is)
 
--- so many calls gave these bytes, and none failed
+-- so many calls gave these bytes, none failed, and none met the end
 abbrev pub so_far : ℕ → List ℕ → Calls
-so_far made bytes = record { made = made; failed = 0; given = length bytes }
+so_far made bytes = record { made = made; failed = 0; ended = 0; given = length bytes }
 
--- a call that gave bytes
-gave : (made next : ℕ) (bytes : List ℕ) (count given : ℕ) → next ≡ made + 1 → given ≡ length bytes + count → (call : Calls)
-    → IsCall (Ok count) call → AreTogether (so_far made bytes) call (record { made = next; failed = 0; given = given })
-gave made next bytes count given at is call came =
-    (omega (arith, at, came.0), omega (arith, came.1), omega (arith, is, came.2))
+-- a call that gave bytes didn't meet the end
+pub gives : (count : ℕ) → 0 < count → ends count ≡ 0
+gives zero some = absurd (omega (arith, some))
+gives (suc more) some = refl
+
+-- one that gave nothing did
+pub gives_none : (count : ℕ) → count ≡ 0 → ends count ≡ 1
+gives_none zero none = refl
+gives_none (suc more) none = absurd (omega (arith, none))
+
+-- a call that didn't fail
+gave : (made next : ℕ) (bytes : List ℕ) (count ended given : ℕ) → next ≡ made + 1 → ends count ≡ ended → given ≡ length bytes + count
+    → (call : Calls) → IsCall (Ok count) call
+    → AreTogether (so_far made bytes) call (record { made = next; failed = 0; ended = ended; given = given })
+gave made next bytes count ended given at meets is call came =
+    (omega (arith, at, came.0), omega (arith, came.1), omega (arith, came.2, meets), omega (arith, is, came.3))
 
 -- a call that was interrupted
 paused : (made next : ℕ) (bytes after : List ℕ) (error : Error) → next ≡ made + 1 → TakesIn bytes bytes (Err error) after (Ok Goes)
     → (call : Calls) → IsCall (Err error) call → AreTogether (so_far made bytes) call (so_far next after)
-paused made next bytes after error at takes call (one, inl (kind, none), nothing) =
-    (omega (arith, at, one), omega (arith, none), ap length takes.1 ∙ sym (omega (arith, nothing)))
-paused made next bytes after error at takes call (one, inr (kind, failed), nothing) = absurd (kind takes.0)
+paused made next bytes after error at takes call (one, inl (kind, none), on, nothing) =
+    (omega (arith, at, one), omega (arith, none), omega (arith, on), ap length takes.1 ∙ sym (omega (arith, nothing)))
+paused made next bytes after error at takes call (one, inr (kind, failed), on, nothing) = absurd (kind takes.0)
 
 -- a call that failed
 failing : (made next : ℕ) (bytes : List ℕ) (error : Error) → next ≡ made + 1 → TakesIn bytes bytes (Err error) bytes (Err SlurpFault.Read)
-    → (call : Calls) → IsCall (Err error) call → AreTogether (so_far made bytes) call (record { made = next; failed = 1; given = length bytes })
-failing made next bytes error at takes call (one, inl (kind, none), nothing) = absurd (takes kind)
-failing made next bytes error at takes call (one, inr (kind, failed), nothing) =
-    (omega (arith, at, one), omega (arith, failed), omega (arith, nothing))
+    → (call : Calls) → IsCall (Err error) call → AreTogether (so_far made bytes) call (record { made = next; failed = 1; ended = 0; given = length bytes })
+failing made next bytes error at takes call (one, inl (kind, none), on, nothing) = absurd (takes kind)
+failing made next bytes error at takes call (one, inr (kind, failed), on, nothing) =
+    (omega (arith, at, one), omega (arith, failed), omega (arith, on), omega (arith, nothing))
 
 lengths : (bytes chunk after : List ℕ) (count : ℕ) → count ≡ length (take count chunk) → after ≡ bytes ++ take count chunk
     → length after ≡ length bytes + count
@@ -67,7 +79,7 @@ module _ (old mid new : Option Calls) (bytes chunk : List ℕ) (made next : ℕ)
       → TakesIn bytes chunk outcome after (Ok Goes) → Counts old new (so_far next after)
   call_goes (Ok count) after called bound takes =
       one_more old mid new (so_far made bytes) (so_far next after) (Ok count) counts called
-      (gave made next bytes count (length after) at (lengths bytes chunk after count bound.1 takes.2))
+      (gave made next bytes count 0 (length after) at (gives count takes.0) (lengths bytes chunk after count bound.1 takes.2))
   call_goes (Err error) after called bound takes =
       one_more old mid new (so_far made bytes) (so_far next after) (Err error) counts called (paused made next bytes after error at takes)
 
@@ -75,10 +87,11 @@ module _ (old mid new : Option Calls) (bytes chunk : List ℕ) (made next : ℕ)
   pub call_ends : (outcome : Result ℕ Error) (after : List ℕ) → CountsCall mid new outcome → TakesIn bytes chunk outcome after (Ok Ended)
       → next ≤ most_calls → EndsWell (record { before = old; after = new }) (length after)
   call_ends (Ok count) after called takes few = (
-    record { made = next; failed = 0; given = length after },
-    one_more old mid new (so_far made bytes) (record { made = next; failed = 0; given = length after }) (Ok count) counts called
-        (gave made next bytes count (length after) at (ap length takes.1 ∙ omega (arith, takes.0))),
+    record { made = next; failed = 0; ended = 1; given = length after },
+    one_more old mid new (so_far made bytes) (record { made = next; failed = 0; ended = 1; given = length after }) (Ok count) counts called
+        (gave made next bytes count 1 (length after) at (gives_none count takes.0) (ap length takes.1 ∙ omega (arith, takes.0))),
     few,
+    refl,
     refl,
     refl,
   )
@@ -90,25 +103,25 @@ module _ (old mid new : Option Calls) (bytes chunk : List ℕ) (made next : ℕ)
       → EndsFor (record { before = old; after = new }) fault
   call_stops (Ok count) after SlurpFault.Read called takes short few = absurd takes
   call_stops (Ok count) after SlurpFault.TooLong called takes short few = (
-    record { made = next; failed = 0; given = length bytes + count },
-    one_more old mid new (so_far made bytes) (record { made = next; failed = 0; given = length bytes + count }) (Ok count) counts called
-        (gave made next bytes count (length bytes + count) at refl),
+    record { made = next; failed = 0; ended = 0; given = length bytes + count },
+    one_more old mid new (so_far made bytes) (record { made = next; failed = 0; ended = 0; given = length bytes + count }) (Ok count) counts called
+        (gave made next bytes count 0 (length bytes + count) at (gives count (omega (arith, takes, short))) refl),
     few,
-    (refl, takes),
+    (refl, refl, takes),
   )
   call_stops (Ok count) after SlurpFault.Memory called takes short few = (
-    record { made = next; failed = 0; given = length bytes + count },
-    one_more old mid new (so_far made bytes) (record { made = next; failed = 0; given = length bytes + count }) (Ok count) counts called
-        (gave made next bytes count (length bytes + count) at refl),
+    record { made = next; failed = 0; ended = 0; given = length bytes + count },
+    one_more old mid new (so_far made bytes) (record { made = next; failed = 0; ended = 0; given = length bytes + count }) (Ok count) counts called
+        (gave made next bytes count 0 (length bytes + count) at (gives count takes.0) refl),
     few,
-    (refl, takes.1),
+    (refl, refl, takes.1),
   )
   call_stops (Err error) after SlurpFault.Read called takes short few = (
-    record { made = next; failed = 1; given = length bytes },
-    one_more old mid new (so_far made bytes) (record { made = next; failed = 1; given = length bytes }) (Err error) counts called
+    record { made = next; failed = 1; ended = 0; given = length bytes },
+    one_more old mid new (so_far made bytes) (record { made = next; failed = 1; ended = 0; given = length bytes }) (Err error) counts called
         (failing made next bytes error at takes),
     few,
-    (inl refl, short),
+    (inl refl, refl, short),
   )
   call_stops (Err error) after SlurpFault.TooLong called takes short few = absurd takes
   call_stops (Err error) after SlurpFault.Memory called takes short few = absurd takes
@@ -127,11 +140,11 @@ bytes_go old mid new bytes chunk (Err error) after before short now bound takes 
 -- as many calls were made as may be
 pub called_out : (old mid : Option Calls) (bytes : List ℕ) (made : ℕ) → Counts old mid (so_far made bytes) → length bytes ≤ longest_input
     → made ≡ most_calls → EndsFor (record { before = old; after = mid }) SlurpFault.Read
-called_out old mid bytes made counts short all = (so_far made bytes, counts, omega (arith, all), (inr (refl, all), short))
+called_out old mid bytes made counts short all = (so_far made bytes, counts, omega (arith, all), (inr (refl, all), refl, short))
 
 -- no memory before the first call
 pub no_room : (known : Option Calls) → EndsFor (record { before = known; after = known }) SlurpFault.Memory
-no_room known = (record { made = 0; failed = 0; given = 0 }, none_made known, omega arith, (refl, omega arith))
+no_room known = (record { made = 0; failed = 0; ended = 0; given = 0 }, none_made known, omega arith, (refl, refl, omega arith))
 
 pub for_fault : {A : Type 0} (all : CallsMade) (fault : SlurpFault) (result : Result A SlurpFault)
     → IsErrAnd result (λ e. e ≡ fault) → EndsFor all fault → IfErr result (EndsFor all)
@@ -141,14 +154,10 @@ for_fault all fault (Err e) is ends = rw (is) ends
 -- ---- no call failed
 
 pub ended_well : (all : CallsMade) (count : ℕ) → EndsWell all count → NoneFailed all
-ended_well all count (calls, counts, few, none, given) = (calls, counts, none)
+ended_well all count (calls, counts, few, none, met, given) = (calls, counts, none)
 
 pub too_many : (all : CallsMade) → EndsFor all SlurpFault.TooLong → NoneFailed all
-too_many all (calls, counts, few, (none, much)) = (calls, counts, none)
+too_many all (calls, counts, few, (none, before, much)) = (calls, counts, none)
 
 pub no_memory : (all : CallsMade) → EndsFor all SlurpFault.Memory → NoneFailed all
-no_memory all (calls, counts, few, (none, short)) = (calls, counts, none)
-
--- all was read, so neither fault of the reader was there
-pub ended_short : (all : CallsMade) (count : ℕ) → EndsWell all count → count ≤ longest_input → EndsFor all SlurpFault.Memory
-ended_short all count (calls, counts, few, none, given) short = (calls, counts, few, (none, omega (arith, given, short)))
+no_memory all (calls, counts, few, (none, before, short)) = (calls, counts, none)

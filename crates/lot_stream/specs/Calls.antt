@@ -1,18 +1,19 @@
 -- What calls of `read` on a reader come to.
-use Rattle.std.specs.Prelude.{◌≡◌, ◌≢◌, ◌⊎◌, ℕ, ◌+◌, ◌-◌, ◌^◌, min, Option, None, Some, Result, Ok, Err, ⊤}
+use Rattle.std.specs.Prelude.{◌≡◌, ◌≢◌, ◌⊎◌, ℕ, zero, suc, ◌+◌, ◌-◌, ◌^◌, min, Option, None, Some, Result, Ok, Err, ⊤}
 use Rattle.std.specs.IoError.{error_kind}
 use Rattle.std.specs.declared.io.Error.{Error}
 use Rattle.std.specs.declared.io.ErrorKind.{ErrorKind}
 
--- how many calls were made, how many of them failed, and how many bytes they gave
+-- how many calls were made, how many of them failed, how many met the end, and how many bytes they gave
 pub record Calls : Type 0 where
   pub made : ℕ
   pub failed : ℕ
+  pub ended : ℕ
   pub given : ℕ
 
 -- no call was made
 abbrev pub no_calls : Calls
-no_calls = record { made = 0; failed = 0; given = 0 }
+no_calls = record { made = 0; failed = 0; ended = 0; given = 0 }
 
 -- a count stops at the largest number of 64 bits
 abbrev pub counted : ℕ → ℕ
@@ -25,10 +26,17 @@ abbrev pub IsFailure : Error → ℕ → Type 0
 IsFailure error failed =
     ((error_kind error ≡ ErrorKind.Interrupted) × (failed ≡ 0)) ⊎ ((error_kind error ≢ ErrorKind.Interrupted) × (failed ≡ 1))
 
--- what one call comes to
+-- how many calls met the end, of a call for at least one byte that gave so many: one where it gave nothing, else none
+abbrev pub ends : ℕ → ℕ
+ends zero = 1
+ends (suc more) = 0
+
+-- what one call for at least one byte comes to
 abbrev pub IsCall : Result ℕ Error → Calls → Type 0
-IsCall (Ok count) call = (call.made ≡ 1) × (call.failed ≡ 0) × (call.given ≡ count)
-IsCall (Err error) call = (call.made ≡ 1) × IsFailure error call.failed × (call.given ≡ 0)
+IsCall (Ok count) call =
+    (call.made ≡ 1) × (call.failed ≡ 0) × (call.ended ≡ ends count) × (call.given ≡ count)
+IsCall (Err error) call =
+    (call.made ≡ 1) × IsFailure error call.failed × (call.ended ≡ 0) × (call.given ≡ 0)
 
 -- ---- more calls
 
@@ -36,6 +44,7 @@ IsCall (Err error) call = (call.made ≡ 1) × IsFailure error call.failed × (c
 abbrev pub GrowsBy : Calls → Calls → Calls → Type 0
 GrowsBy old new more =
     (counted new.made ≡ counted (old.made + more.made)) × (counted new.failed ≡ counted (old.failed + more.failed))
+    × (counted new.ended ≡ counted (old.ended + more.ended))
     × (counted new.given ≡ counted (old.given + more.given))
 
 -- the same, where it is known what all calls came to

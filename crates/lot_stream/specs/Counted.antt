@@ -8,4 +8,5 @@ reader_of counted = counted.reader
 
 -- what its calls came to
 abbrev pub counts_of : {R : Type 0} → Counted R → Calls
-counts_of counted = record { made = counted.made; failed = counted.failed; given = counted.given }
+counts_of counted =
+    record { made = counted.made; failed = counted.failed; ended = counted.ended; given = counted.given }

@@ -52,22 +52,24 @@ pub record CallsMade : Type 0 where
   pub before : Option Calls
   pub after : Option Calls
 
--- The cause of a fault. The reader can't be read: a call failed, the last one, or as many were made as may be; and no more
--- bytes came than may. It is too long: more came, and no call failed. Memory ended: neither is so.
+-- The cause of a fault, which comes before a call met the end. The reader can't be read: a call failed, the last one, or as
+-- many were made as may be; and no more bytes came than may. It is too long: more came, and no call failed. Memory ended:
+-- neither is so.
 abbrev pub IsCause : SlurpFault → Calls → Type 0
 IsCause Read calls =
-    ((calls.failed ≡ 1) ⊎ ((calls.failed ≡ 0) × (calls.made ≡ most_calls))) × (calls.given ≤ longest_input)
-IsCause TooLong calls = (calls.failed ≡ 0) × (longest_input < calls.given)
-IsCause Memory calls = (calls.failed ≡ 0) × (calls.given ≤ longest_input)
+    ((calls.failed ≡ 1) ⊎ ((calls.failed ≡ 0) × (calls.made ≡ most_calls))) × (calls.ended ≡ 0) × (calls.given ≤ longest_input)
+IsCause TooLong calls = (calls.failed ≡ 0) × (calls.ended ≡ 0) × (longest_input < calls.given)
+IsCause Memory calls = (calls.failed ≡ 0) × (calls.ended ≡ 0) × (calls.given ≤ longest_input)
 
 -- calls were made until that fault, for its cause
 abbrev pub EndsFor : CallsMade → SlurpFault → Type 0
 EndsFor all fault = (calls : Calls) × Counts all.before all.after calls × (calls.made ≤ most_calls) × IsCause fault calls
 
--- calls were made until the reader was at its end: none failed, and they gave so many bytes
+-- calls were made until the reader was at its end: none failed, one met the end, and they gave so many bytes
 abbrev pub EndsWell : CallsMade → ℕ → Type 0
 EndsWell all count =
-    (calls : Calls) × Counts all.before all.after calls × (calls.made ≤ most_calls) × (calls.failed ≡ 0) × (calls.given ≡ count)
+    (calls : Calls) × Counts all.before all.after calls × (calls.made ≤ most_calls)
+    × (calls.failed ≡ 0) × (calls.ended ≡ 1) × (calls.given ≡ count)
 
 -- calls were made of which none failed
 abbrev pub NoneFailed : CallsMade → Type 0

@@ -6,7 +6,8 @@ ghost use Rattle.lot_stream.specs.Counted.{counts_of, reader_of};
 
 use std::io::{self, ErrorKind, Read};
 
-/// A reader of which it may be known what its calls came to: how many were made, how many failed, and how many bytes they gave.
+/// A reader of which it may be known what its calls came to: how many were made, how many failed, how many met the end, and how
+/// many bytes they gave.
 ///
 /// Each reader is one of which that isn't known. Of one that is `Counted` it is.
 pub trait CountedRead {
@@ -41,17 +42,23 @@ pub struct Counted<R> {
     made: u64,
     /// How many of them failed, those aside that were interrupted.
     failed: u64,
+    /// How many met the end: they gave nothing.
+    ended: u64,
     /// How many bytes they gave.
     given: u64,
 }
 
 impl<R> Counted<R> {
     /// Returns the reader, of which no call was counted yet.
-    pub fn new(reader: R) -> Counted<R> {
+    pub fn new(reader: R) -> Counted<R>
+        ensures reader { reader_of result ≡ reader }
+        ensures calls { counts_of result ≡ no_calls }
+    {
         Counted {
             reader,
             made: 0,
             failed: 0,
+            ended: 0,
             given: 0,
         }
     }
@@ -66,6 +73,7 @@ impl<R: Read> CountedRead for Counted<R> {
         let outcome = self.reader.read(chunk);
         self.made = self.made.saturating_add(1);
         match &outcome {
+            Ok(0) => self.ended = self.ended.saturating_add(1),
             Ok(count) => self.given = self.given.saturating_add(*count as u64),
             Err(error) if error.kind() == ErrorKind::Interrupted => {}
             Err(_) => self.failed = self.failed.saturating_add(1),
