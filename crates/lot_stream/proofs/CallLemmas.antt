@@ -151,13 +151,6 @@ pub for_fault : {A : Type 0} (all : CallsMade) (fault : SlurpFault) (result : Re
 for_fault all fault (Ok x) is ends = tt
 for_fault all fault (Err e) is ends = rw (is) ends
 
--- ---- no call failed
-
+-- all was read, so no call failed
 pub ended_well : (all : CallsMade) (count : ℕ) → EndsWell all count → NoneFailed all
 ended_well all count (calls, counts, few, none, met, given) = (calls, counts, none)
-
-pub too_many : (all : CallsMade) → EndsFor all SlurpFault.TooLong → NoneFailed all
-too_many all (calls, counts, few, (none, before, much)) = (calls, counts, none)
-
-pub no_memory : (all : CallsMade) → EndsFor all SlurpFault.Memory → NoneFailed all
-no_memory all (calls, counts, few, (none, before, short)) = (calls, counts, none)
