@@ -1,6 +1,6 @@
 -- From the parts of the way to the answer.
-use Rattle.std.proofs.Common.{inl, inr, ◌≡◌, ◌≢◌, ◌<◌, arith, ℕ, List, [], ◌++◌, length, refl, sym, ap, subst, append_assoc, append-nil}
-use Rattle.std.specs.Prelude.{IfErr, IfSome, None, Some, ◌≤◌, Option, Result, Ok, Err, IsErrAnd}
+use Rattle.std.proofs.Common.{inl, inr, ◌≡◌, ◌<◌, ◌∙◌, ℕ, List, [], ◌++◌, length, refl, sym, ap, subst, append_assoc, append-nil}
+use Rattle.std.specs.Prelude.{IfSome, IsErrOf, None, Some, ◌≤◌, Option, Result, Ok, Err, IsErrAnd}
 use Rattle.std.specs.Io.KnownBytes.{Appends, Keeps}
 use Rattle.std.proofs.KnownBytes.{Appends-kept, Appends-nil, Appends-trans}
 use Rattle.lot_stream.specs.declared.fault.Fault.{Fault}
@@ -11,7 +11,8 @@ use Rattle.lot_view.specs.declared.view.View.{View}
 use Rattle.lot_report.specs.declared.fault.ReportFault.{ReportFault}
 use Rattle.lot_report.specs.declared.line.PrintFault.{PrintFault}
 use Rattle.lot_command.specs.declared.command.Command.{Command}
-use Rattle.lot_read.specs.Text.{Reads}
+use Rattle.lot_read.specs.Text.{IsFaultOf, Reads}
+use Rattle.lot_read.specs.declared.fault.TextFault.{TextFault}
 use Rattle.lot_book.specs.Facts.{Entry, Facts}
 use Rattle.lot_book.specs.Holding.{ListsHoldings}
 use Rattle.lot_book.specs.Judged.{JudgesAll, numbered}
@@ -23,18 +24,22 @@ use Rattle.lot_stream.specs.FaultLine.{fault_line}
 use Rattle.lot_check.specs.Key.{key_of}
 use Rattle.lot_stream.specs.Input.{CallsMade, EndsFor, EndsWell, longest_input}
 use Rattle.lot_stream.specs.declared.input.SlurpFault.{SlurpFault}
-use Rattle.lot_stream.proofs.CallLemmas.{ended_short, no_memory, too_many}
-use Rattle.lot_stream.specs.Status.{Ends, code_of, status_of, fault_of_input, fault_of_report}
+use Rattle.lot_stream.specs.Status.{Ends, code_of, status_of, fault_of_input, fault_of_report, fault_of_text}
 use Rattle.lot_check.specs.Answer.{IsOutcome, IsOutput, IsBegun, IsJudged, status_of_replies}
-use Rattle.lot_check.specs.Way.{RunsCommands, Reaches, ReportsFault, Concludes, HeardFor}
+use Rattle.lot_check.specs.Way.{Answers, RunsCommands, Reaches, ReportsFault, Concludes, IsUnheard}
 use Rattle.lot_report.proofs.PrintLemmas.{prefix_behind}
 use Rattle.lot_book.specs.Recorded.{facts_in}
 
 -- ---- A text that was read.
 
--- out of memory before the first command
-pub nothing_read : (input : List ℕ) (held : Option (List ℕ)) → Reaches input held held (Err Fault.Memory)
-nothing_read input held = ([], inl (refl, refl), Appends-nil held)
+-- the first faulty line, or out of memory at a line before it
+pub text_stopped : (input : List ℕ) (held : Option (List ℕ)) (fault : TextFault) (result : Result Status Fault) → length input ≤ longest_input
+    → IsFaultOf input fault → IsErrAnd result (λ e. e ≡ fault_of_text fault) → Reaches input held held result
+text_stopped input held fault (Ok status) short is told = absurd told
+text_stopped input held (TextFault.Line number fault) (Err e) short is told =
+    subst (λ f. Reaches input held held (Err f)) (sym told) (short, is, Appends-nil held)
+text_stopped input held (TextFault.Memory number) (Err e) short is told =
+    subst (λ f. Reaches input held held (Err f)) (sym told) ([], inl (short, number, is, refl, refl), Appends-nil held)
 
 pub run_stopped : (input : List ℕ) (commands : List Command) (old new : Option (List ℕ)) (fault : Fault) → length input ≤ longest_input → Reads input commands
     → RunsCommands commands old new (Err fault) → Reaches input old new (Err fault)
@@ -111,7 +116,7 @@ report_stopped input commands view rows status old mid new fault (Err e) short r
     )
     at ReportFault.Write (text, inr report, part) = (
       replies 1 verdicts ++ text,
-      inr (inr (code_of (status_of_replies verdicts), inr (inr (inl (verdicts, rows, text, whole, report, refl, refl))))),
+      inr (inr (code_of (status_of_replies verdicts), inr (inl (verdicts, rows, text, whole, report, refl, refl)))),
       prefix_behind old mid new (replies 1 verdicts) text replied part,
     )
     at ReportFault.Memory (lines, first, written) = (
@@ -120,34 +125,31 @@ report_stopped input commands view rows status old mid new fault (Err e) short r
       Appends-trans old mid new (replies 1 verdicts) lines replied written,
     )
 
--- ---- What the reader's calls came to.
+-- ---- What a reader has.
 
--- a text that was read
-pub heard_of_text : (all : CallsMade) (text : List ℕ) (count : ℕ) (old new : Option (List ℕ)) (result : Result Status Fault)
-    → EndsWell all count → count ≤ longest_input → length text ≤ longest_input → IfErr result (λ fault. fault ≢ Fault.Read)
-    → Reaches text old new result → HeardFor all result
-heard_of_text all text count old new (Ok status) heard few short had reached = ended_short all count heard few
-heard_of_text all text count old new (Err Fault.Read) heard few short had reached = absurd (had refl)
-heard_of_text all text count old new (Err Fault.TooLong) heard few short had reached = absurd (beyond reached.0)
+-- it isn't read to its end
+pub unheard : {T : Type 0} (all : CallsMade) (known held : Option (List ℕ)) (fault : SlurpFault) (result : Result Status Fault)
+    → IsErrAnd result (λ e. e ≡ fault_of_input fault) → EndsFor all fault
+    → (IsErrOf {T = T} (Err fault) SlurpFault.TooLong → IfSome known (λ input. longest_input < length input))
+    → IfSome known (λ input. Answers all input held held result)
+unheard {T} all None held fault result is ends long = tt
+unheard {T} all (Some input) held fault (Ok status) is ends long = absurd is
+unheard {T} all (Some input) held fault (Err e) is ends long =
+    subst (λ f. Answers all input held held (Err f)) (sym is) (inl (at fault ends long))
   where
-    beyond : longest_input < length text → ⊥
-    beyond long = omega (arith, long, short)
-heard_of_text all text count old new (Err (Fault.Text number fault)) heard few short had reached = ended_short all count heard few
-heard_of_text all text count old new (Err Fault.Range) heard few short had reached = ended_short all count heard few
-heard_of_text all text count old new (Err Fault.Write) heard few short had reached = ended_short all count heard few
-heard_of_text all text count old new (Err Fault.Memory) heard few short had reached = ended_short all count heard few
-heard_of_text all text count old new (Err (Fault.MemoryAt number)) heard few short had reached = ended_short all count heard few
+    at : (f : SlurpFault) → EndsFor all f → (IsErrOf {T = T} (Err f) SlurpFault.TooLong → longest_input < length input)
+        → IsUnheard all input held held (Err (fault_of_input f))
+    at SlurpFault.Read ends long = (ends, Appends-nil held)
+    at SlurpFault.TooLong ends long = (ends, long refl, Appends-nil held)
+    at SlurpFault.Memory ends long = (ends, Appends-nil held)
 
--- a reader that isn't read to its end
-pub heard_at : (all : CallsMade) (fault : SlurpFault) (result : Result Status Fault) → IsErrAnd result (λ e. e ≡ fault_of_input fault)
-    → EndsFor all fault → HeardFor all result
-heard_at all fault (Ok status) is heard = absurd is
-heard_at all fault (Err e) is heard = subst (λ f. HeardFor all (Err f)) (sym is) (at fault heard)
-  where
-    at : (f : SlurpFault) → EndsFor all f → HeardFor all (Err (fault_of_input f))
-    at SlurpFault.Read ends = ends
-    at SlurpFault.TooLong ends = ends
-    at SlurpFault.Memory ends = ends
+-- it is
+pub heard : (all : CallsMade) (known old new : Option (List ℕ)) (items text : List ℕ) (count : ℕ) (result : Result Status Fault)
+    → IfSome known (λ input. items ≡ input) → text ≡ items → length text ≡ count → EndsWell all count → Reaches text old new result
+    → IfSome known (λ input. Answers all input old new result)
+heard all None old new items text count result every same long ends reached = tt
+heard all (Some input) old new items text count result every same long ends reached =
+    subst (λ (t : List ℕ). Answers all t old new result) (same ∙ every) (inr (subst (EndsWell all) (sym long) ends, reached))
 
 -- ---- The outcome.
 
@@ -182,40 +184,64 @@ with_line all input kept fault old mid new (Err cut) end output before line ends
     written_in_part all input (kept ++ fault_line fault) end old new (inr (code_of (status_of fault), output))
     (prefix_behind old mid new kept (fault_line fault) before line) ends
 
-pub outcome : (all : CallsMade) (input : List ℕ) (old mid new : Option (List ℕ)) (reached : Result Status Fault) (concluded : Result Status PrintFault) (end : Status)
-    → Reaches input old mid reached → HeardFor all reached → Concludes mid new reached concluded → Ends concluded end
+-- the reader isn't read to its end
+outcome_unheard : (all : CallsMade) (input : List ℕ) (old mid new : Option (List ℕ)) (reached : Result Status Fault) (concluded : Result Status PrintFault) (end : Status)
+    → IsUnheard all input old mid reached → Concludes mid new reached concluded → Ends concluded end
     → (written : List ℕ) × Appends old new written × IsOutcome all input written (code_of end)
-outcome all input old mid new (Ok status) (Ok final) end (text, whole, before) heard (nothing, is) ends =
-    written_whole all input text status end old new (inl (no_memory all heard, inr (inr (inl whole)))) (subst (λ s. Ends (Ok s) end) is ends)
+outcome_unheard all input old mid new (Ok status) concluded end none reported ends = absurd none
+outcome_unheard all input old mid new (Err Fault.Read) concluded end (why, nothing) reported ends =
+    with_line all input [] Fault.Read old mid new concluded end (inl (inl (why, refl, refl))) nothing reported ends
+outcome_unheard all input old mid new (Err Fault.TooLong) concluded end (why, long, nothing) reported ends =
+    with_line all input [] Fault.TooLong old mid new concluded end (inl (inr (inl (why, (long, refl, refl))))) nothing reported ends
+outcome_unheard all input old mid new (Err Fault.Memory) concluded end (why, nothing) reported ends =
+    with_line all input [] Fault.Memory old mid new concluded end (inl (inr (inr (why, refl, refl)))) nothing reported ends
+outcome_unheard all input old mid new (Err (Fault.Text number fault)) concluded end none reported ends = absurd none
+outcome_unheard all input old mid new (Err Fault.Range) concluded end none reported ends = absurd none
+outcome_unheard all input old mid new (Err Fault.Write) concluded end none reported ends = absurd none
+outcome_unheard all input old mid new (Err (Fault.MemoryAt number)) concluded end none reported ends = absurd none
+
+-- it is
+outcome_of_text : (all : CallsMade) (input : List ℕ) (old mid new : Option (List ℕ)) (reached : Result Status Fault) (concluded : Result Status PrintFault) (end : Status)
+    → EndsWell all (length input) → Reaches input old mid reached → Concludes mid new reached concluded → Ends concluded end
+    → (written : List ℕ) × Appends old new written × IsOutcome all input written (code_of end)
+outcome_of_text all input old mid new (Ok status) (Ok final) end ended (text, whole, before) (nothing, is) ends =
+    written_whole all input text status end old new (inr (ended, inl (inr (inl whole)))) (subst (λ s. Ends (Ok s) end) is ends)
     (nothing_behind old mid new text before nothing)
-outcome all input old mid new (Ok status) (Err cut) end reached heard none ends = absurd none
-outcome all input old mid new (Err Fault.Read) concluded end nothing heard reported ends =
-    with_line all input [] Fault.Read old mid new concluded end (inr (inl (heard, refl, refl))) nothing reported ends
-outcome all input old mid new (Err Fault.TooLong) concluded end (long, nothing) heard reported ends =
-    with_line all input [] Fault.TooLong old mid new concluded end (inl (too_many all heard, inl (long, refl, refl))) nothing reported ends
-outcome all input old mid new (Err (Fault.Text number fault)) concluded end (short, faulty, nothing) heard reported ends =
-    with_line all input [] (Fault.Text number fault) old mid new concluded end (inl (no_memory all heard, inr (inl (short, number, fault, faulty, refl, refl)))) nothing reported ends
-outcome all input old mid new (Err Fault.Range) concluded end (verdicts, rows, report, judged, broken, before) heard reported ends =
+outcome_of_text all input old mid new (Ok status) (Err cut) end ended reached none ends = absurd none
+outcome_of_text all input old mid new (Err Fault.Read) concluded end ended none reported ends = absurd none
+outcome_of_text all input old mid new (Err Fault.TooLong) concluded end ended none reported ends = absurd none
+outcome_of_text all input old mid new (Err (Fault.Text number fault)) concluded end ended (short, faulty, nothing) reported ends =
+    with_line all input [] (Fault.Text number fault) old mid new concluded end (inr (ended, inl (inl (short, number, fault, faulty, refl, refl))))
+    nothing reported ends
+outcome_of_text all input old mid new (Err Fault.Range) concluded end ended (verdicts, rows, report, judged, broken, before) reported ends =
     with_line all input (replies 1 verdicts ++ report) Fault.Range old mid new concluded end
-    (inl (no_memory all heard, inr (inr (inr (verdicts, rows, report, judged, broken, append_assoc (replies 1 verdicts) report (fault_line Fault.Range), refl)))))
+    (inr (ended, inl (inr (inr (verdicts, rows, report, judged, broken, append_assoc (replies 1 verdicts) report (fault_line Fault.Range), refl)))))
     before reported ends
-outcome all input old mid new (Err Fault.Write) (Ok final) end reached heard none ends = absurd none
-outcome all input old mid new (Err Fault.Write) (Err cut) end (text, part, (prefix, proper, before)) heard nothing ends =
-    written_in_part all input text end old new (inl (no_memory all heard, part)) (prefix, proper, nothing_behind old mid new prefix before nothing) ends
-outcome all input old mid new (Err Fault.Memory) concluded end (kept, stops, before) heard reported ends =
+outcome_of_text all input old mid new (Err Fault.Write) (Ok final) end ended reached none ends = absurd none
+outcome_of_text all input old mid new (Err Fault.Write) (Err cut) end ended (text, part, (prefix, proper, before)) nothing ends =
+    written_in_part all input text end old new (inl (ended, part)) (prefix, proper, nothing_behind old mid new prefix before nothing) ends
+outcome_of_text all input old mid new (Err Fault.Memory) concluded end ended (kept, stops, before) reported ends =
     with_line all input kept Fault.Memory old mid new concluded end
-    (inr (inr (heard, (kept, fault_line Fault.Memory, stops, refl, refl)))) before reported ends
-outcome all input old mid new (Err (Fault.MemoryAt number)) concluded end (kept, stops, before) heard reported ends =
+    (inr (ended, inr (kept, fault_line Fault.Memory, stops, refl, refl))) before reported ends
+outcome_of_text all input old mid new (Err (Fault.MemoryAt number)) concluded end ended (kept, stops, before) reported ends =
     with_line all input kept (Fault.MemoryAt number) old mid new concluded end
-    (inr (inr (heard, (kept, fault_line (Fault.MemoryAt number), stops, refl, refl)))) before reported ends
+    (inr (ended, inr (kept, fault_line (Fault.MemoryAt number), stops, refl, refl))) before reported ends
+
+outcome : (all : CallsMade) (input : List ℕ) (old mid new : Option (List ℕ)) (reached : Result Status Fault) (concluded : Result Status PrintFault) (end : Status)
+    → Answers all input old mid reached → Concludes mid new reached concluded → Ends concluded end
+    → (written : List ℕ) × Appends old new written × IsOutcome all input written (code_of end)
+outcome all input old mid new reached concluded end (inl stopped) concludes ends =
+    outcome_unheard all input old mid new reached concluded end stopped concludes ends
+outcome all input old mid new reached concluded end (inr (ended, reaches)) concludes ends =
+    outcome_of_text all input old mid new reached concluded end ended reaches concludes ends
 
 -- where the bytes of the reader are known
 pub outcome_of_input : (all : CallsMade) (known : Option (List ℕ)) (old mid new last : Option (List ℕ)) (reached : Result Status Fault)
     (concluded : Result Status PrintFault) (end : Status) (code : ℕ)
-    → IfSome known (λ input. Reaches input old mid reached) → HeardFor all reached → Concludes mid new reached concluded
+    → IfSome known (λ input. Answers all input old mid reached) → Concludes mid new reached concluded
     → Keeps new last → Ends concluded end → code ≡ code_of end
     → IfSome known (λ input. (written : List ℕ) × Appends old last written × IsOutcome all input written code)
-outcome_of_input all None old mid new last reached concluded end code reaches heard concludes keeps ends is = tt
-outcome_of_input all (Some input) old mid new last reached concluded end code reaches heard concludes keeps ends is =
-    let (written, before, so) = outcome all input old mid new reached concluded end reaches heard concludes ends in
+outcome_of_input all None old mid new last reached concluded end code answers concludes keeps ends is = tt
+outcome_of_input all (Some input) old mid new last reached concluded end code answers concludes keeps ends is =
+    let (written, before, so) = outcome all input old mid new reached concluded end answers concludes ends in
     (written, Appends-kept old new last written before keeps, subst (IsOutcome all input written) (sym is) so)

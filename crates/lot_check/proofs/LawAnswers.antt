@@ -180,7 +180,7 @@ all_replies input text commands verdicts book short reads judged is =
     (commands, [], verdicts, book, short, subst (Reads input) (sym (append-nil commands)) reads, judged, is)
 
 pub kept_begins : (input kept last text : List ℕ) (status : ℕ) → RunsOut input kept last → IsAnswer input text status → IsPrefixOf kept text
-kept_begins input kept last text status (inl h) k = (text, ap (λ start. start ++ text) (sym h.0))
+kept_begins input kept last text status (inl h) k = (text, ap (λ start. start ++ text) (sym h.3))
 kept_begins input kept last text status (inr (inl h)) k =
     replies_begin input kept text status (replies_before input kept h.0 h.1 h.2 h.3) k
 kept_begins input kept last text status (inr (inr (inl h))) k =

@@ -5,7 +5,7 @@ use Rattle.lot_stream.specs.declared.status.Status.{Status}
 use Rattle.lot_command.specs.declared.command.Command.{Command}
 use Rattle.lot_book.specs.declared.holding.Holding.{Holding}
 use Rattle.lot_book.specs.declared.verdict.Verdict.{Verdict}
-use Rattle.lot_read.specs.Text.{Reads, IsFaultAt}
+use Rattle.lot_read.specs.Text.{Reads, IsFaultAt, RunsOutAt}
 use Rattle.lot_read.specs.declared.fault.LineFault.{LineFault}
 use Rattle.lot_book.specs.declared.change.Change.{Change}
 use Rattle.lot_book.specs.Facts.{Entry, Facts}
@@ -18,7 +18,7 @@ use Rattle.lot_stream.specs.FaultLine.{fault_line}
 use Rattle.lot_check.specs.Key.{key_of}
 use Rattle.lot_report.specs.Holdings.{IsReport, IsReportToFault, AreFirstLines, AreKeptLines, unvalued}
 use Rattle.lot_report.specs.Written.{IsProperPrefixOf}
-use Rattle.lot_stream.specs.Input.{CallsMade, EndsFor, NoneFailed, longest_input}
+use Rattle.lot_stream.specs.Input.{CallsMade, EndsFor, EndsWell, longest_input}
 use Rattle.lot_stream.specs.declared.input.SlurpFault.TheVariants as slurp
 use Rattle.lot_stream.specs.Status.{code_of, status_after}
 use Rattle.lot_book.specs.Recorded.{facts_in}
@@ -69,10 +69,13 @@ IsBroken input text status =
     (verdicts : List Verdict) × (rows : List Holding) × (report : List ℕ) × IsJudged input verdicts rows
     × IsReportToFault (unvalued rows) report × (text ≡ replies 1 verdicts ++ (report ++ fault_line Fault.Range)) × (status ≡ 4)
 
+-- the answer to an input that isn't too long, with its status
+abbrev pub IsTextAnswer : List ℕ → List ℕ → ℕ → Type 0
+IsTextAnswer input text status = IsNoText input text status ⊎ IsWhole input text status ⊎ IsBroken input text status
+
 -- the text is the answer to the input, and the status goes with it
 abbrev pub IsAnswer : List ℕ → List ℕ → ℕ → Type 0
-IsAnswer input text status =
-    IsTooLong input text status ⊎ IsNoText input text status ⊎ IsWhole input text status ⊎ IsBroken input text status
+IsAnswer input text status = IsTooLong input text status ⊎ IsTextAnswer input text status
 
 -- ---- Parts of the answer.
 
@@ -88,11 +91,12 @@ AreLines input text =
     (verdicts : List Verdict) × (rows : List Holding) × (lines : List ℕ)
     × IsJudged input verdicts rows × AreFirstLines (unvalued rows) lines × (text ≡ replies 1 verdicts ++ lines)
 
--- ---- Out of memory: whole lines of the answer, and then the line that reports it.
+-- ---- Out of memory behind the end of the input: whole lines of the answer, and then the line that reports it.
 
--- while the input is read: nothing, and the line without a number
-abbrev pub RunsOutInReading : List ℕ → List ℕ → List ℕ → Type 0
-RunsOutInReading input kept last = (kept ≡ []) × (last ≡ fault_line Fault.Memory)
+-- at a line of the text, where those up to it and with it say commands: nothing, and the line without a number
+abbrev pub RunsOutInText : List ℕ → List ℕ → List ℕ → Type 0
+RunsOutInText input kept last =
+    (length input ≤ longest_input) × (number : ℕ) × RunsOutAt input number × (kept ≡ []) × (last ≡ fault_line Fault.Memory)
 
 -- judging a command may lack memory: to decide it, or to record it where it is accepted
 abbrev pub JudgingMayLackMemory : Facts → Command → Type 0
@@ -133,35 +137,41 @@ RunsOutInReport input kept last =
 
 abbrev pub RunsOut : List ℕ → List ℕ → List ℕ → Type 0
 RunsOut input kept last =
-    RunsOutInReading input kept last ⊎ RunsOutAtCommand input kept last ⊎ RunsOutBeforeReport input kept last
+    RunsOutInText input kept last ⊎ RunsOutAtCommand input kept last ⊎ RunsOutBeforeReport input kept last
     ⊎ RunsOutInReport input kept last
 
 -- ---- What is written where the writer takes all of it.
 
--- the reader can't be read: the one line that reports it
-abbrev pub IsUnread : CallsMade → List ℕ → ℕ → Type 0
-IsUnread all text status = EndsFor all slurp.Read × (text ≡ fault_line Fault.Read) × (status ≡ 3)
+-- Why not all that the reader has is had, by what its calls came to, and the one line that says so: it can't be read, it is too
+-- long, or memory ended before its end.
+abbrev pub IsUnread : CallsMade → List ℕ → List ℕ → ℕ → Type 0
+IsUnread all input text status =
+    (EndsFor all slurp.Read × (text ≡ fault_line Fault.Read) × (status ≡ 3))
+    ⊎ (EndsFor all slurp.TooLong × IsTooLong input text status)
+    ⊎ (EndsFor all slurp.Memory × (text ≡ fault_line Fault.Memory) × (status ≡ 4))
 
 -- memory ended before the answer was whole
 abbrev pub IsOutOfMemory : List ℕ → List ℕ → ℕ → Type 0
 IsOutOfMemory input text status = (kept : List ℕ) × (last : List ℕ) × RunsOut input kept last × (text ≡ kept ++ last) × (status ≡ 4)
 
--- The answer, where no call of the reader failed; or what stands for it where the reader can't be read, or where memory ended
--- and no other fault of the reader was there. The status goes with it.
+-- The reader was read to its end, no call of it failed, and it gave as many bytes as the input has: the answer, or what stands for
+-- it where memory ended. Or it wasn't. The status goes with it.
 abbrev pub IsOutput : CallsMade → List ℕ → List ℕ → ℕ → Type 0
 IsOutput all input text status =
-    (NoneFailed all × IsAnswer input text status) ⊎ IsUnread all text status ⊎ (EndsFor all slurp.Memory × IsOutOfMemory input text status)
+    IsUnread all input text status
+    ⊎ (EndsWell all (length input) × (IsTextAnswer input text status ⊎ IsOutOfMemory input text status))
 
 -- ---- What is written where the writer fails.
 
 -- what is being written of an answer: the replies to the first commands, all replies and the first lines of the report, or
 -- all of it
 abbrev pub IsPart : List ℕ → List ℕ → Type 0
-IsPart input text = AreReplies input text ⊎ AreLines input text ⊎ ((status : ℕ) × IsAnswer input text status)
+IsPart input text = AreReplies input text ⊎ AreLines input text ⊎ ((status : ℕ) × IsTextAnswer input text status)
 
--- what was being written when the writer failed: an answer, or an output
+-- what was being written when the writer failed: an answer to what was read to its end, or an output
 abbrev pub IsBegun : CallsMade → List ℕ → List ℕ → Type 0
-IsBegun all input text = (NoneFailed all × IsPart input text) ⊎ ((status : ℕ) × IsOutput all input text status)
+IsBegun all input text =
+    (EndsWell all (length input) × IsPart input text) ⊎ ((status : ℕ) × IsOutput all input text status)
 
 -- a prefix of that, but not all of it; nothing more
 abbrev pub IsCut : CallsMade → List ℕ → List ℕ → ℕ → Type 0
@@ -175,8 +185,9 @@ IsUnflushed all input written status = ((before : ℕ) × IsOutput all input wri
 
 -- What is written for an input that was read by these calls, and the status. The answer with its status; or the one line that
 -- the reader can't be read, with status 3; or, out of memory, with status 4, whole lines of the answer and the line that says
--- at which command. Or, with status 4: the writer failed, and a prefix of that is written but not all of it; or all of it is
--- written, and it failed to flush.
+-- at which command: before the end of the input none, and behind it never where the answer was settled before memory ended. Or,
+-- with status 4: the writer failed, and a prefix of that is written but not all of it; or all of it is written, and it failed to
+-- flush.
 abbrev pub IsOutcome : CallsMade → List ℕ → List ℕ → ℕ → Type 0
 IsOutcome all input written status =
     IsOutput all input written status ⊎ IsCut all input written status ⊎ IsUnflushed all input written status

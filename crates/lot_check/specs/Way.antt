@@ -11,7 +11,7 @@ use Rattle.lot_book.specs.declared.change.Change.{Change}
 use Rattle.lot_book.specs.declared.holding.Holding.{Holding}
 use Rattle.lot_book.specs.declared.verdict.Verdict.{Verdict}
 use Rattle.lot_view.specs.declared.view.View.{View}
-use Rattle.lot_read.specs.Text.{IsFaultAt, Reads, RunsOutAt}
+use Rattle.lot_read.specs.Text.{IsFaultAt, Reads}
 use Rattle.lot_book.specs.Change.{Lists}
 use Rattle.lot_book.specs.Facts.{Entry, Facts}
 use Rattle.lot_book.specs.Judged.{JudgesAll, numbered}
@@ -22,7 +22,7 @@ use Rattle.lot_report.specs.Holdings.{IsReportToFault, unvalued}
 use Rattle.lot_report.specs.Written.{AppendsPrefix}
 use Rattle.lot_stream.specs.FaultLine.{fault_line}
 use Rattle.lot_check.specs.Key.{key_of}
-use Rattle.lot_stream.specs.Input.{CallsMade, EndsFor, longest_input}
+use Rattle.lot_stream.specs.Input.{CallsMade, EndsFor, EndsWell, longest_input}
 use Rattle.lot_stream.specs.declared.input.SlurpFault.TheVariants as slurp
 use Rattle.lot_stream.specs.Status.{code_of, status_of}
 use Rattle.lot_check.specs.Answer.{status_of_replies, status_of_verdict, IsPart, IsWhole, IsJudged, JudgingMayLackMemory, RunsOut}
@@ -88,11 +88,11 @@ RunsCommands commands old new (Err Fault.Read) = ⊥
 abbrev pub StopsForMemory : List ℕ → Fault → Option (List ℕ) → Option (List ℕ) → Type 0
 StopsForMemory input fault old new = (kept : List ℕ) × RunsOut input kept (fault_line fault) × Appends old new kept
 
--- what is written of an input before its fault is reported, if it comes to one
+-- what is written of an input that was read to its end before its fault is reported, if it comes to one
 abbrev pub Reaches : List ℕ → Option (List ℕ) → Option (List ℕ) → Result Status Fault → Type 0
 Reaches input old new (Ok status) = (text : List ℕ) × IsWhole input text (code_of status) × Appends old new text
-Reaches input old new (Err Fault.Read) = Appends old new []
-Reaches input old new (Err Fault.TooLong) = (longest_input < length input) × Appends old new []
+Reaches input old new (Err Fault.Read) = ⊥
+Reaches input old new (Err Fault.TooLong) = ⊥
 Reaches input old new (Err (Fault.Text number fault)) = (length input ≤ longest_input) × IsFaultAt input number fault × Appends old new []
 Reaches input old new (Err Fault.Range) =
     (verdicts : List Verdict) × (rows : List Holding) × (report : List ℕ) × IsJudged input verdicts rows
@@ -101,20 +101,22 @@ Reaches input old new (Err Fault.Write) = (text : List ℕ) × IsPart input text
 Reaches input old new (Err Fault.Memory) = StopsForMemory input Fault.Memory old new
 Reaches input old new (Err (Fault.MemoryAt number)) = StopsForMemory input (Fault.MemoryAt number) old new
 
--- What the reader's calls came to where the run ends so: they have the cause of a fault of the reader, and of no fault else.
-abbrev pub HeardFor : CallsMade → Result Status Fault → Type 0
-HeardFor all (Ok status) = EndsFor all slurp.Memory
-HeardFor all (Err Fault.Read) = EndsFor all slurp.Read
-HeardFor all (Err Fault.TooLong) = EndsFor all slurp.TooLong
-HeardFor all (Err (Fault.Text number fault)) = EndsFor all slurp.Memory
-HeardFor all (Err Fault.Range) = EndsFor all slurp.Memory
-HeardFor all (Err Fault.Write) = EndsFor all slurp.Memory
-HeardFor all (Err Fault.Memory) = EndsFor all slurp.Memory
-HeardFor all (Err (Fault.MemoryAt number)) = EndsFor all slurp.Memory
+-- nothing is written where the reader isn't read to its end, and its calls have the cause of the fault
+abbrev pub IsUnheard : CallsMade → List ℕ → Option (List ℕ) → Option (List ℕ) → Result Status Fault → Type 0
+IsUnheard all input old new (Ok status) = ⊥
+IsUnheard all input old new (Err Fault.Read) = EndsFor all slurp.Read × Appends old new []
+IsUnheard all input old new (Err Fault.TooLong) =
+    EndsFor all slurp.TooLong × (longest_input < length input) × Appends old new []
+IsUnheard all input old new (Err Fault.Memory) = EndsFor all slurp.Memory × Appends old new []
+IsUnheard all input old new (Err (Fault.Text number fault)) = ⊥
+IsUnheard all input old new (Err Fault.Range) = ⊥
+IsUnheard all input old new (Err Fault.Write) = ⊥
+IsUnheard all input old new (Err (Fault.MemoryAt number)) = ⊥
 
--- its lines up to one, or all of them, say commands
-abbrev pub HasMeaning : List ℕ → Type 0
-HasMeaning text = ((number : ℕ) × RunsOutAt text number) ⊎ ((commands : List Command) × Reads text commands)
+-- the same of what a reader has, which is read to its end, or isn't
+abbrev pub Answers : CallsMade → List ℕ → Option (List ℕ) → Option (List ℕ) → Result Status Fault → Type 0
+Answers all input old new result =
+    IsUnheard all input old new result ⊎ (EndsWell all (length input) × Reaches input old new result)
 
 -- the line of a fault is written, with its status; or the writer fails within it
 abbrev pub ReportsFault : Fault → Option (List ℕ) → Option (List ℕ) → Result Status PrintFault → Type 0

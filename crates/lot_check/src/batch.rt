@@ -2,13 +2,12 @@
 //!
 //! - `report`: what the book holds, as it is written.
 
-ghost use Rattle.std.specs.Prelude.{◌≡◌, ◌≢◌, ◌≤◌, ℕ, List, length, IfErr, IfOk, IfSome, IsErrOf, OnErr};
+ghost use Rattle.std.specs.Prelude.{◌≡◌, ◌≤◌, ℕ, List, length, IfOk, IfSome, OnErr};
 ghost use Rattle.std.specs.Io.KnownBytes.{Appends};
 ghost use Rattle.lot_stream.specs.Status.{IsStatus};
 ghost use Rattle.lot_check.specs.Answer.{IsOutcome, JudgingMayLackMemory, status_of_verdict};
 ghost use Rattle.lot_stream.specs.Input.{longest_input};
-ghost use Rattle.lot_check.specs.Way.{Concludes, HasMeaning, HeardFor, JudgesKnown, Reaches, Replies, RunsCommands};
-ghost use Rattle.lot_stream.specs.declared.fault.Fault.TheVariants.{Memory, Read as Unread};
+ghost use Rattle.lot_check.specs.Way.{Answers, Concludes, JudgesKnown, Reaches, Replies, RunsCommands};
 ghost use Rattle.lot_view.specs.View.{known};
 
 mod report;
@@ -53,10 +52,9 @@ fn answer<R: CountedRead, W: Write>(
     reader: &mut R,
     writer: &mut W,
 ) -> Result<Status, Fault>
-    ensures way { IfSome (R.remaining reader.old) (λ input.
-        Reaches input (W.contents writer.old) (W.contents writer.new) result) }
-    ensures heard { HeardFor (record { before = R.calls reader.old; after = R.calls reader.new })
-        result }
+    ensures { IfSome (R.remaining reader.old) (λ input.
+        Answers (record { before = R.calls reader.old; after = R.calls reader.new })
+        input (W.contents writer.old) (W.contents writer.new) result) }
 {
     let text = slurp(alloc, reader)?;
     answer_text(alloc, &text, writer)
@@ -65,11 +63,7 @@ fn answer<R: CountedRead, W: Write>(
 /// The same for a text that was read.
 fn answer_text<W: Write>(alloc: Global, text: &[u8], writer: &mut W) -> Result<Status, Fault>
     requires { length text.now ≤ longest_input }
-    ensures way { Reaches text.now (W.contents writer.old) (W.contents writer.new) result }
-    // A text that was read has no fault of a reader.
-    ensures had { IfErr result (λ fault. fault ≢ Unread) }
-    // Out of memory comes before a faulty line, never at one.
-    ensures memory { IsErrOf result Memory → HasMeaning text.now }
+    ensures { Reaches text.now (W.contents writer.old) (W.contents writer.new) result }
 {
     let commands = read(alloc, text)?;
     let (view, status) = run(alloc, commands, writer)?;
