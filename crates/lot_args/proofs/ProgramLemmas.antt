@@ -1,10 +1,9 @@
 -- What the command of the program is.
 use Rattle.std.proofs.Common.{◌≡◌, ◌&&◌, ◌∙◌, Bool, true, false, not, List, [], ◌∷◌, Option, Some, None, map, find, option_map, refl, sym, ap, ap₂, inl, inr}
 use Rattle.std.proofs.lemmas.Bool.{true≢false}
-use Rattle.clap.specs.Words.{AddsArg, AddsSubcommand, App, Row, Rule, Shape, Text, app_of, built, is_simple, is_simple_and_free, rule_of, subcommand_of, with_rule, with_subcommand}
+use Rattle.clap.specs.Words.{AddsSubcommand, App, Row, Rule, Shape, Text, app_of, built, is_simple, is_simple_and_free, subcommand_of, with_rule, with_subcommand}
 use Rattle.clap.specs.Simple.{argument_words, entered, label_of, names_of, rows_at}
 use Rattle.clap.specs.Walk.{answers_to, stop_after}
-use Rattle.clap.specs.declared.builder.arg.Arg.{Arg}
 use Rattle.clap.specs.declared.builder.command.Command.{Command}
 use Rattle.lot_args.specs.Program.{program_app}
 use Rattle.lot_args.specs.Steps.{IsOneOf, IsWord}
@@ -16,16 +15,18 @@ third_of true true true rest e = absurd (true≢false (sym e))
 third_of true false g rest e = absurd (true≢false (sym e))
 third_of false b g rest e = absurd (true≢false (sym e))
 
--- a command with one option more
-pub one_option : (old new : Command) (arg : Arg) (app : App) (rule : Rule) → app_of old ≡ app → rule_of arg ≡ rule → arg.global ≡ false
-    → AddsArg old arg new → app_of new ≡ with_rule app rule
-one_option old new arg app rule was is local adds = adds.shape local ∙ ap₂ with_rule was is
+-- a word with one option more
+pub one_option : (old new app : App) (more rule : Rule) → old ≡ app → more ≡ rule → new ≡ with_rule old more → new ≡ with_rule app rule
+one_option old new app more rule was is adds = adds ∙ ap₂ with_rule was is
+
+-- what `clap` says of one word more
+pub whole_word : (old word new : Command) → (app_of word).top.is_plain ≡ true → AddsSubcommand old word new
+    → app_of new ≡ with_subcommand (app_of old) (app_of word).top
+whole_word old word new plain adds = adds.shape (third_of _ _ _ _ plain)
 
 -- a command with one word more
-pub one_word : (old word new : Command) (app sub : App) → app_of old ≡ app → app_of word ≡ sub → sub.top.is_plain ≡ true
-    → AddsSubcommand old word new → app_of new ≡ with_subcommand app sub.top
-one_word old word new app sub was is plain adds =
-    adds.shape (third_of _ _ _ _ (ap (λ (a : App). a.top.is_plain) is ∙ plain)) ∙ ap₂ with_subcommand was (ap (λ (a : App). a.top) is)
+pub one_word : (old word new app sub : App) → old ≡ app → word ≡ sub → new ≡ with_subcommand old word.top → new ≡ with_subcommand app sub.top
+one_word old word new app sub was is adds = adds ∙ ap₂ with_subcommand was (ap (λ (a : App). a.top) is)
 
 -- `clap` says of the program exactly which words it takes, and what is wrong with others
 pub is_told : is_simple_and_free program_app ≡ true

@@ -52,9 +52,12 @@ abbrev pub with_words : App → List App → App
 with_words app [] = app
 with_words app (word ∷ words) = with_words (with_subcommand app word.top) words
 
--- the program, which has a version, and no word for help
-abbrev pub program_app : App
-program_app =
+-- the program without a word: it has a version, and no word for help
+abbrev pub bare_app : App
+bare_app =
     let bare = new_app (codes "lotbook") in
-    with_words (record bare { top = record bare.top { has_version = true; disable_help_subcommand = true } })
-    (init_app ∷ post_app ∷ import_app ∷ holdings_app ∷ gains_app ∷ journal_app ∷ [])
+    record bare { top = record bare.top { has_version = true; disable_help_subcommand = true } }
+
+-- the program
+abbrev pub program_app : App
+program_app = with_words bare_app (init_app ∷ post_app ∷ import_app ∷ holdings_app ∷ gains_app ∷ journal_app ∷ [])

@@ -1,10 +1,10 @@
 //! The words that there are, each with its help and its options.
-ghost use Rattle.std.specs.Prelude.{◌≡◌, IfOk, true};
-ghost use Rattle.clap.specs.Words.{app_of, with_subcommand};
-ghost use Rattle.lot_args.specs.Program.{gains_app, holdings_app, import_app, init_app, journal_app, post_app, program_app};
+ghost use Rattle.std.specs.Prelude.{◌≡◌, IfOk, false, true};
+ghost use Rattle.clap.specs.Words.{app_of, new_app, rule_of, with_rule, with_subcommand};
+ghost use Rattle.lot_args.specs.Program.{bare_app, gains_app, holdings_app, import_app, init_app, journal_app, post_app, program_app};
 
 use crate::options::{account, batch, book, day, from};
-use clap::Command;
+use clap::{Arg, Command};
 use std::alloc::{AllocError, Global};
 
 /// What `--version` prints behind the name of the program.
@@ -14,131 +14,204 @@ const VERSION: &str = "1.0.0";
 pub(crate) fn program<'a>(alloc: Global) -> Result<Command<'a>, AllocError>
     ensures { IfOk result (λ command. app_of command ≡ program_app) }
 {
-    Command::new(alloc, "lotbook")
-        .about(
-            "A lot book: what an investor holds, what it cost, and what each sale earned.\n\nWithout a word it reads ledger text from standard input, judges it on a fresh book in memory, and prints a reply for each command and what is held then: lotbook < year.ledger",
-        )
-        .version(VERSION)
-        .disable_help_subcommand(true)
-        .subcommand(init(alloc)?)?
-        .subcommand(post(alloc)?)?
-        .subcommand(import(alloc)?)?
-        .subcommand(holdings(alloc)?)?
-        .subcommand(gains(alloc)?)?
-        .subcommand(journal(alloc)?)
+    let program = bare(alloc);
+    let program = with_word(program, init(alloc)?)?;
+    let program = with_word(program, post(alloc)?)?;
+    let program = with_word(program, import(alloc)?)?;
+    let program = with_word(program, holdings(alloc)?)?;
+    let program = with_word(program, gains(alloc)?)?;
+    with_word(program, journal(alloc)?)
 }
 
 /// `init --book FILE`
 fn init<'a>(alloc: Global) -> Result<Command<'a>, AllocError>
     ensures { IfOk result (λ command. app_of command ≡ init_app) }
 {
-    Command::new(alloc, "init")
-        .about(
-            "Makes a book in a file: lotbook init --book family.book\n\nA file that is a book already is left as it is, with the fault S1 NotABook.",
-        )
-        .arg(book(alloc))
+    let word = word(
+        alloc,
+        "init",
+        "Makes a book in a file: lotbook init --book family.book\n\nA file that is a book already is left as it is, with the fault S1 NotABook.",
+    );
+    with_option(word, book(alloc))
 }
 
 /// `post --book FILE --batch NAME [--from N]`
 fn post<'a>(alloc: Global) -> Result<Command<'a>, AllocError>
     ensures { IfOk result (λ command. app_of command ≡ post_app) }
 {
-    Command::new(alloc, "post")
-        .about(
-            "Judges ledger text from standard input on a book and keeps what is accepted, a commit for each command: lotbook post --book family.book --batch 2024 < 2024.ledger",
-        )
-        .arg(book(alloc))?
-        .arg(batch(
+    let word = word(
+        alloc,
+        "post",
+        "Judges ledger text from standard input on a book and keeps what is accepted, a commit for each command: lotbook post --book family.book --batch 2024 < 2024.ledger",
+    );
+    let word = with_option(word, book(alloc))?;
+    let word = with_option(
+        word,
+        batch(
             alloc,
             "A name for this list of commands, as in --batch 2024: 1 to 32 letters, digits, '.', '_' or '-'. A command that comes again under the same batch and number is a repeat and changes nothing",
-        ))?
-        .arg(from(
+        ),
+    )?;
+    with_option(
+        word,
+        from(
             alloc,
             "The number of the first command to run, as in --from 120: those before it are read but not run, and a fault in one of them still stops the call",
-        ))
+        ),
+    )
 }
 
 /// `import --book FILE --batch NAME --invest ACCOUNT --cash ACCOUNT --fees ACCOUNT --gains ACCOUNT [--from N]`
 fn import<'a>(alloc: Global) -> Result<Command<'a>, AllocError>
     ensures { IfOk result (λ command. app_of command ≡ import_app) }
 {
-    Command::new(alloc, "import")
-        .about(
-            "Posts the rows of a broker file (CSV) from standard input to a book and keeps what is accepted, a commit for each row: lotbook import --book family.book --batch broker --invest Assets:Broker --cash Assets:Cash --fees Expenses:Fees --gains Income:Gains < deals.csv\n\nThe first record is ref,date,action,symbol,units,price,currency,fee and optionally lot. The rows have to be in the order of their days, the oldest first: a deal of an earlier day than the last one that was accepted for the same account and symbol is refused.",
-        )
-        .arg(book(alloc))?
-        .arg(batch(
+    let word = word(
+        alloc,
+        "import",
+        "Posts the rows of a broker file (CSV) from standard input to a book and keeps what is accepted, a commit for each row: lotbook import --book family.book --batch broker --invest Assets:Broker --cash Assets:Cash --fees Expenses:Fees --gains Income:Gains < deals.csv\n\nThe first record is ref,date,action,symbol,units,price,currency,fee and optionally lot. The rows have to be in the order of their days, the oldest first: a deal of an earlier day than the last one that was accepted for the same account and symbol is refused.",
+    );
+    let word = with_option(word, book(alloc))?;
+    let word = with_option(
+        word,
+        batch(
             alloc,
             "A name for the account at the broker, as in --batch broker: 1 to 32 letters, digits, '.', '_' or '-'. Give it with all files of that account and with no other: a row that was accepted before under this batch is a repeat and changes nothing; another row with its ref, or the same row with other accounts, is refused",
-        ))?
-        .arg(account(
+        ),
+    )?;
+    let word = with_option(
+        word,
+        account(
             alloc,
             "invest",
             "The account that holds what is bought until it is sold, as in --invest Assets:Broker",
-        ))?
-        .arg(account(
+        ),
+    )?;
+    let word = with_option(
+        word,
+        account(
             alloc,
             "cash",
             "The account that pays for purchases and takes what sales bring, as in --cash Assets:Cash",
-        ))?
-        .arg(account(
+        ),
+    )?;
+    let word = with_option(
+        word,
+        account(
             alloc,
             "fees",
             "The account that the fees are posted to, as in --fees Expenses:Fees",
-        ))?
-        .arg(account(
+        ),
+    )?;
+    let word = with_option(
+        word,
+        account(
             alloc,
             "gains",
             "The account that takes what a sale gains or loses, as in --gains Income:Gains",
-        ))?
-        .arg(from(
+        ),
+    )?;
+    with_option(
+        word,
+        from(
             alloc,
             "The number of the first row to run, as in --from 120: those before it are read but not run, and a fault in one of them still stops the call",
-        ))
+        ),
+    )
 }
 
 /// `holdings --book FILE [--day DAY]`
 fn holdings<'a>(alloc: Global) -> Result<Command<'a>, AllocError>
     ensures { IfOk result (λ command. app_of command ≡ holdings_app) }
 {
-    Command::new(alloc, "holdings")
-        .about("Prints what a book holds and what it cost: lotbook holdings --book family.book")
-        .arg(book(alloc))?
-        .arg(day(
+    let word = word(
+        alloc,
+        "holdings",
+        "Prints what a book holds and what it cost: lotbook holdings --book family.book",
+    );
+    let word = with_option(word, book(alloc))?;
+    with_option(
+        word,
+        day(
             alloc,
             "day",
             "The day at whose prices the lots are valued, as in --day 2024-12-31. Without it no value is printed",
-        ))
+        ),
+    )
 }
 
 /// `gains --book FILE [--first DAY] [--last DAY]`
 fn gains<'a>(alloc: Global) -> Result<Command<'a>, AllocError>
     ensures { IfOk result (λ command. app_of command ≡ gains_app) }
 {
-    Command::new(alloc, "gains")
-        .about(
-            "Prints what each sale of a book earned, lot by lot: lotbook gains --book family.book --first 2024-01-01 --last 2024-12-31",
-        )
-        .arg(book(alloc))?
-        .arg(day(
+    let word = word(
+        alloc,
+        "gains",
+        "Prints what each sale of a book earned, lot by lot: lotbook gains --book family.book --first 2024-01-01 --last 2024-12-31",
+    );
+    let word = with_option(word, book(alloc))?;
+    let word = with_option(
+        word,
+        day(
             alloc,
             "first",
             "The first day whose sales are printed, as in --first 2024-01-01. Without it they begin with the first sale",
-        ))?
-        .arg(day(
+        ),
+    )?;
+    with_option(
+        word,
+        day(
             alloc,
             "last",
             "The last day whose sales are printed, as in --last 2024-12-31. Without it they end with the last sale",
-        ))
+        ),
+    )
 }
 
 /// `journal --book FILE`
 fn journal<'a>(alloc: Global) -> Result<Command<'a>, AllocError>
     ensures { IfOk result (λ command. app_of command ≡ journal_app) }
 {
-    Command::new(alloc, "journal")
+    let word = word(
+        alloc,
+        "journal",
+        "Prints the accepted commands of a book as ledger text: lotbook journal --book family.book > family.ledger",
+    );
+    with_option(word, book(alloc))
+}
+
+/// Returns the program without a word.
+fn bare<'a>(alloc: Global) -> Command<'a>
+    ensures { app_of result ≡ bare_app }
+{
+    Command::new(alloc, "lotbook")
         .about(
-            "Prints the accepted commands of a book as ledger text: lotbook journal --book family.book > family.ledger",
+            "A lot book: what an investor holds, what it cost, and what each sale earned.\n\nWithout a word it reads ledger text from standard input, judges it on a fresh book in memory, and prints a reply for each command and what is held then: lotbook < year.ledger",
         )
-        .arg(book(alloc))
+        .version(VERSION)
+        .disable_help_subcommand(true)
+}
+
+/// Returns the program with that word behind its others.
+fn with_word<'a>(program: Command<'a>, word: Command<'a>) -> Result<Command<'a>, AllocError>
+    requires { (app_of word).top.is_plain ≡ true }
+    ensures { IfOk result (λ more.
+        app_of more ≡ with_subcommand (app_of program.entry) (app_of word.entry).top) }
+{
+    program.subcommand(word)
+}
+
+/// Returns the word of that name, with its help and without an option.
+fn word<'a>(alloc: Global, name: &'a str, about: &'a str) -> Command<'a>
+    ensures { app_of result ≡ new_app name.now }
+{
+    Command::new(alloc, name).about(about)
+}
+
+/// Returns the word with that option behind its others.
+fn with_option<'a>(word: Command<'a>, option: Arg<'a>) -> Result<Command<'a>, AllocError>
+    requires { option.global ≡ false }
+    ensures { IfOk result (λ more.
+        app_of more ≡ with_rule (app_of word.entry) (rule_of option.entry)) }
+{
+    word.arg(option)
 }

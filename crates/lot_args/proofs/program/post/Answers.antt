@@ -1,13 +1,9 @@
-use Rattle.std.proofs.Common.{◌≡◌, ◌∙◌, ap, codes}
 use Rattle.std.proofs.lemmas.Result.{IfOk-weaker}
-use Rattle.clap.specs.Simple.{app_of_fields}
-use Rattle.clap.specs.Words.{app_of, new_app}
 use Rattle.lot_args.proofs.ProgramLemmas.{one_option}
 use Rattle.lot_args.proofs.program.post.Goals as goal
 
 pub returns : goal.returns
 returns c =
-    let none : app_of c.about.result ≡ new_app (codes "post") = ap app_of_fields c.about.ensures ∙ c.new.ensures.app in
-    let one = one_option _ _ _ _ _ none c.book.ensures.rule c.book.ensures.local c.in_ok-arg.ensures in
-    let two = one_option _ _ _ _ _ one c.batch.ensures.rule c.batch.ensures.local c.in_ok-arg-2.ensures in
-    IfOk-weaker c.arg-3.result _ _ (λ command h. one_option _ _ _ _ _ two c.from.ensures.rule c.from.ensures.local h) c.arg-3.ensures
+    let one = one_option _ _ _ _ _ c.word-word.ensures c.book.ensures.rule c.in_ok-word.ensures in
+    let two = one_option _ _ _ _ _ one c.batch.ensures.rule c.in_ok-word-2.ensures in
+    IfOk-weaker c.with_option-3.result _ _ (λ command h. one_option _ _ _ _ _ two c.from.ensures.rule h) c.with_option-3.ensures
