@@ -1,5 +1,5 @@
 -- The first residual that isn't that of units is refused.
-use Rattle.std.proofs.Common.{◌≡◌, None, Some, ℤ, ◌*ℤ◌, pos, sym, ap, ◌∙◌}
+use Rattle.std.proofs.Common.{◌≡◌, ℤ, ◌*ℤ◌, pos, sym, ap, ◌∙◌}
 use Rattle.std.specs.Option.{option_map}
 use Rattle.lot_num.specs.Amount.{one, IsUnits}
 use Rattle.lot_book.specs.declared.refusal.Refusal.TheVariants.{InexactFill}

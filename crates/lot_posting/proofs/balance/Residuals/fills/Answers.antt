@@ -2,8 +2,6 @@
 use Rattle.std.proofs.Common.{of_z, w64, ◌≡◌, ◌≢◌, Some, ◌++◌, ◌∷◌, ℤ, pos, ◌*ℤ◌, sym, ap, ◌∙◌, append_assoc}
 use Rattle.lot_num.specs.Amount.{one, IsUnits}
 use Rattle.lot_posting.proofs.BalanceLemmas.{fills_of, misfits_units, fills_of-more, misfit-passes, misfit-stops}
-use Rattle.lot_book.specs.declared.refusal.Refusal.TheVariants.{InexactFill}
-use Rattle.std.specs.Option.{option_map}
 use Rattle.lot_book.specs.Refusals.{first_currency}
 use Rattle.lot_posting.proofs.balance.Residuals.fills.Goals as goal
 
