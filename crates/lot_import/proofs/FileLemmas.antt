@@ -1,10 +1,10 @@
 -- How the rows of a file, or its fault, follow from the records that are read one after another.
-use Rattle.std.proofs.Common.{◌≡◌, ℕ, ◌+◌, ◌<◌, ◌≤◌, List, [], ◌∷◌, ◌++◌, Bor, Result, Ok, Err, IsErrAnd, IfErr, length, get_or, sym, ◌∙◌, ap, subst, inr, arith}
+use Rattle.std.proofs.Common.{◌≡◌, ℕ, ◌+◌, ◌<◌, ◌≤◌, List, [], ◌∷◌, ◌++◌, Bor, Result, Ok, Err, IsErrAnd, IfErr, IfOk, OnOk, length, get_or, sym, ◌∙◌, ap, subst, inl, inr, refl, arith}
 use Rattle.std.proofs.lemmas.List.{append-nil, append_assoc, length_push}
 use Rattle.csv.specs.declared.reader.Reader.{Reader}
 use Rattle.std.proofs.lemmas.Slice.Zip.{AllZip-long}
-use Rattle.lot_import.specs.File.{HasBadRecord, HasExtraRecord, HasFault, HasNoHeader, HasRecords, SayRows, file_records, most_rows}
-use Rattle.lot_import.specs.Reading.{EndsInRows, GivesRow, HasRecordFault, records_left}
+use Rattle.lot_import.specs.File.{AreRows, HasBadRecord, HasExtraRecord, HasFault, HasNoHeader, HasRecords, SayRows, file_records, most_rows}
+use Rattle.lot_import.specs.Reading.{EndsInFile, EndsInRows, GivesRow, HasFileFault, HasHeaderFault, HasRecordFault, SayFile, records_left}
 use Rattle.lot_import.specs.Row.{IsFaulty, IsRow, columns}
 use Rattle.lot_import.specs.declared.fault.Cause.{Cause}
 use Rattle.lot_import.specs.declared.fault.RowsFault.{RowsFault}
@@ -101,7 +101,48 @@ all_read version all done left rows e none said few =
     let lengths : length all ≡ length done = ap length same in
     omega (arith, long, lengths, few)
 
+-- ---- The records of a file.
+
+-- the fault of its header
+pub header_fault : (all : List (List (List ℕ))) (reader : Reader (Bor (List ℕ))) (fault : RowsFault) → HasHeaderFault all reader fault
+    → HasFileFault all reader fault
+header_fault all reader Faults.BadHeader h = h
+header_fault all reader (Faults.BadRow number cause) h = absurd h
+header_fault all reader Faults.TooManyRows h = absurd h
+header_fault all reader Faults.Memory h = inl h
+
+module _ {T : Type 0} (version : Version) (all left : List (List (List ℕ))) (is : all ≡ columns version ∷ left) where
+  -- the fault of the records behind it
+  pub behind_header : (reader : Reader (Bor (List ℕ))) (r : Result T RowsFault) → IfErr r (λ fault. HasRecordFault version left fault)
+      → (r ≡ Err Faults.Memory → EndsInRows version left reader) → IfErr r (HasFileFault all reader)
+  behind_header reader (Ok rows) h memory = tt
+  behind_header reader (Err Faults.BadHeader) h memory = absurd h
+  behind_header reader (Err (Faults.BadRow number cause)) h memory = (version, left, is, h)
+  behind_header reader (Err Faults.TooManyRows) h memory = (version, left, is, h)
+  behind_header reader (Err Faults.Memory) h memory = at (memory refl)
+    where
+      at : EndsInRows version left reader → EndsInFile all reader
+      at (inl failed) = inl failed
+      at (inr read) = inr (version, left, is, read)
+
+  -- the rows that they say
+  pub said_file : (items : T → List Row) (r : Result T RowsFault) → IfOk r (λ rows. SayRows version left (items rows))
+      → OnOk r (length left ≤ most_rows) → IfOk r (λ rows. SayFile all (items rows))
+  said_file items (Ok rows) said few = record { version = version; written = left; file = is; said = said; few = few }
+  said_file items (Err fault) said few = tt
+
 -- ---- The file.
+
+module _ (bytes : List ℕ) (all : List (List (List ℕ))) (same : all ≡ file_records bytes) where
+  pub file_rows : (rows : List Row) → SayFile all rows → AreRows bytes rows
+  file_rows rows say =
+      record { version = say.version; written = say.written; file = sym same ∙ say.file; said = say.said; few = say.few }
+
+  pub records_fault : (reader : Reader (Bor (List ℕ))) (fault : RowsFault) → HasFileFault all reader fault → HasFault bytes fault
+  records_fault reader Faults.BadHeader h = λ version written file. h version written (same ∙ file)
+  records_fault reader (Faults.BadRow number cause) (version, written, file, bad) = (version, written, sym same ∙ file, bad)
+  records_fault reader Faults.TooManyRows (version, written, file, extra) = (version, written, sym same ∙ file, extra)
+  records_fault reader Faults.Memory h = tt
 
 pub file_fault : (bytes : List ℕ) (version : Version) (written : List (List (List ℕ))) (fault : RowsFault) → HasRecords version bytes written
     → HasRecordFault version written fault → HasFault bytes fault

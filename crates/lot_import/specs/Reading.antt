@@ -66,3 +66,27 @@ pub record ReadRows (version : Version) (written left : List (List (List ℕ))) 
 -- where memory ends: while a record was read, or behind records that say rows
 abbrev pub EndsInRows : Version → List (List (List ℕ)) → Reader (Bor (List ℕ)) → Type 0
 EndsInRows version written reader = (has_failed reader ≡ true) ⊎ ReadRows version written (records_left reader)
+
+-- the records of a file, its header first, say rows, and aren't too many
+pub record SayFile (all : List (List (List ℕ))) (rows : List Row) : Type 0 where
+  pub version : Version
+  pub written : List (List (List ℕ))
+  pub file : all ≡ columns version ∷ written
+  pub said : SayRows version written rows
+  pub few : length written ≤ most_rows
+
+-- where memory ends in a file: while a record was read, the header or another, or behind a header and records that say rows
+abbrev pub EndsInFile : List (List (List ℕ)) → Reader (Bor (List ℕ)) → Type 0
+EndsInFile all reader =
+    (has_failed reader ≡ true)
+    ⊎ ((version : Version) × (written : List (List (List ℕ))) × (all ≡ columns version ∷ written)
+    × ReadRows version written (records_left reader))
+
+-- the fault of the records of a file; out of memory never in place of one that a record that was read has
+abbrev pub HasFileFault : List (List (List ℕ)) → Reader (Bor (List ℕ)) → RowsFault → Type 0
+HasFileFault all reader Faults.BadHeader = (version : Version) (written : List (List (List ℕ))) → all ≡ columns version ∷ written → ⊥
+HasFileFault all reader (Faults.BadRow number cause) =
+    (version : Version) × (written : List (List (List ℕ))) × (all ≡ columns version ∷ written) × HasBadRecord version written number cause
+HasFileFault all reader Faults.TooManyRows =
+    (version : Version) × (written : List (List (List ℕ))) × (all ≡ columns version ∷ written) × HasExtraRecord version written
+HasFileFault all reader Faults.Memory = EndsInFile all reader

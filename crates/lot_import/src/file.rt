@@ -2,7 +2,7 @@ ghost use Rattle.std.specs.Prelude.{◌≡◌, ◌≤◌, ◌+◌, ◌++◌, ◌
 ghost use Rattle.csv.specs.Reading.{has_failed};
 ghost use Rattle.csv.specs.Records.{fields_of};
 ghost use Rattle.lot_import.specs.File.{AreRows, HasFault, SayRows, file_records, most_rows};
-ghost use Rattle.lot_import.specs.Reading.{EndsInRows, GivesRow, HasHeaderFault, HasRecordFault, IsOpen, records_left};
+ghost use Rattle.lot_import.specs.Reading.{EndsInRows, GivesRow, HasFileFault, HasHeaderFault, HasRecordFault, IsOpen, SayFile, records_left};
 ghost use Rattle.lot_import.specs.Row.{columns};
 
 use crate::fault::RowsFault;
@@ -26,8 +26,7 @@ pub fn read_rows(alloc: Global, bytes: &[u8]) -> Result<Vec<Row>, RowsFault>
     ensures fault { IfErr result (λ fault. HasFault bytes.now fault) }
 {
     let mut reader = reader(alloc, bytes);
-    let version = version(alloc, &mut reader)?;
-    rows_behind(alloc, version, &mut reader)
+    rows_of(alloc, &mut reader)
 }
 
 /// Returns a reader at the start of a file, which takes records of any length.
@@ -39,6 +38,16 @@ fn reader(alloc: Global, bytes: &[u8]) -> Reader<&[u8]>
         .has_headers(false)
         .flexible(true)
         .from_reader(alloc, bytes)
+}
+
+/// Returns the rows of the file at whose start a reader is.
+fn rows_of(alloc: Global, reader: &mut Reader<&[u8]>) -> Result<Vec<Row>, RowsFault>
+    requires { IsOpen reader.old }
+    ensures rows { IfOk result (λ rows. SayFile (records_left reader.old) rows.items) }
+    ensures fault { IfErr result (HasFileFault (records_left reader.old) reader.new) }
+{
+    let version = version(alloc, reader)?;
+    rows_behind(alloc, version, reader)
 }
 
 /// Reads the next record, and returns whether there is one. The only error is out of memory.
