@@ -13,7 +13,7 @@ use Rattle.sqlite_value.specs.Keys.{ascending}
 use Rattle.sqlite_value.specs.declared.keys.Key.{Key}
 use Rattle.lot_page.specs.Page.{Pages, PagesOf, entry_page_rows, is_from, is_past}
 use Rattle.lot_page.proofs.LevelLemmas.{first_column, terms, terms_reach}
-use Rattle.lot_page.proofs.NextLemmas.{not_negative, past_number}
+use Rattle.lot_page.proofs.NextLemmas.{least, not_below_least, past_number}
 use Rattle.lot_page.proofs.PageLemmas.{Asks}
 use Rattle.lot_page.proofs.WalkLemmas.{from_all, from_past, pages_so}
 use Rattle.lot_rows.specs.Entry.{entry_cells}
@@ -57,8 +57,8 @@ asks_from = record {
 
 -- ---- all rows, and those past the first column of one
 
-pub all_entries : (old new : State) (result : Result (Vec Row Global) Fault) → PagesOf entry_cells (λ b. b.entry) entry_page_rows (filter (is_from (Int (pos 0)))) old new result → Pages entry_cells (λ b. b.entry) 1 entry_page_rows None old new result
-all_entries = pages_so entry_cells (λ b. b.entry) entry_page_rows (omega arith) (filter (is_from (Int (pos 0)))) (λ rows. rows) (from_all entry_cells (λ b. b.entry) entry_page_rows (omega arith) (Int (pos 0)) (λ x. ap not (not_negative x.number)))
+pub all_entries : (old new : State) (result : Result (Vec Row Global) Fault) → PagesOf entry_cells (λ b. b.entry) entry_page_rows (filter (is_from (Int least))) old new result → Pages entry_cells (λ b. b.entry) 1 entry_page_rows None old new result
+all_entries = pages_so entry_cells (λ b. b.entry) entry_page_rows (omega arith) (filter (is_from (Int least))) (λ rows. rows) (from_all entry_cells (λ b. b.entry) entry_page_rows (omega arith) (Int least) (λ x. ap not (not_below_least x.number)))
 
 pub past_first : (row : EntryRow) (old new : State) (result : Result (Vec Row Global) Fault) → PagesOf entry_cells (λ b. b.entry) entry_page_rows (filter (is_from (Int (pos row.number +ℤ pos 1)))) old new result → PagesOf entry_cells (λ b. b.entry) entry_page_rows (filter (is_past 1 (entry_cells row))) old new result
 past_first row =

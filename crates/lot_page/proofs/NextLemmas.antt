@@ -1,5 +1,5 @@
 -- The values behind others, from which a page begins.
-use Rattle.std.proofs.Common.{◌≡◌, ℕ, ℤ, ◌+ℤ◌, pos, Bool, true, false, not, true≢false, List, [], ◌∷◌, ◌++◌, refl, sym, ap, ◌∙◌, arith, Ordering, Less, Equal, Greater, int_cmp, is_gt, is_lt, nat_cmp}
+use Rattle.std.proofs.Common.{◌≡◌, ℕ, ℤ, ◌+ℤ◌, negsuc, pos, Bool, true, false, not, true≢false, List, [], ◌∷◌, ◌++◌, refl, sym, ap, ◌∙◌, arith, Ordering, Less, Equal, Greater, int_cmp, is_gt, is_lt, nat_cmp}
 use Rattle.std.specs.Cmp.Lexicographic.{slice_cmp}
 use Rattle.std.specs.Ordering.{ordering_then}
 use Rattle.std.proofs.lemmas.Int.{ints}
@@ -51,7 +51,17 @@ past_number n k = ap (λ o. not (is_lt o)) (value_cmp-Int n (k +ℤ pos 1)) ∙ 
     above : (n k : ℤ) → not (is_lt (int_cmp n (k +ℤ pos 1))) ≡ is_gt (int_cmp n k)
     above n k = grind (arith, ints)
 
--- no count is below zero
+-- the least number that a column holds
+abbrev pub least : ℤ
+least = negsuc 9223372036854775807
+
+-- no count is below it, nor below zero
+pub not_below_least : (n : ℕ) → is_lt (value_cmp (Int (pos n)) (Int least)) ≡ false
+not_below_least n = ap is_lt (value_cmp-Int (pos n) least) ∙ above n 9223372036854775807
+  where
+    above : (n m : ℕ) → is_lt (int_cmp (pos n) (negsuc m)) ≡ false
+    above n m = grind (arith, ints)
+
 pub not_negative : (n : ℕ) → is_lt (value_cmp (Int (pos n)) (Int (pos 0))) ≡ false
 not_negative n = ap is_lt (value_cmp-Int (pos n) (pos 0)) ∙ above n
   where

@@ -31,7 +31,8 @@ impl PagedRow for EntryRow {
     ) -> Result<Vec<Row>, Fault> {
         match last {
             Some(row) => entries_from(conn, number_behind(row.number)),
-            None => entries_from(conn, ValueRef::Int(0)),
+            // a number that no entry has is met, too
+            None => entries_from(conn, ValueRef::Int(i64::MIN)),
         }
     }
 

@@ -1,12 +1,13 @@
 use Rattle.std.proofs.Common.{pos, refl, ◌+ℤ◌}
 use Rattle.sqlite.specs.Held.{state}
 use Rattle.lot_page.proofs.EntryLemmas.{all_entries, past_first}
+use Rattle.lot_page.proofs.NextLemmas.{least}
 use Rattle.lot_page.proofs.entry.EntryRowPagedRow.page.Goals as goal
 
 pub returns-in-None : goal.returns-in-None
 returns-in-None g c =
     let first = c.entries_from-in-None in
-    record { pages = rw (c.in-None.is) (all_entries (state g.S.Store c.args.conn.now) (state g.S.Store first.new.conn) first.result (first.ensures.pages (pos 0) refl)) }
+    record { pages = rw (c.in-None.is) (all_entries (state g.S.Store c.args.conn.now) (state g.S.Store first.new.conn) first.result (first.ensures.pages least refl)) }
 
 pub returns-in-Some : goal.returns-in-Some
 returns-in-Some g c =
