@@ -17,3 +17,4 @@ pub mod LinePieces
 pub mod TextLines
 pub mod ReadLemmas
 pub mod LongestLemmas
+pub mod TestedLemmas

@@ -1,10 +1,13 @@
 //! What is printed reads back: the canonical text of a command, read as ledger text, says that command.
 //!
 //! - `printed`: `print`, the canonical text of a command.
+//! - `tested`: whether a text is the canonical text of a command.
 //! - `laws`: canonical texts, one after another, read as their commands and as no others; their lines are short.
 #![tactic(auto)]
 
 pub mod laws;
 mod printed;
+mod tested;
 
 pub use printed::print;
+pub use tested::is_canonical;
