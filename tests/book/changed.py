@@ -47,6 +47,7 @@ PROBES = {
     "declare": (["post", "--batch", "b"], "2020-03-01 commodity HOOL\n"),
     "quote": (["post", "--batch", "b"], "2020-03-01 price HOOL 130 USD\n"),
     "again": (["post", "--batch", "a"], '2020-01-01 open Assets:Broker USD,HOOL "FIFO"\n'),
+    "other": (["post", "--batch", "a"], "2020-01-01 open Assets:Other\n"),
 }
 
 # The greatest and the least day are 2932896 and -719162, units have up to 18 digits, rates up to 16.
@@ -55,6 +56,26 @@ ACCOUNTS = ["''", "'Assets'", "'Assets:x'", "'assets:X'", "'Assets:X '"]
 COMMODITIES = ["'x'", "'USD '", "'USD-'", "'É'"]
 LABELS = ["'\"'", "'a\"b'", r"'a\b'", "char(9) || 'a'", "'0123456789abcdef0123456789abcdef0123456789abcdef0123456789abcdefx'"]
 UNITS = ["-1000000000000000000", "9223372036854775807", "-9223372036854775808"]
+
+# Texts of an entry that aren't the canonical text of a command: some that the reader refuses, and some that say one command, two or none.
+BODIES = [
+    "''",
+    "CAST(x'ff0a' AS TEXT)",
+    "'open' || char(10)",
+    "replace(body, '2020-01-01', '2020-13-01')",
+    "replace(body, ' open ', ' reopen ')",
+    "replace(body, ' open ', '  open ')",
+    "replace(body, ',HOOL', ', HOOL')",
+    "replace(body, 'FIFO', 'fifo')",
+    "replace(body, char(10), ' ' || char(10))",
+    "replace(body, char(10), char(13, 10))",
+    "replace(body, char(10), '')",
+    "body || char(10)",
+    "char(10) || body",
+    "body || '; ' || body",
+    "'; ' || body",
+    "body || body",
+]
 
 # Table, row, column, the values of it that no book has, and the probe that meets them.
 ROWS = [
@@ -68,12 +89,15 @@ ROWS = [
     ("price", "1", "quote", ["''", *COMMODITIES], "values"),
     ("price", "1", "day", DAYS, "values"),
     ("price", "1", "rate", ["10000000000000000", "-9223372036854775808"], "values"),
-    ("entry", "number = 1", "number", ["0"], "journal"),
+    ("entry", "number = 1", "number", ["0", "-1", "-9223372036854775808"], "journal"),
     ("entry", "number = 1", "number", ["0", "-1", "4294967296", "4294967297"], "again"),
     ("entry", "number = 9", "number", ["4294967296", "4294967297", "9223372036854775807"], "buy"),
     ("entry", "number = 2", "source", LABELS, "journal"),
     ("entry", "number = 2", "name", ["''", *LABELS], "journal"),
     ("entry", "number = 2", "body", ["''", "CAST(x'ff0a' AS TEXT)"], "journal"),
+    ("entry", "number = 1", "body", BODIES, "journal"),
+    ("entry", "number = 1", "body", BODIES, "again"),
+    ("entry", "number = 1", "body", BODIES, "other"),
     ("leg", "entry = 9 AND posting = 1", "entry", ["0", "4294967297"], "gains"),
     ("leg", "entry = 9 AND posting = 1", "posting", ["0", "-1"], "gains"),
     ("leg", "entry = 9 AND posting = 1", "place", ["-1", "4294967296"], "gains"),
@@ -146,8 +170,8 @@ COLUMNS = {
     "head": ("day", "1", "buy"),
 }
 
-# The columns by which the rows of a report are read, from the least text or from 0 on. What SQLite orders before that isn't read: NULL, and
-# before a text each number.
+# The columns by which the rows of a report are read: a sale from 0 on, an entry from the least number, others from the least text. What
+# SQLite orders before that isn't read: NULL, and before a text each number.
 PAGED = {("entry", "number"), ("sale", "entry"), ("lot", "account"), ("price", "base")}
 
 # The probes that a table is needed for. Those of tables that are gone are in tests/reports/, for reports.

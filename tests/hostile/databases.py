@@ -366,8 +366,7 @@ def form_cases(words):
 def value_cases(words):
     """A sweep over the values of tests/tables.sh, by each call: it meets the damage, or answers as ever, or as if there were no such row.
 
-    The last is so where the value is part of the key by which the row is found. A command under the key of an entry with a damaged text
-    isn't among them: it is told L1.
+    The last is so where the value is part of the key by which the row is found.
     """
     program, sound, scratch, cases = words
     done = sweep.Sweep()

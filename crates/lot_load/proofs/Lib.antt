@@ -6,3 +6,4 @@ pub mod UnitLemmas
 pub mod WholeLemmas
 pub mod KeptLemmas
 pub mod RecordLemmas
+pub mod DamageLemmas

@@ -1,3 +1,4 @@
 pub mod Known
 pub mod Tells
 pub mod Kept
+pub mod Damage

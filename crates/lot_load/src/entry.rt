@@ -1,11 +1,14 @@
-ghost use Rattle.std.specs.Prelude.{◌≡◌, length, option_map};
+ghost use Rattle.std.specs.Prelude.{◌≡◌, ◌≢◌, Err, IfOk, OnOk, length, option_map};
 ghost use Rattle.std.specs.String.{string_bytes};
 ghost use Rattle.lot_book.specs.Facts.{text_under};
+ghost use Rattle.lot_load.specs.Damage.{FindsDamage};
 ghost use Rattle.lot_load.specs.Tells.{Tells};
+ghost use Rattle.lot_print.specs.Canonical.{IsCanonical};
 ghost use Rattle.sqlite.specs.Held.{state};
 
 use lot_command::Key;
-use lot_rows::entry;
+use lot_print::is_canonical;
+use lot_rows::entry::{self, EntryRow};
 use lot_table::Fault;
 use sqlite::{Alter, Connection};
 use std::alloc::Global;
@@ -22,6 +25,8 @@ pub(crate) fn count<S: Alter>(alloc: Global, conn: &mut Connection<S>) -> Result
 }
 
 /// Returns the canonical text that stands under a key.
+///
+/// The error is `Damaged` where the text there is the canonical text of no command.
 pub(crate) fn find_text<S: Alter>(
     alloc: Global,
     conn: &mut Connection<S>,
@@ -29,9 +34,26 @@ pub(crate) fn find_text<S: Alter>(
 ) -> Result<Option<String>, Fault>
     ensures tells { Tells (λ text entries. option_map string_bytes text ≡ text_under entries key.now)
         (state S.Store conn.old) (state S.Store conn.new) result }
+    ensures damage { FindsDamage key.now (state S.Store conn.old) (state S.Store conn.new) result }
 {
     match entry::find(alloc, conn, &key.source, &key.name)? {
-        Some(row) => Ok(Some(String::from_str(alloc, row.body.as_str())?)),
+        Some(row) => Ok(Some(text_of(alloc, &row)?)),
         None => Ok(None),
     }
+}
+
+/// Returns the text of an entry.
+///
+/// The error is `Damaged` where it is the canonical text of no command, or `Memory`.
+fn text_of(alloc: Global, row: &EntryRow) -> Result<String, Fault>
+    ensures ok { IfOk result (λ text. string_bytes text ≡ row.now.body) }
+    ensures canonical { OnOk result (IsCanonical row.now.body) }
+    ensures damaged { result ≡ Err Fault.Damaged → ¬ IsCanonical row.now.body }
+    ensures no_device { result ≢ Err Fault.Device }
+{
+    let body = row.body.as_str();
+    if !is_canonical(alloc, body)? {
+        return Err(Fault::Damaged);
+    }
+    Ok(String::from_str(alloc, body)?)
 }

@@ -3,6 +3,7 @@ ghost use Rattle.lot_book.specs.Agree.{Agrees};
 ghost use Rattle.lot_book.specs.Book.{IsBook};
 ghost use Rattle.lot_book.specs.Facts.{Entry, facts_of};
 ghost use Rattle.lot_stored.specs.StandFor.{AreOfBook, StandFor};
+ghost use Rattle.lot_load.specs.Damage.{FindsDamage};
 ghost use Rattle.lot_load.specs.Kept.{IsOf, Keeps, seen};
 ghost use Rattle.lot_load.specs.Tells.{Tells};
 ghost use Rattle.lot_rows.specs.Tables.{layout};
@@ -24,7 +25,7 @@ use std::alloc::Global;
 ///
 /// It reads the text under the key, and of what the command touches the rows that aren't known yet, each by its key; where
 /// nothing is kept also the number of entries. The error is `Damaged` only where the tables stand for no book, whatever is
-/// kept.
+/// kept. Where the text under the key is the canonical text of no command the call fails, whatever the command is.
 pub fn look_on<S: Alter>(
     alloc: Global,
     conn: &mut Connection<S>,
@@ -36,6 +37,7 @@ pub fn look_on<S: Alter>(
         (λ now tables. (entries : List Entry) → IsBook entries → StandFor tables entries → IsOf kept entries
         → Keeps now entries × Agrees (seen now) (facts_of entries key.now) command.now)
         always AreOfBook (state S.Store conn.old) (state S.Store conn.new) result }
+    ensures damage { FindsDamage key.now (state S.Store conn.old) (state S.Store conn.new) result }
 {
     let text = find_text(alloc, conn, key)?;
     let mut kept = begin(alloc, conn, kept)?;

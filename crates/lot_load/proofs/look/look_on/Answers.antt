@@ -1,7 +1,7 @@
 -- The text, what is kept or begun with, and what is learned agree with the book.
 use Rattle.std.specs.Prelude.{◌≡◌, List, ℕ, Option, option_map}
 use Rattle.std.specs.String.{string_bytes}
-use Rattle.std.proofs.Common.{ap, ◌∙◌}
+use Rattle.std.proofs.Common.{ap, arith, ◌∙◌}
 use Rattle.sqlite.specs.Held.{state}
 use Rattle.lot_book.specs.Facts.{Facts, text_under}
 use Rattle.lot_load.specs.Kept.{IsOf, Keeps, seen}
@@ -40,4 +40,6 @@ returns g c =
                 c.in_ok-touched.ensures.pairs c.in_ok-touched.ensures.plain covers.keeps.count
                 (covers.text ∙ ap (λ (f : Facts). f.text) c.turn_to.ensures.seen ∙ was.0) covers.knows,
           )));
+      damage = λ clean. c.in_ok-text.ensures.damage
+          (omega (arith, clean, c.in_ok-learn_lacking.ensures.tells.crash.clean, c.in_ok-kept.ensures.tells.crash.clean));
     }

@@ -1,0 +1,22 @@
+-- A damaged text under the key of a command that comes (docs/FORMATS.md, Tables).
+use Rattle.std.specs.Prelude.{◌≡◌, IsErr, List, ℕ, Option, Result, Some, option_map, slice_get}
+use Rattle.sqlite.specs.State.{HasCleanDisk, State}
+use Rattle.lot_command.specs.declared.key.Key.{Key}
+use Rattle.lot_print.specs.Canonical.{IsCanonical}
+use Rattle.lot_rows.specs.Entry.{named}
+use Rattle.lot_rows.specs.Tables.{Has, Tables}
+use Rattle.lot_rows.specs.declared.entry.EntryRow.{EntryRow}
+use Rattle.lot_table.specs.declared.fault.Fault.{Fault}
+
+-- the text that the tables have under a key
+abbrev pub text_in : Tables → Key → Option (List ℕ)
+text_in tables key = option_map (λ (row : EntryRow). row.body) (slice_get (named key.source key.name tables.entry) 0)
+
+-- it is the canonical text of no command
+abbrev pub HasDamagedText : Tables → Key → Type 0
+HasDamagedText tables key = (text : List ℕ) × (text_in tables key ≡ Some text) × (¬ IsCanonical text)
+
+-- on tables with a damaged text under the key a call fails
+abbrev pub FindsDamage : {R : Type 0} → Key → State → State → Result R Fault → Type 0
+FindsDamage key old new result =
+    HasCleanDisk new → (tables : Tables) → Has old tables → HasDamagedText tables key → IsErr result
