@@ -13,7 +13,7 @@ use Rattle.lot_import.specs.declared.fault.RowsFault.{RowsFault}
 use Rattle.lot_import.specs.declared.fault.RowsFault.TheVariants as rows
 use Rattle.lot_report.specs.Printed.{line}
 use Rattle.lot_cli.specs.declared.fault.InputFault.{InputFault}
-use Rattle.lot_cli.specs.declared.fault.InputFault.TheVariants.{Unread, Text, Rows, Cash, Memory}
+use Rattle.lot_cli.specs.declared.fault.InputFault.TheVariants.{Unasked, Unread, Text, Rows, Cash, Memory}
 use Rattle.lot_cli.specs.declared.halt.Halt.{Halt}
 use Rattle.lot_cli.specs.declared.halt.Halt.TheVariants.{Adopt, Create, Input}
 use Rattle.lot_store.specs.declared.fault.AdoptFault.{AdoptFault}
@@ -54,6 +54,7 @@ input_line (Unread fault) = fault_line (fault_of_input fault)
 input_line (Text fault) = fault_line (fault_of_text fault)
 input_line (Rows fault) = rows_line fault
 input_line (Cash fault) = cash_line fault
+input_line Unasked = memory_line
 input_line Memory = memory_line
 
 -- where memory ends, the action is stopped; every other fault is the input's
@@ -72,6 +73,7 @@ status_of_input (Unread fault) = status_of (fault_of_input fault)
 status_of_input (Text fault) = status_of (fault_of_text fault)
 status_of_input (Rows fault) = status_of_rows fault
 status_of_input (Cash fault) = status_of_cash fault
+status_of_input Unasked = Stopped
 status_of_input Memory = Stopped
 
 -- ---- faults of a book

@@ -1,10 +1,10 @@
 -- A broker file that is imported into a book (docs/RULES.md, The program; docs/FORMATS.md, Broker files).
-use Rattle.std.specs.Prelude.{ℕ, List, Option, ⊤}
+use Rattle.std.specs.Prelude.{ℕ, List, Option}
 use Rattle.sqlite.specs.State.{State}
 use Rattle.lot_command.specs.declared.command.Command.{Command}
 use Rattle.lot_command.specs.declared.key.Key.{Key}
 use Rattle.lot_import.specs.File.{AreRows, HasFault}
-use Rattle.lot_import.specs.Keyed.{AreKeyedFrom, HasInexactRow}
+use Rattle.lot_import.specs.Keyed.{AreExact, AreKeyedFrom, HasInexactRow}
 use Rattle.lot_import.specs.declared.accounts.Accounts.{Accounts}
 use Rattle.lot_import.specs.declared.fault.KeyedFault.{KeyedFault}
 use Rattle.lot_import.specs.declared.fault.KeyedFault.TheVariants as cash
@@ -13,26 +13,32 @@ use Rattle.lot_cli.specs.Input.{Reading}
 use Rattle.lot_cli.specs.Keyed.{import_source}
 use Rattle.lot_cli.specs.Runs.{RunsInput}
 use Rattle.lot_cli.specs.declared.fault.InputFault.{InputFault}
-use Rattle.lot_cli.specs.declared.fault.InputFault.TheVariants.{Unread, Text, Rows, Cash, Memory}
+use Rattle.lot_cli.specs.declared.fault.InputFault.TheVariants.{Unasked, Unread, Text, Rows, Cash, Memory}
 
 -- the input is a broker file, and these are the commands of its rows from that number on, each under the key of its row in
--- the batch
-abbrev pub FileMeans : List ℕ → Accounts → ℕ → List ℕ → List (Key × Command) → Type 0
-FileMeans batch accounts from input keyed = (rows : List Row) × AreRows input rows × AreKeyedFrom (import_source batch) accounts from rows keyed
+-- that source
+abbrev pub HasRowsOf : List ℕ → Accounts → ℕ → List ℕ → List (Key × Command) → Type 0
+HasRowsOf source accounts from input keyed =
+    (rows : List Row) × AreRows input rows × AreKeyedFrom source accounts from rows keyed
 
--- the cash of a row isn't units, and this is the first such row of all; or memory ends
+-- the same of a batch
+abbrev pub FileMeans : List ℕ → Accounts → ℕ → List ℕ → List (Key × Command) → Type 0
+FileMeans batch = HasRowsOf (import_source batch)
+
+-- the cash of a row isn't units, and this is the first such row of all; or memory ends, and the cash of each row is units
 abbrev pub HasCashFault : List Row → KeyedFault → Type 0
 HasCashFault rows (cash.InexactAmount number) = HasInexactRow rows number
-HasCashFault rows cash.Memory = ⊤
+HasCashFault rows cash.Memory = AreExact rows
 
 -- The input is no broker file, for that fault; or it is one, and the cash of a row isn't units. Behind the rows memory ends
--- only where it is one.
+-- only where it is one, and the cash of each row is units. It is no fault of a reader.
 abbrev pub IsFaultyFile : List ℕ → InputFault → Type 0
+IsFaultyFile input Unasked = ⊥
 IsFaultyFile input (Unread fault) = ⊥
 IsFaultyFile input (Text fault) = ⊥
 IsFaultyFile input (Rows fault) = HasFault input fault
 IsFaultyFile input (Cash fault) = (rows : List Row) × AreRows input rows × HasCashFault rows fault
-IsFaultyFile input Memory = (rows : List Row) × AreRows input rows
+IsFaultyFile input Memory = ⊥
 
 abbrev pub Imports : List ℕ → Accounts → ℕ → Reading → State → State → Option (List ℕ) → Option (List ℕ) → ℕ → Type 0
 Imports batch accounts from = RunsInput (FileMeans batch accounts from) IsFaultyFile from

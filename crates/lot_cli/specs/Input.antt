@@ -1,23 +1,29 @@
 -- The commands that an input gives, each under its key, or why it gives none.
 use Rattle.std.specs.Prelude.{◌≡◌, ◌<◌, ◌≤◌, ℕ, List, length, IfSome, Option}
-use Rattle.lot_stream.specs.Input.{CallsMade, EndsFor, NoneFailed, longest_input}
+use Rattle.std.specs.Io.KnownBytes.{IsAtEnd}
+use Rattle.lot_stream.specs.Input.{CallsMade, EndsFor, EndsWell, longest_input}
 use Rattle.lot_stream.specs.declared.input.SlurpFault.{SlurpFault}
 use Rattle.lot_stream.specs.declared.input.SlurpFault.TheVariants as slurp
 use Rattle.lot_command.specs.declared.command.Command.{Command}
 use Rattle.lot_command.specs.declared.key.Key.{Key}
 use Rattle.lot_cli.specs.declared.fault.InputFault.{InputFault}
-use Rattle.lot_cli.specs.declared.fault.InputFault.TheVariants.{Unread, Text, Rows, Cash, Memory}
+use Rattle.lot_cli.specs.declared.fault.InputFault.TheVariants.{Unasked, Unread, Text, Rows, Cash, Memory}
 
--- what is known of a reader: the bytes that it had, and what its calls came to
+-- what is known of a reader: the bytes that it had, those that it has left, and what its calls came to
 pub record Reading : Type 0 where
   pub bytes : Option (List ℕ)
+  pub left : Option (List ℕ)
   pub calls : CallsMade
 
--- all that a reader has, where it is known which bytes it has, is this input, which is no longer than one may be; and no call
--- of it failed
+-- all that a reader has, where it is known which bytes it has, is this input, which is no longer than one may be; it has none
+-- left, and no call of it failed until it was at its end
 abbrev pub IsAllOf : Reading → List ℕ → Type 0
 IsAllOf reading input =
-    IfSome reading.bytes (λ bytes. input ≡ bytes) × (length input ≤ longest_input) × NoneFailed reading.calls
+    IfSome reading.bytes (λ bytes. input ≡ bytes) × (length input ≤ longest_input) × IsAtEnd reading.left × EndsWell reading.calls (length input)
+
+-- nothing was asked of it
+abbrev pub IsUnasked : Reading → Type 0
+IsUnasked reading = (reading.left ≡ reading.bytes) × (reading.calls.after ≡ reading.calls.before)
 
 -- why not all that a reader has is had: it can't be read, or is too long; or memory ends, and neither is so
 abbrev pub IsUnread : Reading → SlurpFault → Type 0
@@ -30,9 +36,10 @@ IsUnread reading slurp.Memory = EndsFor reading.calls slurp.Memory
 abbrev pub Gives : (List ℕ → List (Key × Command) → Type 0) → Reading → List (Key × Command) → Type 0
 Gives Means reading keyed = (input : List ℕ) × IsAllOf reading input × Means input keyed
 
--- Why it gives none: it isn't had; or it is had, and this is its fault, where `IsFaulty` tells which an input has. Where
--- memory ends behind that, `IsFaulty` tells which input that can be.
+-- Why it gives none: memory ends before anything is read; it isn't had; or it is had, and this is its fault, where `IsFaulty`
+-- tells which an input has. Where memory ends behind that, `IsFaulty` tells which input that can be.
 abbrev pub GivesNone : (List ℕ → InputFault → Type 0) → Reading → InputFault → Type 0
+GivesNone IsFaulty reading Unasked = IsUnasked reading
 GivesNone IsFaulty reading (Unread fault) = IsUnread reading fault
 GivesNone IsFaulty reading (Text fault) = (input : List ℕ) × IsAllOf reading input × IsFaulty input (Text fault)
 GivesNone IsFaulty reading (Rows fault) = (input : List ℕ) × IsAllOf reading input × IsFaulty input (Rows fault)

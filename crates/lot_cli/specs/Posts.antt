@@ -7,16 +7,17 @@ use Rattle.lot_cli.specs.Input.{Reading}
 use Rattle.lot_cli.specs.Keyed.{keyed_from, post_source}
 use Rattle.lot_cli.specs.Runs.{RunsInput}
 use Rattle.lot_cli.specs.declared.fault.InputFault.{InputFault}
-use Rattle.lot_cli.specs.declared.fault.InputFault.TheVariants.{Unread, Text, Rows, Cash, Memory}
+use Rattle.lot_cli.specs.declared.fault.InputFault.TheVariants.{Unasked, Unread, Text, Rows, Cash, Memory}
 use Rattle.lot_read.specs.Text.{IsFaultOf, Reads}
 
 -- the input is ledger text, and these are its commands from that number on, each under the key of its number in the batch
 abbrev pub TextMeans : List ℕ → ℕ → List ℕ → List (Key × Command) → Type 0
 TextMeans batch from input keyed = (commands : List Command) × Reads input commands × (keyed ≡ keyed_from (post_source batch) from commands)
 
--- The input is no ledger text, and this is its first faulty line; or memory ends at a line before that. Behind that memory
--- ends only where it is ledger text.
+-- The input is no ledger text, and this is its first faulty line; or memory ends at a line before that, where the lines up to
+-- that one say commands. Behind that memory ends only where it is ledger text. It is no fault of a reader.
 abbrev pub IsFaultyText : List ℕ → InputFault → Type 0
+IsFaultyText input Unasked = ⊥
 IsFaultyText input (Unread fault) = ⊥
 IsFaultyText input (Text fault) = IsFaultOf input fault
 IsFaultyText input (Rows fault) = ⊥

@@ -11,7 +11,7 @@ use crate::report::{Report, write_report};
 use crate::run::{halted, tell};
 use lot_args::Action;
 use lot_check::check;
-use lot_report::print_line;
+use lot_report::print_texts;
 use lot_store::{HandedBack, create};
 use lot_stream::{CountedRead, Status};
 use sqlite::{Alter, Connection};
@@ -51,6 +51,7 @@ pub fn serve<R: CountedRead, W: Write, S: Alter>(
     ensures serves { Serves action.now (record {
       input = record {
         bytes = R.remaining reader.old;
+        left = R.remaining reader.new;
         calls = record { before = R.calls reader.old; after = R.calls reader.new };
       };
       old = state S.Store conn;
@@ -102,7 +103,7 @@ fn init<W: Write, S: Alter>(alloc: Global, writer: &mut W, conn: Connection<S>) 
 {
     match create(alloc, conn) {
         Ok(book) => {
-            let printed = print_line(writer, "book ready");
+            let printed = print_texts(writer, &["book ready\n"]);
             Served {
                 status: tell(writer, printed, Status::Accepted),
                 conn: book.into_connection(),

@@ -1,9 +1,10 @@
-ghost use Rattle.std.specs.Prelude.{◌≡◌};
+ghost use Rattle.std.specs.Prelude.{◌≡◌, IfErr};
 ghost use Rattle.lot_report.specs.Written.{WritesLine};
-ghost use Rattle.lot_cli.specs.HaltLine.{cash_line, cause_name, input_line, rows_line, status_of_cash, status_of_input, status_of_rows};
+ghost use Rattle.lot_cli.specs.HaltLine.{cash_line, cause_name, input_line, memory_line, rows_line, status_of_cash, status_of_input, status_of_rows};
 
+use itoa::Buffer;
 use lot_import::{Cause, KeyedFault, RowsFault};
-use lot_report::{PrintFault, print_line};
+use lot_report::{PrintFault, print_texts};
 use lot_stream::{Fault, SlurpFault, Status, print_fault};
 use lot_text::TextFault;
 use std::alloc::AllocError;
@@ -12,6 +13,8 @@ use std::io::Write;
 /// Why an input gives no commands.
 #[derive(Clone, Copy, Debug, PartialEq, Eq)]
 pub(crate) enum InputFault {
+    /// Out of memory before anything was read.
+    Unasked,
     /// Not all of it is had.
     Unread(SlurpFault),
     /// It isn't ledger text.
@@ -20,7 +23,7 @@ pub(crate) enum InputFault {
     Rows(RowsFault),
     /// The cash that one of its rows moves isn't units.
     Cash(KeyedFault),
-    /// Out of memory.
+    /// Out of memory for the keys of the commands of ledger text.
     Memory,
 }
 
@@ -89,25 +92,36 @@ impl InputFault {
             InputFault::Text(fault) => Fault::from(fault).status(),
             InputFault::Rows(fault) => status_of_rows(fault),
             InputFault::Cash(fault) => status_of_cash(fault),
-            InputFault::Memory => Status::Stopped,
+            InputFault::Unasked | InputFault::Memory => Status::Stopped,
         }
     }
 }
 
-/// Writes the line that reports why an input gives no commands. It takes no memory, which may have ended.
+/// Writes the line that reports why an input gives no commands. It takes no memory, which may have ended: the only fault is that
+/// of the writer.
 pub(crate) fn print_input_fault<W: Write>(
     writer: &mut W,
     fault: InputFault,
 ) -> Result<(), PrintFault>
-    ensures { WritesLine (W.contents writer.old) (W.contents writer.new) result (input_line fault) }
+    ensures bytes { WritesLine (W.contents writer.old) (W.contents writer.new) result
+        (input_line fault) }
+    ensures fault { IfErr result (λ fault. fault ≡ PrintFault.Write) }
 {
     match fault {
         InputFault::Unread(fault) => print_fault(writer, Fault::from(fault)),
         InputFault::Text(fault) => print_fault(writer, Fault::from(fault)),
         InputFault::Rows(fault) => print_rows_fault(writer, fault),
         InputFault::Cash(fault) => print_cash_fault(writer, fault),
-        InputFault::Memory => print_line(writer, "fault Memory"),
+        InputFault::Unasked | InputFault::Memory => print_memory(writer),
     }
+}
+
+/// Writes the line that memory ended.
+fn print_memory<W: Write>(writer: &mut W) -> Result<(), PrintFault>
+    ensures bytes { WritesLine (W.contents writer.old) (W.contents writer.new) result memory_line }
+    ensures fault { IfErr result (λ fault. fault ≡ PrintFault.Write) }
+{
+    print_texts(writer, &["fault Memory\n"])
 }
 
 fn status_of_rows(fault: RowsFault) -> Status
@@ -132,28 +146,41 @@ fn status_of_cash(fault: KeyedFault) -> Status
 
 /// Writes the same of an input that has no rows.
 fn print_rows_fault<W: Write>(writer: &mut W, fault: RowsFault) -> Result<(), PrintFault>
-    ensures { WritesLine (W.contents writer.old) (W.contents writer.new) result (rows_line fault) }
+    ensures bytes { WritesLine (W.contents writer.old) (W.contents writer.new) result
+        (rows_line fault) }
+    ensures fault { IfErr result (λ fault. fault ≡ PrintFault.Write) }
 {
+    let mut digits = Buffer::new();
     match fault {
-        RowsFault::BadHeader => print_line(writer, "fault header C1 BadHeader"),
+        RowsFault::BadHeader => print_texts(writer, &["fault header C1 BadHeader\n"]),
         RowsFault::BadRow { row, cause } => {
-            let name = cause_name(cause);
-            print_line(writer, format_args!("fault row {row} C2 BadRow {name}"))
+            let texts = [
+                "fault row ",
+                digits.format(row),
+                " C2 BadRow ",
+                cause_name(cause),
+                "\n",
+            ];
+            print_texts(writer, &texts)
         }
-        RowsFault::TooManyRows => print_line(writer, "fault C3 TooManyRows"),
-        RowsFault::Memory => print_line(writer, "fault Memory"),
+        RowsFault::TooManyRows => print_texts(writer, &["fault C3 TooManyRows\n"]),
+        RowsFault::Memory => print_memory(writer),
     }
 }
 
 /// Writes the same of an input with a row that has no command.
 fn print_cash_fault<W: Write>(writer: &mut W, fault: KeyedFault) -> Result<(), PrintFault>
-    ensures { WritesLine (W.contents writer.old) (W.contents writer.new) result (cash_line fault) }
+    ensures bytes { WritesLine (W.contents writer.old) (W.contents writer.new) result
+        (cash_line fault) }
+    ensures fault { IfErr result (λ fault. fault ≡ PrintFault.Write) }
 {
+    let mut digits = Buffer::new();
     match fault {
         KeyedFault::InexactAmount { row } => {
-            print_line(writer, format_args!("fault row {row} C4 InexactAmount"))
+            let texts = ["fault row ", digits.format(row), " C4 InexactAmount\n"];
+            print_texts(writer, &texts)
         }
-        KeyedFault::Memory => print_line(writer, "fault Memory"),
+        KeyedFault::Memory => print_memory(writer),
     }
 }
 

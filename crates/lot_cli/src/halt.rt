@@ -1,9 +1,9 @@
-ghost use Rattle.std.specs.Prelude.{◌≡◌};
+ghost use Rattle.std.specs.Prelude.{◌≡◌, IfErr};
 ghost use Rattle.lot_report.specs.Written.{WritesLine};
 ghost use Rattle.lot_cli.specs.HaltLine.{adopt_name, create_name, halt_line, status_of_halt};
 
 use crate::fault::{InputFault, print_input_fault};
-use lot_report::{PrintFault, print_line};
+use lot_report::{PrintFault, print_texts};
 use lot_store::{AdoptFault, CreateFault};
 use lot_stream::Status;
 use std::io::Write;
@@ -31,20 +31,17 @@ impl Halt {
     }
 }
 
-/// Writes the line that reports why an action ended. It takes no memory, which may have ended.
+/// Writes the line that reports why an action ended. It takes no memory, which may have ended: the only fault is that of the
+/// writer.
 pub(crate) fn print_halt<W: Write>(writer: &mut W, halt: Halt) -> Result<(), PrintFault>
-    ensures { WritesLine (W.contents writer.old) (W.contents writer.new) result (halt_line halt) }
+    ensures bytes { WritesLine (W.contents writer.old) (W.contents writer.new) result
+        (halt_line halt) }
+    ensures fault { IfErr result (λ fault. fault ≡ PrintFault.Write) }
 {
     match halt {
         Halt::Input(fault) => print_input_fault(writer, fault),
-        Halt::Create(fault) => {
-            let name = create_name(fault);
-            print_line(writer, format_args!("fault {name}"))
-        }
-        Halt::Adopt(fault) => {
-            let name = adopt_name(fault);
-            print_line(writer, format_args!("fault {name}"))
-        }
+        Halt::Create(fault) => print_texts(writer, &["fault ", create_name(fault), "\n"]),
+        Halt::Adopt(fault) => print_texts(writer, &["fault ", adopt_name(fault), "\n"]),
     }
 }
 

@@ -33,6 +33,7 @@ pub(crate) fn post<R: CountedRead, W: Write, S: Alter>(
     requires unlimited { conn.step_limit ≡ None }
     ensures posts { Posts batch.now from (record {
       bytes = R.remaining reader.old;
+      left = R.remaining reader.new;
       calls = record { before = R.calls reader.old; after = R.calls reader.new };
     }) (state S.Store conn) (state S.Store result.conn)
         (W.contents writer.old) (W.contents writer.new) result.status }
@@ -55,14 +56,31 @@ fn keyed_text<R: CountedRead>(
     requires { 1 ≤ from }
     ensures ok { IfOk result (λ keyed. Gives (TextMeans batch.now from) (record {
       bytes = R.remaining reader.old;
+      left = R.remaining reader.new;
       calls = record { before = R.calls reader.old; after = R.calls reader.new };
     }) keyed.items) }
     ensures err { IfErr result (GivesNone IsFaultyText (record {
       bytes = R.remaining reader.old;
+      left = R.remaining reader.new;
       calls = record { before = R.calls reader.old; after = R.calls reader.new };
     })) }
 {
     let text = slurp(alloc, reader)?;
-    let commands = read(alloc, &text)?;
+    commands_in(alloc, batch, from, &text)
+}
+
+/// Returns the same of a text that was read, which has no fault of a reader. Out of memory comes only where its lines up to one
+/// say commands, or all of them.
+fn commands_in(
+    alloc: Global,
+    batch: &Batch,
+    from: usize,
+    text: &[u8],
+) -> Result<Vec<(Key, Command)>, InputFault>
+    requires { 1 ≤ from }
+    ensures ok { IfOk result (λ keyed. TextMeans batch.now from text.now keyed.items) }
+    ensures err { IfErr result (IsFaultyText text.now) }
+{
+    let commands = read(alloc, text)?;
     Ok(keyed(alloc, batch, from, commands)?)
 }

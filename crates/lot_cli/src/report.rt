@@ -12,7 +12,7 @@ use crate::halt::Halt;
 use crate::run::{halted, tell};
 use lot_base::Day;
 use lot_book_report::{ShowFault, show_gains, show_holdings, show_journal};
-use lot_report::print_line;
+use lot_report::print_texts;
 use lot_store::{Book, HandedBack, adopt};
 use lot_stream::Status;
 use sqlite::{Alter, Connection};
@@ -99,7 +99,6 @@ fn stopped<W: Write>(writer: &mut W, fault: ShowFault) -> u8
     ensures says { Says (report_line fault) Stopped (W.contents writer.old) (W.contents writer.new) result }
     ensures status { IsStatus result }
 {
-    let name = fault.name();
-    let printed = print_line(writer, format_args!("fault {name}"));
+    let printed = print_texts(writer, &["fault ", fault.name(), "\n"]);
     tell(writer, printed, Status::Stopped)
 }

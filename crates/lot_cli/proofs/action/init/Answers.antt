@@ -11,7 +11,7 @@ returns-in-Ok-clause-makes g c =
     subst (λ conn. Makes (state g.S.Store c.args.conn) (state g.S.Store conn) (g.W.Write.contents c.args.writer.now) (g.W.Write.contents c.tell.new.writer) c.tell.result)
     (sym c.into_connection.ensures.same)
     (makes (state g.S.Store c.args.conn) (state g.S.Store c.in-Ok.book.conn) _ _ c.tell.result c.in-Ok.ensures.made c.in-Ok.ensures.committed c.in-Ok.ensures.empty c.in-Ok.ensures.crash_ok
-    (said ready_line Accepted _ _ _ c.print_line-printed.result c.tell.result c.print_line-printed.ensures.bytes c.tell.ensures.kept c.tell.ensures.end))
+    (said ready_line Accepted _ _ _ c.print_texts-printed.result c.tell.result c.print_texts-printed.ensures.bytes c.tell.ensures.kept c.tell.ensures.end))
 
 pub returns-in-Err-clause-makes : goal.returns-in-Err-clause-makes
 returns-in-Err-clause-makes g c =

@@ -1,11 +1,23 @@
-use Rattle.std.proofs.Common.{sym}
+use Rattle.std.proofs.Common.{◌≡◌, ◌∙◌, [], ◌∷◌, ◌++◌, ap, append_assoc, subst, sym}
+use Rattle.std.specs.Prelude.{codes, decimal}
+use Rattle.lot_report.specs.Printed.{line}
+use Rattle.lot_report.specs.Written.{WritesLine}
+use Rattle.lot_cli.specs.HaltLine.{cause_name}
 use Rattle.lot_cli.proofs.fault.print_rows_fault.Goals as goal
 
-pub returns-in-BadRow : goal.returns-in-BadRow
-returns-in-BadRow g c = rw (c.in-BadRow.is) (rw (sym c.cause_name-name.ensures) c.print_line-in-BadRow.ensures.bytes)
+pub returns-in-BadRow-clause-bytes : goal.returns-in-BadRow-clause-bytes
+returns-in-BadRow-clause-bytes g c =
+    let digits = c.format.result.now in
+    let name = c.cause_name.result.now in
+    let is : codes "fault row " ++ (digits ++ (codes " C2 BadRow " ++ (name ++ 10 ∷ []))) ≡ line (codes "fault row " ++ decimal c.in-BadRow.row ++ (codes " C2 BadRow " ++ cause_name c.in-BadRow.cause)) =
+    ap (λ t. codes "fault row " ++ t) (sym (append_assoc digits (codes " C2 BadRow " ++ name) (10 ∷ [])))
+    ∙ ap (λ d. line (codes "fault row " ++ d ++ (codes " C2 BadRow " ++ name))) c.format.ensures.text
+    ∙ ap (λ n. line (codes "fault row " ++ decimal c.in-BadRow.row ++ (codes " C2 BadRow " ++ n))) c.cause_name.ensures in
+    rw (c.in-BadRow.is)
+    (subst (WritesLine (g.W.Write.contents c.args.writer.now) (g.W.Write.contents c.print_texts-in-BadRow.new.writer) c.print_texts-in-BadRow.result) is c.print_texts-in-BadRow.ensures.bytes)
 
-pub returns-in-TooManyRows : goal.returns-in-TooManyRows
-returns-in-TooManyRows g c = rw (c.in-TooManyRows.is) c.print_line-in-TooManyRows.ensures.bytes
+pub returns-in-TooManyRows-clause-bytes : goal.returns-in-TooManyRows-clause-bytes
+returns-in-TooManyRows-clause-bytes g c = rw (c.in-TooManyRows.is) c.print_texts-in-TooManyRows.ensures.bytes
 
-pub returns-in-Memory : goal.returns-in-Memory
-returns-in-Memory g c = rw (c.in-Memory.is) c.print_line-in-Memory.ensures.bytes
+pub returns-in-Memory-clause-bytes : goal.returns-in-Memory-clause-bytes
+returns-in-Memory-clause-bytes g c = rw (c.in-Memory.is) c.print_memory.ensures.bytes

@@ -1,5 +1,24 @@
+use native.Mathlib.Omega.{arith}
+use Rattle.std.proofs.Common.{subst, vec_len}
+use Rattle.std.specs.Prelude.{IfOk}
+use Rattle.lot_cli.specs.Imports.{FileMeans, HasRowsOf, IsFaultyFile}
+use Rattle.lot_cli.proofs.InputLemmas.{gives_of, none_of}
 use Rattle.lot_cli.proofs.KeyedLemmas.{import_is_label}
 use Rattle.lot_cli.proofs.import.keyed_rows.Goals as goal
 
 pub source-requires-clause-label : goal.source-requires-clause-label
 source-requires-clause-label g c = import_is_label
+
+pub returns-clause-ok : goal.returns-clause-ok
+returns-clause-ok g c =
+    gives_of _ c.in_ok-file.file.items c.deref.result.now (vec_len c.in_ok-file.file) c.deref.ensures.value c.in_ok-file.ensures.every_byte
+    (omega (arith, c.deref.ensures.len, c.in_ok-file.ensures.limit)) c.in_ok-file.ensures.end (omega (arith, c.deref.ensures.len)) c.in_ok-file.ensures.calls
+    (FileMeans c.args.batch.now c.args.accounts.now c.args.from) (λ keyed. keyed.items) c.commands_in.result
+    (subst (λ source. IfOk c.commands_in.result (λ keyed. HasRowsOf source c.args.accounts.now c.args.from c.deref.result.now keyed.items))
+    c.in-Ok.ensures c.commands_in.ensures.ok)
+
+pub returns-clause-err : goal.returns-clause-err
+returns-clause-err g c =
+    none_of _ c.in_ok-file.file.items c.deref.result.now (vec_len c.in_ok-file.file) c.deref.ensures.value c.in_ok-file.ensures.every_byte
+    (omega (arith, c.deref.ensures.len, c.in_ok-file.ensures.limit)) c.in_ok-file.ensures.end (omega (arith, c.deref.ensures.len)) c.in_ok-file.ensures.calls
+    IsFaultyFile (λ fault is. is) (λ is. is) c.commands_in.result c.commands_in.ensures.err

@@ -9,7 +9,7 @@ use Rattle.lot_cli.proofs.report.stopped.Goals as goal
 
 pub returns-clause-says : goal.returns-clause-says
 returns-clause-says g c =
-    said (report_line c.args.fault) Stopped _ (g.W.Write.contents c.print_line-printed.new.writer) _ c.print_line-printed.result c.tell.result
-    (subst (λ (name : List ℕ). WritesLine (g.W.Write.contents c.args.writer.now) (g.W.Write.contents c.print_line-printed.new.writer) c.print_line-printed.result (line (codes "fault " ++ name)))
-    c.name-name.ensures c.print_line-printed.ensures.bytes)
+    said (report_line c.args.fault) Stopped _ (g.W.Write.contents c.print_texts-printed.new.writer) _ c.print_texts-printed.result c.tell.result
+    (subst (λ (name : List ℕ). WritesLine (g.W.Write.contents c.args.writer.now) (g.W.Write.contents c.print_texts-printed.new.writer) c.print_texts-printed.result (line (codes "fault " ++ name)))
+    c.name.ensures c.print_texts-printed.ensures.bytes)
     c.tell.ensures.kept c.tell.ensures.end

@@ -8,4 +8,4 @@ use Rattle.lot_cli.proofs.run.halted.Goals as goal
 pub returns-clause-says : goal.returns-clause-says
 returns-clause-says g c =
     subst (λ (status : Status). Says (halt_line c.args.halt) status (g.W.Write.contents c.args.writer.now) (g.W.Write.contents c.tell.new.writer) c.tell.result) c.status.ensures
-    (said (halt_line c.args.halt) c.status.result _ _ _ c.print_halt-printed.result c.tell.result c.print_halt-printed.ensures c.tell.ensures.kept c.tell.ensures.end)
+    (said (halt_line c.args.halt) c.status.result _ _ _ c.print_halt-printed.result c.tell.result c.print_halt-printed.ensures.bytes c.tell.ensures.kept c.tell.ensures.end)
