@@ -1,7 +1,6 @@
 -- The rows of the table `entry` are the entries of the book, each with the canonical text of its command.
-use Rattle.std.proofs.Common.{◌≡◌, ◌≢◌, ◌∙◌, ℕ, suc, List, [], ◌∷◌, ◌++◌, None, Some, Ok, Err, Option, Result, Bor, slice_get, sym, ap, subst}
+use Rattle.std.proofs.Common.{◌≡◌, ◌≢◌, ◌∙◌, ℕ, suc, List, [], ◌∷◌, ◌++◌, None, Some, Ok, Err, Option, Result, sym, subst}
 use Rattle.std.specs.List.{AllByRecursion}
-use Rattle.std.specs.Option.{option_copied}
 use Rattle.std.proofs.lemmas.List.Elements.{recursion_from_All}
 use Rattle.sqlite.specs.State.{State}
 use Rattle.lot_command.specs.Canonical.{canonical}
@@ -19,26 +18,16 @@ use Rattle.lot_table.specs.declared.fault.Fault.TheVariants.{Damaged, Device}
 use Rattle.lot_page.specs.Cursor.{Steps as CursorSteps}
 use Rattle.lot_page.proofs.BehindLemmas.{all_rows, behind_rows}
 use Rattle.lot_stored.specs.Rows.{entry_rows}
-use Rattle.lot_walk.specs.Journal.{AreAllEntryRows, AreEntries, HasCanonicalText, IsBehindEntries, IsBehindEntryRows, said}
+use Rattle.lot_print.specs.Canonical.{IsCanonical as IsTested}
+use Rattle.lot_walk.specs.Journal.{AreAllEntryRows, AreEntries, HasCanonicalText, IsBehindEntries, IsBehindEntryRows, IsCanonical, said}
 use Rattle.lot_walk.specs.Step.{Steps, StepsOverRows}
 use Rattle.lot_walk.specs.declared.journal.JournalPlace.{JournalPlace}
 
 -- ---- the text of one command
 
--- a text that says other commands, or none, is no canonical text
-pub one_command : (commands : List Command) (text : List ℕ) (command : Command) → ((a b : List Command) → Reads text a → Reads text b → a ≡ b)
-    → Reads text (command ∷ []) → Reads text commands → commands ≡ command ∷ []
-one_command commands text command one says reads = one commands (command ∷ []) reads says
-
--- a list of one has a first
-pub no_command : (commands : List Command) (command : Command) (first : Option (Bor Command)) → option_copied first ≡ slice_get commands 0 → first ≡ None → commands ≡ command ∷ [] → ⊥
-no_command commands command first value none one =
-    let got : slice_get (command ∷ []) 0 ≡ None = ap (λ (cs : List Command). slice_get cs 0) (sym one) ∙ sym value ∙ ap option_copied none in cc
-
-pub the_command : (commands : List Command) (command : Command) (first : Option (Bor Command)) (found : Bor Command) → option_copied first ≡ slice_get commands 0 → first ≡ Some found
-    → commands ≡ command ∷ [] → found.now ≡ command
-the_command commands command first found value some one =
-    let got : slice_get (command ∷ []) 0 ≡ Some found.now = ap (λ (cs : List Command). slice_get cs 0) (sym one) ∙ sym value ∙ ap option_copied some in cc
+-- a canonical text reads as its command
+pub reads_as_command : (text : List ℕ) → ((command : Command) → IsSayable command → Reads (canonical command) (command ∷ [])) → IsTested text → IsCanonical text
+reads_as_command text reads (command, sayable, is) = (command, is, subst (λ (t : List ℕ). Reads t (command ∷ [])) (sym is) (reads command sayable))
 
 -- ---- rows of the table
 

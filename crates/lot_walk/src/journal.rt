@@ -7,12 +7,10 @@ ghost use Rattle.lot_walk.specs.Journal.{AreAllEntryRows, AreEntries, HasCanonic
 ghost use Rattle.lot_walk.specs.Step.{HasGivenNoRows, HasGivenNone};
 
 use crate::place::Place;
-use lot_command::{Command, Key};
+use lot_command::Key;
 use lot_page::EntryCursor;
+use lot_print::is_canonical;
 use lot_print::laws::canonical_text_reads_as_its_command;
-use lot_print::print;
-use lot_read::laws::a_text_says_one_thing;
-use lot_read::{TextFault, read};
 use lot_report::Entry;
 use lot_rows::entry::EntryRow;
 use lot_table::Fault;
@@ -98,17 +96,7 @@ fn check_canonical(alloc: Global, text: &str) -> Result<(), Fault>
     ensures no_device { result ≢ Err Fault.Device }
 {
     canonical_text_reads_as_its_command();
-    a_text_says_one_thing();
-    let commands = match read(alloc, text.as_bytes()) {
-        Ok(commands) => commands,
-        Err(TextFault::Line { .. }) => return Err(Fault::Damaged),
-        Err(TextFault::Memory { .. }) => return Err(Fault::Memory),
-    };
-    let Some(command) = commands.first() else {
-        return Err(Fault::Damaged);
-    };
-    let canonical = print(alloc, command)?;
-    if canonical.as_str() == text {
+    if is_canonical(alloc, text)? {
         Ok(())
     } else {
         Err(Fault::Damaged)
