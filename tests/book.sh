@@ -108,6 +108,12 @@ prints "init on an empty database" 0 "book ready" init --book "$scratch/empty.bo
 prints "a faulty text on an empty file" 3 "fault line 1 X6 BadDay" post --book "$scratch/zero.book" --batch a <"$scratch/faulty"
 shows "an empty database after a faulty text" 0 rows "$scratch/zero.book" "SELECT count(*) FROM sqlite_master"
 prints "init on it" 0 "book ready" init --book "$scratch/zero.book" </dev/null
+printf x >"$scratch/letter.txt"
+closed "a file of one letter" "$scratch/letter.txt"
+printf '\n' >"$scratch/line.txt"
+closed "a file of one line end" "$scratch/line.txt"
+printf '\0' >"$scratch/begun.book" # an `init` that was stopped may leave such a file
+prints "init on a file of one zero byte" 0 "book ready" init --book "$scratch/begun.book" </dev/null
 
 tables foreign "$scratch/taken.db" account
 refused "a database with a table of that name" "$scratch/taken.db" "fault S1 NotABook" "fault S1 NotABook"

@@ -94,7 +94,7 @@ def with_mode(mode, of_folder=0o777, log=None):
 
 
 GARBAGE = bytes((at * at * 7919 >> 5 & 255) or 1 for at in range(3 * 4096 + 5))
-# A file of one byte isn't among them: SQLite's own library, too, takes it for an empty one.
+# A file of one zero byte isn't among them: an `init` that was stopped may leave it, so it counts as an empty one.
 KINDS = {
     "a folder": (lambda path, _: os.mkdir(path), OPEN),
     "a pipe": (lambda path, _: os.mkfifo(path), OPEN),
@@ -107,6 +107,7 @@ KINDS = {
     "98,304 zeros": (filled(bytes(98304)), OPEN),
     "the first line of a database": (filled(b"SQLite format 3\0"), OPEN),
     "garbage": (filled(GARBAGE), OPEN),
+    **{f"one byte, {byte}": (filled(bytes([byte])), OPEN) for byte in (1, 10, 83, 255)},
     "a database of another program": (another_program, NOT_A_BOOK),
     "UTF-16, little-endian": (encoded("UTF-16le"), OPEN),
     "UTF-16, big-endian": (encoded("UTF-16be"), OPEN),

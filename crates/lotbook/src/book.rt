@@ -6,12 +6,18 @@ use crate::output::Output;
 use crate::{STOPPED, out_of_memory};
 use lot_cli::{Action, Counted, Served, serve};
 use sqlite::{Alter, Connection, Error, ErrorCode, File, FileStore};
+use std::fmt::Display;
+use std::io::Read;
 use std::path::Path;
 use std::{fs, io};
 
 /// The status of an action that ran to its end, where some of its commands were refused. Where none was the status is 0; that of a
 /// fault is greater.
 const REFUSED: u8 = 1;
+
+/// The most bytes that the name of a book's file may have. Beside it stands its log, and may stand a journal of another program:
+/// their names have up to eight bytes more, and no file's name has more than 255.
+const LONGEST_NAME: usize = 247;
 
 /// Does what an action asks for, and returns the status of the program.
 pub fn act(rt: &HostRuntime, action: &Action) -> u8 {
@@ -36,7 +42,7 @@ pub fn act(rt: &HostRuntime, action: &Action) -> u8 {
 /// Does what an action asks for on the book that is in the file of that path; where there is none, on an empty database of
 /// which nothing stays.
 fn serve_existing(rt: &HostRuntime, action: &Action, path: &str, output: &mut Output<'_>) -> u8 {
-    if is_missing(rt, path) {
+    if is_missing(rt, path) && !has_long_name(path) {
         serve_nothing(rt, action, output)
     } else {
         serve_file(rt, action, path, output)
@@ -47,8 +53,26 @@ fn serve_existing(rt: &HostRuntime, action: &Action, path: &str, output: &mut Ou
 ///
 /// The file is opened before anything is read. Where it can't be opened, one line says so.
 fn serve_file(rt: &HostRuntime, action: &Action, path: &str, output: &mut Output<'_>) -> u8 {
+    if has_long_name(path) {
+        return unopened(rt, path, "its name has more than 247 bytes");
+    }
+    if holds_one_byte(rt, path) {
+        return unopened(rt, path, "one byte is no database");
+    }
+    if !names_no_file(path) {
+        return serve_opened(rt, action, path, output);
+    }
+    match format!(in rt.alloc(); "./{path}") {
+        Ok(path) => serve_opened(rt, action, path.as_str(), output),
+        Err(_) => out_of_memory(rt),
+    }
+}
+
+/// Does the same, where the library of the database takes the path for that of a file.
+fn serve_opened(rt: &HostRuntime, action: &Action, path: &str, output: &mut Output<'_>) -> u8 {
     match Connection::open(rt, path) {
         Ok(conn) => closed(served(rt, action, output, conn)),
+        Err(Error::SqliteFailure(ErrorCode::OutOfMemory)) => out_of_memory(rt),
         Err(error) => unopened(rt, path, error),
     }
 }
@@ -107,12 +131,41 @@ fn has_folder(rt: &HostRuntime, path: &str) -> bool {
     }
 }
 
-/// Reports that the file can't be opened: the line on standard output, and why on standard error.
-fn unopened(rt: &HostRuntime, path: &str, error: Error) -> u8 {
-    if let Error::SqliteFailure(ErrorCode::OutOfMemory) = error {
-        return out_of_memory(rt);
+/// Returns whether the name of the file of that path is too long for that of a book.
+fn has_long_name(path: &str) -> bool {
+    match Path::new(path).file_name() {
+        Some(name) => name.len() > LONGEST_NAME,
+        None => false,
     }
+}
+
+/// Returns whether the file of that path holds one byte, and not the zero that a stopped `init` may leave. The library of the
+/// database would take it for an empty file, and write a database over it.
+fn holds_one_byte(rt: &HostRuntime, path: &str) -> bool {
+    match fs::metadata(rt, path) {
+        Ok(found) => found.is_file() && found.len() == 1 && !begins_with_zero(rt, path),
+        Err(_) => false,
+    }
+}
+
+/// Returns whether the first byte of the file of that path is zero.
+fn begins_with_zero(rt: &HostRuntime, path: &str) -> bool {
+    let mut first = [1];
+    match fs::File::open(rt, path) {
+        Ok(mut file) => matches!(file.read(&mut first), Ok(1)) && first == [0],
+        Err(_) => false,
+    }
+}
+
+/// Returns whether the library of the database takes the path for something else than that of a file: for a database in memory,
+/// or for a URI. The file of such a name is in the folder in which the program runs.
+fn names_no_file(path: &str) -> bool {
+    path == ":memory:" || path.starts_with("file:")
+}
+
+/// Reports that the file can't be opened: the line on standard output, and why on standard error.
+fn unopened<T: Display + Drop>(rt: &HostRuntime, path: &str, why: T) -> u8 {
     let _ = println!(rt; "fault open");
-    let _ = eprintln!(rt; "lotbook: {path}: {error}");
+    let _ = eprintln!(rt; "lotbook: {path}: {why}");
     STOPPED
 }
