@@ -30,7 +30,8 @@ pub fn take<O: LotOrder>(
     ensures enough { IsOk result → unsigned_abs units ≤ held_in lots.items }
     ensures less { IsErrOf result NotEnough → held_in lots.items < unsigned_abs units }
     ensures not_enough { IsErrOf result NotEnough → HasNoChoice (InTurn O.before) lots.items (unsigned_abs units) }
-    ensures memory { IsErrOf result Memory → (0 < unsigned_abs units) × (unsigned_abs units ≤ held_in lots.items) }
+    ensures memory { IsErrOf result Memory
+        → (0 < unsigned_abs units) × (unsigned_abs units ≤ held_in lots.items) }
 {
     if held_in(&lots) < u128::from(units.mantissa().unsigned_abs()) {
         return Err(TakeFault::NotEnough);
@@ -46,7 +47,8 @@ pub(crate) fn take_enough<O: LotOrder>(
 ) -> Result<Vec<(LotKey, Units)>, AllocError>
     requires distinct { HaveDistinctKeys lots.items }
     requires enough { unsigned_abs units ≤ held_in lots.items }
-    ensures taken { IfOk result (λ legs. Takes (InTurn O.before) O.before lots.items units legs.items) }
+    ensures taken { IfOk result (λ legs.
+        Takes (InTurn O.before) O.before lots.items units legs.items) }
     ensures memory { OnErr result (0 < unsigned_abs units) }
 {
     let mut lots = lots;

@@ -58,21 +58,27 @@ fn fill_exactly(
     elided: Elided<'_>,
     draft: &mut Draft,
 ) -> Result<(), Stop>
-    requires lists { ListsSums (known view.now) draft.old.tally.legs draft.old.tally.positions.entries }
+    requires lists { ListsSums (known view.now)
+        draft.old.tally.legs draft.old.tally.positions.entries }
     requires exact { first_currency (λ r. not (fits_units r.1)) draft.old.residuals ≡ None }
     ensures exact { OnOk result (inexact_fill (elided.entry ∷ []) draft.old.residuals ≡ None) }
-    ensures allowed { OnOk result (fill_not_allowed (known view.now) (elided.entry ∷ []) draft.old.residuals ≡ None) }
-    ensures in_range { OnOk result (fill_out_of_range (known view.now) (elided.entry ∷ []) draft.old.tally.legs
+    ensures allowed { OnOk result
+        (fill_not_allowed (known view.now) (elided.entry ∷ []) draft.old.residuals ≡ None) }
+    ensures in_range { OnOk result
+        (fill_out_of_range (known view.now) (elided.entry ∷ []) draft.old.tally.legs
         (fill_of (suc (known view.now).entries) (elided.entry ∷ []) draft.old.residuals) ≡ None) }
     ensures legs { OnOk result (draft.new.tally.legs ≡ draft.old.tally.legs
         ++ fill_of (suc (known view.now).entries) (elided.entry ∷ []) draft.old.residuals) }
-    ensures lists { OnOk result (ListsSums (known view.now) draft.new.tally.legs draft.new.tally.positions.entries) }
+    ensures lists { OnOk result (ListsSums (known view.now)
+        draft.new.tally.legs draft.new.tally.positions.entries) }
     ensures sales { OnOk result (draft.new.sales ≡ draft.old.sales) }
-    ensures stops { IfErr result (λ stop. Stops (option_or (inexact_fill (elided.entry ∷ []) draft.old.residuals)
+    ensures stops { IfErr result (λ stop. Stops
+        (option_or (inexact_fill (elided.entry ∷ []) draft.old.residuals)
         (option_or (fill_not_allowed (known view.now) (elided.entry ∷ []) draft.old.residuals)
         (fill_out_of_range (known view.now) (elided.entry ∷ []) draft.old.tally.legs
         (fill_of (suc (known view.now).entries) (elided.entry ∷ []) draft.old.residuals)))) stop) }
-    ensures memory { IsErrOf result Memory → FillMayLackMemory (elided.entry ∷ []) draft.old.residuals }
+    ensures memory { IsErrOf result Memory
+        → FillMayLackMemory (elided.entry ∷ []) draft.old.residuals }
 {
     let fills = draft.residuals.fills(alloc)?;
     let allowed = every_fill_allowed(view, elided.account, fills)?;

@@ -55,7 +55,8 @@ impl Tally {
     /// Returns what an account holds of a commodity beside its lots after the legs so far.
     pub fn plain_units(&self, view: &View, account: &Account, commodity: &Commodity) -> Units
         requires { ListsSums (known view.now) self.now.legs self.now.positions.entries }
-        ensures { result ≡ units_after (known view.now) self.now.legs (plain account.now commodity.now) }
+        ensures { result ≡ units_after (known view.now) self.now.legs
+            (plain account.now commodity.now) }
     {
         for (position, units) in &self.positions {
             if is_plain_of(position, account, commodity) {

@@ -1,5 +1,5 @@
 -- The walk along the lots in the order is the choice.
-use Rattle.std.proofs.Common.{rules, arith, ◌≡◌, ◌≤◌, ℤ, Vec, Global, unsigned_abs}
+use Rattle.std.proofs.Common.{rules, arith, ◌≤◌, ℤ, Vec, Global, unsigned_abs}
 use Rattle.std.proofs.lemmas.List.Sorted.{answers_always}
 use Rattle.std.proofs.lemmas.Result.{IfOk-weaker}
 use Rattle.lot_cost.specs.declared.lot_key.LotKey.{LotKey}
