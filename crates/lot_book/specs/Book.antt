@@ -3,8 +3,9 @@ use Rattle.std.specs.Prelude.{List, [], ◌∷◌, ◌++◌, ⊤}
 use Rattle.lot_command.specs.declared.command.Command.{Command}
 use Rattle.lot_command.specs.declared.key.Key.{Key}
 use Rattle.lot_book.specs.declared.leg.Leg.{Leg}
+use Rattle.lot_book.specs.Edition.{Migration, NotYet, edition_on}
 use Rattle.lot_book.specs.Facts.{Entry}
-use Rattle.lot_book.specs.Step.{Accept, Outcome, Refuse, Repeat, Step}
+use Rattle.lot_book.specs.Step.{Accept, Outcome, Refuse, Repeat, StepIn}
 
 abbrev pub entry_of : Key → Command → List Leg → Entry
 entry_of key command legs = record { key = key; command = command; legs = legs }
@@ -15,11 +16,20 @@ after before key command (Accept legs) = before ++ entry_of key command legs ∷
 after before key command Repeat = before
 after before key command (Refuse refusal) = before
 
--- entries that a book may have behind those before them
+-- entries that a book may have behind those before them, each judged by its edition
+abbrev pub ContinuesIn : Migration → List Entry → List Entry → Type 0
+ContinuesIn migration before [] = ⊤
+ContinuesIn migration before (entry ∷ entries) =
+    StepIn (edition_on migration before) before entry.key entry.command (Accept entry.legs)
+    × ContinuesIn migration (before ++ entry ∷ []) entries
+
+abbrev pub IsBookIn : Migration → List Entry → Type 0
+IsBookIn migration entries = ContinuesIn migration [] entries
+
+-- ---- the same of a book of edition 1
+
 abbrev pub Continues : List Entry → List Entry → Type 0
-Continues before [] = ⊤
-Continues before (entry ∷ entries) =
-    Step before entry.key entry.command (Accept entry.legs) × Continues (before ++ entry ∷ []) entries
+Continues before entries = ContinuesIn NotYet before entries
 
 abbrev pub IsBook : List Entry → Type 0
-IsBook entries = Continues [] entries
+IsBook entries = IsBookIn NotYet entries

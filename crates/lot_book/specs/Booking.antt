@@ -7,7 +7,8 @@ use Rattle.lot_booking.specs.declared.fault.BookingFault.{BookingFault}
 use Rattle.lot_booking.specs.declared.fault.BookingFault.TheVariants as fault
 use Rattle.lot_cost.specs.declared.method.Method.{Method}
 use Rattle.lot_cost.specs.declared.method.Method.TheVariants.{Strict}
-use Rattle.lot_booking.specs.Booking.{Braced, ComesTo, Legs, Refused, posting_of}
+use Rattle.lot_booking.specs.Booking.{Braced, ComesTo, Legs, Refused, posting_by}
+use Rattle.lot_booking.specs.Method.{Ties, ByKey}
 use Rattle.lot_command.specs.declared.transaction.Amount.{Amount}
 use Rattle.lot_command.specs.declared.transaction.Posting.{Posting}
 use Rattle.lot_book.specs.declared.leg.Leg.{Leg}
@@ -20,12 +21,13 @@ use Rattle.lot_book.specs.Leg.{leave_range, leg_at, legs_at_lots, with_legs}
 -- ---- one posting
 
 -- a posting with an amount, and where it is booked: the number of its entry and its place there, its day, the method of
--- its account, and what the account holds
+-- its account, how ties are decided there, and what the account holds
 pub record Line : Type 0 where
   pub entry : ℕ
   pub place : ℕ
   pub day : ℤ
   pub method : Method
+  pub ties : Ties
   pub held : Held
   pub account : List ℕ
   pub amount : Amount
@@ -43,7 +45,7 @@ abbrev pub plain_leg : Line → Leg
 plain_leg line = leg_at line.entry line.place 0 line.account line.amount.commodity None line.amount.units
 
 abbrev pub braced : Line → Cost → Braced
-braced line cost = posting_of line.method line.held line.amount.commodity line.amount.units cost line.day
+braced line cost = posting_by line.ties line.method line.held line.amount.commodity line.amount.units cost line.day
 
 -- the posting, with its cost if it has braces, has these legs
 abbrev pub HasLegs : Line → Option Cost → Bool → List Leg → Type 0
@@ -109,17 +111,30 @@ abbrev pub method_of : Option Standing → Method
 method_of None = Strict
 method_of (Some standing) = standing.method
 
+-- how ties are decided among the lots of an account and a commodity, behind the legs so far of a transaction
+abbrev pub TieRule : Type 0
+TieRule = List Leg → List ℕ → List ℕ → Ties
+
+-- all of them by key, as in edition 1
+abbrev pub all_by_key : TieRule
+all_by_key before account commodity = ByKey
+
 -- the posting with that amount, on what a book says and the legs so far of the transaction
-abbrev pub line_of : Facts → ℤ → List Leg → ℕ → List ℕ → Amount → Line
-line_of facts day before place account amount = record {
+abbrev pub line_under : TieRule → Facts → ℤ → List Leg → ℕ → List ℕ → Amount → Line
+line_under ties facts day before place account amount = record {
   entry = suc facts.entries;
   place = place;
   day = day;
   method = method_of (facts.standing account);
+  ties = ties before account amount.commodity;
   held = with_legs account (facts.held account) before;
   account = account;
   amount = amount;
 }
+
+-- the same where all ties are decided by key
+abbrev pub line_of : Facts → ℤ → List Leg → ℕ → List ℕ → Amount → Line
+line_of facts day before place account amount = line_under all_by_key facts day before place account amount
 
 -- what the postings come to after what their first one comes to
 abbrev pub Continue : (List Leg → Bookings → Type 0) → List Leg → Bookings → Booking → Type 0
@@ -128,16 +143,27 @@ Continue Others before outcome (Books booked) =
     (others : Bookings) × Others (before ++ booked.legs) others × (outcome ≡ follow booked others)
 
 -- a posting and those behind it; an elided one has no legs here
-abbrev pub BooksWith : (List Leg → Bookings → Type 0) → Facts → ℤ → List Leg → ℕ → List ℕ → Option Amount → Bookings → Type 0
-BooksWith Others facts day before place account None outcome = Others before outcome
-BooksWith Others facts day before place account (Some amount) outcome =
-    (booking : Booking) × BooksTo (line_of facts day before place account amount) booking × Continue Others before outcome booking
+abbrev pub BooksWithUnder : TieRule → (List Leg → Bookings → Type 0) → Facts → ℤ → List Leg → ℕ → List ℕ → Option Amount
+    → Bookings → Type 0
+BooksWithUnder ties Others facts day before place account None outcome = Others before outcome
+BooksWithUnder ties Others facts day before place account (Some amount) outcome =
+    (booking : Booking) × BooksTo (line_under ties facts day before place account amount) booking
+    × Continue Others before outcome booking
 
 -- postings of a day, of which the first stands at that place, on the legs of those before them
+abbrev pub BooksAllUnder : TieRule → Facts → ℤ → List Leg → ℕ → List Posting → Bookings → Type 0
+BooksAllUnder ties facts day before place [] outcome = outcome ≡ All []
+BooksAllUnder ties facts day before place (posting ∷ postings) outcome =
+    BooksWithUnder ties (λ legs others. BooksAllUnder ties facts day legs (suc place) postings others)
+    facts day before place posting.account posting.amount outcome
+
+-- the same where all ties are decided by key
+abbrev pub BooksWith : (List Leg → Bookings → Type 0) → Facts → ℤ → List Leg → ℕ → List ℕ → Option Amount → Bookings → Type 0
+BooksWith Others facts day before place account amount outcome =
+    BooksWithUnder all_by_key Others facts day before place account amount outcome
+
 abbrev pub BooksAll : Facts → ℤ → List Leg → ℕ → List Posting → Bookings → Type 0
-BooksAll facts day before place [] outcome = outcome ≡ All []
-BooksAll facts day before place (posting ∷ postings) outcome =
-    BooksWith (λ legs others. BooksAll facts day legs (suc place) postings others) facts day before place posting.account posting.amount outcome
+BooksAll facts day before place postings outcome = BooksAllUnder all_by_key facts day before place postings outcome
 
 abbrev pub legs_in : List Booked → List Leg
 legs_in booked = flat_map (λ (b : Booked). b.legs) booked

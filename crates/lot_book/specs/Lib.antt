@@ -1,6 +1,8 @@
 pub mod Leg
 pub mod Facts
 pub mod Booking
+pub mod OpeningNumber
+pub mod Edition
 pub mod Currencies
 pub mod Balance
 pub mod Refusals

@@ -6,7 +6,7 @@ use Rattle.lot_command.specs.declared.command.Command.{Command}
 use Rattle.lot_command.specs.declared.command.Command.TheVariants.{Opening, Closing, Declaring, Quoting, Transaction}
 use Rattle.lot_command.specs.declared.price.Price.{Price}
 use Rattle.lot_booking.specs.Booking.{units_in}
-use Rattle.lot_book.specs.Booking.{All, Booked, BooksAll}
+use Rattle.lot_book.specs.Booking.{All, Booked, BooksAllUnder, TieRule, all_by_key}
 use Rattle.lot_book.specs.Facts.{Facts}
 use Rattle.lot_book.specs.declared.leg.Leg.{Leg}
 
@@ -64,11 +64,15 @@ abbrev pub sales_in : ℤ → List Booked → List (ℕ × SaleParts)
 sales_in day [] = []
 sales_in day (booked ∷ more) = sales_of day booked ++ sales_in day more
 
--- the sales of a command: of a transaction its postings that take lots away
+-- the sales of a command, where ties are decided so: of a transaction its postings that take lots away
+abbrev pub AreSalesUnder : TieRule → Facts → Command → List (ℕ × SaleParts) → Type 0
+AreSalesUnder ties facts (Opening o) sales = sales ≡ []
+AreSalesUnder ties facts (Closing c) sales = sales ≡ []
+AreSalesUnder ties facts (Declaring d) sales = sales ≡ []
+AreSalesUnder ties facts (Quoting q) sales = sales ≡ []
+AreSalesUnder ties facts (Transaction t) sales =
+    (booked : List Booked) × BooksAllUnder ties facts t.day [] 1 t.postings (All booked) × (sales ≡ sales_in t.day booked)
+
+-- the same where all ties are decided by key
 abbrev pub AreSales : Facts → Command → List (ℕ × SaleParts) → Type 0
-AreSales facts (Opening o) sales = sales ≡ []
-AreSales facts (Closing c) sales = sales ≡ []
-AreSales facts (Declaring d) sales = sales ≡ []
-AreSales facts (Quoting q) sales = sales ≡ []
-AreSales facts (Transaction t) sales =
-    (booked : List Booked) × BooksAll facts t.day [] 1 t.postings (All booked) × (sales ≡ sales_in t.day booked)
+AreSales facts command sales = AreSalesUnder all_by_key facts command sales

@@ -12,7 +12,8 @@ use Rattle.lot_book.specs.declared.leg.Leg.{Leg}
 use Rattle.lot_book.specs.declared.refusal.Refusal.{Refusal}
 use Rattle.lot_book.specs.declared.refusal.Refusal.TheVariants.{KeyReused}
 use Rattle.lot_book.specs.Balance.{elided_postings, fill_of, residuals, weights_in}
-use Rattle.lot_book.specs.Booking.{All, Booked, Bookings, BooksAll, Stopped, legs_in}
+use Rattle.lot_book.specs.Booking.{All, Booked, Bookings, BooksAllUnder, Stopped, TieRule, all_by_key, legs_in}
+use Rattle.lot_book.specs.Edition.{Edition, First, ties_in}
 use Rattle.lot_book.specs.Facts.{Entry, Facts, facts_of}
 use Rattle.lot_book.specs.Refusals.{already_declared, already_open, back_dated, book_full, closed, closing_again, closing_too_early, closing_unknown, currency_not_allowed, fill_not_allowed, fill_out_of_range, inexact_fill, not_balanced, not_open_yet, too_many_lots, too_many_postings, two_elided, unknown_account}
 
@@ -69,35 +70,52 @@ abbrev pub concluded : Facts → TransactionOf → Bookings → Outcome
 concluded facts t (Stopped refusal) = Refuse refusal
 concluded facts t (All booked) = accept_unless (first_of (last_conditions facts t booked)) (all_legs facts t booked)
 
-abbrev pub JudgesTransaction : Facts → TransactionOf → Option Refusal → Outcome → Type 0
-JudgesTransaction facts t (Some refusal) outcome = outcome ≡ Refuse refusal
-JudgesTransaction facts t None outcome =
-    (bookings : Bookings) × BooksAll facts t.day [] 1 t.postings bookings × (outcome ≡ concluded facts t bookings)
+abbrev pub JudgesTransactionUnder : TieRule → Facts → TransactionOf → Option Refusal → Outcome → Type 0
+JudgesTransactionUnder ties facts t (Some refusal) outcome = outcome ≡ Refuse refusal
+JudgesTransactionUnder ties facts t None outcome =
+    (bookings : Bookings) × BooksAllUnder ties facts t.day [] 1 t.postings bookings × (outcome ≡ concluded facts t bookings)
 
--- ---- all commands
+-- ---- all commands, however ties are decided
 
 -- a command whose key is new
-abbrev pub Judges : Facts → Command → Outcome → Type 0
-Judges facts (Opening o) outcome =
+abbrev pub JudgesUnder : TieRule → Facts → Command → Outcome → Type 0
+JudgesUnder ties facts (Opening o) outcome =
     outcome ≡ accept_unless (first_of (already_open facts o.account ∷ book_full facts ∷ [])) []
-Judges facts (Closing c) outcome =
+JudgesUnder ties facts (Closing c) outcome =
     outcome ≡ accept_unless (first_of (closing_unknown facts c.account ∷ closing_too_early facts c.account c.day
     ∷ closing_again facts c.account ∷ book_full facts ∷ [])) []
-Judges facts (Declaring d) outcome =
+JudgesUnder ties facts (Declaring d) outcome =
     outcome ≡ accept_unless (first_of (already_declared facts d.commodity ∷ book_full facts ∷ [])) []
-Judges facts (Quoting q) outcome = outcome ≡ accept_unless (first_of (book_full facts ∷ [])) []
-Judges facts (Transaction t) outcome = JudgesTransaction facts t (first_of (first_conditions facts t)) outcome
+JudgesUnder ties facts (Quoting q) outcome = outcome ≡ accept_unless (first_of (book_full facts ∷ [])) []
+JudgesUnder ties facts (Transaction t) outcome = JudgesTransactionUnder ties facts t (first_of (first_conditions facts t)) outcome
 
 -- a command, by the text that stands under its key
-abbrev pub DecidesBy : Option (List ℕ) → Facts → Command → Outcome → Type 0
-DecidesBy None facts command outcome = Judges facts command outcome
-DecidesBy (Some text) facts command outcome =
+abbrev pub DecidesByUnder : TieRule → Option (List ℕ) → Facts → Command → Outcome → Type 0
+DecidesByUnder ties None facts command outcome = JudgesUnder ties facts command outcome
+DecidesByUnder ties (Some text) facts command outcome =
     outcome ≡ if same_text text (canonical command) then Repeat else Refuse KeyReused
 
 -- what a command comes to on what a book says
-abbrev pub Decides : Facts → Command → Outcome → Type 0
-Decides facts command outcome = DecidesBy facts.text facts command outcome
+abbrev pub DecidesUnder : TieRule → Facts → Command → Outcome → Type 0
+DecidesUnder ties facts command outcome = DecidesByUnder ties facts.text facts command outcome
 
--- what a command with that key comes to on a book
+-- what a command with that key comes to on a book, by an edition
+abbrev pub StepIn : Edition → List Entry → Key → Command → Outcome → Type 0
+StepIn edition book key command outcome = DecidesUnder (ties_in edition book) (facts_of book key) command outcome
+
+-- ---- the same by edition 1, where all ties are decided by key
+
+abbrev pub JudgesTransaction : Facts → TransactionOf → Option Refusal → Outcome → Type 0
+JudgesTransaction facts t refused outcome = JudgesTransactionUnder all_by_key facts t refused outcome
+
+abbrev pub Judges : Facts → Command → Outcome → Type 0
+Judges facts command outcome = JudgesUnder all_by_key facts command outcome
+
+abbrev pub DecidesBy : Option (List ℕ) → Facts → Command → Outcome → Type 0
+DecidesBy text facts command outcome = DecidesByUnder all_by_key text facts command outcome
+
+abbrev pub Decides : Facts → Command → Outcome → Type 0
+Decides facts command outcome = DecidesUnder all_by_key facts command outcome
+
 abbrev pub Step : List Entry → Key → Command → Outcome → Type 0
-Step book key command outcome = Decides (facts_of book key) command outcome
+Step book key command outcome = StepIn First book key command outcome

@@ -1,3 +1,4 @@
+pub mod CauseLemmas
 pub mod FeedLemmas
 pub mod GainLemmas
 pub mod GivenLemmas

@@ -1,5 +1,6 @@
 -- Why a report of a book ends before its end: the code and the name of each fault (docs/RULES.md, All codes).
-use Rattle.std.specs.Prelude.{ℕ, Bool, true, false, List, codes}
+use Rattle.std.specs.Prelude.{ℕ, Bool, true, false, IsTrue, List, Option, Result, Ok, Err, codes, ⊤}
+use Rattle.lot_report.specs.Output.{HasFailed, WriteCalls}
 use Rattle.lot_report.specs.declared.fault.ReportFault.{ReportFault}
 use Rattle.lot_report.specs.declared.fault.ReportFault.TheVariants as report
 use Rattle.lot_report.specs.declared.fault.RowFault.{RowFault}
@@ -36,6 +37,11 @@ is_of_writer (Row (Report report.Range)) = false
 is_of_writer (Row (Report report.Write)) = true
 is_of_writer (Row (Report report.Memory)) = false
 is_of_writer (Row Spent) = false
+
+-- a report that ends for the writer ends so where a call of it failed
+abbrev pub HasCause : Result (Unit {0}) ShowFault → Option WriteCalls → Type 0
+HasCause (Ok done) calls = ⊤
+HasCause (Err fault) calls = IsTrue (is_of_writer fault) → HasFailed calls
 
 -- what a fault of the journal is for a report
 abbrev pub of_journal : JournalFault → ShowFault

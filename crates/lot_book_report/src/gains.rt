@@ -1,13 +1,13 @@
+ghost use Rattle.lot_book_report.specs.Fault.{HasCause};
 ghost use Rattle.lot_book_report.specs.Gains.{ShowsAllSales, ShowsGains, ShowsSomeGains};
 ghost use Rattle.lot_book_report.specs.Show.{HoldsOfBook, HoldsOfTables, ReadsBook};
 
 use crate::fault::ShowFault;
 use lot_base::Day;
-use lot_report::Gains;
+use lot_report::{CountedWrite, Gains};
 use lot_store::{Book, StoreFault};
 use sqlite::Alter;
 use std::alloc::Global;
-use std::io::Write;
 
 /// Writes what the sales of a book gained from the first day to the last, both included, each sale as it is read. Without a
 /// day that end of the range is open. Nothing is flushed.
@@ -15,7 +15,7 @@ use std::io::Write;
 /// Where the book stops, the sales before are written, and nothing behind them, no totals. Where the report does, what
 /// `Gains` of `lot_report` writes at such a fault is; the book can be used on then. Where it ends well all rows of sales on
 /// those days are written, whatever the tables stand for.
-pub fn show_gains<S: Alter, W: Write>(
+pub fn show_gains<S: Alter, W: CountedWrite>(
     alloc: Global,
     book: &mut Book<S>,
     first: Option<Day>,
@@ -28,6 +28,7 @@ pub fn show_gains<S: Alter, W: Write>(
     ensures rows { HoldsOfTables S.Store book.old book.new
         (λ tables. ShowsAllSales tables (first, last) (W.contents writer.old) (W.contents writer.new) result) }
     ensures reads { ReadsBook S.Store book.old book.new result }
+    ensures cause { HasCause result (W.calls writer.new) }
 {
     let mut report = Gains::new(alloc);
     let mut walk = book.gains(first, last);

@@ -1,4 +1,5 @@
 ghost use Rattle.std.specs.Prelude.{◌≡◌};
+ghost use Rattle.lot_book_report.specs.Fault.{HasCause};
 ghost use Rattle.lot_book_report.specs.Holdings.{ShowsAllHoldings, ShowsAllWith, ShowsHoldings, ShowsSomeHoldings, ShowsWith, valued_with};
 ghost use Rattle.lot_book_report.specs.Show.{HoldsOfBook, HoldsOfTables, ReadsBook};
 
@@ -6,11 +7,10 @@ use crate::fault::ShowFault;
 use crate::prices::DayPrices;
 use lot_base::Day;
 use lot_book::Holding;
-use lot_report::{Holdings, Valuation, ValuedHolding};
+use lot_report::{CountedWrite, Holdings, Valuation, ValuedHolding};
 use lot_store::{Book, StoreFault};
 use sqlite::Alter;
 use std::alloc::Global;
-use std::io::Write;
 
 /// Writes what a book holds, each row as it is read, and what its lots cost; with a day also what they are worth: each lot
 /// at the price of its commodity in the currency of its cost. Nothing is flushed.
@@ -19,7 +19,7 @@ use std::io::Write;
 /// nothing is. Where the report stops, what `Holdings` of `lot_report` writes at such a fault is; the book can be used on
 /// then. Where it ends well all rows of plain units and of lots are written, at the prices that the rows of prices give,
 /// whatever the tables stand for.
-pub fn show_holdings<S: Alter, W: Write>(
+pub fn show_holdings<S: Alter, W: CountedWrite>(
     alloc: Global,
     book: &mut Book<S>,
     day: Option<Day>,
@@ -31,6 +31,7 @@ pub fn show_holdings<S: Alter, W: Write>(
     ensures rows { HoldsOfTables S.Store book.old book.new
         (λ tables. ShowsAllHoldings tables day (W.contents writer.old) (W.contents writer.new) result) }
     ensures reads { ReadsBook S.Store book.old book.new result }
+    ensures cause { HasCause result (W.calls writer.new) }
 {
     match day {
         Some(day) => {
@@ -42,7 +43,7 @@ pub fn show_holdings<S: Alter, W: Write>(
 }
 
 /// Writes what a book holds, each lot with its value where there are prices.
-fn write_holdings<S: Alter, W: Write>(
+fn write_holdings<S: Alter, W: CountedWrite>(
     alloc: Global,
     book: &mut Book<S>,
     prices: &Option<DayPrices>,
@@ -54,6 +55,7 @@ fn write_holdings<S: Alter, W: Write>(
     ensures rows { HoldsOfTables S.Store book.old book.new
         (λ tables. ShowsAllWith tables prices.now (W.contents writer.old) (W.contents writer.new) result) }
     ensures reads { ReadsBook S.Store book.old book.new result }
+    ensures cause { HasCause result (W.calls writer.new) }
 {
     let mut report = Holdings::new(alloc);
     let mut walk = book.holdings();

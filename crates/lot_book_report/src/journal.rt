@@ -1,25 +1,29 @@
 ghost use Rattle.lot_stored.specs.Rows.{entry_rows};
+ghost use Rattle.lot_book_report.specs.Fault.{HasCause};
 ghost use Rattle.lot_book_report.specs.Journal.{ShowsAllEntries, ShowsJournal, ShowsSomeJournal};
 ghost use Rattle.lot_book_report.specs.Show.{HoldsOfBook, HoldsOfTables, ReadsBook};
 
 use crate::fault::ShowFault;
-use lot_report::Journal;
+use lot_report::{CountedWrite, Journal};
 use lot_store::{Book, StoreFault};
 use sqlite::Alter;
-use std::io::Write;
 
 /// Writes the journal of a book: its entries in their order, each as it is read. Nothing is flushed.
 ///
 /// Where the book stops, the entries before are written, and nothing behind them. Where the writer fails, a prefix of the
 /// next one is, too; the book can be used on then. Where it ends well all rows of the table are written, whatever the tables
 /// stand for.
-pub fn show_journal<S: Alter, W: Write>(book: &mut Book<S>, writer: &mut W) -> Result<(), ShowFault>
+pub fn show_journal<S: Alter, W: CountedWrite>(
+    book: &mut Book<S>,
+    writer: &mut W,
+) -> Result<(), ShowFault>
     ensures shows { HoldsOfBook S.Store book.old book.new
         (λ entries. ShowsJournal (entry_rows 1 entries) (W.contents writer.old) (W.contents writer.new) result) }
     ensures lines { ShowsSomeJournal (W.contents writer.old) (W.contents writer.new) result }
     ensures rows { HoldsOfTables S.Store book.old book.new
         (λ tables. ShowsAllEntries tables (W.contents writer.old) (W.contents writer.new) result) }
     ensures reads { ReadsBook S.Store book.old book.new result }
+    ensures cause { HasCause result (W.calls writer.new) }
 {
     let mut journal = Journal::new();
     let mut walk = book.journal();

@@ -24,12 +24,12 @@ use Rattle.lot_cost.specs.declared.method.Method.{Method}
 use Rattle.lot_cost.specs.declared.method.Method.TheVariants.{Strict, Fifo, Lifo, Hifo, Unmatched}
 use Rattle.lot_booking.specs.Booking.{AreTaken, Augments, ComesTo, Braced, FindsNone, IsOneLeg, Legs, Outcome, Reduces, Refused, TakesFrom, candidates, is_ambiguous, is_inexact, opened_key, spec_of, units_in}
 use Rattle.lot_booking.specs.Choice.{AreInOrder, Choice, HasNoChoice, HaveDistinctKeys, IsChoice, Rule, Takes, chosen_legs, given, with_sign_of}
-use Rattle.lot_booking.specs.Method.{is_strict, order_of, rule_of}
-use Rattle.lot_booking.specs.Order.{IsOrder, oldest_first, newest_first, highest_first}
-use Rattle.lot_booking.specs.OrderLaws.{oldest_is_order, newest_is_order, highest_is_order}
+use Rattle.lot_booking.specs.Method.{Ties, is_strict, highest_by, newest_by, oldest_by, order_by, rule_by}
+use Rattle.lot_booking.specs.Order.{IsOrder}
 use Rattle.lot_booking.proofs.ChoiceLaws.{one_in_turn, one_strict}
 use Rattle.lot_booking.proofs.ChoiceLemmas.{distinct_among}
 use Rattle.lot_booking.proofs.ListLemmas.{at_member, each_member}
+use Rattle.lot_booking.proofs.OpeningOrders.{is_order_by}
 
 -- ---- an amount with the sign of units
 
@@ -76,7 +76,7 @@ taken_units allows before lots units legs takes =
 pub units_of_legs : (posting : Braced) (reduces : Bool) (legs : List (LotKey × ℤ)) → ComesTo posting (Legs reduces legs) → units_in legs ≡ posting.units
 units_of_legs posting false legs comes = ap units_in comes.1.leg ∙ +ℤ_idr posting.units
 units_of_legs posting true legs comes =
-    taken_units (rule_of posting.method) (order_of posting.method) (candidates posting) posting.units legs comes.1
+    taken_units (rule_by posting.ties posting.method) (order_by posting.ties posting.method) (candidates posting) posting.units legs comes.1
 
 -- ---- which lots the legs take from
 
@@ -206,31 +206,25 @@ same_chosen units one other (lot ∷ lots) same =
     let legs : ℕ → List (LotKey × ℤ) → List (LotKey × ℤ) = λ amount rest. cond (nat_eq amount 0) rest ((lot.0, with_sign_of units amount) ∷ rest) in
     ap (λ amount. legs amount (chosen_legs units one lots)) same.0 ∙ ap (legs (other lot.0)) (same_chosen units one other lots same.1)
 
-in_order_of : (method : Method) → IsOrder (order_of method)
-in_order_of Strict = oldest_is_order
-in_order_of Fifo = oldest_is_order
-in_order_of Lifo = newest_is_order
-in_order_of Hifo = highest_is_order
-in_order_of Unmatched = oldest_is_order
-
-one_choice : (method : Method) (lots : List (LotKey × ℤ)) (amount : ℕ) (one other : Choice)
-    → IsChoice (rule_of method) lots amount one → IsChoice (rule_of method) lots amount other → AllByRecursion (λ (lot : LotKey × ℤ). one lot.0 ≡ other lot.0) lots
-one_choice Strict lots amount one other a b = one_strict lots amount one other a b
-one_choice Fifo lots amount one other a b = one_in_turn oldest_first oldest_is_order lots amount one other a b
-one_choice Lifo lots amount one other a b = one_in_turn newest_first newest_is_order lots amount one other a b
-one_choice Hifo lots amount one other a b = one_in_turn highest_first highest_is_order lots amount one other a b
-one_choice Unmatched lots amount one other a b = absurd a.allowed
+one_choice : (ties : Ties) (method : Method) (lots : List (LotKey × ℤ)) (amount : ℕ) (one other : Choice)
+    → IsChoice (rule_by ties method) lots amount one → IsChoice (rule_by ties method) lots amount other
+    → AllByRecursion (λ (lot : LotKey × ℤ). one lot.0 ≡ other lot.0) lots
+one_choice ties Strict lots amount one other a b = one_strict lots amount one other a b
+one_choice ties Fifo lots amount one other a b = one_in_turn (oldest_by ties) (is_order_by ties Fifo) lots amount one other a b
+one_choice ties Lifo lots amount one other a b = one_in_turn (newest_by ties) (is_order_by ties Lifo) lots amount one other a b
+one_choice ties Hifo lots amount one other a b = one_in_turn (highest_by ties) (is_order_by ties Hifo) lots amount one other a b
+one_choice ties Unmatched lots amount one other a b = absurd a.allowed
 
 taken_once : (posting : Braced) (legs others : List (LotKey × ℤ)) → AreTaken posting legs → AreTaken posting others → legs ≡ others
 taken_once posting legs others a b =
     let lots = candidates posting in
     let units = posting.units in
     let listed : a.listed ≡ b.listed =
-    listed_once (order_of posting.method) (in_order_of posting.method) a.listed b.listed a.order b.order
+    listed_once (order_by posting.ties posting.method) (is_order_by posting.ties posting.method) a.listed b.listed a.order b.order
     (λ lot member. Contains-permutation lots b.listed lot b.same (Contains-permutation a.listed lots lot (IsPermutation-sym lots a.listed a.same) member))
     (λ lot member. Contains-permutation lots a.listed lot a.same (Contains-permutation b.listed lots lot (IsPermutation-sym lots b.listed b.same) member)) in
     let Same : LotKey × ℤ → Type 0 = λ lot. a.choice lot.0 ≡ b.choice lot.0 in
-    let same : AllByRecursion Same lots = one_choice posting.method lots (unsigned_abs units) a.choice b.choice a.is b.is in
+    let same : AllByRecursion Same lots = one_choice posting.ties posting.method lots (unsigned_abs units) a.choice b.choice a.is b.is in
     a.chosen
     ∙ same_chosen units a.choice b.choice a.listed (recursion_from_All Same a.listed (All-permutation Same lots a.listed a.same (All-from_recursion Same lots same)))
     ∙ ap (chosen_legs units b.choice) listed ∙ sym b.chosen
@@ -299,7 +293,7 @@ case_of posting (Refused IncompleteCost) h =
     let spec = spec_of posting.units posting.cost in
     Opens h.0 (opened-incomplete spec posting.units posting.day spec.number spec.currency h.1)
 case_of posting (Refused NoMatch) h =
-    TakesNone h.0 (none_of_none (rule_of posting.method) (candidates posting) posting.units h.0.0 h.1)
+    TakesNone h.0 (none_of_none (rule_by posting.ties posting.method) (candidates posting) posting.units h.0.0 h.1)
     (ap (λ lots. Refused (why_none lots (is_ambiguous posting))) (sym h.1))
 case_of posting (Refused Ambiguous) h = TakesNone h.0 h.2 (ap Refused (why_none-ambiguous (is_strict posting.method) (candidates posting) h.1))
 case_of posting (Refused NotEnough) h = TakesNone h.0 h.3 (ap Refused (why_none-not_enough (candidates posting) (is_ambiguous posting) h.1 h.2))

@@ -5,5 +5,6 @@ pub mod ChoiceLemmas
 pub mod ListLemmas
 pub mod TakeLemmas
 pub mod NumberLemmas
+pub mod OpeningOrders
 pub mod SameLots
 pub mod SomeOutcome

@@ -18,15 +18,16 @@ use Rattle.lot_cost.specs.declared.method.Method.{Method}
 use Rattle.lot_cost.specs.declared.method.Method.TheVariants.{Strict, Fifo, Lifo, Hifo, Unmatched}
 use Rattle.lot_booking.specs.Booking.{Augments, Braced, ComesTo, FindsNone, Legs, Outcome, Reduces, Refused, candidates, is_ambiguous, is_inexact, is_reducing, opened_key, spec_of}
 use Rattle.lot_booking.specs.Choice.{AreInOrder, HasNoChoice, HaveDistinctKeys, InTurn, OneOrWhole, Takes, held_in}
-use Rattle.lot_booking.specs.Method.{may_reduce, order_of, rule_of}
-use Rattle.lot_booking.specs.Order.{IsOrder, oldest_first, newest_first, highest_first}
-use Rattle.lot_booking.specs.OrderLaws.{oldest_is_order, newest_is_order, highest_is_order}
+use Rattle.lot_booking.specs.Method.{Ties, highest_by, may_reduce, newest_by, oldest_by, order_by, rule_by}
+use Rattle.lot_booking.specs.Order.{IsOrder, oldest_first}
+use Rattle.lot_booking.specs.OrderLaws.{oldest_is_order}
 use Rattle.lot_booking.specs.Way.{walked}
 use Rattle.lot_booking.proofs.BookLemmas.{none_of_several, taken_strictly}
 use Rattle.lot_booking.proofs.BookingLaws.{candidates_distinct}
 use Rattle.lot_booking.proofs.ChoiceLemmas.{all_keys, held_in-permuted, no_choice-from_less}
 use Rattle.lot_cost.proofs.ListLemmas.{all_weaker}
 use Rattle.lot_booking.proofs.ListLemmas.{all_permuted}
+use Rattle.lot_booking.proofs.OpeningOrders.{is_order_by}
 use Rattle.lot_booking.proofs.TakeLemmas.{other_first, takes-in_order}
 
 -- ---- lots in an order
@@ -111,9 +112,9 @@ module _ (before : LotKey → LotKey → Bool) (order : IsOrder before) where
 -- ---- what a method takes
 
 -- the method has legs for the units, or there is no choice
-abbrev TakesOrNot : Method → Lots → ℤ → Type 0
-TakesOrNot method lots units =
-    ((legs : Lots) × Takes (rule_of method) (order_of method) lots units legs) ⊎ HasNoChoice (rule_of method) lots (unsigned_abs units)
+abbrev TakesOrNot : Ties → Method → Lots → ℤ → Type 0
+TakesOrNot ties method lots units =
+    ((legs : Lots) × Takes (rule_by ties method) (order_by ties method) lots units legs) ⊎ HasNoChoice (rule_by ties method) lots (unsigned_abs units)
 
 -- one number is below another or isn't
 at_most_or_below : (a b : ℕ) → (a ≤ b) ⊎ (b < a)
@@ -136,8 +137,8 @@ strictly lots units distinct enough exact =
     let taken = taken_in_turn oldest_first oldest_is_order lots units distinct enough in
     (taken.0, taken_strictly lots units taken.0 exact taken.1)
 
-strictly_or_not : (lots : Lots) (units : ℤ) → HaveDistinctKeys lots → TakesOrNot Strict lots units
-strictly_or_not lots units distinct =
+strictly_or_not : (ties : Ties) (lots : Lots) (units : ℤ) → HaveDistinctKeys lots → TakesOrNot ties Strict lots units
+strictly_or_not ties lots units distinct =
     let amount = unsigned_abs units in
     elim (at_most_or_below 2 (length lots)) [
       | inl several ↦ elim (cases_order (held_in lots) amount) [
@@ -151,12 +152,13 @@ strictly_or_not lots units distinct =
       ]
     ]
 
-takes_or_not : (method : Method) → may_reduce method ≡ true → (lots : Lots) (units : ℤ) → HaveDistinctKeys lots → TakesOrNot method lots units
-takes_or_not Strict may lots units distinct = strictly_or_not lots units distinct
-takes_or_not Fifo may lots units distinct = in_turn_or_not oldest_first oldest_is_order lots units distinct
-takes_or_not Lifo may lots units distinct = in_turn_or_not newest_first newest_is_order lots units distinct
-takes_or_not Hifo may lots units distinct = in_turn_or_not highest_first highest_is_order lots units distinct
-takes_or_not Unmatched may lots units distinct = absurd (true≢false (sym may))
+takes_or_not : (ties : Ties) (method : Method) → may_reduce method ≡ true → (lots : Lots) (units : ℤ) → HaveDistinctKeys lots
+    → TakesOrNot ties method lots units
+takes_or_not ties Strict may lots units distinct = strictly_or_not ties lots units distinct
+takes_or_not ties Fifo may lots units distinct = in_turn_or_not (oldest_by ties) (is_order_by ties Fifo) lots units distinct
+takes_or_not ties Lifo may lots units distinct = in_turn_or_not (newest_by ties) (is_order_by ties Lifo) lots units distinct
+takes_or_not ties Hifo may lots units distinct = in_turn_or_not (highest_by ties) (is_order_by ties Hifo) lots units distinct
+takes_or_not ties Unmatched may lots units distinct = absurd (true≢false (sym may))
 
 -- ---- some outcome
 
@@ -175,7 +177,7 @@ some_refusal posting h none (lot ∷ lots) e = elim (cases_Bool (is_ambiguous po
 
 some_reduction : MatchingLotsAreDistinct → (posting : Braced) → Reduces posting → HasOutcome posting
 some_reduction sorted posting h =
-    elim (takes_or_not posting.method (and_parts (may_reduce posting.method) _ h.2).0 (candidates posting) posting.units (candidates_distinct sorted posting)) [
+    elim (takes_or_not posting.ties posting.method (and_parts (may_reduce posting.method) _ h.2).0 (candidates posting) posting.units (candidates_distinct sorted posting)) [
       | inl taken ↦ (Legs true taken.0, (h, taken.1))
       | inr none ↦ some_refusal posting h none (candidates posting) refl
     ]

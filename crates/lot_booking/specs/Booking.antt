@@ -15,10 +15,12 @@ use Rattle.lot_booking.specs.declared.fault.BookingFault.{BookingFault}
 use Rattle.lot_booking.specs.declared.fault.BookingFault.TheVariants.{ZeroUnits, InexactCost, IncompleteCost, NoMatch, Ambiguous, NotEnough, Memory}
 use Rattle.lot_cost.specs.declared.method.Method.{Method}
 use Rattle.lot_booking.specs.Choice.{HasNoChoice, Takes}
-use Rattle.lot_booking.specs.Method.{is_strict, may_reduce, order_of, rule_of}
+use Rattle.lot_booking.specs.Method.{Ties, ByKey, is_strict, may_reduce, order_by, rule_by}
 
--- a posting with braces, beside the method and the inventory of its account, and the day of its transaction
+-- a posting with braces, beside the method of its account and how its ties are decided, the inventory of its account, and
+-- the day of its transaction
 pub record Braced : Type 0 where
+  pub ties : Ties
   pub method : Method
   pub held : Held
   pub commodity : List ℕ
@@ -26,9 +28,13 @@ pub record Braced : Type 0 where
   pub cost : Cost
   pub day : ℤ
 
+abbrev pub posting_by : Ties → Method → Held → List ℕ → ℤ → Cost → ℤ → Braced
+posting_by ties method held commodity units cost day =
+    record { ties = ties; method = method; held = held; commodity = commodity; units = units; cost = cost; day = day }
+
+-- the same where ties are decided by key
 abbrev pub posting_of : Method → Held → List ℕ → ℤ → Cost → ℤ → Braced
-posting_of method held commodity units cost day =
-    record { method = method; held = held; commodity = commodity; units = units; cost = cost; day = day }
+posting_of = posting_by ByKey
 
 -- ---- what a cost gives of a lot
 
@@ -99,11 +105,11 @@ candidates posting = fitting posting.held posting.commodity posting.units (spec_
 
 -- the legs are those of a choice among these lots
 abbrev pub AreTaken : Braced → List (LotKey × ℤ) → Type 0
-AreTaken posting legs = Takes (rule_of posting.method) (order_of posting.method) (candidates posting) posting.units legs
+AreTaken posting legs = Takes (rule_by posting.ties posting.method) (order_by posting.ties posting.method) (candidates posting) posting.units legs
 
 -- there is no choice among them
 abbrev pub FindsNone : Braced → Type 0
-FindsNone posting = HasNoChoice (rule_of posting.method) (candidates posting) (unsigned_abs posting.units)
+FindsNone posting = HasNoChoice (rule_by posting.ties posting.method) (candidates posting) (unsigned_abs posting.units)
 
 -- the method takes one lot, or each of several whole, and there are several
 abbrev pub is_ambiguous : Braced → Bool

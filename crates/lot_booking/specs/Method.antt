@@ -1,9 +1,10 @@
 -- The methods of an account: which choices each allows, and in which order it lists the legs.
-use Rattle.std.specs.Prelude.{Bool, false, true}
+use Rattle.std.specs.Prelude.{ℕ, Bool, false, true}
 use Rattle.lot_cost.specs.declared.lot_key.LotKey.{LotKey}
 use Rattle.lot_cost.specs.declared.method.Method.{Method}
 use Rattle.lot_cost.specs.declared.method.Method.TheVariants.{Strict, Fifo, Lifo, Hifo, Unmatched}
 use Rattle.lot_booking.specs.Choice.{Rule, OneOrWhole, InTurn}
+use Rattle.lot_booking.specs.OpeningOrder.{by_opening, oldest_opened_cmp, newest_opened_cmp, highest_opened_cmp}
 use Rattle.lot_booking.specs.Order.{oldest_first, newest_first, highest_first}
 
 -- whether postings under the method may reduce lots
@@ -22,18 +23,44 @@ is_strict Lifo = false
 is_strict Hifo = false
 is_strict Unmatched = false
 
--- in which order a method takes lots and lists legs; STRICT lists them in the order of their keys
-abbrev pub order_of : Method → LotKey → LotKey → Bool
-order_of Strict = oldest_first
-order_of Fifo = oldest_first
-order_of Lifo = newest_first
-order_of Hifo = highest_first
-order_of Unmatched = oldest_first
+-- how a method's order decides between lots that tie: by the rest of their keys, or by the number that the opening of each
+-- lot has, where the lot of the smaller number is first
+pub data Ties : Type 0 where
+  ByKey : Ties
+  ByOpening : (LotKey → ℕ) → Ties
+
+-- the orders of the methods, by how ties are decided
+abbrev pub oldest_by : Ties → LotKey → LotKey → Bool
+oldest_by ByKey = oldest_first
+oldest_by (ByOpening opening) = by_opening oldest_opened_cmp opening
+
+abbrev pub newest_by : Ties → LotKey → LotKey → Bool
+newest_by ByKey = newest_first
+newest_by (ByOpening opening) = by_opening newest_opened_cmp opening
+
+abbrev pub highest_by : Ties → LotKey → LotKey → Bool
+highest_by ByKey = highest_first
+highest_by (ByOpening opening) = by_opening highest_opened_cmp opening
+
+-- in which order a method takes lots and lists legs; STRICT lists them in the order of their keys, however ties are decided
+abbrev pub order_by : Ties → Method → LotKey → LotKey → Bool
+order_by ties Strict = oldest_first
+order_by ties Fifo = oldest_by ties
+order_by ties Lifo = newest_by ties
+order_by ties Hifo = highest_by ties
+order_by ties Unmatched = oldest_first
 
 -- which choices a method allows
+abbrev pub rule_by : Ties → Method → Rule
+rule_by ties Strict = OneOrWhole
+rule_by ties Fifo = InTurn (oldest_by ties)
+rule_by ties Lifo = InTurn (newest_by ties)
+rule_by ties Hifo = InTurn (highest_by ties)
+rule_by ties Unmatched = λ lots choice. ⊥
+
+-- the same where ties are decided by key, as they are in edition 1
+abbrev pub order_of : Method → LotKey → LotKey → Bool
+order_of = order_by ByKey
+
 abbrev pub rule_of : Method → Rule
-rule_of Strict = OneOrWhole
-rule_of Fifo = InTurn oldest_first
-rule_of Lifo = InTurn newest_first
-rule_of Hifo = InTurn highest_first
-rule_of Unmatched = λ lots choice. ⊥
+rule_of = rule_by ByKey

@@ -28,7 +28,7 @@ one_is_below Less back e apart = refl
 one_is_below Equal back e apart = absurd (apart refl)
 one_is_below Greater back e apart = ap is_lt e
 
-is_order : {compare : LotKey → LotKey → Ordering} → IsTotalOrder compare → CmpEqualImpliesEq compare → IsOrder (λ a b. is_lt (compare a b))
+pub is_order : {compare : LotKey → LotKey → Ordering} → IsTotalOrder compare → CmpEqualImpliesEq compare → IsOrder (λ a b. is_lt (compare a b))
 is_order {compare} total exact = record {
   never_itself = λ key. ap is_lt (tied_itself total key);
   transitive = λ a b c first second. ap is_lt (total.trans a b c (Less-from_lt (compare a b) first) (Less-from_lt (compare b c) second));

@@ -1,6 +1,7 @@
 -- From the parts of the way to the answer.
 use Rattle.std.proofs.Common.{inl, inr, ◌≡◌, ◌<◌, ◌∙◌, ℕ, List, [], ◌++◌, length, refl, sym, ap, subst, append_assoc, append-nil}
-use Rattle.std.specs.Prelude.{IfSome, IsErrOf, None, Some, ◌≤◌, Option, Result, Ok, Err, IsErrAnd}
+use Rattle.std.proofs.lemmas.Bool.{true≢false}
+use Rattle.std.specs.Prelude.{IfSome, IsErr, IsErrOf, None, OnErr, Some, ◌≤◌, Option, Result, Ok, Err, IsErrAnd}
 use Rattle.std.specs.Io.KnownBytes.{Appends, Keeps}
 use Rattle.std.proofs.KnownBytes.{Appends-kept, Appends-nil, Appends-trans}
 use Rattle.lot_stream.specs.declared.fault.Fault.{Fault}
@@ -17,6 +18,7 @@ use Rattle.lot_book.specs.Facts.{Entry, Facts}
 use Rattle.lot_book.specs.Holding.{ListsHoldings}
 use Rattle.lot_book.specs.Judged.{JudgesAll, numbered}
 use Rattle.lot_view.specs.View.{known}
+use Rattle.lot_report.specs.Output.{HasFailed, WriteCalls}
 use Rattle.lot_report.specs.Printed.{replies}
 use Rattle.lot_report.specs.Written.{AppendsPrefix}
 use Rattle.lot_report.specs.Holdings.{WritesReport, unvalued}
@@ -154,94 +156,101 @@ heard all (Some input) old new items text count result every same long ends reac
 -- ---- The outcome.
 
 -- all of an output stands there
-written_whole : (all : CallsMade) (input text : List ℕ) (status end : Status) (old new : Option (List ℕ))
-    → IsOutput all input text (code_of status) → Ends (Ok status) end → Appends old new text
-    → (written : List ℕ) × Appends old new written × IsOutcome all input written (code_of end)
-written_whole all input text status end old new output (inl is) before =
-    (text, before, inl (subst (λ s. IsOutput all input text (code_of s)) (sym is) output))
-written_whole all input text status end old new output (inr is) before =
-    (text, before, inr (inr ((code_of status, output), ap code_of is)))
+written_whole : (all : CallsMade) (calls : Option WriteCalls) (input text : List ℕ) (status end : Status) (old new : Option (List ℕ))
+    → IsOutput all input text (code_of status) → Ends (Ok status) calls end → Appends old new text
+    → (written : List ℕ) × Appends old new written × IsOutcome all calls input written (code_of end)
+written_whole all calls input text status end old new output (inl (is, flushed)) before =
+    (text, before, inl (subst (λ s. IsOutput all input text (code_of s)) (sym is) output, flushed))
+written_whole all calls input text status end old new output (inr (is, failed)) before =
+    (text, before, inr (inr ((code_of status, output), ap code_of is), failed))
 
 -- a prefix of what was begun stands there
-written_in_part : (all : CallsMade) (input text : List ℕ) (end : Status) (old new : Option (List ℕ)) → IsBegun all input text → AppendsPrefix old new text
-    → end ≡ Status.Stopped → (written : List ℕ) × Appends old new written × IsOutcome all input written (code_of end)
-written_in_part all input text end old new begun (prefix, proper, before) is =
-    (prefix, before, inr (inl (text, begun, proper, ap code_of is)))
+written_in_part : (all : CallsMade) (calls : Option WriteCalls) (input text : List ℕ) (end : Status) (old new : Option (List ℕ)) → IsBegun all input text
+    → AppendsPrefix old new text → end ≡ Status.Stopped → HasFailed calls
+    → (written : List ℕ) × Appends old new written × IsOutcome all calls input written (code_of end)
+written_in_part all calls input text end old new begun (prefix, proper, before) is failed =
+    (prefix, before, inr (inl (text, begun, proper, ap code_of is), failed))
 
 -- nothing stands behind a text
 nothing_behind : (old mid new : Option (List ℕ)) (text : List ℕ) → Appends old mid text → Appends mid new [] → Appends old new text
 nothing_behind old mid new text before nothing = subst (Appends old new) (append-nil text) (Appends-trans old mid new text [] before nothing)
 
 -- the line of a fault behind what was written of the answer, or a prefix of it
-with_line : (all : CallsMade) (input kept : List ℕ) (fault : Fault) (old mid new : Option (List ℕ)) (concluded : Result Status PrintFault) (end : Status)
+with_line : (all : CallsMade) (calls : Option WriteCalls) (input kept : List ℕ) (fault : Fault) (old mid new : Option (List ℕ)) (concluded : Result Status PrintFault) (end : Status)
     → IsOutput all input (kept ++ fault_line fault) (code_of (status_of fault)) → Appends old mid kept
-    → ReportsFault fault mid new concluded → Ends concluded end
-    → (written : List ℕ) × Appends old new written × IsOutcome all input written (code_of end)
-with_line all input kept fault old mid new (Ok status) end output before (line, is) ends =
-    written_whole all input (kept ++ fault_line fault) (status_of fault) end old new output (subst (λ s. Ends (Ok s) end) is ends)
+    → ReportsFault fault mid new concluded → Ends concluded calls end → (IsErr concluded → HasFailed calls)
+    → (written : List ℕ) × Appends old new written × IsOutcome all calls input written (code_of end)
+with_line all calls input kept fault old mid new (Ok status) end output before (line, is) ends failed =
+    written_whole all calls input (kept ++ fault_line fault) (status_of fault) end old new output (subst (λ s. Ends (Ok s) calls end) is ends)
     (Appends-trans old mid new kept (fault_line fault) before line)
-with_line all input kept fault old mid new (Err cut) end output before line ends =
-    written_in_part all input (kept ++ fault_line fault) end old new (inr (code_of (status_of fault), output))
-    (prefix_behind old mid new kept (fault_line fault) before line) ends
+with_line all calls input kept fault old mid new (Err cut) end output before line ends failed =
+    written_in_part all calls input (kept ++ fault_line fault) end old new (inr (code_of (status_of fault), output))
+    (prefix_behind old mid new kept (fault_line fault) before line) ends (failed refl)
 
 -- the reader isn't read to its end
-outcome_unheard : (all : CallsMade) (input : List ℕ) (old mid new : Option (List ℕ)) (reached : Result Status Fault) (concluded : Result Status PrintFault) (end : Status)
-    → IsUnheard all input old mid reached → Concludes mid new reached concluded → Ends concluded end
-    → (written : List ℕ) × Appends old new written × IsOutcome all input written (code_of end)
-outcome_unheard all input old mid new (Ok status) concluded end none reported ends = absurd none
-outcome_unheard all input old mid new (Err Fault.Read) concluded end (why, nothing) reported ends =
-    with_line all input [] Fault.Read old mid new concluded end (inl (inl (why, refl, refl))) nothing reported ends
-outcome_unheard all input old mid new (Err Fault.TooLong) concluded end (why, long, nothing) reported ends =
-    with_line all input [] Fault.TooLong old mid new concluded end (inl (inr (inl (why, (long, refl, refl))))) nothing reported ends
-outcome_unheard all input old mid new (Err Fault.Memory) concluded end (why, nothing) reported ends =
-    with_line all input [] Fault.Memory old mid new concluded end (inl (inr (inr (why, refl, refl)))) nothing reported ends
-outcome_unheard all input old mid new (Err (Fault.Text number fault)) concluded end none reported ends = absurd none
-outcome_unheard all input old mid new (Err Fault.Range) concluded end none reported ends = absurd none
-outcome_unheard all input old mid new (Err Fault.Write) concluded end none reported ends = absurd none
-outcome_unheard all input old mid new (Err (Fault.MemoryAt number)) concluded end none reported ends = absurd none
+outcome_unheard : (all : CallsMade) (calls : Option WriteCalls) (input : List ℕ) (old mid new : Option (List ℕ)) (reached : Result Status Fault) (concluded : Result Status PrintFault) (end : Status)
+    → IsUnheard all input old mid reached → Concludes mid new reached concluded → Ends concluded calls end → (IsErr concluded → HasFailed calls)
+    → (written : List ℕ) × Appends old new written × IsOutcome all calls input written (code_of end)
+outcome_unheard all calls input old mid new (Ok status) concluded end none reported ends failed = absurd none
+outcome_unheard all calls input old mid new (Err Fault.Read) concluded end (why, nothing) reported ends failed =
+    with_line all calls input [] Fault.Read old mid new concluded end (inl (inl (why, refl, refl))) nothing reported ends failed
+outcome_unheard all calls input old mid new (Err Fault.TooLong) concluded end (why, long, nothing) reported ends failed =
+    with_line all calls input [] Fault.TooLong old mid new concluded end (inl (inr (inl (why, (long, refl, refl))))) nothing reported ends failed
+outcome_unheard all calls input old mid new (Err Fault.Memory) concluded end (why, nothing) reported ends failed =
+    with_line all calls input [] Fault.Memory old mid new concluded end (inl (inr (inr (why, refl, refl)))) nothing reported ends failed
+outcome_unheard all calls input old mid new (Err (Fault.Text number fault)) concluded end none reported ends failed = absurd none
+outcome_unheard all calls input old mid new (Err Fault.Range) concluded end none reported ends failed = absurd none
+outcome_unheard all calls input old mid new (Err Fault.Write) concluded end none reported ends failed = absurd none
+outcome_unheard all calls input old mid new (Err (Fault.MemoryAt number)) concluded end none reported ends failed = absurd none
 
 -- it is
-outcome_of_text : (all : CallsMade) (input : List ℕ) (old mid new : Option (List ℕ)) (reached : Result Status Fault) (concluded : Result Status PrintFault) (end : Status)
-    → EndsWell all (length input) → Reaches input old mid reached → Concludes mid new reached concluded → Ends concluded end
-    → (written : List ℕ) × Appends old new written × IsOutcome all input written (code_of end)
-outcome_of_text all input old mid new (Ok status) (Ok final) end ended (text, whole, before) (nothing, is) ends =
-    written_whole all input text status end old new (inr (ended, inl (inr (inl whole)))) (subst (λ s. Ends (Ok s) end) is ends)
+outcome_of_text : (all : CallsMade) (calls : Option WriteCalls) (input : List ℕ) (old mid new : Option (List ℕ)) (reached : Result Status Fault) (concluded : Result Status PrintFault) (end : Status)
+    → EndsWell all (length input) → Reaches input old mid reached → Concludes mid new reached concluded → Ends concluded calls end → (IsErr concluded → HasFailed calls)
+    → (written : List ℕ) × Appends old new written × IsOutcome all calls input written (code_of end)
+outcome_of_text all calls input old mid new (Ok status) (Ok final) end ended (text, whole, before) (nothing, is) ends failed =
+    written_whole all calls input text status end old new (inr (ended, inl (inr (inl whole)))) (subst (λ s. Ends (Ok s) calls end) is ends)
     (nothing_behind old mid new text before nothing)
-outcome_of_text all input old mid new (Ok status) (Err cut) end ended reached none ends = absurd none
-outcome_of_text all input old mid new (Err Fault.Read) concluded end ended none reported ends = absurd none
-outcome_of_text all input old mid new (Err Fault.TooLong) concluded end ended none reported ends = absurd none
-outcome_of_text all input old mid new (Err (Fault.Text number fault)) concluded end ended (short, faulty, nothing) reported ends =
-    with_line all input [] (Fault.Text number fault) old mid new concluded end (inr (ended, inl (inl (short, number, fault, faulty, refl, refl))))
-    nothing reported ends
-outcome_of_text all input old mid new (Err Fault.Range) concluded end ended (verdicts, rows, report, judged, broken, before) reported ends =
-    with_line all input (replies 1 verdicts ++ report) Fault.Range old mid new concluded end
+outcome_of_text all calls input old mid new (Ok status) (Err cut) end ended reached none ends failed = absurd none
+outcome_of_text all calls input old mid new (Err Fault.Read) concluded end ended none reported ends failed = absurd none
+outcome_of_text all calls input old mid new (Err Fault.TooLong) concluded end ended none reported ends failed = absurd none
+outcome_of_text all calls input old mid new (Err (Fault.Text number fault)) concluded end ended (short, faulty, nothing) reported ends failed =
+    with_line all calls input [] (Fault.Text number fault) old mid new concluded end (inr (ended, inl (inl (short, number, fault, faulty, refl, refl))))
+    nothing reported ends failed
+outcome_of_text all calls input old mid new (Err Fault.Range) concluded end ended (verdicts, rows, report, judged, broken, before) reported ends failed =
+    with_line all calls input (replies 1 verdicts ++ report) Fault.Range old mid new concluded end
     (inr (ended, inl (inr (inr (verdicts, rows, report, judged, broken, append_assoc (replies 1 verdicts) report (fault_line Fault.Range), refl)))))
-    before reported ends
-outcome_of_text all input old mid new (Err Fault.Write) (Ok final) end ended reached none ends = absurd none
-outcome_of_text all input old mid new (Err Fault.Write) (Err cut) end ended (text, part, (prefix, proper, before)) nothing ends =
-    written_in_part all input text end old new (inl (ended, part)) (prefix, proper, nothing_behind old mid new prefix before nothing) ends
-outcome_of_text all input old mid new (Err Fault.Memory) concluded end ended (kept, stops, before) reported ends =
-    with_line all input kept Fault.Memory old mid new concluded end
-    (inr (ended, inr (kept, fault_line Fault.Memory, stops, refl, refl))) before reported ends
-outcome_of_text all input old mid new (Err (Fault.MemoryAt number)) concluded end ended (kept, stops, before) reported ends =
-    with_line all input kept (Fault.MemoryAt number) old mid new concluded end
-    (inr (ended, inr (kept, fault_line (Fault.MemoryAt number), stops, refl, refl))) before reported ends
+    before reported ends failed
+outcome_of_text all calls input old mid new (Err Fault.Write) (Ok final) end ended reached none ends failed = absurd none
+outcome_of_text all calls input old mid new (Err Fault.Write) (Err cut) end ended (text, part, (prefix, proper, before)) nothing ends failed =
+    written_in_part all calls input text end old new (inl (ended, part)) (prefix, proper, nothing_behind old mid new prefix before nothing) ends (failed refl)
+outcome_of_text all calls input old mid new (Err Fault.Memory) concluded end ended (kept, stops, before) reported ends failed =
+    with_line all calls input kept Fault.Memory old mid new concluded end
+    (inr (ended, inr (kept, fault_line Fault.Memory, stops, refl, refl))) before reported ends failed
+outcome_of_text all calls input old mid new (Err (Fault.MemoryAt number)) concluded end ended (kept, stops, before) reported ends failed =
+    with_line all calls input kept (Fault.MemoryAt number) old mid new concluded end
+    (inr (ended, inr (kept, fault_line (Fault.MemoryAt number), stops, refl, refl))) before reported ends failed
 
-outcome : (all : CallsMade) (input : List ℕ) (old mid new : Option (List ℕ)) (reached : Result Status Fault) (concluded : Result Status PrintFault) (end : Status)
-    → Answers all input old mid reached → Concludes mid new reached concluded → Ends concluded end
-    → (written : List ℕ) × Appends old new written × IsOutcome all input written (code_of end)
-outcome all input old mid new reached concluded end (inl stopped) concludes ends =
-    outcome_unheard all input old mid new reached concluded end stopped concludes ends
-outcome all input old mid new reached concluded end (inr (ended, reaches)) concludes ends =
-    outcome_of_text all input old mid new reached concluded end ended reaches concludes ends
+outcome : (all : CallsMade) (calls : Option WriteCalls) (input : List ℕ) (old mid new : Option (List ℕ)) (reached : Result Status Fault) (concluded : Result Status PrintFault) (end : Status)
+    → Answers all input old mid reached → Concludes mid new reached concluded → Ends concluded calls end → (IsErr concluded → HasFailed calls)
+    → (written : List ℕ) × Appends old new written × IsOutcome all calls input written (code_of end)
+outcome all calls input old mid new reached concluded end (inl stopped) concludes ends failed =
+    outcome_unheard all calls input old mid new reached concluded end stopped concludes ends failed
+outcome all calls input old mid new reached concluded end (inr (ended, reaches)) concludes ends failed =
+    outcome_of_text all calls input old mid new reached concluded end ended reaches concludes ends failed
 
 -- where the bytes of the reader are known
-pub outcome_of_input : (all : CallsMade) (known : Option (List ℕ)) (old mid new last : Option (List ℕ)) (reached : Result Status Fault)
+pub outcome_of_input : (all : CallsMade) (calls : Option WriteCalls) (known : Option (List ℕ)) (old mid new last : Option (List ℕ)) (reached : Result Status Fault)
     (concluded : Result Status PrintFault) (end : Status) (code : ℕ)
     → IfSome known (λ input. Answers all input old mid reached) → Concludes mid new reached concluded
-    → Keeps new last → Ends concluded end → code ≡ code_of end
-    → IfSome known (λ input. (written : List ℕ) × Appends old last written × IsOutcome all input written code)
-outcome_of_input all None old mid new last reached concluded end code answers concludes keeps ends is = tt
-outcome_of_input all (Some input) old mid new last reached concluded end code answers concludes keeps ends is =
-    let (written, before, so) = outcome all input old mid new reached concluded end answers concludes ends in
-    (written, Appends-kept old new last written before keeps, subst (IsOutcome all input written) (sym is) so)
+    → Keeps new last → Ends concluded calls end → (IsErr concluded → HasFailed calls) → code ≡ code_of end
+    → IfSome known (λ input. (written : List ℕ) × Appends old last written × IsOutcome all calls input written code)
+outcome_of_input all calls None old mid new last reached concluded end code answers concludes keeps ends failed is = tt
+outcome_of_input all calls (Some input) old mid new last reached concluded end code answers concludes keeps ends failed is =
+    let (written, before, so) = outcome all calls input old mid new reached concluded end answers concludes ends failed in
+    (written, Appends-kept old new last written before keeps, subst (IsOutcome all calls input written) (sym is) so)
+
+-- where not all is written, a call of the writer failed, which is asked for nothing more
+pub failed_before : {W : Type 0} (calls : W → Option WriteCalls) (old new : W) (concluded : Result Status PrintFault) → OnErr concluded (HasFailed (calls old))
+    → (IsErr concluded → new ≡ old) → IsErr concluded → HasFailed (calls new)
+failed_before calls old new (Ok status) failed same is = absurd (true≢false (sym is))
+failed_before calls old new (Err cut) failed same is = subst (λ (w : _). HasFailed (calls w)) (sym (same is)) failed

@@ -1,5 +1,6 @@
 pub mod KeyLemmas
 pub mod RunLemmas
+pub mod CauseLemmas
 pub mod FaultLemmas
 pub mod LawAnswersReports
 pub mod LawAnswers

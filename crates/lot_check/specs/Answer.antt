@@ -1,5 +1,5 @@
 -- What `check` writes for an input, and with which status it ends.
-use Rattle.std.specs.Prelude.{◌≡◌, ◌⊎◌, ℕ, ◌+◌, ◌<◌, ◌≤◌, List, [], ◌∷◌, ◌++◌, length}
+use Rattle.std.specs.Prelude.{◌≡◌, ◌⊎◌, ℕ, ◌+◌, ◌<◌, ◌≤◌, List, [], ◌∷◌, ◌++◌, length, Option}
 use Rattle.lot_stream.specs.declared.fault.Fault.{Fault}
 use Rattle.lot_stream.specs.declared.status.Status.{Status}
 use Rattle.lot_command.specs.declared.command.Command.{Command}
@@ -17,6 +17,7 @@ use Rattle.lot_report.specs.Printed.{replies}
 use Rattle.lot_stream.specs.FaultLine.{fault_line}
 use Rattle.lot_check.specs.Key.{key_of}
 use Rattle.lot_report.specs.Holdings.{IsReport, IsReportToFault, AreFirstLines, AreKeptLines, unvalued}
+use Rattle.lot_report.specs.Output.{HasFailed, IsFlushed, WriteCalls}
 use Rattle.lot_report.specs.Written.{IsProperPrefixOf}
 use Rattle.lot_stream.specs.Input.{CallsMade, EndsFor, EndsWell, longest_input}
 use Rattle.lot_stream.specs.declared.input.SlurpFault.TheVariants as slurp
@@ -185,9 +186,10 @@ IsUnflushed all input written status = ((before : ℕ) × IsOutput all input wri
 
 -- What is written for an input that was read by these calls, and the status. The answer with its status; or the one line that
 -- the reader can't be read, with status 3; or, out of memory, with status 4, whole lines of the answer and the line that says
--- at which command: before the end of the input none, and behind it never where the answer was settled before memory ended. Or,
--- with status 4: the writer failed, and a prefix of that is written but not all of it; or all of it is written, and it failed to
--- flush.
-abbrev pub IsOutcome : CallsMade → List ℕ → List ℕ → ℕ → Type 0
-IsOutcome all input written status =
-    IsOutput all input written status ⊎ IsCut all input written status ⊎ IsUnflushed all input written status
+-- at which command: before the end of the input none, and behind it never where the answer was settled before memory ended. All
+-- of it is flushed. Or, with status 4, where a call of the writer failed: a prefix of that is written but not all of it; or all of
+-- it is written, and it isn't flushed.
+abbrev pub IsOutcome : CallsMade → Option WriteCalls → List ℕ → List ℕ → ℕ → Type 0
+IsOutcome all calls input written status =
+    (IsOutput all input written status × IsFlushed calls)
+    ⊎ ((IsCut all input written status ⊎ IsUnflushed all input written status) × HasFailed calls)

@@ -2,24 +2,24 @@
 //!
 //! - `report`: what the book holds, as it is written.
 
-ghost use Rattle.std.specs.Prelude.{◌≡◌, ◌≤◌, ℕ, List, length, IfOk, IfSome, OnErr};
+ghost use Rattle.std.specs.Prelude.{◌≡◌, ◌≤◌, ℕ, List, length, IfOk, IfSome, IsErrOf, OnErr};
 ghost use Rattle.std.specs.Io.KnownBytes.{Appends};
 ghost use Rattle.lot_stream.specs.Status.{IsStatus};
 ghost use Rattle.lot_check.specs.Answer.{IsOutcome, JudgingMayLackMemory, status_of_verdict};
 ghost use Rattle.lot_stream.specs.Input.{longest_input};
 ghost use Rattle.lot_check.specs.Way.{Answers, Concludes, JudgesKnown, Reaches, Replies, RunsCommands};
+ghost use Rattle.lot_report.specs.Output.{HasFailed};
 ghost use Rattle.lot_view.specs.View.{known};
 
 mod report;
 
 use lot_command::Command;
 use lot_ledger::{Outcome, Stop, Verdict, View, decide};
-use lot_report::{PrintFault, print_reply};
+use lot_report::{CountedWrite, PrintFault, print_reply};
 use lot_stream::{CountedRead, Fault, Status, finish, print_fault, slurp};
 use lot_text::read;
 use report::print_holdings;
 use std::alloc::{AllocError, Global};
-use std::io::Write;
 
 /// Judges a ledger text on a fresh book: writes a reply to each of its commands, and then what the book holds.
 ///
@@ -32,14 +32,15 @@ use std::io::Write;
 ///
 /// Out of memory, whole lines are written and one more: without a number while the input is read and in the report, and
 /// with the number of the command at which it stopped in between. After a fault of the writer nothing more is written.
-/// When the writer fails or memory ends, and that the writer is asked to flush, is shown by the tests alone.
-pub fn check<R: CountedRead, W: Write>(alloc: Global, reader: &mut R, writer: &mut W) -> u8
+/// When memory ends is shown by the tests alone.
+pub fn check<R: CountedRead, W: CountedWrite>(alloc: Global, reader: &mut R, writer: &mut W) -> u8
     ensures status { IsStatus result }
-    // Where the bytes of the reader are known: what is written, where it is known what the writer holds.
+    // Where the bytes of the reader are known: what is written, where it is known what the writer holds; and what the calls of
+    // the writer came to, where that is known.
     ensures answer { IfSome (R.remaining reader.old) (λ input. (written : List ℕ)
         × Appends (W.contents writer.old) (W.contents writer.new) written
         × IsOutcome (record { before = R.calls reader.old; after = R.calls reader.new })
-        input written result) }
+        (W.calls writer.new) input written result) }
 {
     let outcome = answer(alloc, reader, writer);
     let concluded = conclude(writer, outcome);
@@ -47,23 +48,25 @@ pub fn check<R: CountedRead, W: Write>(alloc: Global, reader: &mut R, writer: &m
 }
 
 /// Reads, judges and writes, up to the end or the first fault, which isn't reported yet.
-fn answer<R: CountedRead, W: Write>(
+fn answer<R: CountedRead, W: CountedWrite>(
     alloc: Global,
     reader: &mut R,
     writer: &mut W,
 ) -> Result<Status, Fault>
-    ensures { IfSome (R.remaining reader.old) (λ input.
+    ensures answers { IfSome (R.remaining reader.old) (λ input.
         Answers (record { before = R.calls reader.old; after = R.calls reader.new })
         input (W.contents writer.old) (W.contents writer.new) result) }
+    ensures cause { IsErrOf result Fault.Write → HasFailed (W.calls writer.new) }
 {
     let text = slurp(alloc, reader)?;
     answer_text(alloc, &text, writer)
 }
 
 /// The same for a text that was read.
-fn answer_text<W: Write>(alloc: Global, text: &[u8], writer: &mut W) -> Result<Status, Fault>
+fn answer_text<W: CountedWrite>(alloc: Global, text: &[u8], writer: &mut W) -> Result<Status, Fault>
     requires { length text.now ≤ longest_input }
-    ensures { Reaches text.now (W.contents writer.old) (W.contents writer.new) result }
+    ensures reaches { Reaches text.now (W.contents writer.old) (W.contents writer.new) result }
+    ensures cause { IsErrOf result Fault.Write → HasFailed (W.calls writer.new) }
 {
     let commands = read(alloc, text)?;
     let (view, status) = run(alloc, commands, writer)?;
@@ -73,12 +76,14 @@ fn answer_text<W: Write>(alloc: Global, text: &[u8], writer: &mut W) -> Result<S
 }
 
 /// Judges commands in their order on a fresh book, and writes a reply to each. Returns what is known of the book then.
-fn run<W: Write>(
+fn run<W: CountedWrite>(
     alloc: Global,
     commands: Vec<Command>,
     writer: &mut W,
 ) -> Result<(View, Status), Fault>
-    ensures { RunsCommands commands.items (W.contents writer.old) (W.contents writer.new) result }
+    ensures runs { RunsCommands commands.items
+        (W.contents writer.old) (W.contents writer.new) result }
+    ensures cause { IsErrOf result Fault.Write → HasFailed (W.calls writer.new) }
 {
     let mut view = View::new(alloc, 0);
     let mut status = Status::Accepted;
@@ -91,14 +96,15 @@ fn run<W: Write>(
 }
 
 /// Judges the command of that number, and writes the reply.
-fn reply<W: Write>(
+fn reply<W: CountedWrite>(
     alloc: Global,
     view: View,
     number: usize,
     command: &Command,
     writer: &mut W,
 ) -> Result<(View, Status), Fault>
-    ensures { Replies (known view) command.now number (W.contents writer.old) (W.contents writer.new) result }
+    ensures replies { Replies (known view) command.now number (W.contents writer.old) (W.contents writer.new) result }
+    ensures cause { IsErrOf result Fault.Write → HasFailed (W.calls writer.new) }
 {
     let Ok((view, verdict)) = judge(alloc, view, command) else {
         return Err(Fault::MemoryAt { number });
@@ -135,8 +141,13 @@ fn judge(alloc: Global, view: View, command: &Command) -> Result<(View, Verdict)
 }
 
 /// Reports a fault, if there was one: returns the status of a run that all is written of, or the fault of the writer.
-fn conclude<W: Write>(writer: &mut W, outcome: Result<Status, Fault>) -> Result<Status, PrintFault>
-    ensures { Concludes (W.contents writer.old) (W.contents writer.new) outcome result }
+fn conclude<W: CountedWrite>(
+    writer: &mut W,
+    outcome: Result<Status, Fault>,
+) -> Result<Status, PrintFault>
+    ensures concludes { Concludes (W.contents writer.old) (W.contents writer.new) outcome result }
+    ensures cause { (IsErrOf outcome Fault.Write → HasFailed (W.calls writer.old))
+        → OnErr result (HasFailed (W.calls writer.new)) }
 {
     match outcome {
         Ok(status) => Ok(status),

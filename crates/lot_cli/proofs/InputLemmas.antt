@@ -7,6 +7,7 @@ use Rattle.lot_stream.specs.Input.{EndsFor, EndsWell, longest_input}
 use Rattle.lot_stream.specs.declared.input.SlurpFault.{SlurpFault}
 use Rattle.lot_command.specs.declared.command.Command.{Command}
 use Rattle.lot_command.specs.declared.key.Key.{Key}
+use Rattle.lot_report.specs.Output.{WritesMade}
 use Rattle.lot_cli.specs.Input.{Gives, GivesNone, IsAllOf, Reading}
 use Rattle.lot_cli.specs.Runs.{IsUntouched, RunsInput, RunsOn}
 use Rattle.lot_cli.specs.declared.fault.InputFault.{InputFault}
@@ -53,10 +54,10 @@ module _ (reading : Reading) (input read : List ℕ) (count : ℕ) (is : read �
 pub untouched : (s : State) → IsUntouched s s
 untouched s = record { now = refl; committed = refl; is_open = refl; crash = survives_same s (λ _. ⊥) }
 
-module _ (Means : ℕ → List ℕ → List (Key × Command) → Type 0) (IsFaulty : List ℕ → InputFault → Type 0) (from : ℕ) (reading : Reading) (before written : Option (List ℕ)) (status : ℕ) where
+module _ (Means : ℕ → List ℕ → List (Key × Command) → Type 0) (IsFaulty : List ℕ → InputFault → Type 0) (from : ℕ) (reading : Reading) (before written : Option (List ℕ)) (calls : WritesMade) (status : ℕ) where
   -- the commands that an input gives are run
   pub runs_given : (old new : State) (first : ℕ) (keyed commands : List (Key × Command)) → first ≡ from → commands ≡ keyed → Gives (Means first) reading keyed
-      → RunsOn commands first old new before written status → RunsInput (Means from) IsFaulty from reading old new before written status
+      → RunsOn commands first old new before written calls status → RunsInput (Means from) IsFaulty from reading old new before written calls status
   runs_given old new first keyed commands at is gives ran =
-      subst (λ n. RunsInput (Means n) IsFaulty n reading old new before written status) at
-      (inr (keyed, gives, subst (λ (ks : List (Key × Command)). RunsOn ks first old new before written status) is ran))
+      subst (λ n. RunsInput (Means n) IsFaulty n reading old new before written calls status) at
+      (inr (keyed, gives, subst (λ (ks : List (Key × Command)). RunsOn ks first old new before written calls status) is ran))

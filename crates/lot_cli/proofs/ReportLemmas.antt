@@ -6,6 +6,7 @@ use Rattle.sqlite.specs.Store.{Ghosts}
 use Rattle.lot_page.specs.Cursor.{Stays}
 use Rattle.lot_rows.specs.Tables.{Has, Tables}
 use Rattle.lot_cli.specs.Reports.{Concludes, IsRead, Reports, ShowsReport, ShowsAllRows, ShowsSome}
+use Rattle.lot_report.specs.Output.{WriteCalls}
 use Rattle.lot_cli.specs.Says.{Halts}
 use Rattle.lot_cli.specs.declared.halt.Halt.TheVariants as halt
 use Rattle.lot_cli.specs.declared.report.Report.{Report}
@@ -49,14 +50,14 @@ reads_on g old book later shown same look ready reads =
 
 -- a report of the book that was taken up
 pub reported : {S : Type 0} (g : Ghosts S) (report : Report) (old : State) (book later : Book S g) (shown : Result (Unit {0}) ShowFault)
-    (before mid written : Option (List ℕ)) (status : ℕ)
+    (before mid written : Option (List ℕ)) (calls : Option WriteCalls) (status : ℕ)
     → (HasCleanDisk (state g book.conn) → IsTaken old) → (HasCleanDisk (state g book.conn) → IsUnchanged old (state g book.conn)) → Survives old (state g book.conn) (λ _. ⊥) → book.condition ≡ Ready
     → ReadsBook g book later shown
     → HoldsOfBook g book later (λ entries. ShowsReport report entries before mid shown)
     → ShowsSome report before mid shown
     → HoldsOfTables g book later (λ tables. ShowsAllRows report tables before mid shown)
-    → Concludes shown mid written status → Reports report old (state g later.conn) before written status
-reported g report old book later shown before mid written status found same look ready reads shows some rows concludes =
+    → Concludes shown mid written calls status → Reports report old (state g later.conn) before written calls status
+reported g report old book later shown before mid written calls status found same look ready reads shows some rows concludes =
     let taken = state g book.conn in
     let calm : HasCleanDisk (state g later.conn) → HasCleanDisk taken = early taken (state g later.conn) reads.crash in
     inl (
@@ -71,10 +72,10 @@ reported g report old book later shown before mid written status found same look
     )
 
 -- the book isn't taken up
-pub report_refused : (report : Report) (old new : State) (before written : Option (List ℕ)) (fault : AdoptFault) (status : ℕ)
+pub report_refused : (report : Report) (old new : State) (before written : Option (List ℕ)) (calls : Option WriteCalls) (fault : AdoptFault) (status : ℕ)
     → (HasCleanDisk new → TellsOf old new (Err fault))
     → (HasCleanDisk new → fault ≢ adopt.Device → (tables : Tables) → Has old tables → TellsBook tables.book (Err fault)) → (HasCleanDisk new → IsHandedBack old new)
-    → (HasCleanDisk new → IsUndone old new) → Survives old new (λ _. ⊥) → Halts (halt.Adopt fault) before written status
-    → Reports report old new before written status
-report_refused report old new before written fault status tells told back undone crash said =
+    → (HasCleanDisk new → IsUndone old new) → Survives old new (λ _. ⊥) → Halts (halt.Adopt fault) before written calls status
+    → Reports report old new before written calls status
+report_refused report old new before written calls fault status tells told back undone crash said =
     inr (fault, record { tells = tells; told = told; handed_back = back; undone = undone; crash = crash }, said)

@@ -1,6 +1,7 @@
 -- A run on a database that was only looked at before is a run on the database as it was.
-use Rattle.std.proofs.Common.{◌≡◌, ◌≢◌, inl, inr, ℕ, List, [], ◌∷◌, ◌++◌, Ok, Err, Option, Result, arith}
+use Rattle.std.proofs.Common.{◌≡◌, ◌≢◌, inl, inr, ℕ, List, [], ◌∷◌, ◌++◌, Ok, Err, Option, Result, arith, subst, sym}
 use Rattle.sqlite.proofs.StateLemmas.{survives_then}
+use Rattle.sqlite.specs.Effect.{Database}
 use Rattle.sqlite.specs.State.{HasCleanDisk, IsUnchanged, State, Survives}
 use Rattle.sqlite.specs.Tree.{Trees}
 use Rattle.lot_book.specs.Facts.{Entry}
@@ -10,13 +11,16 @@ use Rattle.lot_command.specs.declared.command.Command.{Command}
 use Rattle.lot_command.specs.declared.key.Key.{Key}
 use Rattle.lot_stream.specs.Status.{code_of}
 use Rattle.lot_stored.specs.StandFor.{Stands}
-use Rattle.lot_rows.specs.Tables.{Has, Tables}
+use Rattle.lot_rows.specs.Tables.{Has, Tables, layout}
 use Rattle.lot_cli.specs.Runs.{RunsOn, status_of_run}
 use Rattle.lot_cli.specs.Says.{Halts}
 use Rattle.lot_cli.specs.declared.halt.Halt.TheVariants as halt
 use Rattle.lot_store.proofs.ApplyLemmas.{stands_along}
+use Rattle.lot_store.proofs.DamageLemmas.{heed_since, of_damage_since}
 use Rattle.lot_store.specs.Create.{IsHandedBack, IsTaken, TellsBook, TellsOf}
-use Rattle.lot_store.specs.Run.{LeavesAfter, LeavesAtAnswer, LeavesAtFault, LeavesAtVerdict, RunsSession, RunsBook}
+use Rattle.lot_store.specs.Damage.{EndsOfDamage}
+use Rattle.lot_report.specs.Output.{IsFlushed, WritesMade}
+use Rattle.lot_store.specs.Run.{IsWrittenOut, LeavesAfter, LeavesAtAnswer, LeavesAtFault, LeavesAtVerdict, RunsSession, RunsBook}
 use Rattle.lot_store.specs.Session.{LeavesFirst, LeavesJudged, LeavesNext}
 use Rattle.lot_store.specs.declared.book.Ack.{Ack}
 use Rattle.lot_store.specs.declared.book.Ack.TheVariants as ack
@@ -32,8 +36,15 @@ use Rattle.lot_store.specs.declared.run.Ending.{Ending}
 use Rattle.lot_store.specs.declared.run.Ending.TheVariants.{Complete, Output, Stopped}
 use Rattle.lot_store.specs.declared.run.RunEnd.{RunEnd}
 use Rattle.lot_rows.proofs.StateLemmas.{failed_then}
-use Rattle.lot_table.specs.Book.{IsUndone}
+use Rattle.lot_table.specs.Book.{Holds, IsUndone}
 use Rattle.lot_table.specs.Statement.{DiskFailed}
+
+-- a run that ended so for a damaged text since then ended so since before
+ends_since : (old mid new : State) → (DiskFailed mid new → DiskFailed old new) → (answer : Result Ack ApplyFault) (ending : Ending)
+    → EndsOfDamage mid new answer ending → EndsOfDamage old new answer ending
+ends_since old mid new failed answer Complete none = none
+ends_since old mid new failed answer (Stopped fault) is = of_damage_since old mid new failed (Err (apply.Failed fault)) is
+ends_since old mid new failed answer Output is = of_damage_since old mid new failed answer is
 
 -- a crash may leave no more after the look than before, and a disk that failed since then has failed since before
 module _ (old mid new : State) (verdicts : List Verdict) (book : List Entry) (may : (trees : Trees) → mid.may_leave trees → old.may_leave trees)
@@ -98,14 +109,21 @@ runs_after_look commands from old mid new before written answer end same look ra
       (λ clean trees leaves entries stands.
       let calm : HasCleanDisk mid = omega (arith, clean, ran.crash.clean) in leaves entries (stands_along old mid entries (same calm).0.now_is stands))
       look ran.crash;
+  damage = λ clean tables has.
+      let calm : HasCleanDisk mid = omega (arith, clean, ran.crash.clean) in
+      heed_since tables commands ran.verdicts (EndsOfDamage mid new answer end.ending) (EndsOfDamage old new answer end.ending)
+      (ends_since old mid new (failed_then old mid new (same calm) look) answer end.ending)
+      (ran.damage clean tables
+      (subst (λ (db : Database). (db.schema ≡ layout.schema) × Holds layout db.trees tables) (sym (same calm).0.now_is) has));
 }
 
 -- commands are run on the book that was taken up
-pub runs_on : (commands : List (Key × Command)) (from : ℕ) (old mid new : State) (before written : Option (List ℕ)) (was condition : Condition) (end : RunEnd) (status : ℕ)
+pub runs_on : (commands : List (Key × Command)) (from : ℕ) (old mid new : State) (before written : Option (List ℕ)) (calls : WritesMade) (was condition : Condition) (end : RunEnd) (status : ℕ)
     → (HasCleanDisk mid → IsTaken old) → (HasCleanDisk mid → IsUnchanged old mid) → Survives old mid (λ _. ⊥) → was ≡ Ready
     → RunsBook commands from mid new before written was condition end → (was ≡ Ready → end.ending ≢ Stopped NeedsReopen)
-    → status ≡ code_of (status_of_run end) → RunsOn commands from old new before written status
-runs_on commands from old mid new before written was condition end status found same look ready (answer, ran, usable, known) stops is =
+    → status ≡ code_of (status_of_run end) → (IsFlushed calls.before → IsWrittenOut end.ending calls.after)
+    → RunsOn commands from old new before written calls status
+runs_on commands from old mid new before written calls was condition end status found same look ready (answer, ran, usable, known) stops is flushed =
     inl (
       answer,
       end,
@@ -113,13 +131,14 @@ runs_on commands from old mid new before written was condition end status found 
       runs_after_look commands from old mid new before written answer end same look ran,
       (usable ready, stops ready),
       is,
+      flushed,
     )
 
 -- the book isn't taken up
-pub left_alone : (commands : List (Key × Command)) (from : ℕ) (old new : State) (before written : Option (List ℕ)) (fault : AdoptFault) (status : ℕ)
+pub left_alone : (commands : List (Key × Command)) (from : ℕ) (old new : State) (before written : Option (List ℕ)) (calls : WritesMade) (fault : AdoptFault) (status : ℕ)
     → (HasCleanDisk new → TellsOf old new (Err fault))
     → (HasCleanDisk new → fault ≢ adopt.Device → (tables : Tables) → Has old tables → TellsBook tables.book (Err fault)) → (HasCleanDisk new → IsHandedBack old new)
-    → (HasCleanDisk new → IsUndone old new) → Survives old new (λ _. ⊥) → Halts (halt.Adopt fault) before written status
-    → RunsOn commands from old new before written status
-left_alone commands from old new before written fault status tells told back undone crash said =
+    → (HasCleanDisk new → IsUndone old new) → Survives old new (λ _. ⊥) → Halts (halt.Adopt fault) before written calls.after status
+    → RunsOn commands from old new before written calls status
+left_alone commands from old new before written calls fault status tells told back undone crash said =
     inr (fault, record { tells = tells; told = told; handed_back = back; undone = undone; crash = crash }, said)

@@ -9,6 +9,7 @@ use Rattle.lot_import.specs.declared.accounts.Accounts.{Accounts}
 use Rattle.lot_import.specs.declared.fault.KeyedFault.{KeyedFault}
 use Rattle.lot_import.specs.declared.fault.KeyedFault.TheVariants as cash
 use Rattle.lot_import.specs.declared.row.Row.{Row}
+use Rattle.lot_report.specs.Output.{WritesMade}
 use Rattle.lot_cli.specs.Input.{Reading}
 use Rattle.lot_cli.specs.Keyed.{import_source}
 use Rattle.lot_cli.specs.Runs.{RunsInput}
@@ -40,5 +41,5 @@ IsFaultyFile input (Rows fault) = HasFault input fault
 IsFaultyFile input (Cash fault) = (rows : List Row) × AreRows input rows × HasCashFault rows fault
 IsFaultyFile input Memory = ⊥
 
-abbrev pub Imports : List ℕ → Accounts → ℕ → Reading → State → State → Option (List ℕ) → Option (List ℕ) → ℕ → Type 0
+abbrev pub Imports : List ℕ → Accounts → ℕ → Reading → State → State → Option (List ℕ) → Option (List ℕ) → WritesMade → ℕ → Type 0
 Imports batch accounts from = RunsInput (FileMeans batch accounts from) IsFaultyFile from

@@ -3,6 +3,7 @@ use Rattle.std.specs.Prelude.{◌≡◌, ℕ, List, Option}
 use Rattle.sqlite.specs.State.{State}
 use Rattle.lot_command.specs.declared.command.Command.{Command}
 use Rattle.lot_command.specs.declared.key.Key.{Key}
+use Rattle.lot_report.specs.Output.{WritesMade}
 use Rattle.lot_cli.specs.Input.{Reading}
 use Rattle.lot_cli.specs.Keyed.{keyed_from, post_source}
 use Rattle.lot_cli.specs.Runs.{RunsInput}
@@ -24,5 +25,5 @@ IsFaultyText input (Rows fault) = ⊥
 IsFaultyText input (Cash fault) = ⊥
 IsFaultyText input Memory = (commands : List Command) × Reads input commands
 
-abbrev pub Posts : List ℕ → ℕ → Reading → State → State → Option (List ℕ) → Option (List ℕ) → ℕ → Type 0
+abbrev pub Posts : List ℕ → ℕ → Reading → State → State → Option (List ℕ) → Option (List ℕ) → WritesMade → ℕ → Type 0
 Posts batch from = RunsInput (TextMeans batch from) IsFaultyText from

@@ -9,10 +9,11 @@ use Rattle.lot_command.specs.declared.key.Key.{Key}
 use Rattle.lot_rows.specs.Tables.{Has, Tables}
 use Rattle.lot_cli.specs.Input.{Gives, GivesNone, Reading}
 use Rattle.lot_cli.specs.Says.{Halts}
+use Rattle.lot_report.specs.Output.{IsFlushed, WritesMade}
 use Rattle.lot_cli.specs.declared.fault.InputFault.{InputFault}
 use Rattle.lot_cli.specs.declared.halt.Halt.TheVariants as halt
 use Rattle.lot_store.specs.Create.{IsHandedBack, IsTaken, TellsBook, TellsOf}
-use Rattle.lot_store.specs.Run.{RunsSession}
+use Rattle.lot_store.specs.Run.{IsWrittenOut, RunsSession}
 use Rattle.lot_store.specs.declared.book.Ack.{Ack}
 use Rattle.lot_store.specs.declared.fault.AdoptFault.{AdoptFault}
 use Rattle.lot_store.specs.declared.fault.AdoptFault.TheVariants as adopt
@@ -59,19 +60,20 @@ abbrev pub NeverReopens : Result Ack ApplyFault → Ending → Type 0
 NeverReopens answer end = (answer ≢ Err (apply.Failed NeedsReopen)) × (end ≢ ending.Stopped NeedsReopen)
 
 -- Commands, of which the first has that number, are run on the book that is there; or it isn't taken up. The answer is that to
--- the command at which the writer failed.
-abbrev pub RunsOn : List (Key × Command) → ℕ → State → State → Option (List ℕ) → Option (List ℕ) → ℕ → Type 0
-RunsOn commands from old new before written status =
+-- the command at which the writer failed. Where all was flushed before, all is then, or a call of the writer failed.
+abbrev pub RunsOn : List (Key × Command) → ℕ → State → State → Option (List ℕ) → Option (List ℕ) → WritesMade → ℕ → Type 0
+RunsOn commands from old new before written calls status =
     ((answer : Result Ack ApplyFault) × (end : RunEnd) × (HasCleanDisk new → IsTaken old) × RunsSession commands from old new before written answer end
-    × NeverReopens answer end.ending × (status ≡ code_of (status_of_run end)))
-    ⊎ ((fault : AdoptFault) × IsLeft old new fault × Halts (halt.Adopt fault) before written status)
+    × NeverReopens answer end.ending × (status ≡ code_of (status_of_run end))
+    × (IsFlushed calls.before → IsWrittenOut end.ending calls.after))
+    ⊎ ((fault : AdoptFault) × IsLeft old new fault × Halts (halt.Adopt fault) before written calls.after status)
 
 -- ---- an input
 
 -- What is read gives no commands, and nothing is done to the book; or those that it gives are run. `Means` tells which
 -- commands an input gives, and `IsFaulty` which fault it has. The first of the commands has that number.
 abbrev pub RunsInput : (List ℕ → List (Key × Command) → Type 0) → (List ℕ → InputFault → Type 0)
-    → ℕ → Reading → State → State → Option (List ℕ) → Option (List ℕ) → ℕ → Type 0
-RunsInput Means IsFaulty from reading old new before written status =
-    ((fault : InputFault) × GivesNone IsFaulty reading fault × IsUntouched old new × Halts (halt.Input fault) before written status)
-    ⊎ ((keyed : List (Key × Command)) × Gives Means reading keyed × RunsOn keyed from old new before written status)
+    → ℕ → Reading → State → State → Option (List ℕ) → Option (List ℕ) → WritesMade → ℕ → Type 0
+RunsInput Means IsFaulty from reading old new before written calls status =
+    ((fault : InputFault) × GivesNone IsFaulty reading fault × IsUntouched old new × Halts (halt.Input fault) before written calls.after status)
+    ⊎ ((keyed : List (Key × Command)) × Gives Means reading keyed × RunsOn keyed from old new before written calls status)

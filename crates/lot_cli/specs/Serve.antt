@@ -4,6 +4,7 @@ use Rattle.sqlite.specs.State.{HasCleanDisk, KeepsCommit, State, Survives}
 use Rattle.lot_check.specs.Answer.{IsOutcome}
 use Rattle.lot_stream.specs.declared.status.Status.TheVariants.{Accepted}
 use Rattle.lot_stored.specs.StandFor.{Left, Stands}
+use Rattle.lot_report.specs.Output.{WriteCalls, WritesMade}
 use Rattle.lot_report.specs.Printed.{line}
 use Rattle.lot_cli.specs.Imports.{Imports}
 use Rattle.lot_cli.specs.Input.{Reading}
@@ -43,10 +44,10 @@ pub record IsNotMade (old new : State) (fault : CreateFault) : Type 0 where
   pub kept : HasCleanDisk new → KeepsCommit old new
   pub crash : Survives old new (λ trees. Left trees [])
 
-abbrev pub Makes : State → State → Option (List ℕ) → Option (List ℕ) → ℕ → Type 0
-Makes old new before written status =
-    (IsMade old new × Says ready_line Accepted before written status)
-    ⊎ ((fault : CreateFault) × IsNotMade old new fault × Halts (halt.Create fault) before written status)
+abbrev pub Makes : State → State → Option (List ℕ) → Option (List ℕ) → Option WriteCalls → ℕ → Type 0
+Makes old new before written calls status =
+    (IsMade old new × Says ready_line Accepted before written calls status)
+    ⊎ ((fault : CreateFault) × IsNotMade old new fault × Halts (halt.Create fault) before written calls status)
 
 -- ---- any action
 
@@ -61,13 +62,14 @@ ReadsNothing (Gains book first last) = ⊤
 ReadsNothing (Journal book) = ⊤
 
 -- a call: what is known of the reader, the database before it and after it, what is known of the bytes that were
--- written before it and after it, and the status of the program
+-- written before it and after it, and of the calls of the writer, and the status of the program
 pub record Call : Type 1 where
   pub input : Reading
   pub old : State
   pub new : State
   pub before : Option (List ℕ)
   pub written : Option (List ℕ)
+  pub calls : WritesMade
   pub status : ℕ
 
 -- What an action comes to: what it writes behind what was written before, and its status; and what the connection stands for,
@@ -75,10 +77,10 @@ pub record Call : Type 1 where
 abbrev pub Serves : Action → Call → Type 0
 Serves Check c =
     IsUntouched c.old c.new × IfSome c.input.bytes (λ input. (text : List ℕ) × Appends c.before c.written text
-    × IsOutcome c.input.calls input text c.status)
-Serves (Init book) c = Makes c.old c.new c.before c.written c.status
-Serves (Post book batch from) c = Posts batch from c.input c.old c.new c.before c.written c.status
-Serves (Import book batch accounts from) c = Imports batch accounts from c.input c.old c.new c.before c.written c.status
-Serves (Holdings book day) c = Reports (report.Holdings day) c.old c.new c.before c.written c.status
-Serves (Gains book first last) c = Reports (report.Gains first last) c.old c.new c.before c.written c.status
-Serves (Journal book) c = Reports report.Journal c.old c.new c.before c.written c.status
+    × IsOutcome c.input.calls c.calls.after input text c.status)
+Serves (Init book) c = Makes c.old c.new c.before c.written c.calls.after c.status
+Serves (Post book batch from) c = Posts batch from c.input c.old c.new c.before c.written c.calls c.status
+Serves (Import book batch accounts from) c = Imports batch accounts from c.input c.old c.new c.before c.written c.calls c.status
+Serves (Holdings book day) c = Reports (report.Holdings day) c.old c.new c.before c.written c.calls.after c.status
+Serves (Gains book first last) c = Reports (report.Gains first last) c.old c.new c.before c.written c.calls.after c.status
+Serves (Journal book) c = Reports report.Journal c.old c.new c.before c.written c.calls.after c.status

@@ -11,12 +11,11 @@ use crate::report::{Report, write_report};
 use crate::run::{halted, tell};
 use lot_args::Action;
 use lot_check::check;
-use lot_report::print_texts;
+use lot_report::{CountedWrite, print_texts};
 use lot_store::{HandedBack, create};
 use lot_stream::{CountedRead, Status};
 use sqlite::{Alter, Connection};
 use std::alloc::Global;
-use std::io::Write;
 
 /// What an action comes to.
 pub struct Served<S: Alter> {
@@ -39,7 +38,7 @@ pub struct Served<S: Alter> {
 /// A fault is one line (docs/FORMATS.md, Faults). Returns the status of the program: 0 where all commands were accepted or
 /// repeated, the book was made, or the report is whole; 1 where some were refused; 3 for a fault of the input; 4 for a fault of the book, of the
 /// output or of memory, which goes before 1.
-pub fn serve<R: CountedRead, W: Write, S: Alter>(
+pub fn serve<R: CountedRead, W: CountedWrite, S: Alter>(
     alloc: Global,
     action: &Action,
     reader: &mut R,
@@ -58,6 +57,7 @@ pub fn serve<R: CountedRead, W: Write, S: Alter>(
       new = state S.Store result.conn;
       before = W.contents writer.old;
       written = W.contents writer.new;
+      calls = record { before = W.calls writer.old; after = W.calls writer.new };
       status = result.status;
     }) }
     // With the connection open a crash leaves the last commit, and nothing else.
@@ -94,11 +94,11 @@ pub fn serve<R: CountedRead, W: Write, S: Alter>(
 }
 
 /// Makes a book.
-fn init<W: Write, S: Alter>(alloc: Global, writer: &mut W, conn: Connection<S>) -> Served<S>
+fn init<W: CountedWrite, S: Alter>(alloc: Global, writer: &mut W, conn: Connection<S>) -> Served<S>
     requires outside { conn.in_transaction ≡ false }
     requires unlimited { conn.step_limit ≡ None }
     ensures makes { Makes (state S.Store conn) (state S.Store result.conn)
-        (W.contents writer.old) (W.contents writer.new) result.status }
+        (W.contents writer.old) (W.contents writer.new) (W.calls writer.new) result.status }
     ensures status { IsStatus result.status }
 {
     match create(alloc, conn) {

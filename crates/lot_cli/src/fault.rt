@@ -1,14 +1,14 @@
-ghost use Rattle.std.specs.Prelude.{◌≡◌, IfErr};
+ghost use Rattle.std.specs.Prelude.{◌≡◌, IfErr, OnErr};
+ghost use Rattle.lot_report.specs.Output.{HasFailed};
 ghost use Rattle.lot_report.specs.Written.{WritesLine};
 ghost use Rattle.lot_cli.specs.HaltLine.{cash_line, cause_name, input_line, memory_line, rows_line, status_of_cash, status_of_input, status_of_rows};
 
 use itoa::Buffer;
 use lot_import::{Cause, KeyedFault, RowsFault};
-use lot_report::{PrintFault, print_texts};
+use lot_report::{CountedWrite, PrintFault, print_texts};
 use lot_stream::{Fault, SlurpFault, Status, print_fault};
 use lot_text::TextFault;
 use std::alloc::AllocError;
-use std::io::Write;
 
 /// Why an input gives no commands.
 #[derive(Clone, Copy, Debug, PartialEq, Eq)]
@@ -99,13 +99,14 @@ impl InputFault {
 
 /// Writes the line that reports why an input gives no commands. It takes no memory, which may have ended: the only fault is that
 /// of the writer.
-pub(crate) fn print_input_fault<W: Write>(
+pub(crate) fn print_input_fault<W: CountedWrite>(
     writer: &mut W,
     fault: InputFault,
 ) -> Result<(), PrintFault>
     ensures bytes { WritesLine (W.contents writer.old) (W.contents writer.new) result
         (input_line fault) }
     ensures fault { IfErr result (λ fault. fault ≡ PrintFault.Write) }
+    ensures cause { OnErr result (HasFailed (W.calls writer.new)) }
 {
     match fault {
         InputFault::Unread(fault) => print_fault(writer, Fault::from(fault)),
@@ -117,9 +118,10 @@ pub(crate) fn print_input_fault<W: Write>(
 }
 
 /// Writes the line that memory ended.
-fn print_memory<W: Write>(writer: &mut W) -> Result<(), PrintFault>
+fn print_memory<W: CountedWrite>(writer: &mut W) -> Result<(), PrintFault>
     ensures bytes { WritesLine (W.contents writer.old) (W.contents writer.new) result memory_line }
     ensures fault { IfErr result (λ fault. fault ≡ PrintFault.Write) }
+    ensures cause { OnErr result (HasFailed (W.calls writer.new)) }
 {
     print_texts(writer, &["fault Memory\n"])
 }
@@ -145,10 +147,11 @@ fn status_of_cash(fault: KeyedFault) -> Status
 }
 
 /// Writes the same of an input that has no rows.
-fn print_rows_fault<W: Write>(writer: &mut W, fault: RowsFault) -> Result<(), PrintFault>
+fn print_rows_fault<W: CountedWrite>(writer: &mut W, fault: RowsFault) -> Result<(), PrintFault>
     ensures bytes { WritesLine (W.contents writer.old) (W.contents writer.new) result
         (rows_line fault) }
     ensures fault { IfErr result (λ fault. fault ≡ PrintFault.Write) }
+    ensures cause { OnErr result (HasFailed (W.calls writer.new)) }
 {
     let mut digits = Buffer::new();
     match fault {
@@ -169,10 +172,11 @@ fn print_rows_fault<W: Write>(writer: &mut W, fault: RowsFault) -> Result<(), Pr
 }
 
 /// Writes the same of an input with a row that has no command.
-fn print_cash_fault<W: Write>(writer: &mut W, fault: KeyedFault) -> Result<(), PrintFault>
+fn print_cash_fault<W: CountedWrite>(writer: &mut W, fault: KeyedFault) -> Result<(), PrintFault>
     ensures bytes { WritesLine (W.contents writer.old) (W.contents writer.new) result
         (cash_line fault) }
     ensures fault { IfErr result (λ fault. fault ≡ PrintFault.Write) }
+    ensures cause { OnErr result (HasFailed (W.calls writer.new)) }
 {
     let mut digits = Buffer::new();
     match fault {

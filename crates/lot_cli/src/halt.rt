@@ -1,12 +1,12 @@
-ghost use Rattle.std.specs.Prelude.{◌≡◌, IfErr};
+ghost use Rattle.std.specs.Prelude.{◌≡◌, IfErr, OnErr};
+ghost use Rattle.lot_report.specs.Output.{HasFailed};
 ghost use Rattle.lot_report.specs.Written.{WritesLine};
 ghost use Rattle.lot_cli.specs.HaltLine.{adopt_name, create_name, halt_line, status_of_halt};
 
 use crate::fault::{InputFault, print_input_fault};
-use lot_report::{PrintFault, print_texts};
+use lot_report::{CountedWrite, PrintFault, print_texts};
 use lot_store::{AdoptFault, CreateFault};
 use lot_stream::Status;
-use std::io::Write;
 
 /// Why an action ends before its first command.
 #[derive(Clone, Copy, Debug, PartialEq, Eq)]
@@ -33,10 +33,11 @@ impl Halt {
 
 /// Writes the line that reports why an action ended. It takes no memory, which may have ended: the only fault is that of the
 /// writer.
-pub(crate) fn print_halt<W: Write>(writer: &mut W, halt: Halt) -> Result<(), PrintFault>
+pub(crate) fn print_halt<W: CountedWrite>(writer: &mut W, halt: Halt) -> Result<(), PrintFault>
     ensures bytes { WritesLine (W.contents writer.old) (W.contents writer.new) result
         (halt_line halt) }
     ensures fault { IfErr result (λ fault. fault ≡ PrintFault.Write) }
+    ensures cause { OnErr result (HasFailed (W.calls writer.new)) }
 {
     match halt {
         Halt::Input(fault) => print_input_fault(writer, fault),

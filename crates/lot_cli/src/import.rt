@@ -13,16 +13,16 @@ use lot_args::{Batch, Start};
 use lot_base::Label;
 use lot_command::{Command, Key};
 use lot_import::{Accounts, keyed_commands, read_rows};
+use lot_report::CountedWrite;
 use lot_stream::{CountedRead, slurp};
 use sqlite::{Alter, Connection};
 use std::alloc::Global;
-use std::io::Write;
 
 /// Posts all that a reader has to accounts of the book that is there, as a broker file: its rows from that number on, each
 /// under the key of the row in the batch.
 ///
 /// All is read, and each row is converted, before the book is taken up.
-pub(crate) fn import<R: CountedRead, W: Write, S: Alter>(
+pub(crate) fn import<R: CountedRead, W: CountedWrite, S: Alter>(
     alloc: Global,
     batch: &Batch,
     accounts: &Accounts,
@@ -38,7 +38,10 @@ pub(crate) fn import<R: CountedRead, W: Write, S: Alter>(
       left = R.remaining reader.new;
       calls = record { before = R.calls reader.old; after = R.calls reader.new };
     }) (state S.Store conn) (state S.Store result.conn)
-        (W.contents writer.old) (W.contents writer.new) result.status }
+        (W.contents writer.old) (W.contents writer.new) (record {
+          before = W.calls writer.old;
+          after = W.calls writer.new;
+        }) result.status }
     ensures status { IsStatus result.status }
 {
     let first = from.number() as usize;

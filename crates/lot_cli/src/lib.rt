@@ -23,4 +23,5 @@ mod run;
 
 pub use action::{Served, serve};
 pub use lot_args::{Action, BadOption, Batch, Start, WordsFault, parse_words};
+pub use lot_report::{CountedWrite, CountedWriter};
 pub use lot_stream::{Counted, CountedRead, SlurpFault, slurp};

@@ -11,17 +11,17 @@ use crate::keyed::keyed;
 use crate::run::{halted, run};
 use lot_args::{Batch, Start};
 use lot_command::{Command, Key};
+use lot_report::CountedWrite;
 use lot_stream::{CountedRead, slurp};
 use lot_text::read;
 use sqlite::{Alter, Connection};
 use std::alloc::Global;
-use std::io::Write;
 
 /// Posts all that a reader has to the book that is there, as ledger text: its commands from that number on, each under the
 /// key of its number in the batch.
 ///
 /// All is read before the book is taken up.
-pub(crate) fn post<R: CountedRead, W: Write, S: Alter>(
+pub(crate) fn post<R: CountedRead, W: CountedWrite, S: Alter>(
     alloc: Global,
     batch: &Batch,
     from: Start,
@@ -36,7 +36,10 @@ pub(crate) fn post<R: CountedRead, W: Write, S: Alter>(
       left = R.remaining reader.new;
       calls = record { before = R.calls reader.old; after = R.calls reader.new };
     }) (state S.Store conn) (state S.Store result.conn)
-        (W.contents writer.old) (W.contents writer.new) result.status }
+        (W.contents writer.old) (W.contents writer.new) (record {
+          before = W.calls writer.old;
+          after = W.calls writer.new;
+        }) result.status }
     ensures status { IsStatus result.status }
 {
     let first = from.number() as usize;

@@ -4,6 +4,7 @@ ghost use Rattle.lot_stream.specs.Status.{IsStatus};
 ghost use Rattle.lot_stream.specs.declared.status.Status.TheVariants.{Stopped};
 ghost use Rattle.lot_cli.specs.Reports.{Concludes, Reports, ShowsReport, ShowsAllRows, ShowsSome, report_line};
 ghost use Rattle.lot_cli.specs.Says.{Says};
+ghost use Rattle.lot_book_report.specs.Fault.{HasCause};
 ghost use Rattle.lot_book_report.specs.Show.{HoldsOfBook, HoldsOfTables, ReadsBook};
 ghost use Rattle.sqlite.specs.Held.{state};
 
@@ -12,12 +13,11 @@ use crate::halt::Halt;
 use crate::run::{halted, tell};
 use lot_base::Day;
 use lot_book_report::{ShowFault, show_gains, show_holdings, show_journal};
-use lot_report::print_texts;
+use lot_report::{CountedWrite, print_texts};
 use lot_store::{Book, HandedBack, adopt};
 use lot_stream::Status;
 use sqlite::{Alter, Connection};
 use std::alloc::Global;
-use std::io::Write;
 
 /// A report of a book.
 #[derive(Clone, Copy, Debug, PartialEq, Eq)]
@@ -36,7 +36,7 @@ pub(crate) enum Report {
 }
 
 /// Writes a report of the book that is there.
-pub(crate) fn write_report<W: Write, S: Alter>(
+pub(crate) fn write_report<W: CountedWrite, S: Alter>(
     alloc: Global,
     report: Report,
     writer: &mut W,
@@ -45,7 +45,7 @@ pub(crate) fn write_report<W: Write, S: Alter>(
     requires outside { conn.in_transaction ≡ false }
     requires unlimited { conn.step_limit ≡ None }
     ensures reports { Reports report (state S.Store conn) (state S.Store result.conn)
-        (W.contents writer.old) (W.contents writer.new) result.status }
+        (W.contents writer.old) (W.contents writer.new) (W.calls writer.new) result.status }
     ensures status { IsStatus result.status }
 {
     match adopt(alloc, conn) {
@@ -61,7 +61,7 @@ pub(crate) fn write_report<W: Write, S: Alter>(
 }
 
 /// Writes a report of a book, as far as its fault lets it. Nothing is flushed.
-fn show<W: Write, S: Alter>(
+fn show<W: CountedWrite, S: Alter>(
     alloc: Global,
     report: Report,
     book: &mut Book<S>,
@@ -73,6 +73,7 @@ fn show<W: Write, S: Alter>(
     ensures rows { HoldsOfTables S.Store book.old book.new
         (λ tables. ShowsAllRows report tables (W.contents writer.old) (W.contents writer.new) result) }
     ensures reads { ReadsBook S.Store book.old book.new result }
+    ensures cause { HasCause result (W.calls writer.new) }
 {
     match report {
         Report::Holdings { day } => show_holdings(alloc, book, day, writer),
@@ -83,8 +84,9 @@ fn show<W: Write, S: Alter>(
 
 /// Ends a report: flushes it where it is whole, else reports why it isn't. A writer that failed is asked for nothing more.
 /// Returns the status of the program.
-fn conclude<W: Write>(writer: &mut W, shown: Result<(), ShowFault>) -> u8
-    ensures concludes { Concludes shown (W.contents writer.old) (W.contents writer.new) result }
+fn conclude<W: CountedWrite>(writer: &mut W, shown: Result<(), ShowFault>) -> u8
+    ensures concludes { HasCause shown (W.calls writer.old)
+        → Concludes shown (W.contents writer.old) (W.contents writer.new) (W.calls writer.new) result }
     ensures status { IsStatus result }
 {
     match shown {
@@ -95,8 +97,9 @@ fn conclude<W: Write>(writer: &mut W, shown: Result<(), ShowFault>) -> u8
 }
 
 /// Reports why a report ends before its end, and returns the status of the program.
-fn stopped<W: Write>(writer: &mut W, fault: ShowFault) -> u8
-    ensures says { Says (report_line fault) Stopped (W.contents writer.old) (W.contents writer.new) result }
+fn stopped<W: CountedWrite>(writer: &mut W, fault: ShowFault) -> u8
+    ensures says { Says (report_line fault) Stopped
+        (W.contents writer.old) (W.contents writer.new) (W.calls writer.new) result }
     ensures status { IsStatus result }
 {
     let printed = print_texts(writer, &["fault ", fault.name(), "\n"]);

@@ -1,5 +1,5 @@
 //! What is run of an input on the book that is there.
-ghost use Rattle.std.specs.Prelude.{◌≡◌, ◌+◌, ◌<◌, ◌^◌, None, false, length};
+ghost use Rattle.std.specs.Prelude.{◌≡◌, ◌+◌, ◌<◌, ◌^◌, IsErr, None, false, length};
 ghost use Rattle.lot_stream.specs.Status.{IsStatus};
 ghost use Rattle.lot_cli.specs.Runs.{RunsOn, status_of_run};
 ghost use Rattle.lot_cli.specs.Says.{Finishes, Halts};
@@ -9,15 +9,14 @@ ghost use Rattle.sqlite.specs.Held.{state};
 use crate::action::Served;
 use crate::halt::{Halt, print_halt};
 use lot_command::{Command, Key};
-use lot_report::PrintFault;
+use lot_report::{CountedWrite, PrintFault};
 use lot_store::{Ending, HandedBack, RunEnd, adopt};
 use lot_stream::{Status, finish};
 use sqlite::{Alter, Connection};
 use std::alloc::Global;
-use std::io::Write;
 
 /// Takes up the book that is there and runs commands on it, the first of which has that number.
-pub(crate) fn run<W: Write, S: Alter>(
+pub(crate) fn run<W: CountedWrite, S: Alter>(
     alloc: Global,
     commands: &[(Key, Command)],
     from: usize,
@@ -28,7 +27,10 @@ pub(crate) fn run<W: Write, S: Alter>(
     requires unlimited { conn.step_limit ≡ None }
     requires numbers { length commands.now + from < 2 ^ 64 }
     ensures runs { RunsOn commands.now from (state S.Store conn) (state S.Store result.conn)
-        (W.contents writer.old) (W.contents writer.new) result.status }
+        (W.contents writer.old) (W.contents writer.new) (record {
+          before = W.calls writer.old;
+          after = W.calls writer.new;
+        }) result.status }
     ensures status { IsStatus result.status }
 {
     match adopt(alloc, conn) {
@@ -55,12 +57,13 @@ fn status_of_run(end: RunEnd) -> Status
 }
 
 /// Reports why an action ends before its first command, and hands the connection on.
-pub(crate) fn halted<W: Write, S: Alter>(
+pub(crate) fn halted<W: CountedWrite, S: Alter>(
     writer: &mut W,
     halt: Halt,
     conn: Connection<S>,
 ) -> Served<S>
-    ensures says { Halts halt (W.contents writer.old) (W.contents writer.new) result.status }
+    ensures says { Halts halt
+        (W.contents writer.old) (W.contents writer.new) (W.calls writer.new) result.status }
     ensures same { result.conn ≡ conn }
     ensures status { IsStatus result.status }
 {
@@ -73,9 +76,14 @@ pub(crate) fn halted<W: Write, S: Alter>(
 
 /// Flushes a line that was printed of an action that ends with that status. Returns the status of the program: where the
 /// writer failed, the action is stopped.
-pub(crate) fn tell<W: Write>(writer: &mut W, printed: Result<(), PrintFault>, status: Status) -> u8
+pub(crate) fn tell<W: CountedWrite>(
+    writer: &mut W,
+    printed: Result<(), PrintFault>,
+    status: Status,
+) -> u8
     ensures kept { Keeps (W.contents writer.old) (W.contents writer.new) }
-    ensures end { Finishes printed status result }
+    ensures end { Finishes printed status (W.calls writer.new) result }
+    ensures unasked { IsErr printed → writer.new ≡ writer.old }
     ensures status { IsStatus result }
 {
     match printed {

@@ -185,7 +185,7 @@ no_header bytes none = inr (Faults.BadHeader, (λ e. cc), none)
 records_answer : (bytes : List ℕ) (version : Version) (written : List (List (List ℕ))) → HasRecords version bytes written → Judged version written → Answered bytes
 records_answer bytes version written file (inl (rows, said, few)) =
     inl (rows, record { version = version; written = written; file = file; said = said; few = few })
-records_answer bytes version written file (inr (fault, other, has)) = inr (fault, other, file_fault bytes version written fault file has)
+records_answer bytes version written file (inr (fault, other, has)) = inr (fault, other, file_fault bytes version written fault other file has)
 
 header_answer : (bytes : List ℕ) (header : List (List ℕ)) (written : List (List (List ℕ))) → file_records bytes ≡ header ∷ written
     → Decided ((version : Version) × (header ≡ columns version)) → Answered bytes

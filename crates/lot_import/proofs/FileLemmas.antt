@@ -1,9 +1,10 @@
 -- How the rows of a file, or its fault, follow from the records that are read one after another.
-use Rattle.std.proofs.Common.{◌≡◌, ℕ, ◌+◌, ◌<◌, ◌≤◌, List, [], ◌∷◌, ◌++◌, Bor, Result, Ok, Err, IsErrAnd, IfErr, IfOk, OnOk, length, get_or, sym, ◌∙◌, ap, subst, inl, inr, refl, arith}
+use Rattle.std.proofs.Common.{◌≡◌, ◌≢◌, ℕ, ◌+◌, ◌<◌, ◌≤◌, List, [], ◌∷◌, ◌++◌, Bor, Result, Ok, Err, IsErrAnd, IfErr, IfOk, OnOk, length, get_or, sym, ◌∙◌, ap, subst, inl, inr, refl, arith}
 use Rattle.std.proofs.lemmas.List.{append-nil, append_assoc, length_push}
 use Rattle.csv.specs.declared.reader.Reader.{Reader}
 use Rattle.std.proofs.lemmas.Slice.Zip.{AllZip-long}
 use Rattle.lot_import.specs.File.{AreRows, HasBadRecord, HasExtraRecord, HasFault, HasNoHeader, HasRecords, SayRows, file_records, most_rows}
+use Rattle.lot_import.specs.Header.{MayHaveHeader}
 use Rattle.lot_import.specs.Reading.{EndsInFile, EndsInRows, GivesRow, HasFileFault, HasHeaderFault, HasRecordFault, SayFile, records_left}
 use Rattle.lot_import.specs.Row.{IsFaulty, IsRow, columns}
 use Rattle.lot_import.specs.declared.fault.Cause.{Cause}
@@ -138,18 +139,18 @@ module _ (bytes : List ℕ) (all : List (List (List ℕ))) (same : all ≡ file_
   file_rows rows say =
       record { version = say.version; written = say.written; file = sym same ∙ say.file; said = say.said; few = say.few }
 
-  pub records_fault : (reader : Reader (Bor (List ℕ))) (fault : RowsFault) → HasFileFault all reader fault → HasFault bytes fault
-  records_fault reader Faults.BadHeader h = λ version written file. h version written (same ∙ file)
-  records_fault reader (Faults.BadRow number cause) (version, written, file, bad) = (version, written, sym same ∙ file, bad)
-  records_fault reader Faults.TooManyRows (version, written, file, extra) = (version, written, sym same ∙ file, extra)
-  records_fault reader Faults.Memory h = tt
+  pub records_fault : MayHaveHeader bytes → (reader : Reader (Bor (List ℕ))) (fault : RowsFault) → HasFileFault all reader fault → HasFault bytes fault
+  records_fault may reader Faults.BadHeader h = λ version written file. h version written (same ∙ file)
+  records_fault may reader (Faults.BadRow number cause) (version, written, file, bad) = (version, written, sym same ∙ file, bad)
+  records_fault may reader Faults.TooManyRows (version, written, file, extra) = (version, written, sym same ∙ file, extra)
+  records_fault may reader Faults.Memory h = may
 
-pub file_fault : (bytes : List ℕ) (version : Version) (written : List (List (List ℕ))) (fault : RowsFault) → HasRecords version bytes written
-    → HasRecordFault version written fault → HasFault bytes fault
-file_fault bytes version written Faults.BadHeader file h = absurd h
-file_fault bytes version written (Faults.BadRow number cause) file h = (version, written, file, h)
-file_fault bytes version written Faults.TooManyRows file h = (version, written, file, h)
-file_fault bytes version written Faults.Memory file h = tt
+pub file_fault : (bytes : List ℕ) (version : Version) (written : List (List (List ℕ))) (fault : RowsFault) → fault ≢ Faults.Memory
+    → HasRecords version bytes written → HasRecordFault version written fault → HasFault bytes fault
+file_fault bytes version written Faults.BadHeader other file h = absurd h
+file_fault bytes version written (Faults.BadRow number cause) other file h = (version, written, file, h)
+file_fault bytes version written Faults.TooManyRows other file h = (version, written, file, h)
+file_fault bytes version written Faults.Memory other file h = absurd (other refl)
 
 -- a file without records
 pub no_records : (bytes : List ℕ) → file_records bytes ≡ [] → HasNoHeader bytes

@@ -2,6 +2,7 @@ pub mod ColumnLaws
 pub mod DealLaws
 pub mod FileLaws
 pub mod FileLemmas
+pub mod HeaderBytes
 pub mod HeaderLemmas
 pub mod KeyedLemmas
 pub mod LotLaws

@@ -3,7 +3,7 @@ use Rattle.std.specs.Prelude.{if◌then◌else◌, IsSome}
 use Rattle.std.proofs.Common.{◌≡◌, ◌⊎◌, ℕ, zero, suc, ◌+◌, ◌<◌, Bool, true, false, List, [], ◌∷◌, ◌++◌, length, Option, Some, None, Bor, refl, sym, ◌∙◌, ap, subst, inl, inr, arith, add-one}
 use Rattle.std.proofs.lemmas.Option.{same_Some}
 use Rattle.csv.specs.Machine.{Read, ends_at_end, field_after, fields_after, is_end, next_record, step}
-use Rattle.csv.specs.Reading.{Reached, ReadRecord, default_config, records_from, records_next}
+use Rattle.csv.specs.Reading.{Reached, ReadRecord, default_config, records, records_from, records_next}
 use Rattle.csv.specs.declared.parser.Config.{Config}
 use Rattle.csv.specs.declared.parser.State.{State}
 use Rattle.csv.specs.declared.parser.State.TheVariants as st
@@ -13,7 +13,7 @@ use Rattle.lot_import.specs.Reading.{bytes_left, records_left, records_of}
 
 -- ---- A record takes bytes, or stands at their end.
 
-at_end : (b : Bool) (x q : Read) → (if b then Some x else None) ≡ Some q → x ≡ q
+pub at_end : (b : Bool) (x q : Read) → (if b then Some x else None) ≡ Some q → x ≡ q
 at_end true x q e = same_Some x q e
 at_end false x q e = cc
 
@@ -88,6 +88,23 @@ taken s ys q e =
 
 ended : (s : State) (ys : List ℕ) → next_record default_config s [] [] ys ≡ None → records_of s (Some ys) ≡ []
 ended s ys e = opened s ys ∙ ap (records_next (records_from default_config (length ys))) e
+
+abbrev first_of : List (List (List ℕ)) → List (List ℕ)
+first_of [] = []
+first_of (f ∷ others) = f
+
+-- the first record of a text
+pub first_read : (ys : List ℕ) (f : List (List ℕ)) (others : List (List (List ℕ))) → records default_config ys ≡ f ∷ others
+    → (q : Read) × (next_record default_config st.StartRecord [] [] ys ≡ Some q) × (q.0 ≡ f)
+first_read ys f others e = by (next_record default_config st.StartRecord [] [] ys) refl
+  where
+    by : (o : Option Read) → next_record default_config st.StartRecord [] [] ys ≡ o
+        → (q : Read) × (next_record default_config st.StartRecord [] [] ys ≡ Some q) × (q.0 ≡ f)
+    by None is = absurd (none (sym (ended st.StartRecord ys is) ∙ e))
+      where
+        none : [] ≡ f ∷ others → ⊥
+        none h = cc
+    by (Some q) is = (q, is, ap first_of (sym (taken st.StartRecord ys q is) ∙ e))
 
 -- ---- By a reader.
 

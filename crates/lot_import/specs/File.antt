@@ -1,7 +1,8 @@
 -- The rows of a broker file, or why it has none (docs/FORMATS.md, Broker files).
-use Rattle.std.specs.Prelude.{◌≡◌, ◌≤◌, ◌+◌, ℕ, List, ◌∷◌, ◌++◌, length, ⊤}
+use Rattle.std.specs.Prelude.{◌≡◌, ◌≤◌, ◌+◌, ℕ, List, ◌∷◌, ◌++◌, length}
 use Rattle.std.specs.List.{AllZip}
 use Rattle.csv.specs.Reading.{default_config, records, strip_bom}
+use Rattle.lot_import.specs.Header.{MayHaveHeader}
 use Rattle.lot_import.specs.Row.{columns, IsRow, IsFaulty}
 use Rattle.lot_import.specs.declared.fault.Cause.{Cause}
 use Rattle.lot_import.specs.declared.fault.RowsFault.{RowsFault}
@@ -64,11 +65,11 @@ pub record AreRows (bytes : List ℕ) (rows : List Row) : Type 0 where
 abbrev pub HasNoHeader : List ℕ → Type 0
 HasNoHeader bytes = (version : Version) (written : List (List (List ℕ))) → HasRecords version bytes written → ⊥
 
--- the file has that fault; out of memory may come of any file
+-- the file has that fault; out of memory comes only of one that may have a header, as far as its first line says
 abbrev pub HasFault : List ℕ → RowsFault → Type 0
 HasFault bytes Faults.BadHeader = HasNoHeader bytes
 HasFault bytes (Faults.BadRow number cause) =
     (version : Version) × (written : List (List (List ℕ))) × HasRecords version bytes written × HasBadRecord version written number cause
 HasFault bytes Faults.TooManyRows =
     (version : Version) × (written : List (List (List ℕ))) × HasRecords version bytes written × HasExtraRecord version written
-HasFault bytes Faults.Memory = ⊤
+HasFault bytes Faults.Memory = MayHaveHeader bytes

@@ -6,6 +6,7 @@ ghost use Rattle.lot_import.specs.Reading.{EndsInRows, GivesRow, HasFileFault, H
 ghost use Rattle.lot_import.specs.Row.{columns};
 
 use crate::fault::RowsFault;
+use crate::header::may_have_header;
 use crate::row::Row;
 use crate::version::Version;
 use crate::written::said;
@@ -19,12 +20,17 @@ const MOST_ROWS: usize = 100_000;
 ///
 /// The error is `BadHeader` exactly where the file has the header of no version, `BadRow` exactly where one of its first
 /// 100,000 rows is faulty, with the number of the first such row and its first faulty column, `TooManyRows` exactly where it
-/// has more rows and none of the first 100,000 is faulty, or else out of memory. Memory may end at each record that is read, and
-/// where a row is kept, which is then looked at before; a record that was read and is faulty is never told as out of memory.
+/// has more rows and none of the first 100,000 is faulty, or else out of memory. That is never where the first line of the file
+/// already says that it has no header: its bytes are looked at before anything is asked for. Memory may end at each record that is
+/// read, and where a row is kept, which is then looked at before; a record that was read and is faulty is never told as out of
+/// memory.
 pub fn read_rows(alloc: Global, bytes: &[u8]) -> Result<Vec<Row>, RowsFault>
     ensures rows { IfOk result (λ rows. AreRows bytes.now rows.items) }
     ensures fault { IfErr result (λ fault. HasFault bytes.now fault) }
 {
+    if !may_have_header(bytes) {
+        return Err(RowsFault::BadHeader);
+    }
     let mut reader = reader(alloc, bytes);
     rows_of(alloc, &mut reader)
 }

@@ -15,15 +15,16 @@ use Rattle.lot_command.specs.declared.transaction.Amount.{Amount}
 use Rattle.lot_command.specs.declared.transaction.Posting.{Posting}
 use Rattle.lot_book.specs.declared.leg.Leg.{Leg}
 use Rattle.lot_book.specs.Balance.{weight_of, weights_by, weights_in, weights_of}
-use Rattle.lot_book.specs.Book.{Continues, IsBook}
-use Rattle.lot_book.specs.Booking.{All, Booked, BooksAll, HasLegs, IsBooked, Line, legs_in, line_of}
+use Rattle.lot_book.specs.Book.{ContinuesIn, IsBookIn}
+use Rattle.lot_book.specs.Booking.{All, Booked, BooksAllUnder, HasLegs, IsBooked, Line, TieRule, legs_in, line_under}
 use Rattle.lot_book.specs.Currencies.{sum_in}
+use Rattle.lot_book.specs.Edition.{Migration, edition_on, ties_in}
 use Rattle.lot_book.specs.Facts.{Entry, Facts, facts_of, is_at_cost, legs_of}
-use Rattle.lot_laws.specs.Laws.{BooksCommand, BooksEntries, BooksEntry, cost_in, cost_of, is_booked_at_cost, weights_at_cost}
+use Rattle.lot_laws.specs.Laws.{BooksCommandUnder, BooksEntriesIn, BooksEntryIn, cost_in, cost_of, is_booked_at_cost, weights_at_cost}
 use Rattle.lot_book.specs.Leg.{inventory_of, legs_at_lots}
 use Rattle.lot_laws.proofs.CollectLemmas.{over_collected}
 use Rattle.lot_laws.proofs.LawBalance.{command_booked}
-use Rattle.lot_laws.proofs.LawBooks.{over_booked}
+use Rattle.lot_laws.proofs.LawBooks.{over_booked_under}
 use Rattle.lot_laws.proofs.LawLots.{all_put, lots_put, lots_worth, put, total, total-append}
 use Rattle.lot_book.proofs.SumLemmas.{sum_in-append, sum_in-cons}
 
@@ -91,14 +92,14 @@ module _ (account commodity currency : List ℕ) where
   first_apart true first more = sum_in-append (weights_of first) (weights_in more) currency
   first_apart false first more = sym (+ℤ_idl (sum_in (weights_in more) currency))
 
-  postings_weigh : (facts : Facts) (day : ℤ) (postings : List Posting) (booked : List Booked) → BooksAll facts day [] 1 postings (All booked)
+  postings_weigh : (ties : TieRule) (facts : Facts) (day : ℤ) (postings : List Posting) (booked : List Booked) → BooksAllUnder ties facts day [] 1 postings (All booked)
       → sum_in (weights_at_cost account commodity booked) currency ≡ puts (legs_in booked)
-  postings_weigh facts day postings booked books =
-      over_booked facts day (λ before postings booked. sum_in (weights_at_cost account commodity booked) currency ≡ puts (legs_in booked))
+  postings_weigh ties facts day postings booked books =
+      over_booked_under ties facts day (λ before postings booked. sum_in (weights_at_cost account commodity booked) currency ≡ puts (legs_in booked))
       (λ before. refl) (λ before other postings booked rest. rest)
       (λ before place other amount postings first more is rest.
       first_apart (is_booked_at_cost account commodity first) first (filter (is_booked_at_cost account commodity) more)
-      ∙ ap (λ z. z +ℤ sum_in (weights_at_cost account commodity more) currency) (one_weighs (line_of facts day before place other amount) first is)
+      ∙ ap (λ z. z +ℤ sum_in (weights_at_cost account commodity more) currency) (one_weighs (line_under ties facts day before place other amount) first is)
       ∙ ap (λ z. puts first.legs +ℤ z) rest
       ∙ sym (total-append (put (number_in currency) account commodity) first.legs (legs_in more)))
       1 postings [] booked books
@@ -109,18 +110,19 @@ module _ (account commodity currency : List ℕ) where
       → sum_in (weights_at_cost account commodity booked) currency ≡ puts legs
   nothing_weighs legs booked h = ap (λ (bs : List Booked). sum_in (weights_at_cost account commodity bs) currency) h.1 ∙ sym (ap puts h.0)
 
-  command_weighs : (facts : Facts) (command : Command) (legs : List Leg) (booked : List Booked) → BooksCommand facts command legs booked
+  command_weighs : (ties : TieRule) (facts : Facts) (command : Command) (legs : List Leg) (booked : List Booked)
+      → BooksCommandUnder ties facts command legs booked
       → sum_in (weights_at_cost account commodity booked) currency ≡ puts legs
-  command_weighs facts (Opening o) legs booked h = nothing_weighs legs booked h
-  command_weighs facts (Closing c) legs booked h = nothing_weighs legs booked h
-  command_weighs facts (Declaring d) legs booked h = nothing_weighs legs booked h
-  command_weighs facts (Quoting q) legs booked h = nothing_weighs legs booked h
-  command_weighs facts (Transaction t) legs booked h =
-      postings_weigh facts t.day t.postings booked h.1 ∙ sym (ap puts h.0 ∙ all_put (number_in currency) account commodity facts t booked)
+  command_weighs ties facts (Opening o) legs booked h = nothing_weighs legs booked h
+  command_weighs ties facts (Closing c) legs booked h = nothing_weighs legs booked h
+  command_weighs ties facts (Declaring d) legs booked h = nothing_weighs legs booked h
+  command_weighs ties facts (Quoting q) legs booked h = nothing_weighs legs booked h
+  command_weighs ties facts (Transaction t) legs booked h =
+      postings_weigh ties facts t.day t.postings booked h.1 ∙ sym (ap puts h.0 ∙ all_put (number_in currency) account commodity facts t booked)
 
-  entries_weigh : (before entries : List Entry) (booked : List Booked) → BooksEntries before entries booked
+  entries_weigh : (migration : Migration) (before entries : List Entry) (booked : List Booked) → BooksEntriesIn migration before entries booked
       → sum_in (weights_at_cost account commodity booked) currency ≡ puts (legs_of entries)
-  entries_weigh = over_collected BooksEntry
+  entries_weigh migration = over_collected (BooksEntryIn migration)
       (λ before entries booked. sum_in (weights_at_cost account commodity booked) currency ≡ puts (legs_of entries)) (λ before. refl)
       (λ before entry entries first more is rest.
       let there = is_booked_at_cost account commodity in
@@ -128,25 +130,28 @@ module _ (account commodity currency : List ℕ) where
       ∙ ap (λ ws. sum_in ws currency) (flat_map-append weights_of (filter there first) (filter there more))
       ∙ sum_in-append (weights_at_cost account commodity first) (weights_at_cost account commodity more) currency
       ∙ ap (λ z. z +ℤ sum_in (weights_at_cost account commodity more) currency)
-      (command_weighs (facts_of before entry.key) entry.command entry.legs first is)
+      (command_weighs (ties_in (edition_on migration before) before) (facts_of before entry.key) entry.command entry.legs first is)
       ∙ ap (λ z. puts entry.legs +ℤ z) rest
       ∙ sym (total-append (put (number_in currency) account commodity) entry.legs (legs_of entries)))
 
-pub lots_cost : (entries : List Entry) (booked : List Booked) (account commodity currency : List ℕ) → BooksEntries [] entries booked
+pub lots_cost : (migration : Migration) (entries : List Entry) (booked : List Booked) (account commodity currency : List ℕ)
+    → BooksEntriesIn migration [] entries booked
     → cost_in (lots_of (inventory_of (legs_of entries) account) commodity) currency ≡ sum_in (weights_at_cost account commodity booked) currency
-lots_cost entries booked account commodity currency h =
+lots_cost migration entries booked account commodity currency h =
     cost_as_sum currency (lots_of (inventory_of (legs_of entries) account) commodity)
     ∙ lots_worth (number_in currency) account commodity (legs_of entries)
-    ∙ sym (entries_weigh account commodity currency [] entries booked h)
+    ∙ sym (entries_weigh account commodity currency migration [] entries booked h)
 
 -- ---- Each book has its booked postings.
 
-entries_booked : (before entries : List Entry) → Continues before entries → (booked : List Booked) × BooksEntries before entries booked
-entries_booked before [] h = ([], refl)
-entries_booked before (entry ∷ entries) h =
-    let first = command_booked before entry.key entry.command entry.legs h.0 in
-    let more = entries_booked (before ++ entry ∷ []) entries h.1 in
+entries_booked : (migration : Migration) (before entries : List Entry) → ContinuesIn migration before entries
+    → (booked : List Booked) × BooksEntriesIn migration before entries booked
+entries_booked migration before [] h = ([], refl)
+entries_booked migration before (entry ∷ entries) h =
+    let first = command_booked (edition_on migration before) before entry.key entry.command entry.legs h.0 in
+    let more = entries_booked migration (before ++ entry ∷ []) entries h.1 in
     (first.0 ++ more.0, (first.0, more.0, first.1, more.1, refl))
 
-pub book_booked : (entries : List Entry) → IsBook entries → (booked : List Booked) × BooksEntries [] entries booked
-book_booked entries book = entries_booked [] entries book
+pub book_booked : (migration : Migration) (entries : List Entry) → IsBookIn migration entries
+    → (booked : List Booked) × BooksEntriesIn migration [] entries booked
+book_booked migration entries book = entries_booked migration [] entries book

@@ -16,10 +16,11 @@ use Rattle.lot_command.specs.declared.transaction.Posting.{Posting}
 use Rattle.lot_command.specs.declared.transaction.Transaction.{Transaction as TransactionOf}
 use Rattle.lot_book.specs.declared.leg.Leg.{Leg}
 use Rattle.lot_book.specs.Balance.{elided_postings, fill_from, fill_of, left_over, residuals, weights_in}
-use Rattle.lot_book.specs.Book.{Continues}
-use Rattle.lot_book.specs.Booking.{All, Booked, BooksAll, legs_in}
+use Rattle.lot_book.specs.Book.{ContinuesIn}
+use Rattle.lot_book.specs.Booking.{All, Booked, BooksAllUnder, TieRule, legs_in}
+use Rattle.lot_book.specs.Edition.{Migration, edition_on, ties_in}
 use Rattle.lot_book.specs.Facts.{Entry, Facts, facts_of, legs_of}
-use Rattle.lot_laws.specs.Laws.{BooksCommand, over_entries, over_postings}
+use Rattle.lot_laws.specs.Laws.{BooksCommandUnder, over_entries, over_postings}
 use Rattle.lot_book.specs.Leg.{inventory_of, legs_at_lots, with_leg, with_legs}
 use Rattle.lot_book.specs.Step.{fill_legs}
 use Rattle.lot_laws.proofs.LawBalance.{command_booked}
@@ -128,20 +129,22 @@ module _ (f : LotKey → ℤ) (account commodity : List ℕ) where
 
   -- where each transaction puts what its postings do, so does the book
   module _ (of : Posting → ℤ)
-      (each : (facts : Facts) (t : TransactionOf) (booked : List Booked) → BooksAll facts t.day [] 1 t.postings (All booked)
+      (each : (ties : TieRule) (facts : Facts) (t : TransactionOf) (booked : List Booked) → BooksAllUnder ties facts t.day [] 1 t.postings (All booked)
       → total put (legs_in booked) ≡ total of t.postings) where
-    step_puts : (facts : Facts) (command : Command) (legs : List Leg) (booked : List Booked) → BooksCommand facts command legs booked
+    step_puts : (ties : TieRule) (facts : Facts) (command : Command) (legs : List Leg) (booked : List Booked) → BooksCommandUnder ties facts command legs booked
         → total put legs ≡ over_postings of command
-    step_puts facts (Opening o) legs booked h = ap (total put) h.0
-    step_puts facts (Closing c) legs booked h = ap (total put) h.0
-    step_puts facts (Declaring d) legs booked h = ap (total put) h.0
-    step_puts facts (Quoting q) legs booked h = ap (total put) h.0
-    step_puts facts (Transaction t) legs booked h = ap (total put) h.0 ∙ all_put facts t booked ∙ each facts t booked h.1
+    step_puts ties facts (Opening o) legs booked h = ap (total put) h.0
+    step_puts ties facts (Closing c) legs booked h = ap (total put) h.0
+    step_puts ties facts (Declaring d) legs booked h = ap (total put) h.0
+    step_puts ties facts (Quoting q) legs booked h = ap (total put) h.0
+    step_puts ties facts (Transaction t) legs booked h = ap (total put) h.0 ∙ all_put facts t booked ∙ each ties facts t booked h.1
 
-    pub book_puts : (before entries : List Entry) → Continues before entries → total put (legs_of entries) ≡ over_entries of entries
-    book_puts before [] h = refl
-    book_puts before (entry ∷ entries) h =
-        let first = command_booked before entry.key entry.command entry.legs h.0 in
+    pub book_puts : (migration : Migration) (before entries : List Entry) → ContinuesIn migration before entries
+        → total put (legs_of entries) ≡ over_entries of entries
+    book_puts migration before [] h = refl
+    book_puts migration before (entry ∷ entries) h =
+        let edition = edition_on migration before in
+        let first = command_booked edition before entry.key entry.command entry.legs h.0 in
         total-append put entry.legs (legs_of entries)
-        ∙ ap (λ z. z +ℤ total put (legs_of entries)) (step_puts (facts_of before entry.key) entry.command entry.legs first.0 first.1)
-        ∙ ap (λ z. over_postings of entry.command +ℤ z) (book_puts (before ++ entry ∷ []) entries h.1)
+        ∙ ap (λ z. z +ℤ total put (legs_of entries)) (step_puts (ties_in edition before) (facts_of before entry.key) entry.command entry.legs first.0 first.1)
+        ∙ ap (λ z. over_postings of entry.command +ℤ z) (book_puts migration (before ++ entry ∷ []) entries h.1)

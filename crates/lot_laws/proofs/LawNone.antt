@@ -21,19 +21,20 @@ use Rattle.lot_book.specs.declared.leg.Position.{Position}
 use Rattle.lot_book.specs.declared.refusal.Refusal.{Refusal}
 use Rattle.lot_book.specs.declared.refusal.Refusal.TheVariants.{UnknownAccount}
 use Rattle.lot_book.specs.Balance.{elided_postings}
-use Rattle.lot_book.specs.Book.{Continues, IsBook}
-use Rattle.lot_book.specs.Booking.{All, Booked, BooksAll, HasLegs, IsBooked, Line, line_of, method_of}
+use Rattle.lot_book.specs.Book.{ContinuesIn, IsBookIn}
+use Rattle.lot_book.specs.Booking.{All, Booked, BooksAllUnder, HasLegs, IsBooked, Line, TieRule, line_under, method_of}
+use Rattle.lot_book.specs.Edition.{Edition, Migration, edition_on, ties_in}
 use Rattle.lot_book.specs.Facts.{Entry, closing_of, facts_of, opening_of, standing_of}
 use Rattle.lot_book.specs.Leg.{leg_at, legs_at_lots, same_position, sum_at}
 use Rattle.lot_book.specs.Refusals.{back_dated, closed, currency_not_allowed, not_open_yet, place_of, too_many_postings, two_elided, unknown_account}
-use Rattle.lot_book.specs.Step.{Accept, Step, first_conditions, first_of}
+use Rattle.lot_book.specs.Step.{Accept, StepIn, first_conditions, first_of}
 use Rattle.lot_book.proofs.CaseLemmas.{by_bool}
 use Rattle.lot_book.proofs.OrderLemmas.{one_position}
 use Rattle.lot_base.proofs.OptionLemmas.{not_mapped}
 use Rattle.lot_book.proofs.SumLemmas.{sum_where_apart}
-use Rattle.lot_laws.specs.Laws.{BooksCommand, BooksEntries, BooksEntry, lot_at, sold_of}
+use Rattle.lot_laws.specs.Laws.{BooksCommandUnder, BooksEntriesIn, BooksEntryIn, lot_at, sold_of}
 use Rattle.lot_laws.proofs.CollectLemmas.{over_collected}
-use Rattle.lot_laws.proofs.LawBooks.{accepted, over_booked}
+use Rattle.lot_laws.proofs.LawBooks.{accepted_in, over_booked_under}
 use Rattle.lot_laws.proofs.LawLeft.{sold-append, sum_if}
 use Rattle.lot_laws.proofs.LawOneSign.{method_by, method_is, opening_then, stays_unmatched}
 use Rattle.lot_laws.proofs.LawSales.{booked_sale}
@@ -58,13 +59,13 @@ others_none (Some refusal) conditions e = absurd cc
 abbrev IsKnown : List Entry → Posting → Type 0
 IsKnown book posting = is_none (standing_of book posting.account) ≡ false
 
-known : (book : List Entry) (key : Key) (t : TransactionOf) (legs : List Leg) → Step book key (Transaction t) (Accept legs)
+known : (edition : Edition) (book : List Entry) (key : Key) (t : TransactionOf) (legs : List Leg) → StepIn edition book key (Transaction t) (Accept legs)
     → AllByRecursion (IsKnown book) t.postings
-known book key t legs step =
+known edition book key t legs step =
     let facts = facts_of book key in
     let missing : Posting → Bool = λ p. is_none (facts.standing p.account) in
     let none : first_of (first_conditions facts t) ≡ None =
-    none_refused facts t legs (first_of (first_conditions facts t)) (accepted book key (Transaction t) legs step).1 in
+    none_refused (ties_in edition book) facts t legs (first_of (first_conditions facts t)) (accepted_in edition book key (Transaction t) legs step).1 in
     let others : List (Option Refusal) =
     not_open_yet facts t.day t.postings ∷ closed facts t.day t.postings ∷ currency_not_allowed facts t.postings
     ∷ too_many_postings t.postings ∷ two_elided (elided_postings 1 t.postings) ∷ back_dated facts t.day t.postings ∷ [] in
@@ -123,18 +124,18 @@ module _ (account commodity : List ℕ) (lot : LotKey) where
 
   -- ---- A transaction.
 
-  postings_sell_none : (book : List Entry) (key : Key) (day : ℤ) (postings : List Posting) (booked : List Booked)
-      → BooksAll (facts_of book key) day [] 1 postings (All booked) → AllByRecursion (IsKnown book) postings
+  postings_sell_none : (ties : TieRule) (book : List Entry) (key : Key) (day : ℤ) (postings : List Posting) (booked : List Booked)
+      → BooksAllUnder ties (facts_of book key) day [] 1 postings (All booked) → AllByRecursion (IsKnown book) postings
       → (is_none (standing_of book account) ≡ false → may_reduce (method_of (standing_of book account)) ≡ false)
       → sold_of booked there ≡ pos 0
-  postings_sell_none book key day postings booked books opened never =
-      over_booked (facts_of book key) day (λ before postings booked. AllByRecursion (IsKnown book) postings → sold_of booked there ≡ pos 0)
+  postings_sell_none ties book key day postings booked books opened never =
+      over_booked_under ties (facts_of book key) day (λ before postings booked. AllByRecursion (IsKnown book) postings → sold_of booked there ≡ pos 0)
       (λ before all. refl)
       (λ before other postings booked rest all. rest all.1)
       (λ before place other amount postings first more is rest all.
       sum_if first.reduces first (filter (λ (b : Booked). b.reduces) more) there
       ∙ ap (λ z. z +ℤ sold_of more there)
-      (posting_sells_none (line_of (facts_of book key) day before place other amount) first is
+      (posting_sells_none (line_under ties (facts_of book key) day before place other amount) first is
       (λ own. subst (λ (a : List ℕ). is_none (standing_of book a) ≡ false → may_reduce (method_of (standing_of book a)) ≡ false) own never all.0))
       ∙ +ℤ_idl (sold_of more there) ∙ rest all.1)
       1 postings [] booked books opened
@@ -142,35 +143,36 @@ module _ (account commodity : List ℕ) (lot : LotKey) where
   none_of : (booked : List Booked) → booked ≡ [] → sold_of booked there ≡ pos 0
   none_of booked e = ap (λ (bs : List Booked). sold_of bs there) e
 
-  command_sells_none : (book : List Entry) (key : Key) (command : Command) (legs : List Leg) (booked : List Booked)
-      → Step book key command (Accept legs) → BooksCommand (facts_of book key) command legs booked
+  command_sells_none : (edition : Edition) (book : List Entry) (key : Key) (command : Command) (legs : List Leg) (booked : List Booked)
+      → StepIn edition book key command (Accept legs) → BooksCommandUnder (ties_in edition book) (facts_of book key) command legs booked
       → (is_none (standing_of book account) ≡ false → may_reduce (method_of (standing_of book account)) ≡ false)
       → sold_of booked there ≡ pos 0
-  command_sells_none book key (Opening o) legs booked step h never = none_of booked h.1
-  command_sells_none book key (Closing c) legs booked step h never = none_of booked h.1
-  command_sells_none book key (Declaring d) legs booked step h never = none_of booked h.1
-  command_sells_none book key (Quoting q) legs booked step h never = none_of booked h.1
-  command_sells_none book key (Transaction t) legs booked step h never =
-      postings_sell_none book key t.day t.postings booked h.1 (known book key t legs step) never
+  command_sells_none edition book key (Opening o) legs booked step h never = none_of booked h.1
+  command_sells_none edition book key (Closing c) legs booked step h never = none_of booked h.1
+  command_sells_none edition book key (Declaring d) legs booked step h never = none_of booked h.1
+  command_sells_none edition book key (Quoting q) legs booked step h never = none_of booked h.1
+  command_sells_none edition book key (Transaction t) legs booked step h never =
+      postings_sell_none (ties_in edition book) book key t.day t.postings booked h.1 (known edition book key t legs step) never
 
   -- ---- A book.
 
-  entries_sell_none : (before entries : List Entry) (booked : List Booked) → BooksEntries before entries booked → Continues before entries
+  entries_sell_none : (migration : Migration) (before entries : List Entry) (booked : List Booked)
+      → BooksEntriesIn migration before entries booked → ContinuesIn migration before entries
       → method_by (opening_of (before ++ entries) account) ≡ Unmatched → sold_of booked there ≡ pos 0
-  entries_sell_none = over_collected BooksEntry
-      (λ before entries booked. Continues before entries → method_by (opening_of (before ++ entries) account) ≡ Unmatched
+  entries_sell_none migration = over_collected (BooksEntryIn migration)
+      (λ before entries booked. ContinuesIn migration before entries → method_by (opening_of (before ++ entries) account) ≡ Unmatched
       → sold_of booked there ≡ pos 0)
       (λ before continues none. refl)
       (λ before entry entries first more is rest continues none.
       sold-append first more there
       ∙ ap (λ z. z +ℤ sold_of more there)
-      (command_sells_none before entry.key entry.command entry.legs first continues.0 is
+      (command_sells_none (edition_on migration before) before entry.key entry.command entry.legs first continues.0 is
       (λ opened. never_reduces before (entry ∷ entries) account opened none))
       ∙ +ℤ_idl (sold_of more there)
       ∙ rest continues.1 (ap (λ (es : List Entry). method_by (opening_of es account)) (append_assoc before (entry ∷ []) entries) ∙ none))
 
-pub none_sells : (entries : List Entry) (booked : List Booked) (account commodity : List ℕ) (lot : LotKey) → IsBook entries
-    → BooksEntries [] entries booked → method_of (standing_of entries account) ≡ Unmatched → sold_of booked (lot_at account commodity lot) ≡ pos 0
-none_sells entries booked account commodity lot book h none =
-    entries_sell_none account commodity lot [] entries booked h book
+pub none_sells : (migration : Migration) (entries : List Entry) (booked : List Booked) (account commodity : List ℕ) (lot : LotKey)
+    → IsBookIn migration entries → BooksEntriesIn migration [] entries booked → method_of (standing_of entries account) ≡ Unmatched → sold_of booked (lot_at account commodity lot) ≡ pos 0
+none_sells migration entries booked account commodity lot book h none =
+    entries_sell_none account commodity lot migration [] entries booked h book
     (sym (method_is (closing_of entries account) (opening_of entries account)) ∙ none)

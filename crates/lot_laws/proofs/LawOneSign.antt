@@ -6,7 +6,8 @@ use Rattle.std.specs.Option.{option_map, option_or, unwrap_or}
 use Rattle.std.proofs.Common.{refl, sym, ap, subst, ◌∙◌, append_assoc}
 use Rattle.std.proofs.lemmas.Grind.{flat_map-append}
 use Rattle.std.proofs.lemmas.List.{append-nil}
-use Rattle.std.proofs.lemmas.List.Elements.{All-contains, All-filter, All-from_recursion}
+use Rattle.std.proofs.lemmas.List.Elements.{All-contains, All-filter, All-from_recursion, filter_passes}
+use Rattle.std.proofs.lemmas.Bool.{true≢false}
 use Rattle.std.proofs.lemmas.Map.Views.{Contains-from_lookup}
 use Rattle.lot_base.specs.Text.{same_text}
 use Rattle.lot_base.proofs.TextLemmas.{one_text, same_text-itself}
@@ -31,15 +32,16 @@ use Rattle.lot_command.specs.declared.command.Opening.{Opening as OpeningOf}
 use Rattle.lot_command.specs.declared.transaction.Transaction.{Transaction as TransactionOf}
 use Rattle.lot_book.specs.declared.leg.Leg.{Leg}
 use Rattle.lot_book.specs.Balance.{elided_postings, fill_from, fill_of, left_over, residuals, weights_in}
-use Rattle.lot_book.specs.Book.{Continues, IsBook}
-use Rattle.lot_book.specs.Booking.{All, Booked, BooksAll, HasLegs, Line, braced, legs_in, line_of, method_of}
+use Rattle.lot_book.specs.Book.{ContinuesIn, IsBookIn}
+use Rattle.lot_book.specs.Booking.{All, Booked, BooksAllUnder, HasLegs, Line, TieRule, braced, legs_in, line_under, method_of}
+use Rattle.lot_book.specs.Edition.{Migration, edition_on, ties_in}
 use Rattle.lot_book.specs.Facts.{Entry, Facts, closing_of, facts_of, legs_of, opening_by, opening_of, standing_by, standing_of}
-use Rattle.lot_laws.specs.Laws.{BooksCommand, HaveOneSign}
+use Rattle.lot_laws.specs.Laws.{BooksCommandUnder, HaveOneSign}
 use Rattle.lot_book.specs.Leg.{inventory_of, leg_at, legs_at_lots, with_leg, with_legs}
 use Rattle.lot_book.specs.Step.{fill_legs}
 use Rattle.lot_laws.proofs.LawBalance.{command_booked}
-use Rattle.lot_laws.proofs.LawBooks.{over_booked}
-use Rattle.lot_laws.proofs.LawSigns.{IsSigned, TakesHeld, adding, held_lot, one_sign, signed_less, signed_more, signed_plain}
+use Rattle.lot_laws.proofs.LawBooks.{over_booked_under}
+use Rattle.lot_laws.proofs.LawSigns.{IsSigned, TakesHeld, adding, held_lot, one_sign, sign_none, signed_less, signed_more, signed_plain}
 use Rattle.lot_book.proofs.LegLemmas.{with_legs-append}
 use Rattle.lot_book.proofs.CaseLemmas.{by_bool}
 
@@ -59,6 +61,24 @@ takes_held posting leg takes =
     (All-from_recursion IsHeld (lots_of held name) (each_member IsHeld (lots_of held name) (λ lot among. held_lot held name lot among)))) in
     let is : units_at held (name, Some leg.0) ≡ takes.held = All-contains IsHeld (candidates posting) (leg.0, takes.held) all member in
     record { sign = rw is takes.sign; bound = rw is takes.bound }
+
+-- a lot that a posting may take is held
+pub candidate_held : (posting : Braced) (lot : LotKey × ℤ) → Contains (candidates posting) lot
+    → units_at posting.held (posting.commodity, Some lot.0) ≢ pos 0
+candidate_held posting lot among zero =
+    let held = posting.held in
+    let name = posting.commodity in
+    let IsHeld : LotKey × ℤ → Type 0 = λ lot. units_at held (name, Some lot.0) ≡ lot.1 in
+    let HasOtherSign : LotKey × ℤ → Type 0 = λ lot. other_sign lot.1 posting.units ≡ true in
+    let all : AllOf IsHeld (candidates posting) =
+    All-filter (λ (lot : LotKey × ℤ). other_sign lot.1 posting.units) IsHeld (matching held name (spec_of posting.units posting.cost))
+    (All-filter (λ (lot : LotKey × ℤ). fits (spec_of posting.units posting.cost) lot.0) IsHeld (lots_of held name)
+    (All-from_recursion IsHeld (lots_of held name) (each_member IsHeld (lots_of held name) (λ lot among. held_lot held name lot among)))) in
+    let is : units_at held (name, Some lot.0) ≡ lot.1 = All-contains IsHeld (candidates posting) lot all among in
+    let sign : other_sign lot.1 posting.units ≡ true =
+    All-contains HasOtherSign (candidates posting) lot
+    (filter_passes (λ (lot : LotKey × ℤ). other_sign lot.1 posting.units) (matching held name (spec_of posting.units posting.cost))) among in
+    true≢false (sym sign ∙ ap (λ z. other_sign z posting.units) (sym is ∙ zero) ∙ sign_none posting.units)
 
 -- legs at lots of an account are added to what it holds
 lots_here : (account : List ℕ) (held : Held) (entry posting place : ℕ) (name : List ℕ) (lots : List (LotKey × ℤ))
@@ -116,18 +136,18 @@ legs_signed account line (Some cost) reduces legs held h own signed =
 
 -- ---- The legs of a transaction.
 
-postings_signed : (account : List ℕ) (facts : Facts) (t : TransactionOf) (booked : List Booked)
+postings_signed : (account : List ℕ) (ties : TieRule) (facts : Facts) (t : TransactionOf) (booked : List Booked)
     → may_reduce (method_of (facts.standing account)) ≡ true
-    → BooksAll facts t.day [] 1 t.postings (All booked) → IsSigned (facts.held account) → IsSigned (with_legs account (facts.held account) (legs_in booked))
-postings_signed account facts t booked may books signed =
-    over_booked facts t.day
+    → BooksAllUnder ties facts t.day [] 1 t.postings (All booked) → IsSigned (facts.held account) → IsSigned (with_legs account (facts.held account) (legs_in booked))
+postings_signed account ties facts t booked may books signed =
+    over_booked_under ties facts t.day
     (λ before postings booked. IsSigned (with_legs account (facts.held account) before) → IsSigned (with_legs account (facts.held account) (before ++ legs_in booked)))
     (λ before first. subst (λ (ls : List Leg). IsSigned (with_legs account (facts.held account) ls)) (sym (append-nil before)) first)
     (λ before other postings booked rest. rest)
     (λ before place other amount postings first more is rest signed.
     subst (λ (ls : List Leg). IsSigned (with_legs account (facts.held account) ls)) (append_assoc before first.legs (legs_in more))
     (rest (subst IsSigned (sym (with_legs-append account (facts.held account) before first.legs))
-    (legs_signed account (line_of facts t.day before place other amount) amount.cost first.reduces first.legs (with_legs account (facts.held account) before) is.legs
+    (legs_signed account (line_under ties facts t.day before place other amount) amount.cost first.reduces first.legs (with_legs account (facts.held account) before) is.legs
     (λ own. (ap (λ (a : List ℕ). with_legs a (facts.held a) before) (sym own), ap (λ (a : List ℕ). may_reduce (method_of (facts.standing a))) (sym own) ∙ may))
     signed))))
     1 t.postings [] booked books signed
@@ -190,26 +210,27 @@ stays_unmatched closed (Some o) then known none = ap may_reduce none
 still_signed : (account : List ℕ) (held : Held) (legs : List Leg) → legs ≡ [] → IsSigned held → IsSigned (with_legs account held legs)
 still_signed account held legs none signed = subst (λ (ls : List Leg). IsSigned (with_legs account held ls)) (sym none) signed
 
-step_signed : (account : List ℕ) (facts : Facts) (command : Command) (legs : List Leg) (booked : List Booked) → BooksCommand facts command legs booked
+step_signed : (account : List ℕ) (ties : TieRule) (facts : Facts) (command : Command) (legs : List Leg) (booked : List Booked)
+    → BooksCommandUnder ties facts command legs booked
     → may_reduce (method_of (facts.standing account)) ≡ true → IsSigned (facts.held account) → IsSigned (with_legs account (facts.held account) legs)
-step_signed account facts (Opening o) legs booked h may signed = still_signed account (facts.held account) legs h.0 signed
-step_signed account facts (Closing c) legs booked h may signed = still_signed account (facts.held account) legs h.0 signed
-step_signed account facts (Declaring d) legs booked h may signed = still_signed account (facts.held account) legs h.0 signed
-step_signed account facts (Quoting q) legs booked h may signed = still_signed account (facts.held account) legs h.0 signed
-step_signed account facts (Transaction t) legs booked h may signed =
+step_signed account ties facts (Opening o) legs booked h may signed = still_signed account (facts.held account) legs h.0 signed
+step_signed account ties facts (Closing c) legs booked h may signed = still_signed account (facts.held account) legs h.0 signed
+step_signed account ties facts (Declaring d) legs booked h may signed = still_signed account (facts.held account) legs h.0 signed
+step_signed account ties facts (Quoting q) legs booked h may signed = still_signed account (facts.held account) legs h.0 signed
+step_signed account ties facts (Transaction t) legs booked h may signed =
     let held = facts.held account in
     let rs = residuals (weights_in booked) in
     subst (λ (ls : List Leg). IsSigned (with_legs account held ls)) (sym h.0)
     (subst IsSigned (sym (with_legs-append account held (legs_in booked) (fill_legs facts t booked)))
     (filled_signed account (with_legs account held (legs_in booked)) (suc facts.entries) (elided_postings 1 t.postings) rs
-    (postings_signed account facts t booked may h.1 signed)))
+    (postings_signed account ties facts t booked may h.1 signed)))
 
-continues_signed : (account : List ℕ) (before entries : List Entry) → Continues before entries
+continues_signed : (migration : Migration) (account : List ℕ) (before entries : List Entry) → ContinuesIn migration before entries
     → method_by (opening_of (before ++ entries) account) ≢ Unmatched
     → IsSigned (inventory_of (legs_of before) account) → IsSigned (inventory_of (legs_of (before ++ entries)) account)
-continues_signed account before [] h other signed = subst (λ (es : List Entry). IsSigned (inventory_of (legs_of es) account)) (sym (append-nil before)) signed
-continues_signed account before (entry ∷ entries) h other signed =
-    let first = command_booked before entry.key entry.command entry.legs h.0 in
+continues_signed migration account before [] h other signed = subst (λ (es : List Entry). IsSigned (inventory_of (legs_of es) account)) (sym (append-nil before)) signed
+continues_signed migration account before (entry ∷ entries) h other signed =
+    let first = command_booked (edition_on migration before) before entry.key entry.command entry.legs h.0 in
     let all : (before ++ entry ∷ []) ++ entries ≡ before ++ entry ∷ entries = append_assoc before (entry ∷ []) entries in
     let may : may_reduce (method_of (standing_of before account)) ≡ true =
     ap may_reduce (method_is (closing_of before account) (opening_of before account))
@@ -218,11 +239,11 @@ continues_signed account before (entry ∷ entries) h other signed =
     let legs : legs_of (before ++ entry ∷ []) ≡ legs_of before ++ entry.legs =
     flat_map-append (λ (e : Entry). e.legs) before (entry ∷ []) ∙ ap (λ ls. legs_of before ++ ls) (append-nil entry.legs) in
     subst (λ (es : List Entry). IsSigned (inventory_of (legs_of es) account)) all
-    (continues_signed account (before ++ entry ∷ []) entries h.1
+    (continues_signed migration account (before ++ entry ∷ []) entries h.1
     (λ e. other (ap (λ (es : List Entry). method_by (opening_of es account)) (sym all) ∙ e))
     (subst (λ (ls : List Leg). IsSigned (inventory_of ls account)) (sym legs)
     (subst IsSigned (sym (with_legs-append account empty (legs_of before) entry.legs))
-    (step_signed account (facts_of before entry.key) entry.command entry.legs first.0 first.1 may signed))))
+    (step_signed account (ties_in (edition_on migration before) before) (facts_of before entry.key) entry.command entry.legs first.0 first.1 may signed))))
 
 nothing_signed : IsSigned empty
 nothing_signed = record {
@@ -231,8 +252,8 @@ nothing_signed = record {
       ∙ ap (λ (found : Option ℤ). other_sign (pos 0) (unwrap_or found (pos 0))) (get-empty position_cmp (name, Some b));
 }
 
-pub book_signed : (entries : List Entry) (account commodity : List ℕ) → IsBook entries → method_of (standing_of entries account) ≢ Unmatched
+pub book_signed : (migration : Migration) (entries : List Entry) (account commodity : List ℕ) → IsBookIn migration entries → method_of (standing_of entries account) ≢ Unmatched
     → HaveOneSign (lots_of (inventory_of (legs_of entries) account) commodity)
-book_signed entries account commodity book other =
+book_signed migration entries account commodity book other =
     one_sign (inventory_of (legs_of entries) account)
-    (continues_signed account [] entries book (λ e. other (method_is (closing_of entries account) (opening_of entries account) ∙ e)) nothing_signed) commodity
+    (continues_signed migration account [] entries book (λ e. other (method_is (closing_of entries account) (opening_of entries account) ∙ e)) nothing_signed) commodity

@@ -16,12 +16,13 @@ use Rattle.lot_command.specs.declared.command.Command.TheVariants.{Opening, Clos
 use Rattle.lot_command.specs.declared.transaction.Posting.{Posting}
 use Rattle.lot_command.specs.declared.transaction.Transaction.{Transaction as TransactionOf}
 use Rattle.lot_book.specs.declared.leg.Leg.{Leg}
-use Rattle.lot_book.specs.Book.{IsBook}
-use Rattle.lot_book.specs.Booking.{All, Booked, BooksAll, HasLegs, Line, braced, legs_in, line_of}
+use Rattle.lot_book.specs.Book.{IsBook, IsBookIn}
+use Rattle.lot_book.specs.Booking.{All, Booked, BooksAllUnder, HasLegs, Line, TieRule, braced, legs_in, line_under}
+use Rattle.lot_book.specs.Edition.{Migration, NotYet}
 use Rattle.lot_book.specs.Facts.{Entry, Facts, legs_of}
 use Rattle.lot_laws.specs.Laws.{above_zero, below_zero, bought, over_entries, over_postings, sold, units_at_cost}
 use Rattle.lot_book.specs.Leg.{inventory_of}
-use Rattle.lot_laws.proofs.LawBooks.{over_booked, posted}
+use Rattle.lot_laws.proofs.LawBooks.{over_booked_under, posted}
 use Rattle.lot_laws.proofs.LawLots.{book_puts, lots_put, lots_worth, put, total, total-append}
 
 -- ---- A posting puts the units that it writes.
@@ -54,11 +55,11 @@ none_posts_nothing : (b : Bool) → cond b (pos 0) (pos 0) ≡ pos 0
 none_posts_nothing true = refl
 none_posts_nothing false = refl
 
-postings_put : (account commodity : List ℕ) (facts : Facts) (t : TransactionOf) (booked : List Booked)
-    → BooksAll facts t.day [] 1 t.postings (All booked)
+postings_put : (account commodity : List ℕ) (ties : TieRule) (facts : Facts) (t : TransactionOf) (booked : List Booked)
+    → BooksAllUnder ties facts t.day [] 1 t.postings (All booked)
     → total (put as_one account commodity) (legs_in booked) ≡ total (units_at_cost account commodity) t.postings
-postings_put account commodity facts t booked books =
-    over_booked facts t.day (λ before postings booked. total (put as_one account commodity) (legs_in booked) ≡ total (units_at_cost account commodity) postings)
+postings_put account commodity ties facts t booked books =
+    over_booked_under ties facts t.day (λ before postings booked. total (put as_one account commodity) (legs_in booked) ≡ total (units_at_cost account commodity) postings)
     (λ before. refl)
     (λ before other postings booked rest.
     rest ∙ sym (+ℤ_idl (total (units_at_cost account commodity) postings))
@@ -66,7 +67,7 @@ postings_put account commodity facts t booked books =
     (λ before place other amount postings first more is rest.
     total-append (put as_one account commodity) first.legs (legs_in more)
     ∙ ap (λ z. z +ℤ total (put as_one account commodity) (legs_in more))
-    (legs_put_units account commodity (line_of facts t.day before place other amount) amount.cost first.reduces first.legs is.legs)
+    (legs_put_units account commodity (line_under ties facts t.day before place other amount) amount.cost first.reduces first.legs is.legs)
     ∙ ap (λ z. units_at_cost account commodity (posted other (Some amount)) +ℤ z) rest)
     1 t.postings [] booked books
 
@@ -97,12 +98,16 @@ module _ (u a b : Posting → ℤ) (each : (posting : Posting) → u posting ≡
       total_apart (λ (entry : Entry). over_postings u entry.command) (λ (entry : Entry). over_postings a entry.command)
       (λ (entry : Entry). over_postings b entry.command) (λ entry. command_apart entry.command) entries
 
-pub held_as_bought : (entries : List Entry) (account commodity : List ℕ) → IsBook entries
+pub held_as_bought_in : (migration : Migration) (entries : List Entry) (account commodity : List ℕ) → IsBookIn migration entries
     → sum (inventory_of (legs_of entries) account) commodity ≡ bought entries account commodity +ℤ neg_ℤ (sold entries account commodity)
-held_as_bought entries account commodity book =
+held_as_bought_in migration entries account commodity book =
     sym (sum_as_one (lots_of (inventory_of (legs_of entries) account) commodity))
     ∙ lots_worth as_one account commodity (legs_of entries)
-    ∙ book_puts as_one account commodity (units_at_cost account commodity) (postings_put account commodity) [] entries book
+    ∙ book_puts as_one account commodity (units_at_cost account commodity) (postings_put account commodity) migration [] entries book
     ∙ entries_apart (units_at_cost account commodity)
     (λ posting. above_zero (units_at_cost account commodity posting)) (λ posting. below_zero (units_at_cost account commodity posting))
     (λ posting. bought_or_sold (units_at_cost account commodity posting)) entries
+
+pub held_as_bought : (entries : List Entry) (account commodity : List ℕ) → IsBook entries
+    → sum (inventory_of (legs_of entries) account) commodity ≡ bought entries account commodity +ℤ neg_ℤ (sold entries account commodity)
+held_as_bought = held_as_bought_in NotYet

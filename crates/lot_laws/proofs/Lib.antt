@@ -24,4 +24,4 @@ pub mod GainLaws
 pub mod OpeningLemmas
 pub mod OpeningBooks
 pub mod OpeningPostings
-pub mod OpeningOrders
+pub mod MigrationLaws

@@ -2,7 +2,8 @@
 use Rattle.std.specs.Prelude.{◌≡◌, ◌≢◌, ◌⊎◌, ℕ, suc, ◌+◌, ◌-◌, ◌*◌, ◌≤◌, ◌<◌, nat_lt, ◌&&◌, Bool, true, false, cond, List, [], ◌∷◌, ◌++◌, length, Option, None, Some, is_some, ℤ, pos}
 use Rattle.std.specs.Cmp.{eq_by_cmp_equiv}
 use Rattle.std.specs.FinMap.{empty}
-use Rattle.std.specs.List.{AllByRecursion}
+use Rattle.std.specs.List.{AllByRecursion, Contains}
+use Rattle.std.specs.Option.{unwrap_or}
 use Rattle.std.specs.Map.{keys_of}
 use Rattle.std.specs.Ordering.{eq_by_cmp, int_eq}
 use Rattle.std.proofs.Common.{refl, sym, ap, subst, ◌∙◌, arith, inl, inr, append_assoc}
@@ -23,6 +24,7 @@ use Rattle.lot_booking.proofs.BookingLaws.{taken_distinct, taken_from}
 use Rattle.lot_command.specs.declared.command.Command.{Command}
 use Rattle.lot_command.specs.declared.command.Command.TheVariants.{Opening, Closing, Declaring, Quoting, Transaction}
 use Rattle.lot_command.specs.declared.key.Key.{Key}
+use Rattle.lot_command.specs.declared.transaction.Amount.{Amount}
 use Rattle.lot_command.specs.declared.transaction.Posting.{Posting}
 use Rattle.lot_command.specs.declared.transaction.Transaction.{Transaction as TransactionOf}
 use Rattle.lot_book.specs.declared.leg.Leg.{Leg}
@@ -30,22 +32,23 @@ use Rattle.lot_book.specs.declared.leg.Position.{Position}
 use Rattle.lot_book.specs.declared.refusal.Refusal.{Refusal}
 use Rattle.lot_book.specs.declared.refusal.Refusal.TheVariants.{TooManyPostings}
 use Rattle.lot_book.specs.Balance.{elided_postings, fill_from, fill_of, left_over, opposite, residuals, weights_in}
-use Rattle.lot_book.specs.Book.{Continues, IsBook}
-use Rattle.lot_book.specs.Booking.{All, Booked, BooksAll, HasLegs, Line, braced, legs_in, line_of}
+use Rattle.lot_book.specs.Book.{ContinuesIn, IsBookIn}
+use Rattle.lot_book.specs.Booking.{All, Booked, BooksAllUnder, HasLegs, Line, TieRule, braced, legs_in, line_under}
+use Rattle.lot_book.specs.Edition.{Edition, Migration, edition_on, ties_in}
 use Rattle.lot_book.specs.Facts.{Entry, facts_of, legs_of}
 use Rattle.lot_book.specs.Leg.{inventory_of, leg_at, legs_at_lots, same_position, sum_at}
 use Rattle.lot_book.specs.Refusals.{back_dated, closed, currency_not_allowed, holds_as, most_postings, not_open_yet, too_many_postings, two_elided, unknown_account}
-use Rattle.lot_book.specs.Step.{Accept, Step, fill_legs, first_conditions, first_of}
+use Rattle.lot_book.specs.Step.{Accept, StepIn, fill_legs, first_conditions, first_of}
 use Rattle.lot_book.proofs.LegLemmas.{with_legs-append}
-use Rattle.lot_laws.specs.Laws.{BooksCommand, lot_at}
-use Rattle.lot_laws.specs.OpeningNumber.{HasOpeningNumber, IsLastToOpen, Opens, posting_number}
+use Rattle.lot_laws.specs.Laws.{BooksCommandUnder, lot_at}
+use Rattle.lot_book.specs.OpeningNumber.{HasOpeningNumber, IsLastToOpen, Opens, opening_in, posting_number}
 use Rattle.lot_laws.proofs.LawBalance.{command_booked}
-use Rattle.lot_laws.proofs.LawBooks.{accepted, over_placed}
+use Rattle.lot_laws.proofs.LawBooks.{accepted_in, over_placed_under}
 use Rattle.lot_laws.proofs.LawHoldings.{holds_sum}
 use Rattle.lot_laws.proofs.LawNone.{first_none, others_none}
-use Rattle.lot_laws.proofs.LawOneSign.{takes_held}
+use Rattle.lot_laws.proofs.LawOneSign.{candidate_held, takes_held}
 use Rattle.lot_laws.proofs.LawSigns.{TakesHeld, sign_none}
-use Rattle.lot_laws.proofs.OpeningLemmas.{apart_from, is_zero, not_zero, sum_at-push_apart}
+use Rattle.lot_laws.proofs.OpeningLemmas.{apart_from, is_zero, not_zero, number_is, sum_at-push_apart, where_held}
 use Rattle.lot_laws.proofs.RecordedDays.{none_refused}
 
 -- ---- Numbers that ascend from one to below another, each beside a lot.
@@ -295,14 +298,14 @@ base entries = most_postings * length entries
 pub number_at : (entries place : ℕ) → most_postings * (suc entries - 1) + place ≡ most_postings * entries + place
 number_at entries place = omega arith
 
-postings_ascend : (book : List Entry) (key : Key) (day : ℤ) (postings : List Posting) (booked : List Booked)
-    → BooksAll (facts_of book key) day [] 1 postings (All booked)
+postings_ascend : (ties : TieRule) (book : List Entry) (key : Key) (day : ℤ) (postings : List Posting) (booked : List Booked)
+    → BooksAllUnder ties (facts_of book key) day [] 1 postings (All booked)
     → Ascend (base book + 1) (opened (legs_of book) (legs_in booked)) (base book + 1 + length postings)
-postings_ascend book key day postings booked books =
+postings_ascend ties book key day postings booked books =
     let facts = facts_of book key in
     let all = legs_of book in
     subst (λ (ls : List Leg). Ascend (base book + 1) (opened ls (legs_in booked)) (base book + 1 + length postings)) (append-nil all)
-    (over_placed facts day
+    (over_placed_under ties facts day
     (λ place before postings booked. Ascend (base book + place) (opened (all ++ before) (legs_in booked)) (base book + place + length postings))
     (λ place before. omega arith)
     (λ place before account postings booked rest.
@@ -311,7 +314,7 @@ postings_ascend book key day postings booked books =
     (ascend_to_higher (base book + suc place) (opened (all ++ before) (legs_in booked)) (base book + suc place + length postings)
     (base book + place + suc (length postings)) (omega arith) rest))
     (λ before place account amount postings first more is rest.
-    let line = line_of facts day before place account amount in
+    let line = line_under ties facts day before place account amount in
     let own : Ascend (line_number line) (opened (all ++ before) first.legs) (suc (line_number line)) =
     posting_ascends (all ++ before) line amount.cost first.reduces first.legs (sym (with_legs-append account empty all before)) is.legs in
     let numbered : line_number line ≡ base book + place = number_at (length book) place in
@@ -335,12 +338,12 @@ not_held : (b : Bool) (refusal : Refusal) → holds_as b refusal ≡ None → b 
 not_held true refusal e = absurd cc
 not_held false refusal e = refl
 
-pub few : (book : List Entry) (key : Key) (t : TransactionOf) (legs : List Leg) → Step book key (Transaction t) (Accept legs)
+pub few : (edition : Edition) (book : List Entry) (key : Key) (t : TransactionOf) (legs : List Leg) → StepIn edition book key (Transaction t) (Accept legs)
     → length t.postings ≤ most_postings
-few book key t legs step =
+few edition book key t legs step =
     let facts = facts_of book key in
     let none : first_of (first_conditions facts t) ≡ None =
-    none_refused facts t legs (first_of (first_conditions facts t)) (accepted book key (Transaction t) legs step).1 in
+    none_refused (ties_in edition book) facts t legs (first_of (first_conditions facts t)) (accepted_in edition book key (Transaction t) legs step).1 in
     let many = too_many_postings t.postings in
     let after_many : List (Option Refusal) = two_elided (elided_postings 1 t.postings) ∷ back_dated facts t.day t.postings ∷ [] in
     let after_open = closed facts t.day t.postings ∷ currency_not_allowed facts t.postings ∷ many ∷ after_many in
@@ -360,14 +363,14 @@ nothing_ascends : (book : List Entry) (legs : List Leg) → legs ≡ []
 nothing_ascends book legs none =
     subst (λ (ls : List Leg). Ascend (base book + 1) (opened (legs_of book) ls) (base book + 1 + most_postings)) (sym none) (omega arith)
 
-command_ascends : (book : List Entry) (key : Key) (command : Command) (legs : List Leg) (booked : List Booked)
-    → Step book key command (Accept legs) → BooksCommand (facts_of book key) command legs booked
+command_ascends : (edition : Edition) (book : List Entry) (key : Key) (command : Command) (legs : List Leg) (booked : List Booked)
+    → StepIn edition book key command (Accept legs) → BooksCommandUnder (ties_in edition book) (facts_of book key) command legs booked
     → Ascend (base book + 1) (opened (legs_of book) legs) (base book + 1 + most_postings)
-command_ascends book key (Opening o) legs booked step h = nothing_ascends book legs h.0
-command_ascends book key (Closing c) legs booked step h = nothing_ascends book legs h.0
-command_ascends book key (Declaring d) legs booked step h = nothing_ascends book legs h.0
-command_ascends book key (Quoting q) legs booked step h = nothing_ascends book legs h.0
-command_ascends book key (Transaction t) legs booked step h =
+command_ascends edition book key (Opening o) legs booked step h = nothing_ascends book legs h.0
+command_ascends edition book key (Closing c) legs booked step h = nothing_ascends book legs h.0
+command_ascends edition book key (Declaring d) legs booked step h = nothing_ascends book legs h.0
+command_ascends edition book key (Quoting q) legs booked step h = nothing_ascends book legs h.0
+command_ascends edition book key (Transaction t) legs booked step h =
     let facts = facts_of book key in
     let all = legs_of book in
     let fill = fill_legs facts t booked in
@@ -376,29 +379,29 @@ command_ascends book key (Transaction t) legs booked step h =
     ∙ ap (λ xs. opened all (legs_in booked) ++ xs)
     (filled_opens_none (all ++ legs_in booked) (suc facts.entries) (elided_postings 1 t.postings) (residuals (weights_in booked)))
     ∙ append-nil (opened all (legs_in booked)) in
-    let most = few book key t legs step in
+    let most = few edition book key t legs step in
     subst (λ xs. Ascend (base book + 1) xs (base book + 1 + most_postings)) (sym by_booked)
     (ascend_to_higher (base book + 1) (opened all (legs_in booked)) (base book + 1 + length t.postings) (base book + 1 + most_postings)
-    (omega (arith, most)) (postings_ascend book key t.day t.postings booked h.1))
+    (omega (arith, most)) (postings_ascend (ties_in edition book) book key t.day t.postings booked h.1))
 
 base-push : (book : List Entry) (entry : Entry) → base book + 1 + most_postings ≡ base (book ++ entry ∷ []) + 1
 base-push book entry = omega (arith, length-append book (entry ∷ []))
 
-entries_ascend : (before entries : List Entry) → Continues before entries
+entries_ascend : (migration : Migration) (before entries : List Entry) → ContinuesIn migration before entries
     → Ascend (base before + 1) (opened (legs_of before) (legs_of entries)) (base (before ++ entries) + 1)
-entries_ascend before [] h =
+entries_ascend migration before [] h =
     subst (λ (es : List Entry). Ascend (base before + 1) [] (base es + 1)) (sym (append-nil before)) (omega arith)
-entries_ascend before (entry ∷ entries) h =
+entries_ascend migration before (entry ∷ entries) h =
     let book = before ++ entry ∷ [] in
-    let step = command_booked before entry.key entry.command entry.legs h.0 in
+    let step = command_booked (edition_on migration before) before entry.key entry.command entry.legs h.0 in
     let legs : legs_of book ≡ legs_of before ++ entry.legs =
     flat_map-append (λ (e : Entry). e.legs) before (entry ∷ []) ∙ ap (λ ls. legs_of before ++ ls) (append-nil entry.legs) in
     let first : Ascend (base before + 1) (opened (legs_of before) entry.legs) (base book + 1) =
     subst (Ascend (base before + 1) (opened (legs_of before) entry.legs)) (base-push before entry)
-    (command_ascends before entry.key entry.command entry.legs step.0 h.0 step.1) in
+    (command_ascends (edition_on migration before) before entry.key entry.command entry.legs step.0 h.0 step.1) in
     let rest : Ascend (base book + 1) (opened (legs_of before ++ entry.legs) (legs_of entries)) (base (book ++ entries) + 1) =
     subst (λ (ls : List Leg). Ascend (base book + 1) (opened ls (legs_of entries)) (base (book ++ entries) + 1)) legs
-    (entries_ascend book entries h.1) in
+    (entries_ascend migration book entries h.1) in
     subst (λ (es : List Entry). Ascend (base before + 1) (opened (legs_of before) (entry.legs ++ legs_of entries)) (base es + 1))
     (append_assoc before (entry ∷ []) entries)
     (subst (λ xs. Ascend (base before + 1) xs (base (book ++ entries) + 1))
@@ -406,15 +409,64 @@ entries_ascend before (entry ∷ entries) h =
     (ascend-append (base before + 1) (base book + 1) (base (book ++ entries) + 1)
     (opened (legs_of before) entry.legs) (opened (legs_of before ++ entry.legs) (legs_of entries)) first rest))
 
-pub lots_differ : (entries : List Entry) (account commodity other name : List ℕ) (lot key : LotKey) (number : ℕ) → IsBook entries
+pub lots_differ : (migration : Migration) (entries : List Entry) (account commodity other name : List ℕ) (lot key : LotKey) (number : ℕ) → IsBookIn migration entries
     → HasOpeningNumber (legs_of entries) (lot_at account commodity lot) number
     → HasOpeningNumber (legs_of entries) (lot_at other name key) number
     → lot_at account commodity lot ≡ lot_at other name key
-lots_differ entries account commodity other name lot key number book a b =
+lots_differ migration entries account commodity other name lot key number book a b =
     one_beside 1 (opened [] (legs_of entries)) (base entries + 1) number (lot_at account commodity lot) (lot_at other name key)
-    (entries_ascend [] entries book)
+    (entries_ascend migration [] entries book)
     (number_among (legs_of entries) account commodity lot number a)
     (number_among (legs_of entries) other name key number b)
+
+-- ---- The lots among which a posting chooses, behind the postings before it.
+
+lot_in : (account commodity : List ℕ) (a b : LotKey) → lot_at account commodity a ≡ lot_at account commodity b → a ≡ b
+lot_in account commodity a b same = let keys : Some a ≡ Some b = ap (λ (p : Position). p.lot) same in cc
+
+module _ (migration : Migration) (ties : TieRule) (book : List Entry) (key : Key) (day : ℤ) (postings : List Posting)
+    (booked : List Booked) (is_book : IsBookIn migration book)
+    (books : BooksAllUnder ties (facts_of book key) day [] 1 postings (All booked)) where
+  abbrev so_far : List Leg
+  so_far = legs_of book ++ legs_in booked
+
+  so_far_ascends : Ascend 1 (opened [] so_far) (base book + 1 + length postings)
+  so_far_ascends =
+      subst (λ xs. Ascend 1 xs (base book + 1 + length postings)) (sym (opened-append [] (legs_of book) (legs_in booked)))
+      (ascend-append 1 (base book + 1) (base book + 1 + length postings) (opened [] (legs_of book)) (opened (legs_of book) (legs_in booked))
+      (entries_ascend migration [] book is_book) (postings_ascend ties book key day postings booked books))
+
+  -- lots that hold something have distinct numbers
+  numbers_differ : (account commodity : List ℕ) (a b : LotKey) → a ≢ b
+      → units_at (inventory_of so_far account) (commodity, Some a) ≢ pos 0
+      → units_at (inventory_of so_far account) (commodity, Some b) ≢ pos 0
+      → opening_in so_far account commodity a ≢ opening_in so_far account commodity b
+  numbers_differ account commodity a b apart some others same =
+      let first = (where_held so_far account commodity a).0 some in
+      let second = (where_held so_far account commodity b).0 others in
+      let number : opening_in so_far account commodity a ≡ first.0 =
+      ap (λ (o : Option ℕ). unwrap_or o 0) (number_is so_far (lot_at account commodity a) first.0 first.1) in
+      let other : opening_in so_far account commodity b ≡ second.0 =
+      ap (λ (o : Option ℕ). unwrap_or o 0) (number_is so_far (lot_at account commodity b) second.0 second.1) in
+      let one : second.0 ≡ first.0 = sym other ∙ sym same ∙ number in
+      let q = lot_at account commodity b in
+      apart (lot_in account commodity a b
+      (one_beside 1 (opened [] so_far) (base book + 1 + length postings) first.0 (lot_at account commodity a) q so_far_ascends
+      (number_among so_far account commodity a first.0 first.1)
+      (subst (λ n. Among (n, q) (opened [] so_far)) one (number_among so_far account commodity b second.0 second.1))))
+
+  pub openings_differ : (place : ℕ) (account : List ℕ) (amount : Amount) (cost : Cost) (a b : LotKey × ℤ)
+      → Contains (candidates (braced (line_under ties (facts_of book key) day (legs_in booked) place account amount) cost)) a
+      → Contains (candidates (braced (line_under ties (facts_of book key) day (legs_in booked) place account amount) cost)) b
+      → a.0 ≢ b.0
+      → opening_in so_far account amount.commodity a.0 ≢ opening_in so_far account amount.commodity b.0
+  openings_differ place account amount cost a b first second apart =
+      let line = line_under ties (facts_of book key) day (legs_in booked) place account amount in
+      let held : line.held ≡ inventory_of so_far account = sym (with_legs-append account empty (legs_of book) (legs_in booked)) in
+      let Some-held : LotKey → Held → Type 0 = λ lot held. units_at held (amount.commodity, Some lot) ≢ pos 0 in
+      numbers_differ account amount.commodity a.0 b.0 apart
+      (subst (Some-held a.0) held (candidate_held (braced line cost) a first))
+      (subst (Some-held b.0) held (candidate_held (braced line cost) b second))
 
 -- ---- What was opened first.
 
@@ -431,11 +483,11 @@ later_behind (f ∷ first) a rest (l ∷ second) b behind e less =
     let later = later_behind first a rest second b behind others (omega (arith, less)) in
     (later.0, ap (λ (x : Leg). x ∷ second) (sym same) ∙ ap (λ (ls : List Leg). f ∷ ls) later.1)
 
-pub opened_in_order : (entries : List Entry) (account commodity other name : List ℕ) (lot key : LotKey) (a b : Leg) → IsBook entries
+pub opened_in_order : (migration : Migration) (entries : List Entry) (account commodity other name : List ℕ) (lot key : LotKey) (a b : Leg) → IsBookIn migration entries
     → (first : IsLastToOpen (legs_of entries) (lot_at account commodity lot) a)
     → (second : IsLastToOpen (legs_of entries) (lot_at other name key) b)
     → length first.before < length second.before → posting_number a < posting_number b
-opened_in_order entries account commodity other name lot key a b book first second less =
+opened_in_order migration entries account commodity other name lot key a b book first second less =
     let p = lot_at account commodity lot in
     let q = lot_at other name key in
     let later = later_behind first.before a first.behind second.before b second.behind (sym first.split ∙ second.split) less in
@@ -444,7 +496,7 @@ opened_in_order entries account commodity other name lot key a b book first seco
     second.split ∙ ap (λ (ls : List Leg). ls ++ b ∷ second.behind) later.1 in
     let all : Ascend 1 (opened [] front ++ opened front (b ∷ second.behind)) (base entries + 1) =
     subst (λ xs. Ascend 1 xs (base entries + 1)) (ap (opened []) split ∙ opened-append [] front (b ∷ second.behind))
-    (entries_ascend [] entries book) in
+    (entries_ascend migration [] entries book) in
     ascend_apart 1 (opened [] front) (opened front (b ∷ second.behind)) (base entries + 1) (posting_number a, p) (posting_number b, q) all
     (opener_among first.before a later.0 account commodity lot first.opens)
     (opener_first front b second.behind other name key
@@ -452,18 +504,18 @@ opened_in_order entries account commodity other name lot key a b book first seco
 
 -- ---- How far the numbers go.
 
-numbers_within : (entries : List Entry) (account commodity : List ℕ) (lot : LotKey) (number : ℕ) → IsBook entries
+numbers_within : (migration : Migration) (entries : List Entry) (account commodity : List ℕ) (lot : LotKey) (number : ℕ) → IsBookIn migration entries
     → HasOpeningNumber (legs_of entries) (lot_at account commodity lot) number
     → (1 ≤ number) × (number ≤ most_postings * length entries)
-numbers_within entries account commodity lot number book h =
+numbers_within migration entries account commodity lot number book h =
     let within = among_within 1 (opened [] (legs_of entries)) (base entries + 1) (number, lot_at account commodity lot)
-    (entries_ascend [] entries book) (number_among (legs_of entries) account commodity lot number h) in
+    (entries_ascend migration [] entries book) (number_among (legs_of entries) account commodity lot number h) in
     (within.0, omega (arith, within.1))
 
-pub from_one : (entries : List Entry) (account commodity : List ℕ) (lot : LotKey) (number : ℕ) → IsBook entries
+pub from_one : (migration : Migration) (entries : List Entry) (account commodity : List ℕ) (lot : LotKey) (number : ℕ) → IsBookIn migration entries
     → HasOpeningNumber (legs_of entries) (lot_at account commodity lot) number → 1 ≤ number
-from_one entries account commodity lot number book h = (numbers_within entries account commodity lot number book h).0
+from_one migration entries account commodity lot number book h = (numbers_within migration entries account commodity lot number book h).0
 
-pub to_most : (entries : List Entry) (account commodity : List ℕ) (lot : LotKey) (number : ℕ) → IsBook entries
+pub to_most : (migration : Migration) (entries : List Entry) (account commodity : List ℕ) (lot : LotKey) (number : ℕ) → IsBookIn migration entries
     → HasOpeningNumber (legs_of entries) (lot_at account commodity lot) number → number ≤ most_postings * length entries
-to_most entries account commodity lot number book h = (numbers_within entries account commodity lot number book h).1
+to_most migration entries account commodity lot number book h = (numbers_within migration entries account commodity lot number book h).1

@@ -15,7 +15,7 @@ use Rattle.lot_book.proofs.CaseLemmas.{by_bool}
 use Rattle.lot_book.proofs.OrderLemmas.{one_position, same_position-itself}
 use Rattle.lot_book.proofs.SumLemmas.{sum_where-push}
 use Rattle.lot_laws.specs.Laws.{lot_at}
-use Rattle.lot_laws.specs.OpeningNumber.{HasOpeningNumber, IsLastToOpen, Opens, does_open, last_to_open, opening_number, posting_number}
+use Rattle.lot_book.specs.OpeningNumber.{HasOpeningNumber, IsLastToOpen, Opens, does_open, last_to_open, opening_number, posting_number}
 use Rattle.lot_laws.proofs.LawHoldings.{holds_sum}
 
 -- ---- Tests.

@@ -12,16 +12,17 @@ use Rattle.lot_command.specs.declared.key.Key.{Key}
 use Rattle.lot_command.specs.declared.transaction.Posting.{Posting}
 use Rattle.lot_book.specs.declared.leg.Leg.{Leg}
 use Rattle.lot_book.specs.Balance.{elided_postings, fill_from, fill_of, left_over, residuals, weights_in}
-use Rattle.lot_book.specs.Book.{IsBook}
-use Rattle.lot_book.specs.Booking.{All, Booked, BooksAll, HasLegs, Line, legs_in, line_of}
+use Rattle.lot_book.specs.Book.{IsBookIn}
+use Rattle.lot_book.specs.Booking.{All, Booked, BooksAllUnder, HasLegs, Line, TieRule, legs_in, line_under}
+use Rattle.lot_book.specs.Edition.{Edition, Migration, edition_on, ties_in}
 use Rattle.lot_book.specs.Facts.{Entry, Facts, facts_of}
 use Rattle.lot_book.specs.Leg.{legs_at_lots}
 use Rattle.lot_book.specs.Refusals.{most_postings}
-use Rattle.lot_book.specs.Step.{Accept, Step, fill_legs}
-use Rattle.lot_laws.specs.Laws.{BooksCommand}
-use Rattle.lot_laws.specs.OpeningNumber.{posting_number}
+use Rattle.lot_book.specs.Step.{Accept, StepIn, fill_legs}
+use Rattle.lot_laws.specs.Laws.{BooksCommandUnder}
+use Rattle.lot_book.specs.OpeningNumber.{posting_number}
 use Rattle.lot_laws.proofs.LawBalance.{command_booked}
-use Rattle.lot_laws.proofs.LawBooks.{continued, over_placed}
+use Rattle.lot_laws.proofs.LawBooks.{continued, over_placed_under}
 use Rattle.lot_laws.proofs.OpeningBooks.{few, number_at}
 
 -- the leg is of the entry, and of a posting from one place to below another
@@ -99,11 +100,11 @@ legs_of_fill entry low high (first ∷ more) rs placed =
     all_wider entry first.0 (suc first.0) low high placed.0.0 placed.0.1 (fill_from entry first.0 first.1 0 (left_over rs))
     (fill_of_posting entry first.0 first.1 0 (left_over rs))
 
-legs_of_postings : (facts : Facts) (day : ℤ) (postings : List Posting) (booked : List Booked)
-    → BooksAll facts day [] 1 postings (All booked) → AllByRecursion (IsOf (suc facts.entries) 1 (1 + length postings)) (legs_in booked)
-legs_of_postings facts day postings booked books =
+legs_of_postings : (ties : TieRule) (facts : Facts) (day : ℤ) (postings : List Posting) (booked : List Booked)
+    → BooksAllUnder ties facts day [] 1 postings (All booked) → AllByRecursion (IsOf (suc facts.entries) 1 (1 + length postings)) (legs_in booked)
+legs_of_postings ties facts day postings booked books =
     let entry = suc facts.entries in
-    over_placed facts day (λ place before postings booked. AllByRecursion (IsOf entry place (place + length postings)) (legs_in booked))
+    over_placed_under ties facts day (λ place before postings booked. AllByRecursion (IsOf entry place (place + length postings)) (legs_in booked))
     (λ place before. tt)
     (λ place before account postings booked rest.
     all_wider entry (suc place) (suc place + length postings) place (place + suc (length postings)) (omega arith) (omega arith)
@@ -111,7 +112,7 @@ legs_of_postings facts day postings booked books =
     (λ before place account amount postings first more is rest.
     each-append (IsOf entry place (place + suc (length postings))) first.legs (legs_in more)
     (all_wider entry place (suc place) place (place + suc (length postings)) (omega arith) (omega arith) first.legs
-    (legs_of_line (line_of facts day before place account amount) amount.cost first.reduces first.legs is.legs))
+    (legs_of_line (line_under ties facts day before place account amount) amount.cost first.reduces first.legs is.legs))
     (all_wider entry (suc place) (suc place + length postings) place (place + suc (length postings)) (omega arith) (omega arith)
     (legs_in more) rest))
     1 postings [] booked books
@@ -121,33 +122,33 @@ legs_of_postings facts day postings booked books =
 none_of : (entry low high : ℕ) (legs : List Leg) → legs ≡ [] → AllByRecursion (IsOf entry low high) legs
 none_of entry low high legs none = subst (AllByRecursion (IsOf entry low high)) (sym none) tt
 
-legs_of_command : (book : List Entry) (key : Key) (command : Command) (legs : List Leg) (booked : List Booked)
-    → Step book key command (Accept legs) → BooksCommand (facts_of book key) command legs booked
+legs_of_command : (edition : Edition) (book : List Entry) (key : Key) (command : Command) (legs : List Leg) (booked : List Booked)
+    → StepIn edition book key command (Accept legs) → BooksCommandUnder (ties_in edition book) (facts_of book key) command legs booked
     → AllByRecursion (IsOf (suc (length book)) 1 (suc most_postings)) legs
-legs_of_command book key (Opening o) legs booked step h = none_of (suc (length book)) 1 (suc most_postings) legs h.0
-legs_of_command book key (Closing c) legs booked step h = none_of (suc (length book)) 1 (suc most_postings) legs h.0
-legs_of_command book key (Declaring d) legs booked step h = none_of (suc (length book)) 1 (suc most_postings) legs h.0
-legs_of_command book key (Quoting q) legs booked step h = none_of (suc (length book)) 1 (suc most_postings) legs h.0
-legs_of_command book key (Transaction t) legs booked step h =
+legs_of_command edition book key (Opening o) legs booked step h = none_of (suc (length book)) 1 (suc most_postings) legs h.0
+legs_of_command edition book key (Closing c) legs booked step h = none_of (suc (length book)) 1 (suc most_postings) legs h.0
+legs_of_command edition book key (Declaring d) legs booked step h = none_of (suc (length book)) 1 (suc most_postings) legs h.0
+legs_of_command edition book key (Quoting q) legs booked step h = none_of (suc (length book)) 1 (suc most_postings) legs h.0
+legs_of_command edition book key (Transaction t) legs booked step h =
     let facts = facts_of book key in
     let entry = suc (length book) in
-    let most = few book key t legs step in
+    let most = few edition book key t legs step in
     let end : 1 + length t.postings ≤ suc most_postings = omega (arith, most) in
     let fill = fill_legs facts t booked in
     subst (AllByRecursion (IsOf entry 1 (suc most_postings))) (sym h.0)
     (each-append (IsOf entry 1 (suc most_postings)) (legs_in booked) fill
     (all_wider entry 1 (1 + length t.postings) 1 (suc most_postings) (omega arith) end (legs_in booked)
-    (legs_of_postings facts t.day t.postings booked h.1))
+    (legs_of_postings (ties_in edition book) facts t.day t.postings booked h.1))
     (all_wider entry 1 (1 + length t.postings) 1 (suc most_postings) (omega arith) end fill
     (legs_of_fill entry 1 (1 + length t.postings) (elided_postings 1 t.postings) (residuals (weights_in booked)) (elided_within 1 t.postings))))
 
-module _ (before more : List Entry) (entry : Entry) (leg : Leg) (book : IsBook (before ++ entry ∷ more)) (among : Contains entry.legs leg) where
+module _ (migration : Migration) (before more : List Entry) (entry : Entry) (leg : Leg) (book : IsBookIn migration (before ++ entry ∷ more)) (among : Contains entry.legs leg) where
   leg_of_entry : IsOf (suc (length before)) 1 (suc most_postings) leg
   leg_of_entry =
-      let step = (continued [] before (entry ∷ more) book).0 in
-      let booked = command_booked before entry.key entry.command entry.legs step in
+      let step = (continued migration [] before (entry ∷ more) book).0 in
+      let booked = command_booked (edition_on migration before) before entry.key entry.command entry.legs step in
       at_member (IsOf (suc (length before)) 1 (suc most_postings)) entry.legs leg
-      (legs_of_command before entry.key entry.command entry.legs booked.0 step booked.1) among
+      (legs_of_command (edition_on migration before) before entry.key entry.command entry.legs booked.0 step booked.1) among
 
   pub numbered : posting_number leg ≡ most_postings * length before + leg.posting
   numbered =

@@ -23,11 +23,12 @@ use Rattle.lot_command.specs.declared.key.Key.{Key}
 use Rattle.lot_book.specs.declared.leg.Leg.{Leg}
 use Rattle.lot_book.specs.declared.refusal.Refusal.{Refusal}
 use Rattle.lot_book.specs.declared.refusal.Refusal.TheVariants.{AlreadyOpen, BookFull, KeyReused, UnknownAccount}
-use Rattle.lot_book.specs.Book.{Continues, IsBook, entry_of}
+use Rattle.lot_book.specs.Book.{Continues, ContinuesIn, IsBook, IsBookIn, entry_of}
+use Rattle.lot_book.specs.Edition.{Migration, NotYet, edition_on}
 use Rattle.lot_book.specs.Facts.{Entry, Facts, closing_by, closing_of, declares, facts_of, is_declared, legs_of, opening_by, opening_of, standing_by, standing_of, text_under}
 use Rattle.lot_book.specs.Leg.{inventory_of, with_legs}
 use Rattle.lot_book.specs.Refusals.{already_declared, already_open, book_full, closing_again, closing_too_early, closing_unknown, fill_not_allowed, fill_out_of_range, holds_as, inexact_fill, most_entries, not_balanced, too_many_lots}
-use Rattle.lot_book.specs.Step.{Accept, Decides, DecidesBy, Judges, JudgesTransaction, Refuse, Repeat, Step, accept_unless, all_legs, concluded, fill_legs, first_conditions, first_of}
+use Rattle.lot_book.specs.Step.{Accept, Decides, DecidesBy, Judges, JudgesTransaction, Refuse, Repeat, Step, StepIn, accept_unless, all_legs, concluded, fill_legs, first_conditions, first_of}
 use Rattle.lot_book.specs.Balance.{elided_postings, residuals, weights_in}
 use Rattle.lot_book.specs.Booking.{All, Bookings, Stopped, legs_in}
 use Rattle.lot_book.specs.declared.change.Change.{Change}
@@ -323,18 +324,23 @@ pub no-entries : nothing_but 0 ≡ facts_in []
 no-entries = refl
 
 -- an accepted command's entry continues a book
-continues-append : (before entries : List Entry) (entry : Entry) → Continues before entries
-    → Step (before ++ entries) entry.key entry.command (Accept entry.legs) → Continues before (entries ++ entry ∷ [])
-continues-append before [] entry continues step =
-    (subst (λ (b : List Entry). Step b entry.key entry.command (Accept entry.legs)) (append-nil before) step, tt)
-continues-append before (first ∷ entries) entry continues step = (
+continues-append : (migration : Migration) (before entries : List Entry) (entry : Entry) → ContinuesIn migration before entries
+    → StepIn (edition_on migration (before ++ entries)) (before ++ entries) entry.key entry.command (Accept entry.legs) → ContinuesIn migration before (entries ++ entry ∷ [])
+continues-append migration before [] entry continues step =
+    (subst (λ (b : List Entry). StepIn (edition_on migration b) b entry.key entry.command (Accept entry.legs)) (append-nil before) step, tt)
+continues-append migration before (first ∷ entries) entry continues step = (
   continues.0,
-  continues-append (before ++ first ∷ []) entries entry continues.1
-      (subst (λ (b : List Entry). Step b entry.key entry.command (Accept entry.legs))
+  continues-append migration (before ++ first ∷ []) entries entry continues.1
+      (subst (λ (b : List Entry). StepIn (edition_on migration b) b entry.key entry.command (Accept entry.legs))
       (sym (append_assoc before (first ∷ []) entries)) step),
 )
+
+pub book-grows_in : (migration : Migration) (book : List Entry) (key : Key) (command : Command) (legs : List Leg)
+    → IsBookIn migration book → StepIn (edition_on migration book) book key command (Accept legs)
+    → IsBookIn migration (book ++ entry_of key command legs ∷ [])
+book-grows_in migration book key command legs is step = continues-append migration [] book (entry_of key command legs) is step
 
 pub book-grows : (book : List Entry) (key : Key) (command : Command) (legs : List Leg) → IsBook book
     → Step book key command (Accept legs)
     → IsBook (book ++ entry_of key command legs ∷ [])
-book-grows book key command legs is step = continues-append [] book (entry_of key command legs) is step
+book-grows = book-grows_in NotYet

@@ -24,9 +24,10 @@ use Rattle.lot_book.specs.declared.leg.Leg.{Leg}
 use Rattle.lot_book.specs.declared.refusal.Refusal.{Refusal}
 use Rattle.lot_book.specs.declared.refusal.Refusal.TheVariants.{BackDated}
 use Rattle.lot_book.specs.Balance.{elided_postings}
+use Rattle.lot_book.specs.Booking.{TieRule, all_by_key}
 use Rattle.lot_book.specs.Facts.{Entry, Facts, day_at_cost, facts_of, is_at_cost, later, latest_at_cost, posts_at_cost}
 use Rattle.lot_book.specs.Refusals.{back_dated, closed, currency_not_allowed, dates_back, is_before, not_open_yet, place_of, too_many_postings, two_elided, unknown_account}
-use Rattle.lot_book.specs.Step.{Accept, Judges, JudgesTransaction, first_conditions, first_of}
+use Rattle.lot_book.specs.Step.{Accept, Judges, JudgesTransactionUnder, first_conditions, first_of}
 
 -- ---- the later of two days
 
@@ -66,10 +67,10 @@ later-given (Some latest) day e = ap Some (by (int_lt latest day) refl)
 
 -- ---- what an accepted transaction says of its day
 
-pub none_refused : (facts : Facts) (t : TransactionOf) (legs : List Leg) (refused : Option Refusal)
-    → JudgesTransaction facts t refused (Accept legs) → refused ≡ None
-none_refused facts t legs None judges = refl
-none_refused facts t legs (Some refusal) judges = cc
+pub none_refused : (ties : TieRule) (facts : Facts) (t : TransactionOf) (legs : List Leg) (refused : Option Refusal)
+    → JudgesTransactionUnder ties facts t refused (Accept legs) → refused ≡ None
+none_refused ties facts t legs None judges = refl
+none_refused ties facts t legs (Some refusal) judges = cc
 
 pub last_none : (conditions : List (Option Refusal)) (condition : Option Refusal)
     → first_of (conditions ++ condition ∷ []) ≡ None → condition ≡ None
@@ -126,7 +127,7 @@ pub day_is_latest : (facts : Facts) (t : TransactionOf) (legs : List Leg) (accou
     → is_before t.day (facts.latest_at_cost account commodity) ≡ false
 day_is_latest facts t legs account commodity judges posts =
     let none : first_of (first_conditions facts t) ≡ None =
-    none_refused facts t legs (first_of (first_conditions facts t)) judges in
+    none_refused all_by_key facts t legs (first_of (first_conditions facts t)) judges in
     let others : List (Option Refusal) =
     unknown_account facts t.postings ∷ not_open_yet facts t.day t.postings ∷ closed facts t.day t.postings
     ∷ currency_not_allowed facts t.postings

@@ -7,6 +7,7 @@ use Rattle.lot_inv.specs.Inventory.{Held}
 use Rattle.lot_cost.specs.declared.cost.Cost.{Cost}
 use Rattle.lot_cost.specs.declared.method.Method.{Method}
 use Rattle.lot_booking.specs.Booking.{Legs, Refused}
+use Rattle.lot_booking.specs.Method.{ByKey}
 use Rattle.lot_booking.proofs.SameLots.{same_outcome}
 use Rattle.lot_command.specs.declared.transaction.Amount.{Amount}
 use Rattle.lot_command.specs.declared.transaction.Posting.{Posting}
@@ -26,7 +27,7 @@ use Rattle.lot_laws.proofs.StepHeld.{HaveSame, IsOf, same_lots_of, same_of, same
 
 abbrev line_at : ℕ → ℕ → ℤ → Method → List ℕ → Amount → Held → Line
 line_at entry place day method account amount held =
-    record { entry = entry; place = place; day = day; method = method; held = held; account = account; amount = amount }
+    record { entry = entry; place = place; day = day; method = method; ties = ByKey; held = held; account = account; amount = amount }
 
 of_lots : (entry place : ℕ) (account commodity : List ℕ) (at : ℕ) (lots : List (LotKey × ℤ))
     → AllByRecursion (λ (leg : Leg). leg.position.commodity ≡ commodity) (legs_at_lots entry place account commodity at lots)

@@ -19,10 +19,11 @@ use Rattle.lot_command.specs.declared.transaction.Transaction.{Transaction as Tr
 use Rattle.lot_book.specs.declared.leg.Leg.{Leg}
 use Rattle.lot_book.specs.declared.refusal.Refusal.{Refusal}
 use Rattle.lot_book.specs.declared.refusal.Refusal.TheVariants as refusal
-use Rattle.lot_book.specs.Booking.{All, Booked, Booking, Bookings, Books, BooksAll, BooksTo, BooksWith, Continue, Fails, HasLegs, HasNoLegs, IsBooked, IsOutOfRange, IsRefusalOf, Line, Stopped, braced, follow, line_of, plain_leg}
-use Rattle.lot_book.specs.Facts.{Entry, Facts, facts_of}
+use Rattle.lot_book.specs.Booking.{All, Booked, Booking, Bookings, Books, BooksAll, BooksAllUnder, BooksTo, BooksWithUnder, Continue, Fails, HasLegs, HasNoLegs, IsBooked, IsOutOfRange, IsRefusalOf, Line, Stopped, TieRule, all_by_key, braced, follow, line_under, plain_leg}
+use Rattle.lot_book.specs.Edition.{Edition, First, ties_in}
+use Rattle.lot_book.specs.Facts.{Entry, Facts, facts_of, text_under}
 use Rattle.lot_book.specs.Leg.{leave_range, legs_at_lots}
-use Rattle.lot_book.specs.Step.{Decides, DecidesBy, Judges, JudgesTransaction, Outcome, Step, concluded, first_conditions, first_of}
+use Rattle.lot_book.specs.Step.{DecidesByUnder, JudgesTransactionUnder, JudgesUnder, Outcome, Step, StepIn, concluded, first_conditions, first_of}
 
 -- ---- the legs of a posting
 
@@ -105,7 +106,7 @@ booking_one line (Fails a) (Fails b) (inr h) (inr k) = ap Fails (h.refusal ∙ s
 
 -- ---- what all postings come to
 
-module _ (Others : List Leg → Bookings → Type 0) where
+module _ (ties : TieRule) (Others : List Leg → Bookings → Type 0) where
   continue_one : ((legs : List Leg) (a b : Bookings) → Others legs a → Others legs b → a ≡ b)
       → (before : List Leg) (a b : Bookings) (first : Booking) → Continue Others before a first → Continue Others before b first
       → a ≡ b
@@ -115,47 +116,54 @@ module _ (Others : List Leg → Bookings → Type 0) where
 
   with_one : ((legs : List Leg) (a b : Bookings) → Others legs a → Others legs b → a ≡ b)
       → (facts : Facts) (day : ℤ) (before : List Leg) (place : ℕ) (account : List ℕ) (amount : Option Amount) (a b : Bookings)
-      → BooksWith Others facts day before place account amount a → BooksWith Others facts day before place account amount b
+      → BooksWithUnder ties Others facts day before place account amount a → BooksWithUnder ties Others facts day before place account amount b
       → a ≡ b
   with_one one facts day before place account None a b h k = one before a b h k
   with_one one facts day before place account (Some amount) a b h k =
-      let same : h.0 ≡ k.0 = booking_one (line_of facts day before place account amount) h.0 k.0 h.1 k.1 in
+      let same : h.0 ≡ k.0 = booking_one (line_under ties facts day before place account amount) h.0 k.0 h.1 k.1 in
       continue_one one before a b h.0 h.2 (subst (Continue Others before b) (sym same) k.2)
+
+books_one_under : (ties : TieRule) (facts : Facts) (day : ℤ) (before : List Leg) (place : ℕ) (postings : List Posting) (a b : Bookings)
+    → BooksAllUnder ties facts day before place postings a → BooksAllUnder ties facts day before place postings b → a ≡ b
+books_one_under ties facts day before place [] a b h k = h ∙ sym k
+books_one_under ties facts day before place (posting ∷ postings) a b h k =
+    with_one ties (λ legs others. BooksAllUnder ties facts day legs (suc place) postings others)
+    (λ legs c d g l. books_one_under ties facts day legs
+    (suc place) postings c d g l) facts day before place posting.account posting.amount a b h k
 
 pub books_one : (facts : Facts) (day : ℤ) (before : List Leg) (place : ℕ) (postings : List Posting) (a b : Bookings)
     → BooksAll facts day before place postings a → BooksAll facts day before place postings b → a ≡ b
-books_one facts day before place [] a b h k = h ∙ sym k
-books_one facts day before place (posting ∷ postings) a b h k =
-    with_one (λ legs others. BooksAll facts day legs (suc place) postings others)
-    (λ legs c d g l. books_one facts day legs
-    (suc place) postings c d g l) facts day before place posting.account posting.amount a b h k
+books_one = books_one_under all_by_key
 
 -- ---- what a command comes to
 
-transaction_one : (facts : Facts) (t : TransactionOf) (first : Option Refusal) (a b : Outcome)
-    → JudgesTransaction facts t first a → JudgesTransaction facts t first b → a ≡ b
-transaction_one facts t (Some refused) a b h k = h ∙ sym k
-transaction_one facts t None a b h k = h.2 ∙ ap (concluded facts t) (books_one facts t.day [] 1 t.postings h.0 k.0 h.1 k.1)
+transaction_one : (ties : TieRule) (facts : Facts) (t : TransactionOf) (first : Option Refusal) (a b : Outcome)
+    → JudgesTransactionUnder ties facts t first a → JudgesTransactionUnder ties facts t first b → a ≡ b
+transaction_one ties facts t (Some refused) a b h k = h ∙ sym k
+transaction_one ties facts t None a b h k = h.2 ∙ ap (concluded facts t) (books_one_under ties facts t.day [] 1 t.postings h.0 k.0 h.1 k.1)
     ∙ sym k.2
 
-pub judges_one : (facts : Facts) (command : Command) (a b : Outcome) → Judges facts command a → Judges facts command b → a ≡ b
-judges_one facts (Opening o) a b h k = h ∙ sym k
-judges_one facts (Closing c) a b h k = h ∙ sym k
-judges_one facts (Declaring d) a b h k = h ∙ sym k
-judges_one facts (Quoting q) a b h k = h ∙ sym k
-judges_one facts (Transaction t) a b h k = transaction_one facts t (first_of (first_conditions facts t)) a b h k
+judges_one : (ties : TieRule) (facts : Facts) (command : Command) (a b : Outcome) → JudgesUnder ties facts command a
+    → JudgesUnder ties facts command b → a ≡ b
+judges_one ties facts (Opening o) a b h k = h ∙ sym k
+judges_one ties facts (Closing c) a b h k = h ∙ sym k
+judges_one ties facts (Declaring d) a b h k = h ∙ sym k
+judges_one ties facts (Quoting q) a b h k = h ∙ sym k
+judges_one ties facts (Transaction t) a b h k = transaction_one ties facts t (first_of (first_conditions facts t)) a b h k
 
-by_text_one : (text : Option (List ℕ)) (facts : Facts) (command : Command) (a b : Outcome) → DecidesBy text facts command a
-    → DecidesBy text facts command b → a ≡ b
-by_text_one None facts command a b h k = judges_one facts command a b h k
-by_text_one (Some text) facts command a b h k = h ∙ sym k
+by_text_one : (ties : TieRule) (text : Option (List ℕ)) (facts : Facts) (command : Command) (a b : Outcome)
+    → DecidesByUnder ties text facts command a → DecidesByUnder ties text facts command b → a ≡ b
+by_text_one ties None facts command a b h k = judges_one ties facts command a b h k
+by_text_one ties (Some text) facts command a b h k = h ∙ sym k
 
-pub decides_one : (facts : Facts) (command : Command) (a b : Outcome) → Decides facts command a → Decides facts command b → a ≡ b
-decides_one facts command a b h k = by_text_one facts.text facts command a b h k
+pub step_one_in : (edition : Edition) (book : List Entry) (key : Key) (command : Command) (a b : Outcome)
+    → StepIn edition book key command a → StepIn edition book key command b → a ≡ b
+step_one_in edition book key command a b h k =
+    by_text_one (ties_in edition book) (text_under book key) (facts_of book key) command a b h k
 
 pub step_one : (book : List Entry) (key : Key) (command : Command) (a b : Outcome) → Step book key command a
     → Step book key command b → a ≡ b
-step_one book key command a b h k = decides_one (facts_of book key) command a b h k
+step_one = step_one_in First
 
 -- ---- some outcome
 
@@ -202,7 +210,7 @@ some_booking_of line = elim (some_legs line line.amount.cost) [
   | inr none ↦ (Fails none.0, inl none.1)
 ]
 
-module _ (Others : List Leg → Bookings → Type 0) (some : (legs : List Leg) → (others : Bookings) × Others legs others) where
+module _ (ties : TieRule) (Others : List Leg → Bookings → Type 0) (some : (legs : List Leg) → (others : Bookings) × Others legs others) where
   some_continue : (before : List Leg) (first : Booking) → (outcome : Bookings) × Continue Others before outcome first
   some_continue before (Fails refused) = (Stopped refused, refl)
   some_continue before (Books booked) =
@@ -210,42 +218,43 @@ module _ (Others : List Leg → Bookings → Type 0) (some : (legs : List Leg) �
       (follow booked others.0, (others.0, others.1, refl))
 
   some_with : (facts : Facts) (day : ℤ) (before : List Leg) (place : ℕ) (account : List ℕ) (amount : Option Amount)
-      → (outcome : Bookings) × BooksWith Others facts day before place account amount outcome
+      → (outcome : Bookings) × BooksWithUnder ties Others facts day before place account amount outcome
   some_with facts day before place account None = some before
   some_with facts day before place account (Some amount) =
-      let first = some_booking_of (line_of facts day before place account amount) in
+      let first = some_booking_of (line_under ties facts day before place account amount) in
       let all = some_continue before first.0 in
       (all.0, (first.0, first.1, all.1))
 
-pub some_bookings : (facts : Facts) (day : ℤ) (before : List Leg) (place : ℕ) (postings : List Posting)
-    → (outcome : Bookings) × BooksAll facts day before place postings outcome
-some_bookings facts day before place [] = (All [], refl)
-some_bookings facts day before place (posting ∷ postings) =
-    some_with (λ legs others. BooksAll facts day legs (suc place) postings others)
-    (λ legs. some_bookings facts day legs (suc place) postings)
+some_bookings : (ties : TieRule) (facts : Facts) (day : ℤ) (before : List Leg) (place : ℕ) (postings : List Posting)
+    → (outcome : Bookings) × BooksAllUnder ties facts day before place postings outcome
+some_bookings ties facts day before place [] = (All [], refl)
+some_bookings ties facts day before place (posting ∷ postings) =
+    some_with ties (λ legs others. BooksAllUnder ties facts day legs (suc place) postings others)
+    (λ legs. some_bookings ties facts day legs (suc place) postings)
     facts day before place posting.account posting.amount
 
-some_transaction : (facts : Facts) (t : TransactionOf) (first : Option Refusal)
-    → (outcome : Outcome) × JudgesTransaction facts t first outcome
-some_transaction facts t (Some refused) = (_, refl)
-some_transaction facts t None =
-    let bookings = some_bookings facts t.day [] 1 t.postings in
+some_transaction : (ties : TieRule) (facts : Facts) (t : TransactionOf) (first : Option Refusal)
+    → (outcome : Outcome) × JudgesTransactionUnder ties facts t first outcome
+some_transaction ties facts t (Some refused) = (_, refl)
+some_transaction ties facts t None =
+    let bookings = some_bookings ties facts t.day [] 1 t.postings in
     (concluded facts t bookings.0, (bookings.0, bookings.1, refl))
 
-some_judgement : (facts : Facts) (command : Command) → (outcome : Outcome) × Judges facts command outcome
-some_judgement facts (Opening o) = (_, refl)
-some_judgement facts (Closing c) = (_, refl)
-some_judgement facts (Declaring d) = (_, refl)
-some_judgement facts (Quoting q) = (_, refl)
-some_judgement facts (Transaction t) = some_transaction facts t (first_of (first_conditions facts t))
+some_judgement : (ties : TieRule) (facts : Facts) (command : Command) → (outcome : Outcome) × JudgesUnder ties facts command outcome
+some_judgement ties facts (Opening o) = (_, refl)
+some_judgement ties facts (Closing c) = (_, refl)
+some_judgement ties facts (Declaring d) = (_, refl)
+some_judgement ties facts (Quoting q) = (_, refl)
+some_judgement ties facts (Transaction t) = some_transaction ties facts t (first_of (first_conditions facts t))
 
-some_by_text : (text : Option (List ℕ)) (facts : Facts) (command : Command)
-    → (outcome : Outcome) × DecidesBy text facts command outcome
-some_by_text None facts command = some_judgement facts command
-some_by_text (Some text) facts command = (_, refl)
+some_by_text : (ties : TieRule) (text : Option (List ℕ)) (facts : Facts) (command : Command)
+    → (outcome : Outcome) × DecidesByUnder ties text facts command outcome
+some_by_text ties None facts command = some_judgement ties facts command
+some_by_text ties (Some text) facts command = (_, refl)
 
-pub some_decision : (facts : Facts) (command : Command) → (outcome : Outcome) × Decides facts command outcome
-some_decision facts command = some_by_text facts.text facts command
+pub some_step_in : (edition : Edition) (book : List Entry) (key : Key) (command : Command)
+    → (outcome : Outcome) × StepIn edition book key command outcome
+some_step_in edition book key command = some_by_text (ties_in edition book) (text_under book key) (facts_of book key) command
 
 pub some_step : (book : List Entry) (key : Key) (command : Command) → (outcome : Outcome) × Step book key command outcome
-some_step book key command = some_decision (facts_of book key) command
+some_step = some_step_in First

@@ -1,4 +1,3 @@
 pub mod Collects
 pub mod Laws
-pub mod OpeningNumber
-pub mod OpeningOrder
+pub mod Worked

@@ -5,9 +5,11 @@
 //! - `books`: entries, what they hold, and judging a list of commands.
 //! - `gains`: sales and their gains.
 //! - `opening_numbers`: which lot was opened before which, and the orders by that.
+//! - `editions`: books of either edition.
 #![tactic(auto)]
 
 pub mod books;
+pub mod editions;
 pub mod gains;
 pub mod opening_numbers;
 pub mod steps;

@@ -4,6 +4,8 @@ ghost use Rattle.std.specs.List.{Contains};
 ghost use Rattle.std.specs.Ordering.{nat_cmp, int_cmp, ordering_then};
 ghost use Rattle.lot_cost.specs.declared.lot_key.LotKey.{LotKey};
 ghost use Rattle.lot_inv.specs.Inventory.{units_at};
+ghost use Rattle.lot_booking.specs.OpeningOrder.{OpenedLot, by_opening};
+ghost use Rattle.lot_booking.specs.OpeningOrder.{highest_opened_cmp, newest_opened_cmp, oldest_opened_cmp};
 ghost use Rattle.lot_booking.specs.Order.{IsOrder};
 ghost use Rattle.lot_book.specs.declared.leg.Leg.{Leg};
 ghost use Rattle.lot_book.specs.declared.leg.Position.{Position};
@@ -12,10 +14,8 @@ ghost use Rattle.lot_book.specs.Facts.{Entry, legs_of};
 ghost use Rattle.lot_book.specs.Leg.{inventory_of, sum_at};
 ghost use Rattle.lot_book.specs.Refusals.{most_postings};
 ghost use Rattle.lot_laws.specs.Laws.{lot_at};
-ghost use Rattle.lot_laws.specs.OpeningNumber.{HasOpeningNumber, IsLastToOpen};
-ghost use Rattle.lot_laws.specs.OpeningNumber.{opening_number, posting_number};
-ghost use Rattle.lot_laws.specs.OpeningOrder.{OpenedLot, by_opening};
-ghost use Rattle.lot_laws.specs.OpeningOrder.{highest_opened_cmp, newest_opened_cmp, oldest_opened_cmp};
+ghost use Rattle.lot_book.specs.OpeningNumber.{HasOpeningNumber, IsLastToOpen};
+ghost use Rattle.lot_book.specs.OpeningNumber.{opening_number, posting_number};
 
 /// A lot has an opening number exactly where some units are held in it, and only one, which the definition that computes
 /// answers.

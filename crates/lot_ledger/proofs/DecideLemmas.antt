@@ -103,9 +103,9 @@ first_lacks facts day all old place account (Some amount) left (inl first) (inr 
 first_lacks facts day all old place account (Some amount) left (inr first) (inr copies) = first
 
 -- where what follows may lack memory
-no_fill : (elided : List (ℕ × List ℕ)) → FillMayLackMemory elided [] → ⊥
-no_fill [] lacks = lacks
-no_fill (one ∷ more) lacks = lacks.1 refl
+no_fill : (facts : Facts) (elided : List (ℕ × List ℕ)) → FillMayLackMemory facts elided [] → ⊥
+no_fill facts [] lacks = lacks
+no_fill facts (one ∷ more) lacks = lacks.2 refl
 
 end_stores : (facts : Facts) (t : TransactionOf) (draft : Draft) (drafts : DraftsAll facts t draft)
     → EndMayLackMemory facts t draft.tally.legs draft.residuals
@@ -114,7 +114,8 @@ end_stores : (facts : Facts) (t : TransactionOf) (draft : Draft) (drafts : Draft
 end_stores facts t draft drafts lacks (inl stores) = stores
 end_stores facts t draft drafts (inl fill) (inr none) =
     let nothing : draft.residuals ≡ [] = drafts.is.residuals ∙ ap (λ (booked : List Booked). residuals (weights_in booked)) none.0 in
-    absurd (no_fill (elided_postings 1 t.postings) (subst (FillMayLackMemory (elided_postings 1 t.postings)) nothing fill))
+    let elided = elided_postings 1 t.postings in
+    absurd (no_fill facts elided (subst (FillMayLackMemory facts elided) nothing fill))
 end_stores facts t draft drafts (inr heads) (inr none) = absurd (true≢false (sym heads.1 ∙ none.1))
 
 pub end_lacks : (facts : Facts) (t : TransactionOf) (draft : Draft) → DraftsAll facts t draft

@@ -1,85 +1,39 @@
 -- What the elided posting takes.
-use Rattle.std.specs.Prelude.{◌≡◌, ℕ, suc, ◌<◌, ◌≤◌, nat_lt, Bool, true, false, cond, List, [], ◌∷◌, length, map, find, position, Option, None, Some, ℤ, Result, Ok, Err}
-use Rattle.std.specs.List.{position_or_len}
-use Rattle.std.specs.Option.{option_map, option_or}
+use Rattle.std.specs.Prelude.{◌≡◌, ℕ, suc, Bool, true, List, [], ◌∷◌, map, Option, None, Some, ℤ, Result, Ok, Err}
+use Rattle.std.specs.Option.{is_none, option_map, option_or}
 use Rattle.std.specs.Result.{IfErr, IsErrAnd}
-use Rattle.std.proofs.Common.{arith, inl, inr, refl, sym, ap, subst, ◌∙◌, slice_index_or}
-use Rattle.std.proofs.lemmas.Bool.{cases_Bool}
-use Rattle.std.proofs.lemmas.Bool.Decides.{nat_tests}
-use Rattle.std.proofs.lemmas.List.Folds.{find_at}
-use Rattle.std.proofs.lemmas.Option.{slice_get_past, slice_get_read}
+use Rattle.std.proofs.Common.{refl, sym, ap, subst, ◌∙◌}
+use Rattle.std.proofs.lemmas.Bool.{true≢false}
 use Rattle.lot_inv.specs.Inventory.{Held}
 use Rattle.lot_book.specs.declared.leg.Leg.{Leg}
 use Rattle.lot_book.specs.declared.refusal.Refusal.{Refusal}
-use Rattle.lot_book.specs.declared.refusal.Refusal.TheVariants.{Range}
+use Rattle.lot_book.specs.declared.refusal.Refusal.TheVariants.{FillNotAllowed, Range}
 use Rattle.lot_book.specs.declared.refusal.Stop.{Stop}
 use Rattle.lot_book.specs.declared.refusal.Stop.TheVariants.{Refused, Memory}
-use Rattle.lot_book.specs.declared.standing.Standing.{Standing}
-use Rattle.lot_book.specs.Balance.{fill_from, opposite}
+use Rattle.lot_book.specs.Balance.{fill_from, left_over, opposite}
 use Rattle.lot_ledger.specs.Decide.{filled, first_barred}
 use Rattle.lot_book.specs.Leg.{leave_range, leg_at}
-use Rattle.lot_book.specs.Refusals.{Stops, bars, first_currency, holds_as}
+use Rattle.lot_book.specs.Facts.{Facts}
+use Rattle.lot_book.specs.Refusals.{Stops, fill_not_allowed, holds_as}
 use Rattle.lot_posting.specs.Tally.{AreOf, StopsAt}
 
--- ---- the currencies of the fills
+-- ---- the currencies that an account bars
 
 -- an account that was never opened bars nothing
-pub none_barred : (fills : List (List ℕ × ℤ)) → first_barred None fills ≡ None
+pub none_barred : (rs : List (List ℕ × ℤ)) → first_barred None rs ≡ None
 none_barred [] = refl
-none_barred (fill ∷ fills) = none_barred fills
+none_barred (r ∷ rs) = none_barred rs
 
--- the first currency of the fills that is barred is that of the residuals that they take
-pub barred-fills : (standing : Option Standing) (rs : List (List ℕ × ℤ))
-    → first_barred standing (map (λ (r : List ℕ × ℤ). (r.0, opposite r.1)) rs)
-    ≡ first_currency (λ (r : List ℕ × ℤ). bars standing r.0) rs
-barred-fills standing [] = refl
-barred-fills standing (r ∷ rs) = by (bars standing r.0) (barred-fills standing rs)
-  where
-    fills : List (List ℕ × ℤ)
-    fills = map (λ (r : List ℕ × ℤ). (r.0, opposite r.1)) rs
+-- an account that bars no currency that is left over allows the fill
+pub fill-allowed : (facts : Facts) (account : List ℕ) (elided : ℕ × List ℕ) (rs : List (List ℕ × ℤ)) → account ≡ elided.1
+    → first_barred (facts.standing account) (left_over rs) ≡ None → fill_not_allowed facts (elided ∷ []) rs ≡ None
+fill-allowed facts account elided rs same none =
+    ap (option_map FillNotAllowed) (subst (λ a. first_barred (facts.standing a) (left_over rs) ≡ None) same none)
 
-    by : (b : Bool) → first_barred standing fills ≡ first_currency (λ (r : List ℕ × ℤ). bars standing r.0) rs
-        → option_map (λ (r : List ℕ × ℤ). r.0)
-        (cond b (Some (r.0, opposite r.1)) (find (λ (r : List ℕ × ℤ). bars standing r.0) fills))
-        ≡ option_map (λ (r : List ℕ × ℤ). r.0) (cond b (Some r) (find (λ (r : List ℕ × ℤ). bars standing r.0) rs))
-    by true rest = refl
-    by false rest = rest
-
--- ---- the first that passes
-
-is_below : (a b : ℕ) → nat_lt a b ≡ true → a < b
-is_below a b e = grind (arith, nat_tests)
-
-isnt_below : (a b : ℕ) → nat_lt a b ≡ false → b ≤ a
-isnt_below a b e = grind (arith, nat_tests)
-
--- where there is a first place of one that passes, what stands there is found
-pub found_first : {X : Type 0} (passes : X → Bool) (items : List X) (index : ℕ) (item : X) → position passes items ≡ Some index
-    → item ≡ slice_index_or items index item → find passes items ≡ Some item
-found_first passes items index item at is =
-    let first = position_or_len passes items in
-    elim (cases_Bool (nat_lt first (length items))) [
-      | inl within ↦
-          let same : Some first ≡ Some index = sym (ap (λ b. cond b (Some first) None) within) ∙ at in
-          let place : first ≡ index = cc in
-          find_at passes items
-          ∙ slice_get_read items (length items) first item refl (is_below first (length items) within)
-          (is ∙ ap (λ i. slice_index_or items i item) (sym place))
-      | inr past ↦
-          let none : None ≡ Some index = sym (ap (λ b. cond b (Some first) None) past) ∙ at in
-          cc
-    ]
-
--- where there is none, nothing is found
-pub found_none : {X : Type 0} (passes : X → Bool) (items : List X) → position passes items ≡ None → find passes items ≡ None
-found_none passes items at =
-    let first = position_or_len passes items in
-    elim (cases_Bool (nat_lt first (length items))) [
-      | inl within ↦
-          let some : Some first ≡ None = sym (ap (λ b. cond b (Some first) None) within) ∙ at in
-          cc
-      | inr past ↦ find_at passes items ∙ slice_get_past items first (isnt_below first (length items) past)
-    ]
+-- what isn't some is none
+pub none-is : {X : Type 0} (o : Option X) (b : Bool) → b ≡ is_none o → b ≡ true → o ≡ None
+none-is None b same is = cc
+none-is (Some x) b same is = absurd (true≢false (sym is ∙ same))
 
 -- ---- the legs of the fills
 

@@ -154,11 +154,14 @@ NextMayLackMemory facts day place account None old = ⊥
 NextMayLackMemory facts day place account (Some amount) old =
     PostingMayLackMemory old.tally.legs (line_of facts day old.tally.legs place account amount)
 
--- taking up the residuals may lack memory: for the fill, where each residual is that of units, and one isn't zero. Without an
--- elided posting it never does.
-abbrev pub FillMayLackMemory : List (ℕ × List ℕ) → List (List ℕ × ℤ) → Type 0
-FillMayLackMemory [] rs = ⊥
-FillMayLackMemory (elided ∷ more) rs = (inexact_fill (elided ∷ more) rs ≡ None) × (left_over rs ≢ [])
+-- taking up the residuals may lack memory: for the fill, where each residual is that of units, the account allows each that
+-- isn't zero, and there is one. Without an elided posting it never does.
+abbrev pub FillMayLackMemory : Facts → List (ℕ × List ℕ) → List (List ℕ × ℤ) → Type 0
+FillMayLackMemory facts [] rs = ⊥
+FillMayLackMemory facts (elided ∷ more) rs =
+    (inexact_fill (elided ∷ more) rs ≡ None)
+    × (fill_not_allowed facts (elided ∷ more) rs ≡ None)
+    × (left_over rs ≢ [])
 
 -- whether some posting has braces
 abbrev pub has_braces : List Posting → Bool
@@ -167,5 +170,5 @@ has_braces postings = list_any (λ (p : Posting). is_some (amount_at_cost p.amou
 -- so may what follows the postings with amounts, also for the days at cost where no condition holds
 abbrev pub EndMayLackMemory : Facts → TransactionOf → List Leg → List (List ℕ × ℤ) → Type 0
 EndMayLackMemory facts t legs rs =
-    FillMayLackMemory (elided_postings 1 t.postings) rs
+    FillMayLackMemory facts (elided_postings 1 t.postings) rs
     ⊎ ((first_of (conditions_on facts t legs rs) ≡ None) × (has_braces t.postings ≡ true))

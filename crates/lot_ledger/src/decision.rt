@@ -201,7 +201,8 @@ fn take_up(
     ensures sales { OnOk result (draft.new.sales ≡ draft.old.sales) }
     ensures stops { IfErr result (λ stop. Stops (first_of (residual_conditions (known view.now) transaction.now draft.old.tally.legs draft.old.residuals)) stop) }
     ensures memory { IsErrOf result Memory
-        → FillMayLackMemory (elided_postings 1 transaction.now.postings) draft.old.residuals }
+        → FillMayLackMemory (known view.now) (elided_postings 1 transaction.now.postings)
+        draft.old.residuals }
 {
     match elided {
         Some(elided) => fill(alloc, view, elided, draft),

@@ -2,7 +2,7 @@ ghost use Rattle.std.specs.Prelude.{◌≡◌, ◌≢◌, ◌∷◌, [], ◌++�
 ghost use Rattle.std.specs.Option.{option_map, option_or};
 ghost use Rattle.lot_book.specs.declared.refusal.Refusal.TheVariants.{FillNotAllowed};
 ghost use Rattle.lot_book.specs.declared.refusal.Stop.TheVariants.{Memory};
-ghost use Rattle.lot_book.specs.Balance.{fill_of, fits_units};
+ghost use Rattle.lot_book.specs.Balance.{fill_of, fits_units, left_over};
 ghost use Rattle.lot_book.specs.Change.{ListsSums};
 ghost use Rattle.lot_ledger.specs.Decide.{FillMayLackMemory, filled, first_barred};
 ghost use Rattle.lot_book.specs.Refusals.{Stops, fill_not_allowed, fill_out_of_range, first_currency, inexact_fill};
@@ -39,7 +39,8 @@ pub(crate) fn fill(
         (option_or (fill_not_allowed (known view.now) (elided.entry ∷ []) draft.old.residuals)
         (fill_out_of_range (known view.now) (elided.entry ∷ []) draft.old.tally.legs
         (fill_of (suc (known view.now).entries) (elided.entry ∷ []) draft.old.residuals)))) stop) }
-    ensures memory { IsErrOf result Memory → FillMayLackMemory (elided.entry ∷ []) draft.old.residuals }
+    ensures memory { IsErrOf result Memory
+        → FillMayLackMemory (known view.now) (elided.entry ∷ []) draft.old.residuals }
 {
     if draft.residuals.are_units() {
         return fill_exactly(alloc, view, elided, draft);
@@ -78,40 +79,36 @@ fn fill_exactly(
         (fill_out_of_range (known view.now) (elided.entry ∷ []) draft.old.tally.legs
         (fill_of (suc (known view.now).entries) (elided.entry ∷ []) draft.old.residuals)))) stop) }
     ensures memory { IsErrOf result Memory
-        → FillMayLackMemory (elided.entry ∷ []) draft.old.residuals }
+        → FillMayLackMemory (known view.now) (elided.entry ∷ []) draft.old.residuals }
 {
+    every_fill_allowed(alloc, view, elided.account, &mut draft.residuals)?;
     let fills = draft.residuals.fills(alloc)?;
-    let allowed = every_fill_allowed(view, elided.account, fills)?;
-    let legs = legs_of_fills(alloc, view, &elided, allowed)?;
+    let legs = legs_of_fills(alloc, view, &elided, fills)?;
     draft.tally.post_all(view, legs)
 }
 
-/// Returns the fills as they are, or `FillNotAllowed` with the first currency with which the account wasn't opened. The
-/// refusal takes its currency over from the fills, so it needs no memory.
+/// Returns `FillNotAllowed` with the first currency whose residual isn't zero and with which the account wasn't opened, if
+/// there is one. Only then the residuals are used up, so the refusal needs no memory.
 fn every_fill_allowed(
+    alloc: Global,
     view: &View,
     account: &Account,
-    fills: Vec<(Commodity, Units)>,
-) -> Result<Vec<(Commodity, Units)>, Refusal>
-    ensures same { IfOk result (λ allowed. allowed.items ≡ fills.items) }
-    ensures ok { IsOk result → first_barred ((known view.now).standing account.now) fills.items ≡ None }
-    ensures refused { IfErr result (λ refusal.
-        option_map FillNotAllowed (first_barred ((known view.now).standing account.now) fills.items) ≡ Some refusal) }
+    residuals: &mut Residuals,
+) -> Result<(), Refusal>
+    ensures same { OnOk result (residuals.new ≡ residuals.old) }
+    ensures ok { OnOk result (first_barred ((known view.now).standing account.now)
+        (left_over residuals.old) ≡ None) }
+    ensures refused { IfErr result (λ refusal. option_map FillNotAllowed
+        (first_barred ((known view.now).standing account.now) (left_over residuals.old))
+        ≡ Some refusal) }
 {
     let Some(standing) = view.standing(account) else {
-        return Ok(fills);
+        return Ok(());
     };
-    match fills
-        .iter()
-        .position(|fill| !standing.allowed.allows(&fill.0))
-    {
-        Some(index) => {
-            let mut fills = fills;
-            let (currency, _) = fills.swap_remove(index);
-            Err(Refusal::FillNotAllowed { currency })
-        }
-        None => Ok(fills),
+    if residuals.are_allowed(standing) {
+        return Ok(());
     }
+    mem::replace(residuals, Residuals::new(alloc)).allowed(standing)
 }
 
 /// Returns the legs of the elided posting: one plain leg for each fill.

@@ -7,7 +7,7 @@ use Rattle.lot_command.specs.Canonical.{canonical}
 use Rattle.lot_command.specs.Sayable.{IsSayable}
 use Rattle.lot_command.specs.declared.key.Key.{Key}
 use Rattle.lot_book.specs.Facts.{Entry, same_key, text_under}
-use Rattle.lot_load.specs.Damage.{HasDamagedText}
+use Rattle.lot_load.specs.Damage.{HasDamagedText, HasText}
 use Rattle.lot_load.specs.Tells.{Tells}
 use Rattle.lot_load.proofs.ReadLemmas.{HasRead, denies, reads_as, stops}
 use Rattle.lot_print.specs.Canonical.{IsCanonical}
@@ -47,6 +47,17 @@ module _ (tables : Tables) (key : Key) (found : Option EntryRow) (is : found ≡
   no_row_is_sound absent (text, there, none) =
       let both : None ≡ Some text = ap (option_map (λ (r : EntryRow). r.body)) (sym absent ∙ is) ∙ there in
       absurd cc
+
+  -- the text of the row is had
+  pub row_has_text : (row : EntryRow) (text : List ℕ) → found ≡ Some row → text ≡ row.body → IsCanonical row.body → HasText tables key (Some text)
+  row_has_text row text some same canonically = (
+    ap (option_map (λ (r : EntryRow). r.body)) (sym is ∙ some) ∙ ap Some (sym same),
+    subst IsCanonical (sym same) canonically,
+  )
+
+  -- where there is no row no text is had
+  pub no_row_has_none : found ≡ None → HasText tables key None
+  no_row_has_none absent = (ap (option_map (λ (r : EntryRow). r.body)) (sym is ∙ absent), tt)
 
 -- ---- a text that is refused
 

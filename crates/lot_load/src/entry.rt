@@ -1,7 +1,7 @@
 ghost use Rattle.std.specs.Prelude.{◌≡◌, ◌≢◌, Err, IfOk, OnOk, length, option_map};
 ghost use Rattle.std.specs.String.{string_bytes};
 ghost use Rattle.lot_book.specs.Facts.{text_under};
-ghost use Rattle.lot_load.specs.Damage.{FindsDamage};
+ghost use Rattle.lot_load.specs.Damage.{FindsDamage, FindsText};
 ghost use Rattle.lot_load.specs.Tells.{Tells};
 ghost use Rattle.lot_print.specs.Canonical.{IsCanonical};
 ghost use Rattle.sqlite.specs.Held.{state};
@@ -35,6 +35,8 @@ pub(crate) fn find_text<S: Alter>(
     ensures tells { Tells (λ text entries. option_map string_bytes text ≡ text_under entries key.now)
         (state S.Store conn.old) (state S.Store conn.new) result }
     ensures damage { FindsDamage key.now (state S.Store conn.old) (state S.Store conn.new) result }
+    ensures text { FindsText (λ text. option_map string_bytes text) key.now
+        (state S.Store conn.old) (state S.Store conn.new) result }
 {
     match entry::find(alloc, conn, &key.source, &key.name)? {
         Some(row) => Ok(Some(text_of(alloc, &row)?)),

@@ -3,7 +3,7 @@ ghost use Rattle.lot_book.specs.Agree.{Agrees};
 ghost use Rattle.lot_book.specs.Book.{IsBook};
 ghost use Rattle.lot_book.specs.Facts.{Entry, facts_of};
 ghost use Rattle.lot_stored.specs.StandFor.{AreOfBook, StandFor};
-ghost use Rattle.lot_load.specs.Damage.{FindsDamage};
+ghost use Rattle.lot_load.specs.Damage.{FindsDamage, FindsText};
 ghost use Rattle.lot_load.specs.Kept.{IsOf, Keeps, seen};
 ghost use Rattle.lot_load.specs.Tells.{Tells};
 ghost use Rattle.lot_rows.specs.Tables.{layout};
@@ -25,7 +25,8 @@ use std::alloc::Global;
 ///
 /// It reads the text under the key, and of what the command touches the rows that aren't known yet, each by its key; where
 /// nothing is kept also the number of entries. The error is `Damaged` only where the tables stand for no book, whatever is
-/// kept. Where the text under the key is the canonical text of no command the call fails, whatever the command is.
+/// kept. Where the text under the key is the canonical text of no command the call fails, whatever the command is; else it
+/// gives that text, or none, whatever else the tables hold.
 pub fn look_on<S: Alter>(
     alloc: Global,
     conn: &mut Connection<S>,
@@ -38,12 +39,14 @@ pub fn look_on<S: Alter>(
         → Keeps now entries × Agrees (seen now) (facts_of entries key.now) command.now)
         always AreOfBook (state S.Store conn.old) (state S.Store conn.new) result }
     ensures damage { FindsDamage key.now (state S.Store conn.old) (state S.Store conn.new) result }
+    ensures text { FindsText (λ now. (seen now).text) key.now
+        (state S.Store conn.old) (state S.Store conn.new) result }
 {
     let text = find_text(alloc, conn, key)?;
     let mut kept = begin(alloc, conn, kept)?;
-    kept.turn_to(text);
     let touched = touches(alloc, command)?;
     learn_lacking(alloc, conn, touched, &mut kept)?;
+    kept.turn_to(text);
     Ok(kept)
 }
 

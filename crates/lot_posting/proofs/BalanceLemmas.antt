@@ -1,5 +1,5 @@
 -- Weights and residuals.
-use Rattle.std.proofs.Common.{◌≡◌, ◌≢◌, ℕ, zero, suc, ◌*◌, ◌/◌, ◌%◌, ◌<◌, ◌≤◌, ℤ, pos, negsuc, ◌*ℤ◌, neg_ℤ, Bool, true, false, not, ◌&&◌, List, ◌∷◌, map, Some, refl, ap, ◌∙◌, sym, true≢false, arith, eqb, ltb}
+use Rattle.std.proofs.Common.{◌≡◌, ◌≢◌, ℕ, zero, suc, ◌*◌, ◌/◌, ◌%◌, ◌<◌, ◌≤◌, ℤ, pos, negsuc, ◌*ℤ◌, neg_ℤ, Bool, true, false, not, ◌&&◌, List, ◌∷◌, map, Option, Some, refl, ap, ◌∙◌, sym, true≢false, arith, eqb, ltb}
 use Rattle.std.specs.Prelude.{int_div, unsigned_abs}
 use Rattle.std.proofs.lemmas.Bool.{false_from_ne_true}
 use Rattle.std.proofs.lemmas.Bool.Decides.{nat_tests, Decides-int_eq}
@@ -7,7 +7,8 @@ use Rattle.std.proofs.lemmas.Int.{unsigned_abs-mul}
 use Rattle.lot_num.specs.Amount.{one, rate_limit, units_limit, IsUnits}
 use Rattle.lot_book.specs.Balance.{fits_units, is_zero, left_over, opposite}
 use Rattle.lot_book.proofs.WeightLemmas.{divided, times_negative}
-use Rattle.lot_book.specs.Refusals.{first_currency}
+use Rattle.lot_book.specs.declared.standing.Standing.{Standing}
+use Rattle.lot_book.specs.Refusals.{bars, first_currency}
 
 -- ---- Units at scale 16.
 
@@ -96,6 +97,10 @@ misfit-passes currency z u rs within same = rw (units_from_weight z u within sam
 pub misfit-stops : (currency : List ℕ) (z : ℤ) (rs : List (List ℕ × ℤ)) → ((u : ℤ) → IsUnits u → z ≡ u *ℤ pos one → ⊥)
     → first_currency misfits_units ((currency, z) ∷ rs) ≡ Some currency
 misfit-stops currency z rs none = rw (misfit_from_weight z none) refl
+
+-- the first currency whose residual isn't zero and that the account doesn't allow
+abbrev pub first_left_barred : Standing → List (List ℕ × ℤ) → Option (List ℕ)
+first_left_barred standing rs = first_currency (λ (r : List ℕ × ℤ). bars (Some standing) r.0) (left_over rs)
 
 -- what takes up one more that isn't zero
 pub fills_of-more : (currency : List ℕ) (z u : ℤ) (rs : List (List ℕ × ℤ)) → z ≡ u *ℤ pos one → u ≢ pos 0

@@ -35,6 +35,11 @@ abbrev pub BeginInRange : Held → List Leg → Type 0
 BeginInRange held [] = ⊥
 BeginInRange held (leg ∷ legs) = leave_range held (leg ∷ []) ≡ false
 
+-- the first leg, if there is one, leaves its sum in range
+abbrev pub IsFirstInRange : Held → List Leg → Type 0
+IsFirstInRange held [] = ⊤
+IsFirstInRange held (leg ∷ legs) = leave_range held (leg ∷ []) ≡ false
+
 -- the position of the plain units of a commodity in an account
 abbrev pub plain : List ℕ → List ℕ → Position
 plain account commodity = record { account = account; commodity = commodity; lot = None }

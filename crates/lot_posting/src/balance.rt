@@ -1,14 +1,14 @@
 ghost use Rattle.std.specs.Prelude.{◌≡◌, ◌≢◌, ◌≤◌, ◌*◌, ◌-◌, ◌++◌, ◌+ℤ◌, ℕ, suc, ℤ, List, [], None, Some, not, map, unsigned_abs, IfOk, IfErr, OnErr, OnOk};
 ghost use Rattle.std.specs.Option.{is_none, option_map};
 ghost use Rattle.lot_num.specs.Amount.{IsWide, rate_limit, units_limit};
-ghost use Rattle.lot_book.specs.declared.refusal.Refusal.TheVariants.{InexactFill};
+ghost use Rattle.lot_book.specs.declared.refusal.Refusal.TheVariants.{FillNotAllowed, InexactFill};
 ghost use Rattle.lot_book.specs.Balance.{AreWithin, add_weight, fits_units, left_over, opposite, residual_in, residuals, weight_at_price, weight_of, weights_by, with_sign};
 ghost use Rattle.lot_book.specs.Leg.{units_moved};
-ghost use Rattle.lot_book.specs.Refusals.{first_currency, most_postings, not_balanced};
+ghost use Rattle.lot_book.specs.Refusals.{bars, first_currency, most_postings, not_balanced};
 
 use indexmap::IndexMap;
 use lot_base::Commodity;
-use lot_book::{Leg, Refusal};
+use lot_book::{Leg, Refusal, Standing};
 use lot_command::{Amount, Price};
 use lot_num::{Units, Wide, weight};
 use std::alloc::{AllocError, Global};
@@ -127,6 +127,35 @@ impl Residuals {
                 return Err(Refusal::InexactFill { currency });
             };
             let _in_range = units.mantissa(); // says to the prover that they are below the limit of units
+        }
+        Ok(())
+    }
+
+    /// Returns whether an account that stands so allows each currency whose residual isn't zero.
+    pub fn are_allowed(&self, standing: &Standing) -> bool
+        ensures { result
+            ≡ is_none (first_currency (λ r. bars (Some standing.now) r.0) (left_over self.now)) }
+    {
+        for (currency, sum) in &self.sums {
+            if sum.mantissa() != 0 && !standing.allowed.allows(currency) {
+                return false;
+            }
+        }
+        true
+    }
+
+    /// Returns `FillNotAllowed` with the first currency whose residual isn't zero and that an account that stands so doesn't
+    /// allow, if there is one. The refusal takes that currency over, so it needs no memory.
+    pub fn allowed(self, standing: &Standing) -> Result<(), Refusal>
+        ensures ok { OnOk result
+            (first_currency (λ r. bars (Some standing.now) r.0) (left_over self) ≡ None) }
+        ensures refused { IfErr result (λ refusal. option_map FillNotAllowed
+            (first_currency (λ r. bars (Some standing.now) r.0) (left_over self)) ≡ Some refusal) }
+    {
+        for (currency, sum) in self.sums {
+            if sum.mantissa() != 0 && !standing.allowed.allows(&currency) {
+                return Err(Refusal::FillNotAllowed { currency });
+            }
         }
         Ok(())
     }

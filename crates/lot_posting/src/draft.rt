@@ -1,11 +1,12 @@
-ghost use Rattle.std.specs.Prelude.{◌≡◌, ◌≤◌, ◌-◌, [], ◌++◌, IfErr, OnOk, ℕ, suc, ℤ, false, List};
+ghost use Rattle.std.specs.Prelude.{◌≡◌, ◌≤◌, ◌-◌, [], ◌++◌, IfErr, IsErrOf, OnOk, ℕ, suc, ℤ, false, List};
 ghost use Rattle.lot_num.specs.Amount.{units_limit};
 ghost use Rattle.lot_book.specs.Balance.{AreWithin, residuals, weights_by};
 ghost use Rattle.lot_book.specs.Change.{ListsSums};
 ghost use Rattle.lot_book.specs.Facts.{Facts};
 ghost use Rattle.lot_book.specs.Leg.{leave_range, units_moved, with_legs};
 ghost use Rattle.lot_book.specs.Refusals.{most_postings};
-ghost use Rattle.lot_posting.specs.Tally.{AreOf, StopsAt};
+ghost use Rattle.lot_book.specs.declared.refusal.Stop.TheVariants.{Memory};
+ghost use Rattle.lot_posting.specs.Tally.{AreOf, IsFirstInRange, StopsAt};
 ghost use Rattle.lot_view.specs.View.{known};
 
 use crate::balance::Residuals;
@@ -40,7 +41,7 @@ impl Draft {
     }
 
     /// Adds the legs of a posting and their weights. The refusal is `Range` where a position is out of the range of units
-    /// after one of them.
+    /// after one of them, and needs no memory where that is the first leg.
     pub(crate) fn add(&mut self, view: &View, amount: &Amount, legs: Vec<Leg>) -> Result<(), Stop>
         requires lists { ListsSums (known view.now) self.old.tally.legs self.old.tally.positions.entries }
         requires moved { units_moved legs.items ≤ units_limit }
@@ -55,8 +56,15 @@ impl Draft {
             → leave_range (with_legs account ((known view.now).held account) self.old.tally.legs) legs.items ≡ false) }
         ensures stops { IfErr result (λ stop. (account : List ℕ) (posting : ℕ) → AreOf account posting legs.items
             → StopsAt (with_legs account ((known view.now).held account) self.old.tally.legs) posting legs.items stop) }
+        ensures memory { IsErrOf result Memory → (account : List ℕ) (posting : ℕ)
+            → AreOf account posting legs.items
+            → IsFirstInRange (with_legs account ((known view.now).held account)
+            self.old.tally.legs) legs.items }
     {
-        self.residuals.weigh(amount, &legs)?;
-        self.tally.post_all(view, legs)
+        let before = self.tally.legs.as_slice().len();
+        self.tally.post_all(view, legs)?;
+        self.residuals
+            .weigh(amount, &self.tally.legs.as_slice()[before..])?;
+        Ok(())
     }
 }

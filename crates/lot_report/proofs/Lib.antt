@@ -1,3 +1,4 @@
+pub mod OutputLemmas
 pub mod PrintLemmas
 pub mod SumLemmas
 pub mod TotalLemmas

@@ -6,3 +6,5 @@ pub mod Fed
 pub mod Gains
 pub mod Proceeds
 pub mod Holdings
+pub mod Output
+pub mod CountedWriter

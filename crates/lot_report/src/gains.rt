@@ -1,20 +1,21 @@
-ghost use Rattle.std.specs.Prelude.{◌≡◌, ◌↔◌, List, [], ℕ, Option, option_map, IsErr, IsErrOf, IsFalse, IsTrue};
+ghost use Rattle.std.specs.Prelude.{◌≡◌, ◌↔◌, List, [], ℕ, Option, option_map, ◌≢◌, IfErr, IsErr, IsErrOf, IsFalse, IsTrue};
 ghost use Rattle.std.specs.Io.KnownBytes.{Appends};
 ghost use Rattle.lot_book.specs.Gain.{currency_of};
 ghost use Rattle.lot_book.specs.Sale.{SaleParts};
 ghost use Rattle.lot_report.specs.Gains.{CountsSale, EndsGains, GrowsBySale, HasTaken, IsFed, TakesSale, end_lines, gained, is_spent, leg_line, priced_line, sale_line, sale_lines, sales_text, unpriced_line};
+ghost use Rattle.lot_report.specs.Output.{HasFailed};
 ghost use Rattle.lot_report.specs.Written.{WritesEach, WritesLine};
 
 use crate::fault::{ReportFault, RowFault};
 use crate::line::{PrintFault, print_line};
 use crate::lot::{Valuation, print_lot};
+use crate::output::CountedWrite;
 use crate::totals::Totals;
 use lot_base::Commodity;
 use lot_book::{Gain, Sale};
 use lot_command::Price;
 use std::alloc::Global;
 use std::fmt;
-use std::io::Write;
 
 /// The report of gains, which takes sales one after another and writes each with its legs behind those before it.
 ///
@@ -42,10 +43,12 @@ impl Gains {
     /// Returns `Memory` when out of memory: whole lines of the sale are written, but not all. Returns `Write` where the
     /// writer fails: a prefix of the sale's lines is written, but not all of them. Returns `Spent` after such a fault, and
     /// writes nothing.
-    pub fn row<W: Write>(&mut self, sale: &Sale, writer: &mut W) -> Result<(), RowFault>
+    pub fn row<W: CountedWrite>(&mut self, sale: &Sale, writer: &mut W) -> Result<(), RowFault>
         ensures text { (sales : List SaleParts) (start : Option (List ℕ)) → IsFed sales self.old
             → Appends start (W.contents writer.old) (sales_text sales)
             → GrowsBySale sales sale.now self.new start (W.contents writer.new) result }
+        ensures cause { IsErrOf result (RowFault.Report ReportFault.Write)
+            → HasFailed (W.calls writer.new) }
         ensures spent { IsErrOf result RowFault.Spent ↔ IsTrue (is_spent self.old) }
         ensures after { IsErr result ↔ IsTrue (is_spent self.new) }
     {
@@ -61,10 +64,12 @@ impl Gains {
     ///
     /// Returns `Memory` when out of memory: whole lines are written, but not all. Returns `Write` where the writer fails: a
     /// prefix of the lines is written, but not all of them. Returns `Spent` after a fault of `row`, and writes nothing.
-    pub fn end<W: Write>(self, writer: &mut W) -> Result<(), RowFault>
+    pub fn end<W: CountedWrite>(self, writer: &mut W) -> Result<(), RowFault>
         ensures text { (sales : List SaleParts) (start : Option (List ℕ)) → IsFed sales self
             → Appends start (W.contents writer.old) (sales_text sales)
             → EndsGains sales start (W.contents writer.new) result }
+        ensures cause { IsErrOf result (RowFault.Report ReportFault.Write)
+            → HasFailed (W.calls writer.new) }
         ensures spent { IsErrOf result RowFault.Spent ↔ IsTrue (is_spent self) }
     {
         let Some(progress) = &self.progress else {
@@ -98,9 +103,10 @@ impl Progress {
     }
 
     /// Takes and writes one sale.
-    fn row<W: Write>(&mut self, sale: &Sale, writer: &mut W) -> Result<(), ReportFault>
-        ensures { (sales : List SaleParts) → HasTaken sales self.old
+    fn row<W: CountedWrite>(&mut self, sale: &Sale, writer: &mut W) -> Result<(), ReportFault>
+        ensures takes { (sales : List SaleParts) → HasTaken sales self.old
             → TakesSale sales sale.now self.new (W.contents writer.old) (W.contents writer.new) result }
+        ensures cause { IsErrOf result ReportFault.Write → HasFailed (W.calls writer.new) }
     {
         self.take_gain(sale)?;
         print_sale(self.alloc, writer, sale)?;
@@ -109,7 +115,8 @@ impl Progress {
 
     /// Adds the gain of one more sale; an unpriced one has none.
     fn take_gain(&mut self, sale: &Sale) -> Result<(), ReportFault>
-        ensures { (sales : List SaleParts) → HasTaken sales self.old → CountsSale sales sale.now self.new result }
+        ensures counts { (sales : List SaleParts) → HasTaken sales self.old → CountsSale sales sale.now self.new result }
+        ensures cause { IfErr result (λ fault. fault ≢ ReportFault.Write) }
     {
         self.is_empty = false;
         match priced(sale) {
@@ -119,8 +126,9 @@ impl Progress {
     }
 
     /// Writes what stands behind the sales.
-    fn end<W: Write>(&self, writer: &mut W) -> Result<(), PrintFault>
-        ensures { WritesEach (λ text. text) (end_lines self.now.is_empty self.now.gains.sums.entries) (W.contents writer.old) (W.contents writer.new) result }
+    fn end<W: CountedWrite>(&self, writer: &mut W) -> Result<(), PrintFault>
+        ensures lines { WritesEach (λ text. text) (end_lines self.now.is_empty self.now.gains.sums.entries) (W.contents writer.old) (W.contents writer.new) result }
+        ensures cause { IsErrOf result PrintFault.Write → HasFailed (W.calls writer.new) }
     {
         if self.is_empty {
             return print_line(writer, "no gains");
@@ -148,16 +156,22 @@ fn currency_of(price: &Price) -> &Commodity
     }
 }
 
-fn print_sale<W: Write>(alloc: Global, writer: &mut W, sale: &Sale) -> Result<(), PrintFault>
-    ensures { WritesEach (λ text. text) (sale_lines sale.now) (W.contents writer.old) (W.contents writer.new) result }
+fn print_sale<W: CountedWrite>(alloc: Global, writer: &mut W, sale: &Sale) -> Result<(), PrintFault>
+    ensures lines { WritesEach (λ text. text) (sale_lines sale.now) (W.contents writer.old) (W.contents writer.new) result }
+    ensures cause { IsErrOf result PrintFault.Write → HasFailed (W.calls writer.new) }
 {
     print_front(alloc, writer, sale)?;
     print_legs(alloc, writer, sale)
 }
 
 /// Writes the line of a sale, above those of its legs.
-fn print_front<W: Write>(alloc: Global, writer: &mut W, sale: &Sale) -> Result<(), PrintFault>
-    ensures { WritesLine (W.contents writer.old) (W.contents writer.new) result (sale_line sale.now (gained sale.now)) }
+fn print_front<W: CountedWrite>(
+    alloc: Global,
+    writer: &mut W,
+    sale: &Sale,
+) -> Result<(), PrintFault>
+    ensures line { WritesLine (W.contents writer.old) (W.contents writer.new) result (sale_line sale.now (gained sale.now)) }
+    ensures cause { IsErrOf result PrintFault.Write → HasFailed (W.calls writer.new) }
 {
     match priced(sale) {
         Some((currency, gain)) => print_priced(alloc, writer, sale, currency, gain),
@@ -165,15 +179,16 @@ fn print_front<W: Write>(alloc: Global, writer: &mut W, sale: &Sale) -> Result<(
     }
 }
 
-#[tactic(auto, using(crate::proofs::PrintLemmas::nothing_written))]
-fn print_priced<W: Write>(
+#[tactic(auto, using(crate::proofs::PrintLemmas::nothing_written, crate::proofs::OutputLemmas::not_of_writer))]
+fn print_priced<W: CountedWrite>(
     alloc: Global,
     writer: &mut W,
     sale: &Sale,
     currency: &Commodity,
     gain: Gain,
 ) -> Result<(), PrintFault>
-    ensures { WritesLine (W.contents writer.old) (W.contents writer.new) result (priced_line sale.now currency.now gain) }
+    ensures line { WritesLine (W.contents writer.old) (W.contents writer.new) result (priced_line sale.now currency.now gain) }
+    ensures cause { IsErrOf result PrintFault.Write → HasFailed (W.calls writer.new) }
 {
     let units = sale.units().text(alloc)?;
     let front = SaleFront {
@@ -189,9 +204,14 @@ fn print_priced<W: Write>(
     )
 }
 
-#[tactic(auto, using(crate::proofs::PrintLemmas::nothing_written))]
-fn print_unpriced<W: Write>(alloc: Global, writer: &mut W, sale: &Sale) -> Result<(), PrintFault>
-    ensures { WritesLine (W.contents writer.old) (W.contents writer.new) result (unpriced_line sale.now) }
+#[tactic(auto, using(crate::proofs::PrintLemmas::nothing_written, crate::proofs::OutputLemmas::not_of_writer))]
+fn print_unpriced<W: CountedWrite>(
+    alloc: Global,
+    writer: &mut W,
+    sale: &Sale,
+) -> Result<(), PrintFault>
+    ensures line { WritesLine (W.contents writer.old) (W.contents writer.new) result (unpriced_line sale.now) }
+    ensures cause { IsErrOf result PrintFault.Write → HasFailed (W.calls writer.new) }
 {
     let units = sale.units().text(alloc)?;
     let front = SaleFront {
@@ -224,8 +244,9 @@ impl fmt::Display for SaleFront<'_> {
 }
 
 /// Writes the legs of a sale, in the order in which the lots were taken: each in the line of a lot, two spaces in.
-fn print_legs<W: Write>(alloc: Global, writer: &mut W, sale: &Sale) -> Result<(), PrintFault>
-    ensures { WritesEach (leg_line sale.now.commodity) sale.now.legs (W.contents writer.old) (W.contents writer.new) result }
+fn print_legs<W: CountedWrite>(alloc: Global, writer: &mut W, sale: &Sale) -> Result<(), PrintFault>
+    ensures lines { WritesEach (leg_line sale.now.commodity) sale.now.legs (W.contents writer.old) (W.contents writer.new) result }
+    ensures cause { IsErrOf result PrintFault.Write → HasFailed (W.calls writer.new) }
 {
     let commodity = sale.commodity();
     let legs = sale.legs();

@@ -1,7 +1,8 @@
-ghost use Rattle.std.specs.Prelude.{◌≡◌, ◌↔◌, List, [], ◌∷◌, ℕ, ℤ, Option, Some, IsErr, IsErrOf, IsFalse, IsTrue};
+ghost use Rattle.std.specs.Prelude.{◌≡◌, ◌↔◌, List, [], ◌∷◌, ℕ, ℤ, ◌≢◌, Option, Some, IfErr, IsErr, IsErrOf, IsFalse, IsTrue};
 ghost use Rattle.std.specs.Io.KnownBytes.{Appends};
 ghost use Rattle.lot_report.specs.declared.holdings.ValuedHolding.{ValuedHolding as Row};
 ghost use Rattle.lot_report.specs.Holdings.{CountsBoth, CountsHolding, EndsHoldings, GrowsByHolding, HasTaken, IsFed, TakesHolding, cost_of, end_lines, holding_row, is_spent, rows_text, value_at};
+ghost use Rattle.lot_report.specs.Output.{HasFailed};
 ghost use Rattle.lot_report.specs.Printed.{plain_row};
 ghost use Rattle.lot_report.specs.Report.{AreSums};
 ghost use Rattle.lot_report.specs.Written.{WritesEach, WritesLine};
@@ -9,12 +10,12 @@ ghost use Rattle.lot_report.specs.Written.{WritesEach, WritesLine};
 use crate::fault::{ReportFault, RowFault};
 use crate::line::{PrintFault, print_line};
 use crate::lot::{Valuation, print_lot};
+use crate::output::CountedWrite;
 use crate::totals::Totals;
 use lot_base::Commodity;
 use lot_book::{Holding, LotKey};
 use lot_num::{Rate, Units, Wide, weight};
 use std::alloc::Global;
-use std::io::Write;
 
 /// A row of the report of what is held: what one position holds, and the price that it is valued at. The valuation of plain
 /// units isn't looked at.
@@ -49,10 +50,16 @@ impl Holdings {
     /// Returns `Range` where it takes the total of the costs or that of the values out of the range of weights, and `Memory`
     /// when out of memory: nothing of the row is written then. Returns `Write` where the writer fails: a prefix of the line is
     /// written, but not all of it. Returns `Spent` after such a fault, and writes nothing.
-    pub fn row<W: Write>(&mut self, row: &ValuedHolding, writer: &mut W) -> Result<(), RowFault>
+    pub fn row<W: CountedWrite>(
+        &mut self,
+        row: &ValuedHolding,
+        writer: &mut W,
+    ) -> Result<(), RowFault>
         ensures text { (rows : List Row) (start : Option (List ℕ)) → IsFed rows self.old
             → Appends start (W.contents writer.old) (rows_text rows)
             → GrowsByHolding rows row.now self.new start (W.contents writer.new) result }
+        ensures cause { IsErrOf result (RowFault.Report ReportFault.Write)
+            → HasFailed (W.calls writer.new) }
         ensures spent { IsErrOf result RowFault.Spent ↔ IsTrue (is_spent self.old) }
         ensures after { IsErr result ↔ IsTrue (is_spent self.new) }
     {
@@ -69,10 +76,12 @@ impl Holdings {
     ///
     /// Returns `Memory` when out of memory: whole lines are written, but not all. Returns `Write` where the writer fails: a
     /// prefix of the lines is written, but not all of them. Returns `Spent` after a fault of `row`, and writes nothing.
-    pub fn end<W: Write>(self, writer: &mut W) -> Result<(), RowFault>
+    pub fn end<W: CountedWrite>(self, writer: &mut W) -> Result<(), RowFault>
         ensures text { (rows : List Row) (start : Option (List ℕ)) → IsFed rows self
             → Appends start (W.contents writer.old) (rows_text rows)
             → EndsHoldings rows start (W.contents writer.new) result }
+        ensures cause { IsErrOf result (RowFault.Report ReportFault.Write)
+            → HasFailed (W.calls writer.new) }
         ensures spent { IsErrOf result RowFault.Spent ↔ IsTrue (is_spent self) }
     {
         let Some(progress) = &self.progress else {
@@ -108,9 +117,14 @@ impl Progress {
     }
 
     /// Takes and writes one row.
-    fn row<W: Write>(&mut self, row: &ValuedHolding, writer: &mut W) -> Result<(), ReportFault>
-        ensures { (rows : List Row) → HasTaken rows self.old
+    fn row<W: CountedWrite>(
+        &mut self,
+        row: &ValuedHolding,
+        writer: &mut W,
+    ) -> Result<(), ReportFault>
+        ensures takes { (rows : List Row) → HasTaken rows self.old
             → TakesHolding rows row.now self.new (W.contents writer.old) (W.contents writer.new) result }
+        ensures cause { IsErrOf result ReportFault.Write → HasFailed (W.calls writer.new) }
     {
         self.count(row)?;
         print_row(self.alloc, writer, row)?;
@@ -119,7 +133,8 @@ impl Progress {
 
     /// Adds what one more row costs, and what it is worth; plain units have neither.
     fn count(&mut self, row: &ValuedHolding) -> Result<(), ReportFault>
-        ensures { (rows : List Row) → HasTaken rows self.old → CountsHolding rows row.now self.new result }
+        ensures counts { (rows : List Row) → HasTaken rows self.old → CountsHolding rows row.now self.new result }
+        ensures cause { IfErr result (λ fault. fault ≢ ReportFault.Write) }
     {
         self.is_empty = false;
         match &row.holding.lot {
@@ -139,6 +154,7 @@ impl Progress {
             → AreSums values self.old.values.sums.entries
             → CountsBoth costs values (cost_of (Some lot.now) units) (value_at price lot.now units) self.new.costs self.new.values result }
         ensures rest { self.new.is_empty ≡ self.old.is_empty }
+        ensures cause { IfErr result (λ fault. fault ≢ ReportFault.Write) }
     {
         let cost = weight(units, lot.number);
         match price {
@@ -153,6 +169,7 @@ impl Progress {
             → AreSums values self.old.values.sums.entries
             → CountsBoth costs values ((currency.now, cost) ∷ []) ((currency.now, value) ∷ []) self.new.costs self.new.values result }
         ensures rest { self.new.is_empty ≡ self.old.is_empty }
+        ensures cause { IfErr result (λ fault. fault ≢ ReportFault.Write) }
     {
         let Some(cost) = self.costs.sum_with(currency, cost) else {
             return Err(ReportFault::Range);
@@ -165,9 +182,10 @@ impl Progress {
     }
 
     /// Writes what stands behind the rows.
-    fn end<W: Write>(&self, writer: &mut W) -> Result<(), PrintFault>
-        ensures { WritesEach (λ text. text) (end_lines self.now.is_empty self.now.costs.sums.entries self.now.values.sums.entries)
+    fn end<W: CountedWrite>(&self, writer: &mut W) -> Result<(), PrintFault>
+        ensures lines { WritesEach (λ text. text) (end_lines self.now.is_empty self.now.costs.sums.entries self.now.values.sums.entries)
             (W.contents writer.old) (W.contents writer.new) result }
+        ensures cause { IsErrOf result PrintFault.Write → HasFailed (W.calls writer.new) }
     {
         if self.is_empty {
             return print_line(writer, "nothing held");
@@ -177,8 +195,13 @@ impl Progress {
     }
 }
 
-fn print_row<W: Write>(alloc: Global, writer: &mut W, row: &ValuedHolding) -> Result<(), PrintFault>
-    ensures { WritesLine (W.contents writer.old) (W.contents writer.new) result (holding_row row.now) }
+fn print_row<W: CountedWrite>(
+    alloc: Global,
+    writer: &mut W,
+    row: &ValuedHolding,
+) -> Result<(), PrintFault>
+    ensures line { WritesLine (W.contents writer.old) (W.contents writer.new) result (holding_row row.now) }
+    ensures cause { IsErrOf result PrintFault.Write → HasFailed (W.calls writer.new) }
 {
     let holding = &row.holding;
     match &holding.lot {
@@ -195,10 +218,15 @@ fn print_row<W: Write>(alloc: Global, writer: &mut W, row: &ValuedHolding) -> Re
     }
 }
 
-#[tactic(auto, using(crate::proofs::PrintLemmas::nothing_written))]
-fn print_plain<W: Write>(alloc: Global, writer: &mut W, holding: &Holding) -> Result<(), PrintFault>
-    ensures { WritesLine (W.contents writer.old) (W.contents writer.new) result
+#[tactic(auto, using(crate::proofs::PrintLemmas::nothing_written, crate::proofs::OutputLemmas::not_of_writer))]
+fn print_plain<W: CountedWrite>(
+    alloc: Global,
+    writer: &mut W,
+    holding: &Holding,
+) -> Result<(), PrintFault>
+    ensures line { WritesLine (W.contents writer.old) (W.contents writer.new) result
         (plain_row holding.now.account holding.now.commodity holding.now.units) }
+    ensures cause { IsErrOf result PrintFault.Write → HasFailed (W.calls writer.new) }
 {
     let account = &holding.account;
     let units = holding.units.text_money(alloc)?;

@@ -1,13 +1,14 @@
-ghost use Rattle.std.specs.Prelude.{◌≡◌, ◌∷◌, ◌++◌, [], ◌↔◌, List, Option, IfErr, IsErr, IsErrOf, IsFalse, IsTrue, ℕ};
+ghost use Rattle.std.specs.Prelude.{◌≡◌, ◌∷◌, ◌++◌, [], ◌↔◌, List, Option, IfErr, IsErr, IsErrOf, IsFalse, IsTrue, OnErr, ℕ};
 ghost use Rattle.std.specs.Io.KnownBytes.{Appends};
 ghost use Rattle.lot_report.specs.declared.journal.Entry.{Entry as EntryValue};
 ghost use Rattle.lot_report.specs.Journal.{GrowsByEntry, entry_text, is_spent, journal_text};
+ghost use Rattle.lot_report.specs.Output.{HasFailed};
 ghost use Rattle.lot_report.specs.Written.{WritesLine};
 
 use crate::line::{PrintFault, put_all};
+use crate::output::CountedWrite;
 use itoa::Buffer;
 use lot_command::Key;
-use std::io::Write;
 use thiserror::Error;
 
 /// An accepted command as the journal lists it: its number, its key, and its canonical text.
@@ -52,9 +53,14 @@ impl Journal {
     ///
     /// Returns `Write` where the writer fails: a prefix of the entry's text is written, but not all of it. Returns `Spent`
     /// where the writer failed before, and writes nothing.
-    pub fn row<W: Write>(&mut self, entry: &Entry, writer: &mut W) -> Result<(), JournalFault>
+    pub fn row<W: CountedWrite>(
+        &mut self,
+        entry: &Entry,
+        writer: &mut W,
+    ) -> Result<(), JournalFault>
         ensures text { (entries : List EntryValue) (start : Option (List ℕ)) → Appends start (W.contents writer.old) (journal_text entries)
             → GrowsByEntry entries entry.now start (W.contents writer.new) result }
+        ensures cause { IsErrOf result JournalFault.Write → HasFailed (W.calls writer.new) }
         ensures spent { IsErrOf result JournalFault.Spent ↔ IsTrue (is_spent self.old) }
         ensures after { IsErr result ↔ IsTrue (is_spent self.new) }
     {
@@ -73,7 +79,7 @@ impl Journal {
     /// Ends the journal, behind whose last entry nothing stands.
     ///
     /// Returns `Spent` where the writer failed before.
-    pub fn end<W: Write>(self, _writer: &mut W) -> Result<(), JournalFault>
+    pub fn end<W: CountedWrite>(self, _writer: &mut W) -> Result<(), JournalFault>
         ensures text { _writer.new ≡ _writer.old }
         ensures spent { IsErr result ↔ IsTrue (is_spent self) }
         ensures fault { IfErr result (λ fault. fault ≡ JournalFault.Spent) }
@@ -88,9 +94,10 @@ impl Journal {
 
 /// Writes the text of an entry, through no buffer: the canonical text of a command may be longer than any line that is put
 /// together. The only fault is that of the writer.
-fn print_entry<W: Write>(writer: &mut W, entry: &Entry) -> Result<(), PrintFault>
+fn print_entry<W: CountedWrite>(writer: &mut W, entry: &Entry) -> Result<(), PrintFault>
     ensures bytes { WritesLine (W.contents writer.old) (W.contents writer.new) result (entry_text entry.now) }
     ensures fault { IfErr result (λ fault. fault ≡ PrintFault.Write) }
+    ensures cause { OnErr result (HasFailed (W.calls writer.new)) }
 {
     let mut digits = Buffer::new();
     let texts = [

@@ -8,6 +8,7 @@
 //! - `totals`: sums of amounts in each of their currencies.
 //! - `lot`: the line of units in a lot, and their value.
 //! - `line`: how a line reaches the writer.
+//! - `output`: writers of which it is known what their calls came to (`CountedWrite`, `CountedWriter`).
 //! - `laws`: of the sums of reports.
 #![tactic(auto)]
 
@@ -18,6 +19,7 @@ mod journal;
 pub mod laws;
 mod line;
 mod lot;
+mod output;
 mod reply;
 mod totals;
 
@@ -27,4 +29,5 @@ pub use holdings::{Holdings, ValuedHolding};
 pub use journal::{Entry, Journal, JournalFault};
 pub use line::{PrintFault, print_line, print_texts};
 pub use lot::Valuation;
+pub use output::{CountedWrite, CountedWriter};
 pub use reply::print_reply;

@@ -1,11 +1,13 @@
-ghost use Rattle.std.specs.Prelude.{◌≡◌, ◌≤◌, length, flat_map, IfOk, IfErr, IsErrOf, IfSome};
+ghost use Rattle.std.specs.Prelude.{◌≡◌, ◌≤◌, length, flat_map, IfOk, IfErr, IsErrOf, IfSome, OnErr};
 ghost use Rattle.std.specs.Fmt.{with_newline};
+ghost use Rattle.lot_report.specs.Output.{HasFailed};
 ghost use Rattle.lot_report.specs.Written.{IsTaken, WritesLine, longest_written};
 
+use crate::output::CountedWrite;
 use arrayvec::ArrayString;
 use std::alloc::AllocError;
 use std::fmt::{Display, Write as _};
-use std::io::{self, ErrorKind, Write};
+use std::io::{self, ErrorKind};
 use thiserror::Error;
 
 /// Why a line wasn't written, or not all of it.
@@ -38,8 +40,11 @@ const LONGEST: usize = 512;
 ///
 /// Returns `Memory` where the line has more than `LONGEST` bytes (no contract says when): the writer is as it was.
 /// Returns `Write` where the writer fails, or takes nothing: a prefix of the line is written, but not all of it. A write
-/// that was interrupted is tried again. That the writer is called so is shown by tests.
-pub fn print_line<W: Write, T: Display + Drop>(writer: &mut W, text: T) -> Result<(), PrintFault>
+/// that was interrupted is tried again, up to `u64::MAX` calls.
+pub fn print_line<W: CountedWrite, T: Display + Drop>(
+    writer: &mut W,
+    text: T,
+) -> Result<(), PrintFault>
     ensures bytes { IfSome (with_newline (T.output text))
         (WritesLine (W.contents writer.old) (W.contents writer.new) result) }
     // Out of memory, the writer is as it was.
@@ -47,6 +52,7 @@ pub fn print_line<W: Write, T: Display + Drop>(writer: &mut W, text: T) -> Resul
     // A fault of the writer comes only with a line that there was room for.
     ensures write { IsErrOf result PrintFault.Write
         → IfSome (with_newline (T.output text)) (λ line. length line ≤ longest_written) }
+    ensures cause { IsErrOf result PrintFault.Write → HasFailed (W.calls writer.new) }
 {
     let line = line_of(text)?;
     put(writer, line.as_str().as_bytes())
@@ -68,10 +74,11 @@ fn line_of<T: Display + Drop>(text: T) -> Result<ArrayString<LONGEST>, PrintFaul
 /// Writes a line, given as the texts that it consists of, its line end among them. It takes no memory: the only fault is that of
 /// the writer, after which a prefix of the line is written, but not all of it. A line of at most `LONGEST` bytes goes to the
 /// writer in one piece.
-pub fn print_texts<W: Write>(writer: &mut W, texts: &[&str]) -> Result<(), PrintFault>
+pub fn print_texts<W: CountedWrite>(writer: &mut W, texts: &[&str]) -> Result<(), PrintFault>
     ensures bytes { WritesLine (W.contents writer.old) (W.contents writer.new) result
         (flat_map (λ text. text.now) texts.now) }
     ensures fault { IfErr result (λ fault. fault ≡ PrintFault.Write) }
+    ensures cause { OnErr result (HasFailed (W.calls writer.new)) }
 {
     match joined(texts) {
         Some(line) => put(writer, line.as_str().as_bytes()),
@@ -94,9 +101,10 @@ fn joined(texts: &[&str]) -> Option<ArrayString<LONGEST>>
 
 /// Writes texts one behind another. It takes no memory: the only fault is that of the writer, after which a prefix of them is
 /// written, but not all.
-pub(crate) fn put_all<W: Write>(writer: &mut W, texts: &[&str]) -> Result<(), PrintFault>
+pub(crate) fn put_all<W: CountedWrite>(writer: &mut W, texts: &[&str]) -> Result<(), PrintFault>
     ensures bytes { WritesLine (W.contents writer.old) (W.contents writer.new) result (flat_map (λ text. text.now) texts.now) }
     ensures fault { IfErr result (λ fault. fault ≡ PrintFault.Write) }
+    ensures cause { OnErr result (HasFailed (W.calls writer.new)) }
 {
     for text in texts {
         put(writer, text.as_bytes())?;
@@ -105,16 +113,17 @@ pub(crate) fn put_all<W: Write>(writer: &mut W, texts: &[&str]) -> Result<(), Pr
 }
 
 /// Writes bytes. After a fault a prefix of them is written, but not all.
-fn put<W: Write>(writer: &mut W, bytes: &[u8]) -> Result<(), PrintFault>
+fn put<W: CountedWrite>(writer: &mut W, bytes: &[u8]) -> Result<(), PrintFault>
     ensures bytes { WritesLine (W.contents writer.old) (W.contents writer.new) result bytes.now }
     ensures fault { IfErr result (λ fault. fault ≡ PrintFault.Write) }
+    ensures cause { OnErr result (HasFailed (W.calls writer.new)) }
 {
     let mut rest = bytes;
-    for _ in 0..u64::MAX {
+    for _made in 0..u64::MAX {
         if rest.is_empty() {
-            break;
+            return Ok(());
         }
-        let count = taken(writer.write(rest))?;
+        let count = taken(writer.write_counted(rest))?;
         rest = &rest[count..];
     }
     if rest.is_empty() {

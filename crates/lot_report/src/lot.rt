@@ -1,14 +1,15 @@
-ghost use Rattle.std.specs.Prelude.{◌≡◌};
+ghost use Rattle.std.specs.Prelude.{◌≡◌, IsErrOf};
+ghost use Rattle.lot_report.specs.Output.{HasFailed};
 ghost use Rattle.lot_report.specs.Printed.{lot_row, price_of};
 ghost use Rattle.lot_report.specs.Written.{WritesLine};
 
 use crate::line::{PrintFault, print_line};
+use crate::output::CountedWrite;
 use lot_base::{Commodity, Label};
 use lot_book::LotKey;
 use lot_num::{Rate, Units, weight};
 use std::alloc::Global;
 use std::fmt;
-use std::io::Write;
 
 /// At which price a lot is valued.
 #[derive(Clone, Copy, Debug, PartialEq, Eq)]
@@ -35,8 +36,8 @@ impl Valuation {
 
 /// Writes the line of units in a lot: what stands at its front, the units, their commodity, the lot in braces, and its value
 /// where one is asked for.
-#[tactic(auto, using(crate::proofs::PrintLemmas::nothing_written))]
-pub(crate) fn print_lot<'a, W: Write>(
+#[tactic(auto, using(crate::proofs::PrintLemmas::nothing_written, crate::proofs::OutputLemmas::not_of_writer))]
+pub(crate) fn print_lot<'a, W: CountedWrite>(
     alloc: Global,
     writer: &mut W,
     front: &'a str,
@@ -45,7 +46,8 @@ pub(crate) fn print_lot<'a, W: Write>(
     lot: &'a LotKey,
     valuation: Valuation,
 ) -> Result<(), PrintFault>
-    ensures { WritesLine (W.contents writer.old) (W.contents writer.new) result (lot_row front.now commodity.now lot.now units valuation) }
+    ensures line { WritesLine (W.contents writer.old) (W.contents writer.new) result (lot_row front.now commodity.now lot.now units valuation) }
+    ensures cause { IsErrOf result PrintFault.Write → HasFailed (W.calls writer.new) }
 {
     let text = units.text(alloc)?;
     let number = lot.number.text(alloc)?;

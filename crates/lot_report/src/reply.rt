@@ -1,23 +1,25 @@
-ghost use Rattle.std.specs.Prelude.{◌≡◌, IfErr};
+ghost use Rattle.std.specs.Prelude.{◌≡◌, IfErr, OnErr};
+ghost use Rattle.lot_report.specs.Output.{HasFailed};
 ghost use Rattle.lot_report.specs.Printed.{argument_text, name_text, refused_line, reply, shown};
 ghost use Rattle.lot_report.specs.Written.{WritesLine};
 
 use crate::line::{PrintFault, print_texts};
+use crate::output::CountedWrite;
 use itoa::Buffer;
 use lot_base::Commodity;
 use lot_book::{Refusal, Verdict};
-use std::io::Write;
 
 /// Writes the reply to the command of that number: that it was accepted, that it stands already, or why it was refused.
 ///
 /// It takes no memory. The only fault is that of the writer, after which a prefix of the line is written, but not all of it.
-pub fn print_reply<W: Write>(
+pub fn print_reply<W: CountedWrite>(
     writer: &mut W,
     number: usize,
     verdict: &Verdict,
 ) -> Result<(), PrintFault>
     ensures bytes { WritesLine (W.contents writer.old) (W.contents writer.new) result (reply number verdict.now) }
     ensures fault { IfErr result (λ fault. fault ≡ PrintFault.Write) }
+    ensures cause { OnErr result (HasFailed (W.calls writer.new)) }
 {
     let mut digits = Buffer::new();
     match verdict {
@@ -28,7 +30,7 @@ pub fn print_reply<W: Write>(
 }
 
 /// Writes why the command of that number was refused.
-fn print_refused<W: Write>(
+fn print_refused<W: CountedWrite>(
     writer: &mut W,
     number: usize,
     refusal: &Refusal,
@@ -36,6 +38,7 @@ fn print_refused<W: Write>(
     ensures bytes { WritesLine (W.contents writer.old) (W.contents writer.new) result
         (refused_line number refusal.now) }
     ensures fault { IfErr result (λ fault. fault ≡ PrintFault.Write) }
+    ensures cause { OnErr result (HasFailed (W.calls writer.new)) }
 {
     let mut digits = Buffer::new();
     let number = digits.format(number);

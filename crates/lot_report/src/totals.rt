@@ -1,17 +1,18 @@
 ghost use Rattle.std.specs.Prelude.{◌≡◌, ◌≢◌, List, [], ◌∷◌, ◌++◌, ℕ, ℤ, ◌+ℤ◌, SomeIff, OnOk, IfErr, IsErrOf};
 ghost use Rattle.lot_num.specs.Amount.{IsWide};
 ghost use Rattle.lot_book.specs.Currencies.{sum_in};
+ghost use Rattle.lot_report.specs.Output.{HasFailed};
 ghost use Rattle.lot_report.specs.Printed.{total_of};
 ghost use Rattle.lot_report.specs.Report.{AreSums};
 ghost use Rattle.lot_report.specs.Written.{WritesEach, WritesLine};
 
 use crate::fault::ReportFault;
 use crate::line::{PrintFault, print_line};
+use crate::output::CountedWrite;
 use lot_base::Commodity;
 use lot_num::Wide;
 use std::alloc::Global;
 use std::collections::BTreeMap;
-use std::io::Write;
 
 /// The sums of amounts in each of their currencies.
 #[derive(Drop)]
@@ -68,13 +69,14 @@ impl Totals {
     }
 
     /// Writes a line for each sum, by the bytes of the currencies, which says of what it is the total.
-    pub fn print<W: Write>(
+    pub fn print<W: CountedWrite>(
         &self,
         alloc: Global,
         writer: &mut W,
         what: &str,
     ) -> Result<(), PrintFault>
-        ensures { WritesEach (λ sum. total_of what.now sum.0 sum.1) self.now.sums.entries (W.contents writer.old) (W.contents writer.new) result }
+        ensures lines { WritesEach (λ sum. total_of what.now sum.0 sum.1) self.now.sums.entries (W.contents writer.old) (W.contents writer.new) result }
+        ensures cause { IsErrOf result PrintFault.Write → HasFailed (W.calls writer.new) }
     {
         for (currency, sum) in &self.sums {
             print_total(alloc, writer, what, currency, *sum)?;
@@ -83,14 +85,16 @@ impl Totals {
     }
 }
 
-fn print_total<W: Write>(
+#[tactic(auto, using(crate::proofs::OutputLemmas::not_of_writer))]
+fn print_total<W: CountedWrite>(
     alloc: Global,
     writer: &mut W,
     what: &str,
     currency: &Commodity,
     total: Wide,
 ) -> Result<(), PrintFault>
-    ensures { WritesLine (W.contents writer.old) (W.contents writer.new) result (total_of what.now currency.now total) }
+    ensures line { WritesLine (W.contents writer.old) (W.contents writer.new) result (total_of what.now currency.now total) }
+    ensures cause { IsErrOf result PrintFault.Write → HasFailed (W.calls writer.new) }
 {
     let total = total.text_money(alloc)?;
     print_line(writer, format_args!("total {what} {total} {currency}"))

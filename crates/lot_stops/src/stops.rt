@@ -1,5 +1,5 @@
-//! A stop at each call of the log, and of the database's file, while a ledger is sent to a book; and, of
-//! the smallest, a second one at each call while what has no reply is sent again.
+//! A stop at each call of the log, and of the database's file, while a ledger is sent to a book; and a second one while what has no
+//! reply is sent again: of the smallest ledger at each call, of the others on a grid of the pairs of calls.
 //!
 //! After each stop the files are opened again, once with all that was written and once with what was synced alone. The book is
 //! then that of the commands that were replied to, or has one more whose commit was in doubt; and sent again from the first
@@ -10,6 +10,16 @@ use crate::ledgers::{DOUBT, EVERY_KIND, Ledger, PRICES, SALE};
 use crate::program::reports;
 use crate::sent::{Left, Whole, all_written, assert_text, sent, uninterrupted};
 use std::process::Abort;
+
+/// Which calls of a file it stops at: one in so many, from that one on.
+#[derive(Clone, Copy)]
+struct Every {
+    first: u64,
+    step: u64,
+}
+
+/// It stops at each of them.
+const EACH: Every = Every { first: 0, step: 1 };
 
 /// What a run that was sent the rest of a ledger told.
 #[derive(Clone, Copy)]
@@ -157,13 +167,14 @@ fn assert_stop(
     remains.is_stopped
 }
 
-/// Has each file stop at each of its calls while the rest of a ledger is sent, up to the first run without a stop. Returns all that is
-/// left, each once.
-fn stops(rt: &(impl Abort + AllocGlobal), whole: &Whole<'_>, from: &Left) -> Vec<Left> {
+/// Has each file stop at those of its calls while the rest of a ledger is sent, up to the first run without a stop. Returns all that
+/// is left, each once.
+fn stops(rt: &(impl Abort + AllocGlobal), whole: &Whole<'_>, from: &Left, at: Every) -> Vec<Left> {
     let mut met = Vec::new(rt.alloc());
     for side in SIDES {
         let mut is_stopped = true;
-        for calls in 0..CALLS {
+        for index in 0..CALLS {
+            let calls = at.step.saturating_mul(index).saturating_add(at.first);
             is_stopped = assert_stop(rt, whole, from, Stop { side, calls }, &mut met);
             if !is_stopped {
                 break;
@@ -174,12 +185,30 @@ fn stops(rt: &(impl Abort + AllocGlobal), whole: &Whole<'_>, from: &Left) -> Vec
     met
 }
 
+/// Has each file stop twice: at one in `firsts` of its calls while a ledger is sent, and at one in `seconds` of them while what has
+/// no reply is sent again. From one of what the first stops left to the next, the second stops begin one call later.
+fn stops_on_a_grid(rt: &(impl Abort + AllocGlobal), ledger: &Ledger, firsts: u64, seconds: u64) {
+    let whole = uninterrupted(rt, ledger);
+    let at = Every {
+        first: 0,
+        step: firsts,
+    };
+    let lefts = stops(rt, &whole, &whole.start, at);
+    for (index, left) in lefts.iter().enumerate() {
+        let again_at = Every {
+            first: (index as u64).checked_rem(seconds).unwrap_or(0),
+            step: seconds,
+        };
+        stops(rt, &whole, left, again_at);
+    }
+}
+
 #[test]
 fn a_stop_at_each_call(rt: HostRuntime) {
     let rt = &rt;
     for ledger in [&DOUBT, &PRICES, &SALE, &EVERY_KIND] {
         let whole = uninterrupted(rt, ledger);
-        stops(rt, &whole, &whole.start);
+        stops(rt, &whole, &whole.start, EACH);
     }
 }
 
@@ -188,7 +217,24 @@ fn a_stop_at_each_call(rt: HostRuntime) {
 fn a_second_stop_at_each_call(rt: HostRuntime) {
     let rt = &rt;
     let whole = uninterrupted(rt, &DOUBT);
-    for left in &stops(rt, &whole, &whole.start) {
-        stops(rt, &whole, left);
+    for left in &stops(rt, &whole, &whole.start, EACH) {
+        stops(rt, &whole, left, EACH);
     }
+}
+
+// The two steps of a ledger share no factor, so that the pairs fall on different calls of a commit.
+
+#[test]
+fn second_stops_on_a_grid_of_prices(rt: HostRuntime) {
+    stops_on_a_grid(&rt, &PRICES, 2, 3);
+}
+
+#[test]
+fn second_stops_on_a_grid_of_a_sale(rt: HostRuntime) {
+    stops_on_a_grid(&rt, &SALE, 3, 4);
+}
+
+#[test]
+fn second_stops_on_a_grid_of_every_kind(rt: HostRuntime) {
+    stops_on_a_grid(&rt, &EVERY_KIND, 4, 7);
 }

@@ -246,6 +246,18 @@ module _ (law : KeepsBook) (Kept Looked : List Entry → Type 0) (key : Key) (co
 
 -- ---- no row is written
 
+-- it comes to a fault before that
+pub fails_unwritten : (Kept KeptThen : List Entry → Type 0) (key : Key) (command : Command) (old new : State) (fault : StoreFault) → ¬ (fault ≡ Damaged)
+    → (HasCleanDisk new → IsUnchanged old new) → Survives old new (λ _. ⊥) → AppliesWith Kept KeptThen key command old new (Err (Failed fault))
+fails_unwritten Kept KeptThen key command old new fault apart same crash = record {
+  judged = λ clean entries there. tt;
+  settled = λ clean. tt;
+  rest = λ clean.
+      (record { was_open = λ _. (same clean).0.was_open; committed = λ _. (same clean).0.committed_is }, λ opened. (same clean).0.now_is);
+  damaged = λ clean is entries there. let told : fault ≡ Damaged = cc in apart told;
+  crash = leaves_none old new (MayAdd (StandsWith Kept old) key command (Err (Failed fault))) crash;
+}
+
 -- a number of what is accepted doesn't fit its column
 pub refused_number : (Kept Looked : List Entry → Type 0) (key : Key) (command : Command) (known : Facts) (change : Change) (old mid : State) → Comes known command (decided.Accept change)
     → LooksOn Kept Looked known key command old → ¬ AreNumbered change

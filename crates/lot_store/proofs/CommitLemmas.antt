@@ -12,7 +12,7 @@ use Rattle.lot_rows.specs.Tables.{Has, Tables}
 use Rattle.lot_table.specs.Statement.{DiskFailed}
 use Rattle.lot_table.specs.declared.fault.Fault as table
 use Rattle.lot_store.specs.Apply.{store_fault_of}
-use Rattle.lot_store.specs.declared.fault.StoreFault.TheVariants.{Device}
+use Rattle.lot_store.specs.declared.fault.StoreFault.TheVariants.{Damaged, Device}
 
 -- a commit leaves what could be left before, or trees of which P holds
 pub commit_leaves : {S : Type 0} (g : Ghosts S) (old begun last end : Held S) (P : Trees → Type 0) → begun ≡ record old { in_transaction = true }
@@ -33,6 +33,11 @@ pub of_device : (fault : table.Fault) → store_fault_of fault ≡ Device → fa
 of_device table.TheVariants.Device is = refl
 of_device table.TheVariants.Damaged is = cc
 of_device table.TheVariants.Memory is = cc
+
+pub of_damaged : (fault : table.Fault) → store_fault_of fault ≡ Damaged → fault ≡ table.TheVariants.Damaged
+of_damaged table.TheVariants.Device is = cc
+of_damaged table.TheVariants.Damaged is = refl
+of_damaged table.TheVariants.Memory is = cc
 
 -- outside a transaction nothing is said of what the writes had made
 stops_undone : (writes : List Write) (tables : Tables) (a b : State) → b.in_transaction ≡ false → Stops writes tables a → Stops writes tables b

@@ -2,8 +2,10 @@ pub mod AdoptLemmas
 pub mod ApplyLemmas
 pub mod CommitLemmas
 pub mod CreateLemmas
+pub mod DamageLemmas
 pub mod HandedLemmas
 pub mod KeptLemmas
 pub mod RefusalLemmas
+pub mod OutputLemmas
 pub mod RunLemmas
 pub mod WalkLemmas

@@ -2,7 +2,7 @@
 use Rattle.std.proofs.Common.{◌≡◌, ◌≢◌, ◌∙◌, ◌⊎◌, inl, inr, false, ◌<◌, ◌≤◌, ◌+◌, ℕ, IfSome, IsTrue, List, [], ◌∷◌, ◌++◌, Ok, Err, Option, Result, Some, length, take, drop, get_or, add-one, append_assoc, append-nil, length-append, take-append-drop, refl, sym, ap, subst, arith}
 use Rattle.std.proofs.KnownBytes.{Appends-nil, Appends-trans}
 use Rattle.std.proofs.lemmas.Bool.{true≢false}
-use Rattle.std.proofs.Math.Seq.{take-suc}
+use Rattle.std.proofs.Math.Seq.{drop-cons, take-suc}
 use Rattle.std.specs.Io.KnownBytes.{Appends}
 use Rattle.sqlite.proofs.StateLemmas.{survives_then}
 use Rattle.sqlite.specs.Effect.{Database}
@@ -21,10 +21,11 @@ use Rattle.lot_report.specs.Printed.{replies, reply}
 use Rattle.lot_report.specs.Written.{IsPrefixOf, WritesLine}
 use Rattle.lot_report.specs.declared.line.PrintFault.{PrintFault}
 use Rattle.lot_report.specs.declared.line.PrintFault.TheVariants.{Write, Memory as Unwritten}
-use Rattle.lot_rows.specs.Tables.{layout}
+use Rattle.lot_rows.specs.Tables.{Has, Tables, layout}
 use Rattle.lot_table.specs.Book.{Holds}
 use Rattle.lot_table.specs.Statement.{DiskFailed}
 use Rattle.lot_store.specs.Apply.{AppliesWith, FailsFor, MayAdd, StandsWith, condition_after, ready_of, verdict_of}
+use Rattle.lot_store.specs.Damage.{EndsOfDamage, HeedDamage, IsOfDamage, MeetsDamage}
 use Rattle.lot_store.specs.Run.{AppendsSome, EndsBehind, FlushesLine, HasNoRoomForNext, IsConditionAfter, LeavesAfter, LeavesAtAnswer, LeavesAtFault, LeavesAtVerdict, RepliesTo, RunsSession, RunsBook, StopsWith, Writes, WritesEnd, WritesOut, answer_line, count_refused, fault_line, told}
 use Rattle.lot_store.specs.Session.{LeavesEntry, LeavesFirst, LeavesJudged, LeavesNext, LeavesStopped, Session}
 use Rattle.lot_store.specs.declared.book.Ack.{Ack}
@@ -39,6 +40,7 @@ use Rattle.lot_store.specs.declared.run.Ending.{Ending}
 use Rattle.lot_store.specs.declared.run.Ending.TheVariants.{Complete, Output, Stopped}
 use Rattle.lot_store.specs.declared.run.RunEnd.{RunEnd}
 use Rattle.lot_store.proofs.ApplyLemmas.{stands_along}
+use Rattle.lot_store.proofs.DamageLemmas.{Heeds, IsNext, heeds_all, heeds_end, heeds_next, heeds_none, of_damage_since}
 use Rattle.lot_rows.proofs.StateLemmas.{survives_same}
 
 -- ---- one line
@@ -132,6 +134,7 @@ pub record SoFar (Kept : List Entry → Type 0) (commands : List (Key × Command
   -- only a database that was shut before is shut now
   pub shut : HasCleanDisk now → now.is_open ≡ false → old.is_open ≡ false
   pub crash : Survives old now (λ trees. (entries : List Entry) → Stands old entries → LeavesFirst entries commands trees)
+  pub heeds : Heeds commands verdicts old now
 
 -- what is kept before the first is of any book
 pub so_far_none : (Kept : List Entry → Type 0) → ((entries : List Entry) → Kept entries) → (commands : List (Key × Command)) (from : ℕ) (old : State) (before : Option (List ℕ))
@@ -144,6 +147,7 @@ so_far_none Kept all commands from old before = record {
   judged = λ clean entries stands. (entries, refl, (stands, all entries), λ trees may. inr (refl, may));
   shut = λ clean is. is;
   crash = survives_same old _;
+  heeds = heeds_none commands old;
 }
 
 -- the next command is told with a verdict
@@ -242,8 +246,10 @@ run_of : (commands : List (Key × Command)) (from : ℕ) (old new : State) (befo
     → LeavesWhatStands old → Writes from verdicts answer end before written → EndsBehind (length commands) (length verdicts) answer end.ending
     → (HasCleanDisk new → (entries : List Entry) → Stands old entries
     → (book : List Entry) × (left : List (Key × Command)) × Session entries commands verdicts book left × LeavesAfter verdicts book left old new answer end.ending)
-    → Survives old new (λ trees. (entries : List Entry) → Stands old entries → LeavesFirst entries commands trees) → RunsSession commands from old new before written answer end
-run_of commands from old new before written answer end verdicts stands_so writes place session crash = record {
+    → Survives old new (λ trees. (entries : List Entry) → Stands old entries → LeavesFirst entries commands trees)
+    → (HasCleanDisk new → (tables : Tables) → Has old tables → HeedDamage tables (EndsOfDamage old new answer end.ending) commands verdicts)
+    → RunsSession commands from old new before written answer end
+run_of commands from old new before written answer end verdicts stands_so writes place session crash damage = record {
   verdicts = verdicts;
   writes = writes;
   place = place;
@@ -252,6 +258,7 @@ run_of commands from old new before written answer end verdicts stands_so writes
       let on = session clean entries stands in
       stops entries commands verdicts on.0 old new (stands_so (omega (arith, clean, crash.clean)) opened entries stands) answer end.ending on.1 on.2 on.3;
   crash = crash;
+  damage = damage;
 }
 
 -- what a command may add is the book with its entry
@@ -279,6 +286,14 @@ module _ (Kept KeptThen : List Entry → Type 0) (commands : List (Key × Comman
 
   count : number ≡ length so.verdicts + from
   count = omega (arith, numbered, so.counted)
+
+  at_next : IsNext commands so.verdicts next (drop (index + 1) commands)
+  at_next =
+      let step : drop index commands ≡ get_or commands index other ∷ drop (index + 1) commands = rw add-one (drop-cons commands index other within) in
+      ap (λ n. drop n commands) (sym so.counted) ∙ step ∙ ap (λ (k : Key × Command). k ∷ drop (index + 1) commands) (sym is_next)
+
+  early : (answer : Result Ack ApplyFault) → AppliesWith Kept KeptThen next.0 next.1 now new answer → HasCleanDisk new → HasCleanDisk now
+  early answer applies clean = omega (arith, clean, applies.crash.clean)
 
   -- a crash may leave the first commands, with the next one too
   first : (answer : Result Ack ApplyFault) → AppliesWith Kept KeptThen next.0 next.1 now new answer → Survives old new (λ trees. (entries : List Entry) → Stands old entries → LeavesFirst entries commands trees)
@@ -312,7 +327,7 @@ module _ (Kept KeptThen : List Entry → Type 0) (commands : List (Key × Comman
   pub so_far_next : (verdict : Verdict) (condition : Condition) → RepliesTo Kept KeptThen next.0 next.1 number now new mid written condition (Ok verdict)
       → (IsTrue new.is_open → (trees : Trees) → new.may_leave trees → trees ≡ new.committed.trees)
       → SoFar KeptThen commands from (index + 1) (refused + count_refused (verdict ∷ [])) old new before written
-  so_far_next verdict condition (answer, applies, is_told, printed) safe = record {
+  so_far_next verdict condition (answer, applies, is_told, printed, meets) safe = record {
     verdicts = so.verdicts ++ verdict ∷ [];
     counted = ap (λ n. n + 1) so.counted ∙ sym (length-append so.verdicts (verdict ∷ []));
     refusals = ap (λ n. n + count_refused (verdict ∷ [])) so.refusals ∙ sym (refused_more so.verdicts verdict);
@@ -330,6 +345,7 @@ module _ (Kept KeptThen : List Entry → Type 0) (commands : List (Key × Comman
         let set = subst (λ o. IfSome o (λ v. IsTrue new.is_open × (new.committed ≡ new.now))) (verdict_told answer verdict is_told) (applies.settled clean) in
         absurd (true≢false (sym set.0 ∙ is));
     crash = first answer applies;
+    heeds = heeds_next commands so.verdicts old now new so.heeds next (drop (index + 1) commands) at_next (early answer applies) answer meets verdict is_told applies.rest;
   }
 
   -- ---- the run ends at the command
@@ -407,18 +423,27 @@ module _ (Kept KeptThen : List Entry → Type 0) (commands : List (Key × Comman
   here : length so.verdicts < length commands
   here = omega (arith, within, so.counted)
 
+  -- an answer to a command with a damaged text under its key ends it so
+  heeds_answer : (answer : Result Ack ApplyFault) (ending : Ending) → AppliesWith Kept KeptThen next.0 next.1 now new answer → MeetsDamage next.0 now new answer
+      → (IsOfDamage old new answer → EndsOfDamage old new answer ending) → HasCleanDisk new → (tables : Tables) → Has old tables
+      → HeedDamage tables (EndsOfDamage old new answer ending) commands so.verdicts
+  heeds_answer answer ending applies meets ends clean =
+      heeds_end commands so.verdicts old now new so.heeds next (drop (index + 1) commands) at_next (early answer applies) answer meets
+      (EndsOfDamage old new answer ending) (λ is. ends (of_damage_since old now new (failed_since answer applies clean) answer is)) clean
+
   -- what was written up to the end, and what stands then
   ends_so : (answer : Result Ack ApplyFault) (ending : Ending) → LeavesWhatStands old → AppliesWith Kept KeptThen next.0 next.1 now new answer → WritesEnd from so.verdicts answer ending before written
       → EndsBehind (length commands) (length so.verdicts) answer ending
       → (HasCleanDisk new → (book : List Entry) → StandsWith Kept now book → ((trees : Trees) → now.may_leave trees → LeavesJudged old.may_leave so.verdicts book trees)
       → LeavesAfter so.verdicts book (next ∷ drop (index + 1) commands) old new answer ending)
+      → (HasCleanDisk new → (tables : Tables) → Has old tables → HeedDamage tables (EndsOfDamage old new answer ending) commands so.verdicts)
       → RunsSession commands from old new before written answer (record { replied = index; refused = refused; ending = ending })
-  ends_so answer ending stands_so applies lines place leaves =
+  ends_so answer ending stands_so applies lines place leaves heeds =
       run_of commands from old new before written answer (record { replied = index; refused = refused; ending = ending }) so.verdicts stands_so
       (record { replied = so.counted; refused = so.refusals; lines = lines }) place
       (λ clean entries stands.
       let was = so.judged (omega (arith, clean, applies.crash.clean)) entries stands in
-      (was.0, next ∷ drop (index + 1) commands, session entries was.0 was.1, leaves clean was.0 was.2 was.3)) (first answer applies)
+      (was.0, next ∷ drop (index + 1) commands, session entries was.0 was.1, leaves clean was.0 was.2 was.3)) (first answer applies) heeds
 
   pub run_ends : (ending : Ending) (was condition : Condition) → RepliesTo Kept KeptThen next.0 next.1 number now new mid written condition (Err ending)
       → (IsTrue new.is_open → (trees : Trees) → new.may_leave trees → trees ≡ new.committed.trees) → LeavesWhatStands old
@@ -427,7 +452,8 @@ module _ (Kept KeptThen : List Entry → Type 0) (commands : List (Key × Comman
     answer,
     ends_so answer (Stopped fault) stands_so applies
         (subst (λ n. Appends before written (replies from so.verdicts ++ fault_line n fault)) count (Appends-trans before mid written _ _ so.lines printed)) (inl here)
-        (at_fault fault (subst (AppliesWith Kept KeptThen next.0 next.1 now new) is applies) (subst (FailsFor Kept next.0 next.1 now new) is fails) (λ spent. usable (is ∙ ap (λ (f : StoreFault). Err (apply.Failed f)) spent))),
+        (at_fault fault (subst (AppliesWith Kept KeptThen next.0 next.1 now new) is applies) (subst (FailsFor Kept next.0 next.1 now new) is fails) (λ spent. usable (is ∙ ap (λ (f : StoreFault). Err (apply.Failed f)) spent)))
+        (heeds_answer answer (Stopped fault) applies fails.damage (subst (IsOfDamage old new) is)),
     λ ready. usable,
     after ∙ ap condition_after is,
   )
@@ -435,7 +461,7 @@ module _ (Kept KeptThen : List Entry → Type 0) (commands : List (Key × Comman
     answer,
     ends_so answer Output stands_so applies
         (part.0, subst (λ n. IsPrefixOf part.0 (answer_line n answer)) count part.1, Appends-trans before mid written _ _ so.lines part.2) (inl here)
-        (at_answer answer applies fails usable safe),
+        (at_answer answer applies fails usable safe) (heeds_answer answer Output applies fails.damage (λ is. is)),
     λ ready. usable,
     after,
   )
@@ -459,7 +485,7 @@ run_completes Kept commands from refused old new before written was condition so
         [],
         record { done = commands; split = sym (append-nil commands); judged = subst (λ cs. JudgesAll entries cs so.verdicts was.0) (take_all commands) was.1 },
         (refl, was.2.0, was.3),
-      )) so.crash,
+      )) so.crash (heeds_all commands so.verdicts old new so.heeds (sym so.counted) (EndsOfDamage old new (Ok ack.Accepted) Complete)),
   λ usable is. absurd cc,
   ready,
 )
@@ -471,7 +497,8 @@ run_needs_reopening commands from old before written ending condition stops_so s
   Err (apply.Failed NeedsReopen),
   run_of commands from old old before written (Err (apply.Failed NeedsReopen)) (record { replied = 0; refused = 0; ending = ending }) [] stands_so
       (record { replied = refl; refused = refl; lines = lines stops_so }) (place stops_so)
-      (λ clean entries stands. (entries, commands, record { done = []; split = refl; judged = refl }, leaves stops_so entries stands)) (survives_same old _),
+      (λ clean entries stands. (entries, commands, record { done = []; split = refl; judged = refl }, leaves stops_so entries stands)) (survives_same old _)
+      (λ clean tables has. heeds stops_so tables commands),
   λ ready. let both = sym ready ∙ spent in absurd cc,
   after stops_so,
 )
@@ -490,6 +517,13 @@ run_needs_reopening commands from old before written ending condition stops_so s
     leaves : StopsWith from NeedsReopen before written ending → (entries : List Entry) → Stands old entries → LeavesAfter [] entries commands old old (Err (apply.Failed NeedsReopen)) ending
     leaves (inl (is, printed)) entries stands = rw is (refl, stands, λ trees may. inr (refl, may))
     leaves (inr (is, part)) entries stands = rw is (refl, stands, λ trees may. inr (refl, may))
+
+    heeds : StopsWith from NeedsReopen before written ending → (tables : Tables) (cs : List (Key × Command))
+        → HeedDamage tables (EndsOfDamage old old (Err (apply.Failed NeedsReopen)) ending) cs []
+    heeds (inl (is, printed)) tables [] = tt
+    heeds (inl (is, printed)) tables (next ∷ left) = λ damaged. rw is tt
+    heeds (inr (is, part)) tables [] = tt
+    heeds (inr (is, part)) tables (next ∷ left) = λ damaged. rw is tt
 
     after : StopsWith from NeedsReopen before written ending → IsConditionAfter (Err (apply.Failed NeedsReopen)) ending condition
     after (inl (is, printed)) = rw is spent

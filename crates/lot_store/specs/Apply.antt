@@ -32,6 +32,7 @@ use Rattle.lot_store.specs.declared.fault.ApplyFault.{ApplyFault}
 use Rattle.lot_store.specs.declared.fault.ApplyFault.TheVariants.{Refused, Failed}
 use Rattle.lot_store.specs.declared.fault.StoreFault.{StoreFault}
 use Rattle.lot_store.specs.declared.fault.StoreFault.TheVariants.{Device, InDoubt, NeedsReopen, Damaged, Memory}
+use Rattle.lot_store.specs.Damage.{MeetsDamage}
 use Rattle.lot_store.specs.Session.{LeavesEntry}
 
 -- ---- faults
@@ -159,8 +160,9 @@ abbrev pub RefusedByDeviceWith : (List Entry → Type 0) → Key → Command →
 RefusedByDeviceWith Kept key command old new =
     (entries : List Entry) (stands : Stands old entries) → Kept entries → DiskFailed old new ⊎ HasNoRoomFor key command entries stands.tables new
 
--- why applying a command fails: where the device refuses it, or its commit is in doubt
+-- why applying a command fails: where the device refuses it, its commit is in doubt, or a damaged text stands under its key
 pub record FailsFor (Kept : List Entry → Type 0) (key : Key) (command : Command) (old new : State)
     (result : Result Ack ApplyFault) : Type 0 where
   pub device : HasCleanDisk new → result ≡ Err (Failed Device) → RefusedByDeviceWith Kept key command old new
   pub in_doubt : HasCleanDisk new → result ≡ Err (Failed InDoubt) → DiskFailed old new
+  pub damage : MeetsDamage key old new result

@@ -9,14 +9,16 @@ use Rattle.lot_book.specs.Facts.{Entry}
 use Rattle.lot_book.specs.Judged.{JudgesOn}
 use Rattle.lot_book.specs.declared.verdict.Verdict.{Verdict}
 use Rattle.lot_book.specs.declared.verdict.Verdict.TheVariants.{Accepted, Repeated, Refused}
-use Rattle.lot_rows.specs.Tables.{Tables}
+use Rattle.lot_rows.specs.Tables.{Has, Tables}
 use Rattle.lot_stored.specs.StandFor.{StandFor, Stands}
 use Rattle.std.specs.declared.io.Error.{Error}
 use Rattle.lot_report.specs.declared.line.PrintFault.{PrintFault}
+use Rattle.lot_report.specs.Output.{HasFailed, IsFlushed, WriteCalls}
 use Rattle.lot_report.specs.Printed.{line, replies, reply}
 use Rattle.lot_report.specs.Written.{IsPrefixOf}
 use Rattle.lot_table.specs.Statement.{DiskFailed}
 use Rattle.lot_store.specs.Apply.{AppliesWith, FailsFor, HasNoRoomFor, condition_after}
+use Rattle.lot_store.specs.Damage.{EndsOfDamage, HeedDamage, MeetsDamage}
 use Rattle.lot_store.specs.Session.{LeavesFirst, LeavesJudged, LeavesNext, LeavesStopped, Session}
 use Rattle.lot_store.specs.declared.book.Ack.{Ack}
 use Rattle.lot_store.specs.declared.book.Ack.TheVariants as ack
@@ -92,6 +94,7 @@ EndsAt number answer old new ending =
 abbrev pub RepliesTo : (Kept KeptThen : List Entry → Type 0) → Key → Command → ℕ → State → State → Option (List ℕ) → Option (List ℕ) → Condition → Result Verdict Ending → Type 0
 RepliesTo Kept KeptThen key command number old new before written condition (Ok verdict) =
     (answer : Result Ack ApplyFault) × AppliesWith Kept KeptThen key command old new answer × (told answer ≡ Ok verdict) × Appends before written (reply number verdict)
+    × MeetsDamage key old new answer
 RepliesTo Kept KeptThen key command number old new before written condition (Err ending) =
     (answer : Result Ack ApplyFault) × AppliesWith Kept KeptThen key command old new answer
     × FailsFor Kept key command old new answer × (answer ≢ Err (apply.Failed NeedsReopen))
@@ -105,6 +108,17 @@ FlushesLine (Ok done) old new (Ok flushed) = Appends old new []
 FlushesLine (Ok done) old new (Err ending) = (ending ≡ Output) × Appends old new []
 FlushesLine (Err cut) old new (Ok flushed) = ⊥
 FlushesLine (Err cut) old new (Err ending) = (ending ≡ Output) × Appends old new []
+
+-- where a run ends: all that it wrote is flushed, or a call of the writer failed
+abbrev pub IsWrittenOut : Ending → Option WriteCalls → Type 0
+IsWrittenOut Complete calls = IsFlushed calls
+IsWrittenOut (Stopped fault) calls = IsFlushed calls
+IsWrittenOut Output calls = HasFailed calls
+
+-- the same behind a line of it
+abbrev pub IsWrittenOutAs : {A : Type 0} → Result A Ending → Option WriteCalls → Type 0
+IsWrittenOutAs (Ok done) calls = IsFlushed calls
+IsWrittenOutAs (Err ending) calls = IsWrittenOut ending calls
 
 abbrev pub flush_outcome : Result (Unit {0}) Error → Result (Unit {0}) Ending
 flush_outcome (Ok done) = Ok tt
@@ -191,6 +205,9 @@ pub record RunsSession (commands : List (Key × Command)) (from : ℕ) (old new 
   pub stop : HasCleanDisk new → IsTrue old.is_open → (entries : List Entry) → Stands old entries
       → (trees : Trees) → new.may_leave trees → LeavesStopped entries commands verdicts trees
   pub crash : Survives old new (λ trees. (entries : List Entry) → Stands old entries → LeavesFirst entries commands trees)
+  -- a command with a damaged text under its key ends the run, where none before it was accepted
+  pub damage : HasCleanDisk new → (tables : Tables) → Has old tables
+      → HeedDamage tables (EndsOfDamage old new answer end.ending) commands verdicts
 
 -- ---- the condition of the book
 

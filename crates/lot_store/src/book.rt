@@ -1,6 +1,8 @@
 ghost use Rattle.std.specs.Prelude.{◌≡◌, ◌≢◌, ◌↔◌, false, Err, IsTrue, None, OnErr};
 ghost use Rattle.lot_load.specs.Kept.{IsOf};
 ghost use Rattle.lot_store.specs.Apply.{Applies, AppliesWith, RefusedByDevice, RefusedByDeviceWith, condition_after, ready_of, verdict_of};
+ghost use Rattle.lot_store.specs.ByText.{IsByText};
+ghost use Rattle.lot_store.specs.Damage.{MeetsDamage};
 ghost use Rattle.lot_store.specs.Step.{LeavesTables, condition_from};
 ghost use Rattle.lot_walk.specs.Step.{Steps, StepsOverRows};
 ghost use Rattle.lot_store.specs.declared.fault.ApplyFault.TheVariants.{Failed};
@@ -53,7 +55,8 @@ impl<S: Alter> Book<S> {
     ///
     /// It reads and writes only the rows that the command touches. On a book `Device` comes only where the disk failed, or
     /// the database has no room for what the command writes. After `Device` and `InDoubt`, and only then, the book
-    /// needs reopening, and each further call returns `NeedsReopen`.
+    /// needs reopening, and each further call returns `NeedsReopen`. Where the text under the key is the canonical text of no
+    /// command the call fails with `Damaged`, unless memory or the disk fails before.
     pub fn apply(&mut self, key: &Key, command: &Command) -> Result<Ack, ApplyFault>
         ensures applies { Applies key.now command.now (state S.Store self.old.conn) (state S.Store self.new.conn) result }
         // With the connection open a crash leaves the last commit, and nothing else.
@@ -65,6 +68,10 @@ impl<S: Alter> Book<S> {
             → DiskFailed (state S.Store self.old.conn) (state S.Store self.new.conn) }
         ensures reopen { (result ≡ Err (Failed StoreFault.NeedsReopen)) ↔ (self.old.condition ≡ Condition.NeedsReopen) }
         ensures condition { self.new.condition ≡ condition_after result }
+        ensures damage { MeetsDamage key.now
+            (state S.Store self.old.conn) (state S.Store self.new.conn) result }
+        ensures text { IsByText key.now command.now
+            (state S.Store self.old.conn) (state S.Store self.new.conn) result }
     {
         self.ready()?;
         self.apply_with(&mut None, key, command)
@@ -88,6 +95,10 @@ impl<S: Alter> Book<S> {
             → DiskFailed (state S.Store self.old.conn) (state S.Store self.new.conn) }
         ensures usable { result ≢ Err (Failed StoreFault.NeedsReopen) }
         ensures condition { self.new.condition ≡ condition_after result }
+        ensures damage { MeetsDamage key.now
+            (state S.Store self.old.conn) (state S.Store self.new.conn) result }
+        ensures text { IsByText key.now command.now
+            (state S.Store self.old.conn) (state S.Store self.new.conn) result }
     {
         let applied = apply_to(self.alloc, &mut self.conn, kept, key, command);
         self.condition = condition_after(&applied);
@@ -185,6 +196,10 @@ fn apply_to<S: Alter>(
         → RefusedByDeviceWith (IsOf kept.old) key.now command.now (state S.Store conn.old) (state S.Store conn.new) }
     ensures in_doubt { HasCleanDisk (state S.Store conn.new) → result ≡ Err (Failed StoreFault.InDoubt) → DiskFailed (state S.Store conn.old) (state S.Store conn.new) }
     ensures usable { result ≢ Err (Failed StoreFault.NeedsReopen) }
+    ensures damage { MeetsDamage key.now
+        (state S.Store conn.old) (state S.Store conn.new) result }
+    ensures text { IsByText key.now command.now
+        (state S.Store conn.old) (state S.Store conn.new) result }
 {
     is_sayable(command);
     what_is_written_stands_for_the_book();

@@ -1,7 +1,8 @@
-ghost use Rattle.std.specs.Prelude.{◌≡◌, ◌≢◌, ◌+◌, ◌<◌, ◌^◌, [], ◌∷◌, length, IsOk, IsTrue};
+ghost use Rattle.std.specs.Prelude.{◌≡◌, ◌≢◌, ◌+◌, ◌<◌, ◌^◌, [], ◌∷◌, length, IsOk, IsTrue, OnErr};
 ghost use Rattle.lot_load.specs.Kept.{IsOf};
 ghost use Rattle.lot_report.specs.Printed.{reply};
-ghost use Rattle.lot_store.specs.Run.{FlushesLine, RepliesTo, RunsBook, StopsAtOnce, StopsWith, WritesOut, count_refused, flush_outcome, told};
+ghost use Rattle.lot_report.specs.Output.{HasFailed, IsFlushed};
+ghost use Rattle.lot_store.specs.Run.{FlushesLine, IsWrittenOut, IsWrittenOutAs, RepliesTo, RunsBook, StopsAtOnce, StopsWith, WritesOut, count_refused, flush_outcome, told};
 ghost use Rattle.lot_store.specs.declared.run.Ending.TheVariants.{Stopped};
 ghost use Rattle.sqlite.specs.Held.{state};
 ghost use Rattle.sqlite.specs.Tree.{Trees};
@@ -12,9 +13,9 @@ use itoa::Buffer;
 use lot_command::{Command, Key};
 use lot_ledger::Verdict;
 use lot_load::Kept;
-use lot_report::{PrintFault, print_reply, print_texts};
+use lot_report::{CountedWrite, PrintFault, print_reply, print_texts};
 use sqlite::Alter;
-use std::io::{self, Write};
+use std::io;
 
 /// How a run ended.
 #[derive(Clone, Copy, Debug, PartialEq, Eq)]
@@ -45,7 +46,7 @@ impl<S: Alter> Book<S> {
     /// It stops at the first fault, whose line it writes with the number of the command, or where the writer fails. A book
     /// that needs reopening is such a fault at the number `from`, where there are no commands too. Where the writer failed, the
     /// command whose line isn't written whole was applied, unless that line is one of a fault.
-    pub fn run<W: Write>(
+    pub fn run<W: CountedWrite>(
         &mut self,
         commands: &[(Key, Command)],
         from: usize,
@@ -60,6 +61,9 @@ impl<S: Alter> Book<S> {
         ensures spent { self.old.condition ≡ Condition.NeedsReopen
             → StopsAtOnce from result (W.contents writer.old) (W.contents writer.new) × (self.new ≡ self.old) }
         ensures usable { self.old.condition ≡ Condition.Ready → result.ending ≢ Stopped StoreFault.NeedsReopen }
+        // Each line is flushed as it is written, and the output stops a run only where the writer failed.
+        ensures output { IsFlushed (W.calls writer.old)
+            → IsWrittenOut result.ending (W.calls writer.new) }
     {
         if let Err(fault) = self.ready() {
             return RunEnd {
@@ -90,7 +94,7 @@ impl<S: Alter> Book<S> {
     }
 
     /// Applies the command of that number, on what is kept of the book, and writes the reply, or the line of the fault.
-    fn reply<W: Write>(
+    fn reply<W: CountedWrite>(
         &mut self,
         kept: &mut Option<Kept>,
         number: usize,
@@ -104,6 +108,7 @@ impl<S: Alter> Book<S> {
         ensures safe { IsTrue (state S.Store self.new.conn).is_open → (trees : Trees) → (state S.Store self.new.conn).may_leave trees
             → trees ≡ (state S.Store self.new.conn).committed.trees }
         ensures ready { IsOk result → self.new.condition ≡ Condition.Ready }
+        ensures output { IsWrittenOutAs result (W.calls writer.new) }
     {
         match told(self.apply_with(kept, key, command)) {
             Ok(verdict) => {
@@ -138,16 +143,22 @@ fn refusals(verdict: &Verdict) -> usize
 }
 
 /// Writes a reply out. The error is that the writer failed.
-fn write_reply<W: Write>(writer: &mut W, number: usize, verdict: &Verdict) -> Result<(), Ending>
-    ensures { WritesOut (W.contents writer.old) (W.contents writer.new) (reply number verdict.now) result }
+fn write_reply<W: CountedWrite>(
+    writer: &mut W,
+    number: usize,
+    verdict: &Verdict,
+) -> Result<(), Ending>
+    ensures line { WritesOut (W.contents writer.old) (W.contents writer.new) (reply number verdict.now) result }
+    ensures output { IsWrittenOutAs result (W.calls writer.new) }
 {
     let printed = print_reply(writer, number, verdict);
     flush_line(writer, printed)
 }
 
 /// Writes the line of the fault at which a run stops out, and returns how it ended.
-fn stop<W: Write>(writer: &mut W, number: usize, fault: StoreFault) -> Ending
-    ensures { StopsWith number fault (W.contents writer.old) (W.contents writer.new) result }
+fn stop<W: CountedWrite>(writer: &mut W, number: usize, fault: StoreFault) -> Ending
+    ensures line { StopsWith number fault (W.contents writer.old) (W.contents writer.new) result }
+    ensures output { IsWrittenOut result (W.calls writer.new) }
 {
     let mut digits = Buffer::new();
     let texts = [digits.format(number), " fault ", fault.name(), "\n"];
@@ -159,11 +170,16 @@ fn stop<W: Write>(writer: &mut W, number: usize, fault: StoreFault) -> Ending
 }
 
 /// Flushes a line that was printed.
-fn flush_line<W: Write>(writer: &mut W, printed: Result<(), PrintFault>) -> Result<(), Ending>
-    ensures { FlushesLine printed (W.contents writer.old) (W.contents writer.new) result }
+fn flush_line<W: CountedWrite>(
+    writer: &mut W,
+    printed: Result<(), PrintFault>,
+) -> Result<(), Ending>
+    ensures line { FlushesLine printed (W.contents writer.old) (W.contents writer.new) result }
+    ensures output { OnErr printed (HasFailed (W.calls writer.old))
+        → IsWrittenOutAs result (W.calls writer.new) }
 {
     match printed {
-        Ok(()) => flushed(writer.flush()),
+        Ok(()) => flushed(writer.flush_counted()),
         Err(_) => Err(Ending::Output),
     }
 }

@@ -1,5 +1,5 @@
 -- How a run ends (docs/RULES.md, The program).
-use Rattle.std.specs.Prelude.{◌≡◌, ◌⊎◌, ℕ, Result, Ok, Err}
+use Rattle.std.specs.Prelude.{◌≡◌, ◌⊎◌, ℕ, Option, Result, Ok, Err}
 use Rattle.std.specs.declared.io.Error.{Error}
 use Rattle.lot_stream.specs.declared.fault.Fault.{Fault}
 use Rattle.lot_stream.specs.declared.fault.Fault.TheVariants.{Read, TooLong, Text, Range, Write, Memory, MemoryAt}
@@ -7,6 +7,7 @@ use Rattle.lot_stream.specs.declared.input.SlurpFault.{SlurpFault}
 use Rattle.lot_read.specs.declared.fault.TextFault.{TextFault}
 use Rattle.lot_report.specs.declared.fault.ReportFault.{ReportFault}
 use Rattle.lot_report.specs.declared.line.PrintFault.{PrintFault}
+use Rattle.lot_report.specs.Output.{HasFailed, IsFlushed, WriteCalls}
 use Rattle.lot_stream.specs.declared.status.Status.{Status}
 use Rattle.lot_stream.specs.declared.status.Status.TheVariants.{Accepted, Refused, BadInput, Stopped}
 
@@ -33,10 +34,11 @@ abbrev pub after_flush : Status → Result (Unit {0}) Error → Status
 after_flush status (Ok done) = status
 after_flush status (Err error) = Stopped
 
--- how a run ends: with its status where all is written, unless the flush fails; and where it isn't, as stopped
-abbrev pub Ends : Result Status PrintFault → Status → Type 0
-Ends (Ok status) end = (end ≡ status) ⊎ (end ≡ Stopped)
-Ends (Err cut) end = end ≡ Stopped
+-- How a run ends, by what the calls of the writer came to. Where all is written: with its status, and all is flushed; or as
+-- stopped, and a call failed. Where not all is written: as stopped.
+abbrev pub Ends : Result Status PrintFault → Option WriteCalls → Status → Type 0
+Ends (Ok status) calls end = ((end ≡ status) × IsFlushed calls) ⊎ ((end ≡ Stopped) × HasFailed calls)
+Ends (Err cut) calls end = end ≡ Stopped
 
 -- a fault of the input is the input's; every other one stops the run
 abbrev pub status_of : Fault → Status

@@ -1,15 +1,15 @@
-ghost use Rattle.std.specs.Prelude.{◌≡◌, IfErr};
+ghost use Rattle.std.specs.Prelude.{◌≡◌, IfErr, OnErr};
 ghost use Rattle.lot_stream.specs.FaultLine.{fault_line, name_text};
 ghost use Rattle.lot_stream.specs.Status.{status_of};
+ghost use Rattle.lot_report.specs.Output.{HasFailed};
 ghost use Rattle.lot_report.specs.Written.{WritesLine};
 
 use crate::input::SlurpFault;
 use crate::status::Status;
 use itoa::Buffer;
 use lot_read::{LineFault, TextFault};
-use lot_report::{PrintFault, ReportFault, print_texts};
+use lot_report::{CountedWrite, PrintFault, ReportFault, print_texts};
 use std::alloc::AllocError;
-use std::io::Write;
 use thiserror::Error;
 
 /// Why a run ended before its end.
@@ -107,10 +107,11 @@ impl Fault {
 
 /// Writes the line that reports a fault. It takes no memory, which may have ended: the only fault is that of the writer. A fault of
 /// the writer has no line.
-pub fn print_fault<W: Write>(writer: &mut W, fault: Fault) -> Result<(), PrintFault>
+pub fn print_fault<W: CountedWrite>(writer: &mut W, fault: Fault) -> Result<(), PrintFault>
     ensures bytes { WritesLine (W.contents writer.old) (W.contents writer.new) result
         (fault_line fault) }
     ensures fault { IfErr result (λ fault. fault ≡ PrintFault.Write) }
+    ensures cause { OnErr result (HasFailed (W.calls writer.new)) }
 {
     let mut digits = Buffer::new();
     match fault {

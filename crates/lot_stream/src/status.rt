@@ -1,9 +1,9 @@
-ghost use Rattle.std.specs.Prelude.{◌≡◌};
+ghost use Rattle.std.specs.Prelude.{◌≡◌, IsErr};
 ghost use Rattle.std.specs.Io.KnownBytes.{Keeps};
 ghost use Rattle.lot_stream.specs.Status.{Ends, IsStatus, after_flush, code_of, status_after};
 
-use lot_report::PrintFault;
-use std::io::{self, Write};
+use lot_report::{CountedWrite, PrintFault};
+use std::io;
 
 /// How a run ended.
 #[derive(Clone, Copy, Debug, PartialEq, Eq)]
@@ -40,14 +40,15 @@ impl Status {
     }
 }
 
-/// Flushes what was written, where that is all, and returns the status then. That the writer is asked to flush is shown by the
-/// tests alone: no contract of a writer tells one that was from one that wasn't.
-pub fn finish<W: Write>(writer: &mut W, concluded: Result<Status, PrintFault>) -> Status
+/// Flushes what was written, where that is all, and returns the status then: where the flush fails, the run is stopped. Where
+/// not all was written, nothing more is asked of the writer.
+pub fn finish<W: CountedWrite>(writer: &mut W, concluded: Result<Status, PrintFault>) -> Status
     ensures kept { Keeps (W.contents writer.old) (W.contents writer.new) }
-    ensures end { Ends concluded result }
+    ensures end { Ends concluded (W.calls writer.new) result }
+    ensures unasked { IsErr concluded → writer.new ≡ writer.old }
 {
     match concluded {
-        Ok(status) => after_flush(status, writer.flush()),
+        Ok(status) => after_flush(status, writer.flush_counted()),
         Err(_) => Status::Stopped,
     }
 }

@@ -4,7 +4,7 @@ ghost use Rattle.std.specs.Prelude.{◌≡◌, None, false};
 
 use crate::output::Output;
 use crate::{STOPPED, out_of_memory};
-use lot_cli::{Action, Counted, Served, serve};
+use lot_cli::{Action, Counted, CountedWriter, Served, serve};
 use sqlite::{Alter, Connection, Error, ErrorCode, File, FileStore};
 use std::fmt::Display;
 use std::io::Read;
@@ -110,7 +110,8 @@ fn served<S: Alter>(
     requires unlimited { conn.step_limit ≡ None }
 {
     let mut input = Counted::new(rt.reader());
-    serve(rt.alloc(), action, &mut input, output, conn)
+    let mut output = CountedWriter::new(output);
+    serve(rt.alloc(), action, &mut input, &mut output, conn)
 }
 
 /// Returns whether there is no file of that path in a folder that is there.

@@ -1,13 +1,13 @@
-ghost use Rattle.std.specs.Prelude.{◌≡◌, ◌≢◌, List, ℕ, Option, IfOk, IsFalse};
+ghost use Rattle.std.specs.Prelude.{◌≡◌, ◌≢◌, List, ℕ, Option, IfOk, IsErrOf, IsFalse};
 ghost use Rattle.std.specs.Io.KnownBytes.{Appends};
 ghost use Rattle.lot_check.specs.Way.{in_row};
+ghost use Rattle.lot_report.specs.Output.{HasFailed};
 ghost use Rattle.lot_report.specs.declared.holdings.ValuedHolding.{ValuedHolding as Row};
 ghost use Rattle.lot_report.specs.Holdings.{EndsHoldings, GrowsByHolding, IsFed, WritesReport, is_spent, rows_text, unvalued, unvalued_row};
 
 use lot_book::Holding;
-use lot_report::{Holdings, ReportFault, RowFault, Valuation, ValuedHolding};
+use lot_report::{CountedWrite, Holdings, ReportFault, RowFault, Valuation, ValuedHolding};
 use std::alloc::Global;
-use std::io::Write;
 
 /// Writes the report of what is held, with no values: a line for each row, in the order in which they are given, and then
 /// what the lots cost in each currency.
@@ -15,12 +15,13 @@ use std::io::Write;
 /// Returns `Range` at the first row with which a total leaves the range of weights: the rows before it are written, and
 /// no total is. Returns `Memory` where there is no memory for a line or a total: whole lines of the report are written.
 /// Returns `Write` where the writer fails: a prefix of the report is written, but not all of it.
-pub(super) fn print_holdings<W: Write>(
+pub(super) fn print_holdings<W: CountedWrite>(
     alloc: Global,
     rows: Vec<Holding>,
     writer: &mut W,
 ) -> Result<(), ReportFault>
-    ensures { WritesReport (unvalued rows.items) (W.contents writer.old) (W.contents writer.new) result }
+    ensures report { WritesReport (unvalued rows.items) (W.contents writer.old) (W.contents writer.new) result }
+    ensures cause { IsErrOf result ReportFault.Write → HasFailed (W.calls writer.new) }
 {
     let mut report = Holdings::new(alloc);
     for holding in rows {
@@ -30,7 +31,7 @@ pub(super) fn print_holdings<W: Write>(
 }
 
 /// Writes one row of a report that no fault has ended.
-fn print_row<W: Write>(
+fn print_row<W: CountedWrite>(
     report: &mut Holdings,
     holding: Holding,
     writer: &mut W,
@@ -40,6 +41,7 @@ fn print_row<W: Write>(
         → Appends start (W.contents writer.old) (rows_text rows)
         → GrowsByHolding rows (unvalued_row holding) report.new start (W.contents writer.new) (in_row result) }
     ensures after { IfOk result (λ _. IsFalse (is_spent report.new)) }
+    ensures cause { IsErrOf result ReportFault.Write → HasFailed (W.calls writer.new) }
 {
     let row = ValuedHolding {
         holding,
@@ -52,11 +54,12 @@ fn print_row<W: Write>(
 }
 
 /// Writes what stands behind the rows of a report that no fault has ended.
-fn print_end<W: Write>(report: Holdings, writer: &mut W) -> Result<(), ReportFault>
+fn print_end<W: CountedWrite>(report: Holdings, writer: &mut W) -> Result<(), ReportFault>
     requires { IsFalse (is_spent report) }
-    ensures { (rows : List Row) (start : Option (List ℕ)) → IsFed rows report
+    ensures text { (rows : List Row) (start : Option (List ℕ)) → IsFed rows report
         → Appends start (W.contents writer.old) (rows_text rows)
         → EndsHoldings rows start (W.contents writer.new) (in_row result) }
+    ensures cause { IsErrOf result ReportFault.Write → HasFailed (W.calls writer.new) }
 {
     match report.end(writer) {
         Ok(()) => Ok(()),

@@ -2,6 +2,7 @@ use Rattle.std.proofs.Common.{◌∙◌, [], ap, map, Err, Ok, None, Some, arith
 use Rattle.std.proofs.lemmas.Result.{err_from_is_err_and}
 use Rattle.lot_book.specs.Sale.{SaleParts}
 use Rattle.lot_report.specs.Gains.{HasTaken, IsEnd, fits, is_spent, sale_lines}
+use Rattle.lot_book_report.proofs.CauseLemmas.{of_row, of_walk}
 use Rattle.lot_book_report.proofs.FeedLemmas.{fed_none, feeds_more, rows_whole, shows_cut, shows_cut_at_end, shows_short, shows_stopped, shows_whole, some_cut, some_cut_at_end, some_stopped, some_whole}
 use Rattle.lot_book_report.proofs.GainLemmas.{all_rows_shown, all_shown}
 use Rattle.lot_book_report.proofs.ReadLemmas.{handed, handed_holds, handed_tables, is_failure, is_false, never_both, reads_cut, reads_from, reads_short, reads_whole, stops, usable, walked_out, walks_on}
@@ -21,7 +22,7 @@ sales-init g c = record {
     given = [];
     gave = record { of_book = λ clean. c.gains-walk.ensures.begun; of_rows = λ clean. c.gains-walk.ensures.rows };
     good = tt;
-    has = fed_none (λ (sale : SaleParts). sale) sale_lines fits HasTaken IsEnd (g.W.Write.contents c.args.writer.now) c.new-report.result.progress c.new-report.ensures.fed;
+    has = fed_none (λ (sale : SaleParts). sale) sale_lines fits HasTaken IsEnd (g.W.CountedWrite.contents c.args.writer.now) c.new-report.result.progress c.new-report.ensures.fed;
   };
 }
 
@@ -35,7 +36,7 @@ returns-in_err-sale-clause-shows g c =
     let failure = is_failure g.S.Store (λ (sale : SaleParts). sale) HasLegs AreSalesWithin IsBehindSales c.args.book.now before after loop.reading c.in_err-sale.field-0.0 walks in
     rw (fault.1, fault.2, failure.1)
     (handed_holds g.S.Store c.args.book.now after.book.now _ _ (search rules)
-    (all_shown g.S.Store c.args.book.now _ (c.args.first, c.args.last) (g.W.Write.contents c.args.writer.now) (g.W.Write.contents c.sales.writer) (Err (AtWalk (Failed failure.0)))
+    (all_shown g.S.Store c.args.book.now _ (c.args.first, c.args.last) (g.W.CountedWrite.contents c.args.writer.now) (g.W.CountedWrite.contents c.sales.writer) (Err (AtWalk (Failed failure.0)))
     (shows_stopped before _ c.sales.report.progress loop.feeds after c.in_err-sale.field-0.0 walks failure.0)))
 
 pub returns-in_err-sale-clause-lines : goal.returns-in_err-sale-clause-lines
@@ -69,7 +70,7 @@ returns-in_err-end-clause-shows g c =
     let spent = c.in_err-end.ensures.spent in
     rw (fault.1, fault.2)
     (handed_holds g.S.Store c.args.book.now after.book.now _ _ (search rules)
-    (all_shown g.S.Store c.args.book.now _ (c.args.first, c.args.last) (g.W.Write.contents c.args.writer.now) (g.W.Write.contents c.end.new.writer) (Err (AtRow c.in_err-end.field-0.0))
+    (all_shown g.S.Store c.args.book.now _ (c.args.first, c.args.last) (g.W.CountedWrite.contents c.args.writer.now) (g.W.CountedWrite.contents c.end.new.writer) (Err (AtRow c.in_err-end.field-0.0))
     (shows_cut_at_end c.sales.walk _ c.sales.report.progress feeds after _ c.in_err-end.field-0.0
     (λ is. never_both (is_spent c.sales.report) loop.fresh (spent.0 (ap Err is)))
     (c.in_err-end.ensures.text (map (λ (sale : SaleParts). sale) feeds.given) _ feeds.has.fed feeds.has.written) walks)))
@@ -111,7 +112,7 @@ returns-in_default-clause-shows g c =
     let after = c.next.new.self in
     let walks = rw c.in_default.is at c.in_ok-sale.ensures.walks in
     handed_holds g.S.Store c.args.book.now after.book.now _ _ (search rules)
-    (all_shown g.S.Store c.args.book.now _ (c.args.first, c.args.last) (g.W.Write.contents c.args.writer.now) (g.W.Write.contents c.end.new.writer) (Ok tt)
+    (all_shown g.S.Store c.args.book.now _ (c.args.first, c.args.last) (g.W.CountedWrite.contents c.args.writer.now) (g.W.CountedWrite.contents c.end.new.writer) (Ok tt)
     (shows_whole c.sales.walk _ c.sales.report.progress feeds after _ tt
     (c.in_ok-end.ensures.text (map (λ (sale : SaleParts). sale) feeds.given) _ feeds.has.fed feeds.has.written) walks))
 
@@ -154,7 +155,7 @@ returns-in_err-row-clause-shows g c =
     let spent = c.in_err-row.ensures.spent in
     rw (fault.1, fault.2)
     (handed_holds g.S.Store c.args.book.now after.book.now _ _ (search rules)
-    (all_shown g.S.Store c.args.book.now _ (c.args.first, c.args.last) (g.W.Write.contents c.args.writer.now) (g.W.Write.contents c.row.new.writer) (Err (AtRow c.in_err-row.field-0.0))
+    (all_shown g.S.Store c.args.book.now _ (c.args.first, c.args.last) (g.W.CountedWrite.contents c.args.writer.now) (g.W.CountedWrite.contents c.row.new.writer) (Err (AtRow c.in_err-row.field-0.0))
     (shows_cut c.sales.walk _ c.sales.report.progress feeds after _ c.row.new.self.progress c.in-Some.sale c.in-Some.sale c.in_err-row.field-0.0
     (λ is. never_both (is_spent c.sales.report) loop.fresh (spent.0 (ap Err is))) refl
     (c.in_err-row.ensures.text (map (λ (sale : SaleParts). sale) feeds.given) _ feeds.has.fed feeds.has.written) walks rows)))
@@ -211,7 +212,7 @@ returns-clause-shows g c =
     let loop = c.sales.invariant in
     rw c.from.ensures
     (handed_holds g.S.Store c.args.book.now c.sales.walk.book.now _ _ (search rules)
-    (all_shown g.S.Store c.args.book.now _ (c.args.first, c.args.last) (g.W.Write.contents c.args.writer.now) (g.W.Write.contents c.sales.writer) (Err (AtWalk (Failed Memory)))
+    (all_shown g.S.Store c.args.book.now _ (c.args.first, c.args.last) (g.W.CountedWrite.contents c.args.writer.now) (g.W.CountedWrite.contents c.sales.writer) (Err (AtWalk (Failed Memory)))
     (shows_short c.sales.walk _ c.sales.report.progress loop.feeds Memory)))
 
 pub returns-clause-lines : goal.returns-clause-lines
@@ -225,3 +226,17 @@ returns-clause-reads g c =
     rw c.from.ensures
     (handed g.S.Store c.args.book.now c.sales.walk.book.now _ (Err _) (search rules)
     (reads_short g.S.Store c.args.book.now c.sales.walk.book.now loop.reading.read (loop.usable (omega arith))))
+
+pub returns-in_err-sale-clause-cause : goal.returns-in_err-sale-clause-cause
+returns-in_err-sale-clause-cause g c = of_walk c.from_residual.result c.in_err-sale.field-0.0 _ c.from_residual.ensures.1
+
+pub returns-in_err-end-clause-cause : goal.returns-in_err-end-clause-cause
+returns-in_err-end-clause-cause g c =
+    of_row c.from_residual-in_err-end.result c.in_err-end.field-0.0 _ c.from_residual-in_err-end.ensures.1 (λ is. c.in_err-end.ensures.cause (ap Err is))
+
+pub returns-in_err-row-clause-cause : goal.returns-in_err-row-clause-cause
+returns-in_err-row-clause-cause g c =
+    of_row c.from_residual-in_err-row.result c.in_err-row.field-0.0 _ c.from_residual-in_err-row.ensures.1 (λ is. c.in_err-row.ensures.cause (ap Err is))
+
+pub returns-clause-cause : goal.returns-clause-cause
+returns-clause-cause g c = of_walk (Err c.from.result) (Failed Memory) _ c.from.ensures

@@ -15,5 +15,5 @@ invariant-sales g l = record {
   usable : 0 < l.counter → l.fn.book.condition ≢ NeedsReopen;
   fresh : IsFalse (is_spent l.report);
   feeds : Feeds g.S.Store HasLegs AreSalesWithin IsBehindSales AreAllSaleRows IsBehindSaleRows (λ (sale : SaleParts). sale) sale_lines fits HasTaken IsEnd
-      l.fn.book (l.fn.first, l.fn.last) (g.W.Write.contents l.fn.writer) l.walk (g.W.Write.contents l.writer) l.report.progress;
+      l.fn.book (l.fn.first, l.fn.last) (g.W.CountedWrite.contents l.fn.writer) l.walk (g.W.CountedWrite.contents l.writer) l.report.progress;
 }

@@ -3,6 +3,7 @@ use Rattle.std.proofs.Common.{Err, ap}
 use Rattle.std.proofs.lemmas.Result.{err_from_is_err_and}
 use Rattle.sqlite.specs.Held.{state}
 use Rattle.lot_report.specs.Holdings.{IsEnd, fits, row_lines}
+use Rattle.lot_book_report.proofs.CauseLemmas.{of_book}
 use Rattle.lot_book_report.proofs.FeedLemmas.{none_shown}
 use Rattle.lot_book_report.proofs.HoldingLemmas.{not_begun, rows_with_prices, rows_without_prices, same_fault, with_prices, without_prices}
 use Rattle.lot_book_report.proofs.ReadLemmas.{reads_then, stands_still, was_read}
@@ -53,7 +54,7 @@ returns-in_err-prices-in-Some-clause-lines g c =
     let fault = err_from_is_err_and c.from_residual.result c.from_residual.ensures.1 in
     let read = c.in_err-prices-in-Some.ensures in
     rw (fault.1, fault.2)
-    (none_shown row_lines fits IsEnd (g.W.Write.contents c.args.writer.now) c.in_err-prices-in-Some.field-0.0 read.fault (λ is. read.reads.going (ap Err is)))
+    (none_shown row_lines fits IsEnd (g.W.CountedWrite.contents c.args.writer.now) c.in_err-prices-in-Some.field-0.0 read.fault (λ is. read.reads.going (ap Err is)))
 
 pub returns-in_err-prices-in-Some-clause-rows : goal.returns-in_err-prices-in-Some-clause-rows
 returns-in_err-prices-in-Some-clause-rows g c =
@@ -77,3 +78,7 @@ returns-in-None-clause-rows g c =
     rw c.in-None.is (record {
       holds = λ clean tables has. rows_without_prices tables _ _ c.write_holdings-in-None.result (c.write_holdings-in-None.ensures.rows.holds clean tables has);
     })
+
+pub returns-in_err-prices-in-Some-clause-cause : goal.returns-in_err-prices-in-Some-clause-cause
+returns-in_err-prices-in-Some-clause-cause g c =
+    of_book c.from_residual.result c.in_err-prices-in-Some.field-0.0 _ c.from_residual.ensures.1 c.in_err-prices-in-Some.ensures.fault

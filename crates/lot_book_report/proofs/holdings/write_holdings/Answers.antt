@@ -1,12 +1,14 @@
 use Rattle.std.proofs.Common.{◌∙◌, [], ap, map, Err, Ok, None, Some, arith, refl, rules}
 use Rattle.std.proofs.lemmas.Result.{err_from_is_err_and}
 use Rattle.lot_report.specs.Holdings.{HasTaken, IsEnd, fits, is_spent, row_lines}
+use Rattle.lot_book_report.proofs.CauseLemmas.{of_row, of_walk}
 use Rattle.lot_book_report.proofs.FeedLemmas.{fed_none, feeds_more, rows_whole, shows_cut, shows_cut_at_end, shows_short, shows_stopped, shows_whole, some_cut, some_cut_at_end, some_stopped, some_whole}
 use Rattle.lot_book_report.proofs.HoldingLemmas.{all_rows_shown}
 use Rattle.lot_book_report.proofs.ReadLemmas.{handed, handed_holds, handed_tables, is_failure, is_false, never_both, reads_cut, reads_from, reads_short, reads_whole, stops, usable, walked_out, walks_on}
 use Rattle.lot_book_report.specs.Holdings.{valued_with}
 use Rattle.lot_walk.specs.Holdings.{AreHoldings, IsAnyHolding, IsBehindHoldings, shown_holding}
 use Rattle.lot_store.specs.declared.fault.StoreFault.TheVariants.{Memory}
+use Rattle.lot_store.specs.declared.walk.WalkFault.TheVariants.{Failed}
 use Rattle.lot_book_report.proofs.holdings.write_holdings.Goals as goal
 
 pub holdings-init : goal.holdings-init
@@ -19,7 +21,7 @@ holdings-init g c = record {
     given = [];
     gave = record { of_book = λ clean. c.holdings-walk.ensures.begun; of_rows = λ clean. c.holdings-walk.ensures.rows };
     good = tt;
-    has = fed_none (valued_with c.args.prices.now) row_lines fits HasTaken IsEnd (g.W.Write.contents c.args.writer.now) c.new-report.result.progress c.new-report.ensures.fed;
+    has = fed_none (valued_with c.args.prices.now) row_lines fits HasTaken IsEnd (g.W.CountedWrite.contents c.args.writer.now) c.new-report.result.progress c.new-report.ensures.fed;
   };
 }
 
@@ -218,3 +220,17 @@ returns-clause-reads g c =
     rw c.from.ensures
     (handed g.S.Store c.args.book.now c.holdings.walk.book.now _ (Err _) (search rules)
     (reads_short g.S.Store c.args.book.now c.holdings.walk.book.now loop.reading.read (loop.usable (omega arith))))
+
+pub returns-in_err-holding-clause-cause : goal.returns-in_err-holding-clause-cause
+returns-in_err-holding-clause-cause g c = of_walk c.from_residual.result c.in_err-holding.field-0.0 _ c.from_residual.ensures.1
+
+pub returns-in_err-end-clause-cause : goal.returns-in_err-end-clause-cause
+returns-in_err-end-clause-cause g c =
+    of_row c.from_residual-in_err-end.result c.in_err-end.field-0.0 _ c.from_residual-in_err-end.ensures.1 (λ is. c.in_err-end.ensures.cause (ap Err is))
+
+pub returns-in_err-row-clause-cause : goal.returns-in_err-row-clause-cause
+returns-in_err-row-clause-cause g c =
+    of_row c.from_residual-in_err-row.result c.in_err-row.field-0.0 _ c.from_residual-in_err-row.ensures.1 (λ is. c.in_err-row.ensures.cause (ap Err is))
+
+pub returns-clause-cause : goal.returns-clause-cause
+returns-clause-cause g c = of_walk (Err c.from.result) (Failed Memory) _ c.from.ensures

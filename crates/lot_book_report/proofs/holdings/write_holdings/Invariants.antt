@@ -15,5 +15,5 @@ invariant-holdings g l = record {
   usable : 0 < l.counter → l.fn.book.condition ≢ NeedsReopen;
   fresh : IsFalse (is_spent l.report);
   feeds : Feeds g.S.Store IsAnyHolding AreHoldings IsBehindHoldings AreAllHoldingRows IsBehindHoldingRows (valued_with l.prices) row_lines fits HasTaken IsEnd
-      l.fn.book tt (g.W.Write.contents l.fn.writer) l.walk (g.W.Write.contents l.writer) l.report.progress;
+      l.fn.book tt (g.W.CountedWrite.contents l.fn.writer) l.walk (g.W.CountedWrite.contents l.writer) l.report.progress;
 }

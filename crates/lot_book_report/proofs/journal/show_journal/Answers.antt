@@ -3,11 +3,13 @@ use Rattle.std.proofs.KnownBytes.{Appends-nil}
 use Rattle.std.proofs.lemmas.Result.{err_from_is_err_and}
 use Rattle.lot_stored.specs.Rows.{entry_rows}
 use Rattle.lot_report.specs.Journal.{is_spent}
+use Rattle.lot_book_report.proofs.CauseLemmas.{of_entry, of_walk}
 use Rattle.lot_book_report.proofs.GivenLemmas.{begins, begins_at_fault, gave_all, gave_all_rows, gave_more}
 use Rattle.lot_book_report.proofs.JournalLemmas.{cut, grown, journal_cut, some_cut, some_stopped, some_whole, stopped, whole}
 use Rattle.lot_book_report.proofs.ReadLemmas.{handed, handed_holds, handed_tables, is_failure, is_false, never_both, reads_from, reads_short, reads_whole, stops, usable, walked_out, walks_on}
 use Rattle.lot_walk.specs.Journal.{AreEntries, HasCanonicalText, IsBehindEntries, said}
 use Rattle.lot_store.specs.declared.fault.StoreFault.TheVariants.{Memory}
+use Rattle.lot_store.specs.declared.walk.WalkFault.TheVariants.{Failed}
 use Rattle.lot_book_report.proofs.journal.show_journal.Goals as goal
 
 pub entries-init : goal.entries-init
@@ -19,7 +21,7 @@ entries-init g c = record {
   written = record {
     printed = [];
     gave = record { of_book = λ clean. c.journal-walk.ensures.begun; of_rows = λ clean. c.journal-walk.ensures.rows };
-    written = Appends-nil (g.W.Write.contents c.args.writer.now);
+    written = Appends-nil (g.W.CountedWrite.contents c.args.writer.now);
   };
 }
 
@@ -174,3 +176,13 @@ returns-clause-reads g c =
     rw c.from.ensures
     (handed g.S.Store c.args.book.now c.entries.walk.book.now _ (Err _) (search rules)
     (reads_short g.S.Store c.args.book.now c.entries.walk.book.now loop.reading.read (loop.usable (omega arith))))
+
+pub returns-in_err-entry-clause-cause : goal.returns-in_err-entry-clause-cause
+returns-in_err-entry-clause-cause g c = of_walk c.from_residual.result c.in_err-entry.field-0.0 _ c.from_residual.ensures.1
+
+pub returns-in_err-row-clause-cause : goal.returns-in_err-row-clause-cause
+returns-in_err-row-clause-cause g c =
+    of_entry c.from_residual-in_err-row.result c.in_err-row.field-0.0 _ c.from_residual-in_err-row.ensures.1 (λ is. c.in_err-row.ensures.cause (ap Err is))
+
+pub returns-clause-cause : goal.returns-clause-cause
+returns-clause-cause g c = of_walk (Err c.from.result) (Failed Memory) _ c.from.ensures

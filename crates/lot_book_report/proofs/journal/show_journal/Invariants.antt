@@ -12,5 +12,5 @@ invariant-entries g l = record {
   reading : IsReading g.S.Store l.fn.book l.walk;
   usable : 0 < l.counter → l.fn.book.condition ≢ NeedsReopen;
   fresh : IsFalse (is_spent l.journal);
-  written : HasWritten g.S.Store l.fn.book (g.W.Write.contents l.fn.writer) l.walk (g.W.Write.contents l.writer);
+  written : HasWritten g.S.Store l.fn.book (g.W.CountedWrite.contents l.fn.writer) l.walk (g.W.CountedWrite.contents l.writer);
 }

@@ -10,31 +10,31 @@ pub loop-index-preserved : goal.loop-index-preserved
 loop-index-preserved g c =
     run_next _ _ _ c.in-Some.command _ (c.in-Some.index + 1) _ c.loop-index.view c.in_ok-next.next _ _ _ _ _ _ c.loop-index.invariant
     c.in-Some.ensures.steps.0.0 (ap (λ n. n + 1) c.in-Some.ensures.steps.1) c.in-Some.ensures.steps.2 (omega (arith, c.args.commands.ok, c.args.commands.small))
-    c.in_ok-next.ensures c.and-status.ensures
+    c.in_ok-next.ensures.replies c.and-status.ensures
 
 pub loop-index-preserved-in_ok-next : goal.loop-index-preserved-in_ok-next
 loop-index-preserved-in_ok-next g c =
     run_next _ _ _ c.in-Some.command _ (c.in-Some.index + 1) _ c.loop-index.view c.in_ok-next.next _ _ _ _ _ _ c.loop-index.invariant
     c.in-Some.ensures.steps.0.0 (ap (λ n. n + 1) c.in-Some.ensures.steps.1) c.in-Some.ensures.steps.2 (omega (arith, c.args.commands.ok, c.args.commands.small))
-    c.in_ok-next.ensures c.and-status.ensures
+    c.in_ok-next.ensures.replies c.and-status.ensures
 
 pub loop-index-preserved-in_ok-next-2 : goal.loop-index-preserved-in_ok-next-2
 loop-index-preserved-in_ok-next-2 g c =
     run_next _ _ _ c.in-Some.command _ (c.in-Some.index + 1) _ c.loop-index.view c.in_ok-next.next _ _ _ _ _ _ c.loop-index.invariant
     c.in-Some.ensures.steps.0.0 (ap (λ n. n + 1) c.in-Some.ensures.steps.1) c.in-Some.ensures.steps.2 (omega (arith, c.args.commands.ok, c.args.commands.small))
-    c.in_ok-next.ensures c.and-status.ensures
+    c.in_ok-next.ensures.replies c.and-status.ensures
 
 pub loop-index-preserved-in_ok-next-3 : goal.loop-index-preserved-in_ok-next-3
 loop-index-preserved-in_ok-next-3 g c =
     run_next _ _ _ c.in-Some.command _ (c.in-Some.index + 1) _ c.loop-index.view c.in_ok-next.next _ _ _ _ _ _ c.loop-index.invariant
     c.in-Some.ensures.steps.0.0 (ap (λ n. n + 1) c.in-Some.ensures.steps.1) c.in-Some.ensures.steps.2 (omega (arith, c.args.commands.ok, c.args.commands.small))
-    c.in_ok-next.ensures c.and-status.ensures
+    c.in_ok-next.ensures.replies c.and-status.ensures
 
 pub loop-index-preserved-in_ok-next-4 : goal.loop-index-preserved-in_ok-next-4
 loop-index-preserved-in_ok-next-4 g c =
     run_next _ _ _ c.in-Some.command _ (c.in-Some.index + 1) _ c.loop-index.view c.in_ok-next.next _ _ _ _ _ _ c.loop-index.invariant
     c.in-Some.ensures.steps.0.0 (ap (λ n. n + 1) c.in-Some.ensures.steps.1) c.in-Some.ensures.steps.2 (omega (arith, c.args.commands.ok, c.args.commands.small))
-    c.in_ok-next.ensures c.and-status.ensures
+    c.in_ok-next.ensures.replies c.and-status.ensures
 
 pub loop-index-init : goal.loop-index-init
 loop-index-init g c =
@@ -51,10 +51,10 @@ loop-index-init g c =
       refl,
     )
 
-pub returns-in_err-next : goal.returns-in_err-next
-returns-in_err-next g c =
+pub returns-in_err-next-clause-runs : goal.returns-in_err-next-clause-runs
+returns-in_err-next-clause-runs g c =
     let fault = err_from_is_err_and c.from_residual.result c.from_residual.ensures.1 in
     rw (fault.1, fault.2)
     (run_stops _ _ _ c.in-Some.command _ (c.in-Some.index + 1) c.loop-index.view _ _ _ _ _ c.loop-index.invariant
     c.in-Some.ensures.steps.0.0 (ap (λ n. n + 1) c.in-Some.ensures.steps.1)
-    (omega (arith, c.args.commands.ok, c.args.commands.small)) c.in_err-next.ensures)
+    (omega (arith, c.args.commands.ok, c.args.commands.small)) c.in_err-next.ensures.replies)

@@ -5,4 +5,4 @@ use Rattle.lot_check.proofs.batch.run.Given as goal
 abbrev pub invariant-loop-index : goal.invariant-loop-index
 invariant-loop-index g l =
     RanSoFar l.fn.commands.items l.index-iterator.iter.rest.items l.index-iterator.count l.view l.status
-    (g.W.Write.contents l.initial.writer) (g.W.Write.contents l.writer)
+    (g.W.CountedWrite.contents l.initial.writer) (g.W.CountedWrite.contents l.writer)

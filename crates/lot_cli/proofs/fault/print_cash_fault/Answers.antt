@@ -11,7 +11,7 @@ returns-in-InexactAmount-clause-bytes g c =
     ap (λ t. codes "fault row " ++ t) (sym (append_assoc digits (codes " C4 InexactAmount") (10 ∷ [])))
     ∙ ap (λ d. line (codes "fault row " ++ d ++ codes " C4 InexactAmount")) c.format.ensures.text in
     rw (c.in-InexactAmount.is)
-    (subst (WritesLine (g.W.Write.contents c.args.writer.now) (g.W.Write.contents c.print_texts.new.writer) c.print_texts.result) is c.print_texts.ensures.bytes)
+    (subst (WritesLine (g.W.CountedWrite.contents c.args.writer.now) (g.W.CountedWrite.contents c.print_texts.new.writer) c.print_texts.result) is c.print_texts.ensures.bytes)
 
 pub returns-in-Memory-clause-bytes : goal.returns-in-Memory-clause-bytes
 returns-in-Memory-clause-bytes g c = rw (c.in-Memory.is) c.print_memory.ensures.bytes

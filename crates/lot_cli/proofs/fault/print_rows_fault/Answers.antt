@@ -14,7 +14,7 @@ returns-in-BadRow-clause-bytes g c =
     ∙ ap (λ d. line (codes "fault row " ++ d ++ (codes " C2 BadRow " ++ name))) c.format.ensures.text
     ∙ ap (λ n. line (codes "fault row " ++ decimal c.in-BadRow.row ++ (codes " C2 BadRow " ++ n))) c.cause_name.ensures in
     rw (c.in-BadRow.is)
-    (subst (WritesLine (g.W.Write.contents c.args.writer.now) (g.W.Write.contents c.print_texts-in-BadRow.new.writer) c.print_texts-in-BadRow.result) is c.print_texts-in-BadRow.ensures.bytes)
+    (subst (WritesLine (g.W.CountedWrite.contents c.args.writer.now) (g.W.CountedWrite.contents c.print_texts-in-BadRow.new.writer) c.print_texts-in-BadRow.result) is c.print_texts-in-BadRow.ensures.bytes)
 
 pub returns-in-TooManyRows-clause-bytes : goal.returns-in-TooManyRows-clause-bytes
 returns-in-TooManyRows-clause-bytes g c = rw (c.in-TooManyRows.is) c.print_texts-in-TooManyRows.ensures.bytes

@@ -7,11 +7,11 @@ use Rattle.lot_cli.proofs.halt.print_halt.Goals as goal
 pub returns-in-Create-clause-bytes : goal.returns-in-Create-clause-bytes
 returns-in-Create-clause-bytes g c =
     rw (c.in-Create.is)
-    (subst (WritesLine (g.W.Write.contents c.args.writer.now) (g.W.Write.contents c.print_texts.new.writer) c.print_texts.result)
+    (subst (WritesLine (g.W.CountedWrite.contents c.args.writer.now) (g.W.CountedWrite.contents c.print_texts.new.writer) c.print_texts.result)
     (ap (λ n. line (codes "fault " ++ n)) c.create_name.ensures) c.print_texts.ensures.bytes)
 
 pub returns-in-Adopt-clause-bytes : goal.returns-in-Adopt-clause-bytes
 returns-in-Adopt-clause-bytes g c =
     rw (c.in-Adopt.is)
-    (subst (WritesLine (g.W.Write.contents c.args.writer.now) (g.W.Write.contents c.print_texts-in-Adopt.new.writer) c.print_texts-in-Adopt.result)
+    (subst (WritesLine (g.W.CountedWrite.contents c.args.writer.now) (g.W.CountedWrite.contents c.print_texts-in-Adopt.new.writer) c.print_texts-in-Adopt.result)
     (ap (λ n. line (codes "fault " ++ n)) c.adopt_name.ensures) c.print_texts-in-Adopt.ensures.bytes)

@@ -4,12 +4,14 @@ use Rattle.lot_stream.specs.declared.status.Status.TheVariants.{Stopped}
 use Rattle.lot_report.specs.Printed.{line}
 use Rattle.lot_report.specs.Written.{WritesLine}
 use Rattle.lot_cli.specs.Reports.{report_line}
-use Rattle.lot_cli.proofs.HaltLemmas.{said}
+use Rattle.lot_cli.proofs.HaltLemmas.{failed_before, said}
 use Rattle.lot_cli.proofs.report.stopped.Goals as goal
 
 pub returns-clause-says : goal.returns-clause-says
 returns-clause-says g c =
-    said (report_line c.args.fault) Stopped _ (g.W.Write.contents c.print_texts-printed.new.writer) _ c.print_texts-printed.result c.tell.result
-    (subst (λ (name : List ℕ). WritesLine (g.W.Write.contents c.args.writer.now) (g.W.Write.contents c.print_texts-printed.new.writer) c.print_texts-printed.result (line (codes "fault " ++ name)))
+    said (report_line c.args.fault) Stopped _ (g.W.CountedWrite.contents c.print_texts-printed.new.writer) _ _ c.print_texts-printed.result c.tell.result
+    (subst (λ (name : List ℕ). WritesLine (g.W.CountedWrite.contents c.args.writer.now) (g.W.CountedWrite.contents c.print_texts-printed.new.writer) c.print_texts-printed.result (line (codes "fault " ++ name)))
     c.name.ensures c.print_texts-printed.ensures.bytes)
-    c.tell.ensures.kept c.tell.ensures.end
+    c.tell.ensures.kept
+    (failed_before g.W.CountedWrite.calls c.print_texts-printed.new.writer c.tell.new.writer c.print_texts-printed.result c.print_texts-printed.ensures.cause c.tell.ensures.unasked)
+    c.tell.ensures.end

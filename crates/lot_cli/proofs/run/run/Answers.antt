@@ -7,16 +7,16 @@ use Rattle.lot_cli.proofs.run.run.Goals as goal
 
 pub returns-in-Ok-clause-runs : goal.returns-in-Ok-clause-runs
 returns-in-Ok-clause-runs g c =
-    subst (λ conn. RunsOn c.args.commands.now c.args.from (state g.S.Store c.args.conn) (state g.S.Store conn) (g.W.Write.contents c.args.writer.now) (g.W.Write.contents c.run-end.new.writer) c.code.result)
+    subst (λ conn. RunsOn c.args.commands.now c.args.from (state g.S.Store c.args.conn) (state g.S.Store conn) (g.W.CountedWrite.contents c.args.writer.now) (g.W.CountedWrite.contents c.run-end.new.writer) (record { before = g.W.CountedWrite.calls c.args.writer.now; after = g.W.CountedWrite.calls c.run-end.new.writer }) c.code.result)
     (sym c.into_connection.ensures.same)
-    (runs_on c.args.commands.now c.args.from (state g.S.Store c.args.conn) (state g.S.Store c.in-Ok.book.conn) (state g.S.Store c.run-end.new.self.conn) _ _ c.in-Ok.book.condition c.run-end.new.self.condition c.run-end.result c.code.result
+    (runs_on c.args.commands.now c.args.from (state g.S.Store c.args.conn) (state g.S.Store c.in-Ok.book.conn) (state g.S.Store c.run-end.new.self.conn) _ _ _ c.in-Ok.book.condition c.run-end.new.self.condition c.run-end.result c.code.result
     c.in-Ok.ensures.taken c.in-Ok.ensures.same c.in-Ok.ensures.crash_ok c.in-Ok.ensures.ready c.run-end.ensures.runs
-    c.run-end.ensures.usable (c.code.ensures.value ∙ ap code_of c.status_of_run.ensures))
+    c.run-end.ensures.usable (c.code.ensures.value ∙ ap code_of c.status_of_run.ensures) c.run-end.ensures.output)
 
 pub returns-in-Err-clause-runs : goal.returns-in-Err-clause-runs
 returns-in-Err-clause-runs g c =
-    subst (λ conn. RunsOn c.args.commands.now c.args.from (state g.S.Store c.args.conn) (state g.S.Store conn) (g.W.Write.contents c.args.writer.now) (g.W.Write.contents c.halted.new.writer) c.halted.result.status)
+    subst (λ conn. RunsOn c.args.commands.now c.args.from (state g.S.Store c.args.conn) (state g.S.Store conn) (g.W.CountedWrite.contents c.args.writer.now) (g.W.CountedWrite.contents c.halted.new.writer) (record { before = g.W.CountedWrite.calls c.args.writer.now; after = g.W.CountedWrite.calls c.halted.new.writer }) c.halted.result.status)
     (sym c.halted.ensures.same)
-    (left_alone c.args.commands.now c.args.from (state g.S.Store c.args.conn) (state g.S.Store c.in-Err.field-0.conn) _ _ c.in-Err.field-0.fault c.halted.result.status
+    (left_alone c.args.commands.now c.args.from (state g.S.Store c.args.conn) (state g.S.Store c.in-Err.field-0.conn) _ _ _ c.in-Err.field-0.fault c.halted.result.status
     c.in-Err.ensures.tells_err c.in-Err.ensures.refused c.in-Err.ensures.handed_back c.in-Err.ensures.undone c.in-Err.ensures.crash_err
     c.halted.ensures.says)

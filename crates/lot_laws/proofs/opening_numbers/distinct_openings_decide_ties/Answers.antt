@@ -1,5 +1,5 @@
 -- Distinct numbers don't compare alike.
-use Rattle.lot_laws.proofs.OpeningOrders.{highest_decided, newest_decided, oldest_decided}
+use Rattle.lot_booking.proofs.OpeningOrders.{highest_decided, newest_decided, oldest_decided}
 use Rattle.lot_laws.proofs.opening_numbers.distinct_openings_decide_ties.Goals as goal
 
 pub returns-clause-oldest : goal.returns-clause-oldest

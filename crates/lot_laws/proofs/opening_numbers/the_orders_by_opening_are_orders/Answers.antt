@@ -1,5 +1,5 @@
 -- Each compares by a part of the key, then by opening, then by key.
-use Rattle.lot_laws.proofs.OpeningOrders.{highest_opened_is_order, newest_opened_is_order, oldest_opened_is_order}
+use Rattle.lot_booking.proofs.OpeningOrders.{highest_opened_is_order, newest_opened_is_order, oldest_opened_is_order}
 use Rattle.lot_laws.proofs.opening_numbers.the_orders_by_opening_are_orders.Goals as goal
 
 pub returns-clause-oldest : goal.returns-clause-oldest

@@ -8,7 +8,7 @@ use Rattle.lot_book.specs.Facts.{Entry, text_under}
 use Rattle.lot_command.specs.Sayable.{IsSayable}
 use Rattle.lot_rows.specs.Entry.{IsEntryRow, entry_cells, is_named, named}
 use Rattle.lot_rows.specs.declared.entry.EntryRow.{EntryRow}
-use Rattle.lot_load.proofs.DamageLemmas.{no_row_is_sound, row_is_sound, said_text, text_refused}
+use Rattle.lot_load.proofs.DamageLemmas.{no_row_has_none, no_row_is_sound, row_has_text, row_is_sound, said_text, text_refused}
 use Rattle.lot_load.proofs.ReadLemmas.{fails_first, passes, reads_first, tells}
 use Rattle.lot_load.proofs.RowLemmas.{good_filtered, named_text}
 use Rattle.lot_print.specs.Canonical.{IsCanonical}
@@ -70,3 +70,12 @@ returns-in-None-clause-tells g c =
 pub returns-in-None-clause-damage : goal.returns-in-None-clause-damage
 returns-in-None-clause-damage g c clean tables has damaged =
     absurd (no_row_is_sound tables c.args.key.now c.in_ok-row.field-0 (c.in_ok-row.ensures.finds.says clean tables has) c.in-None.is damaged)
+
+pub returns-in_ok-text_of-in-Some-clause-text : goal.returns-in_ok-text_of-in-Some-clause-text
+returns-in_ok-text_of-in-Some-clause-text g c clean tables has =
+    row_has_text tables c.args.key.now c.in_ok-row.field-0 (c.in_ok-row.ensures.finds.says clean tables has) c.in-Some.row
+    (string_bytes c.in_ok-text_of-in-Some.field-0) c.in-Some.is c.in_ok-text_of-in-Some.ensures.ok c.in_ok-text_of-in-Some.ensures.canonical
+
+pub returns-in-None-clause-text : goal.returns-in-None-clause-text
+returns-in-None-clause-text g c clean tables has =
+    no_row_has_none tables c.args.key.now c.in_ok-row.field-0 (c.in_ok-row.ensures.finds.says clean tables has) c.in-None.is

@@ -1,10 +1,13 @@
 -- The text, what is kept or begun with, and what is learned agree with the book.
 use Rattle.std.specs.Prelude.{◌≡◌, List, ℕ, Option, option_map}
 use Rattle.std.specs.String.{string_bytes}
-use Rattle.std.proofs.Common.{ap, arith, ◌∙◌}
+use Rattle.std.proofs.Common.{ap, arith, subst, sym, ◌∙◌}
 use Rattle.sqlite.specs.Held.{state}
 use Rattle.lot_book.specs.Facts.{Facts, text_under}
+use Rattle.lot_book.specs.Recorded.{facts_in}
+use Rattle.lot_load.specs.Damage.{HasText}
 use Rattle.lot_load.specs.Kept.{IsOf, Keeps, seen}
+use Rattle.lot_load.specs.Known.{KnowsTouched}
 use Rattle.lot_load.proofs.KeptLemmas.{keeps_turned}
 use Rattle.lot_load.proofs.ReadLemmas.{HasRead, reads_first, reads_next, tells}
 use Rattle.lot_load.proofs.RowLemmas.{looked}
@@ -21,7 +24,9 @@ returns g c =
     let kept = c.args.kept in
     let text : Option (List ℕ) = option_map string_bytes c.in_ok-text.text in
     let begun = c.in_ok-kept.kept in
+    let learned = c.learn_lacking.new.kept in
     let turned = c.turn_to.new.self in
+    let seen_then = ap (λ (f : Facts). f.text) c.turn_to.ensures.seen in
     let t = c.in_ok-touched.touched in
     let one : HasRead (λ entries. text ≡ text_under entries key) old read =
     reads_first _ _ _ (λ entries. text ≡ text_under entries key) old read c.in_ok-text.text c.in_ok-text.ensures.tells
@@ -34,12 +39,16 @@ returns g c =
           (reads_next _ _ _ (λ entries. (text ≡ text_under entries key) × (IsOf kept entries → Keeps begun entries)) _
           old counted new c.in_ok-learn_lacking.field-0 two c.in_ok-learn_lacking.ensures.tells
           (λ tables entries book stand was good is of.
-          let covers = is entries book stand (keeps_turned begun turned text entries c.turn_to.ensures.seen c.turn_to.ensures.whole (was.1 of)) in (
-            covers.keeps,
-            looked entries key command t (seen c.learn_lacking.new.kept) c.in_ok-touched.ensures.accounts c.in_ok-touched.ensures.declared
-                c.in_ok-touched.ensures.pairs c.in_ok-touched.ensures.plain covers.keeps.count
-                (covers.text ∙ ap (λ (f : Facts). f.text) c.turn_to.ensures.seen ∙ was.0) covers.knows,
+          let covers = is entries book stand (was.1 of) in
+          let keeps = keeps_turned learned turned text entries c.turn_to.ensures.seen c.turn_to.ensures.whole covers.keeps in (
+            keeps,
+            looked entries key command t (seen turned) c.in_ok-touched.ensures.accounts c.in_ok-touched.ensures.declared
+                c.in_ok-touched.ensures.pairs c.in_ok-touched.ensures.plain keeps.count (seen_then ∙ was.0)
+                (subst (KnowsTouched t (facts_in entries)) (sym c.turn_to.ensures.seen) covers.knows),
           )));
       damage = λ clean. c.in_ok-text.ensures.damage
           (omega (arith, clean, c.in_ok-learn_lacking.ensures.tells.crash.clean, c.in_ok-kept.ensures.tells.crash.clean));
+      text = λ clean tables has.
+          subst (HasText tables key) (sym seen_then)
+          (c.in_ok-text.ensures.text (omega (arith, clean, c.in_ok-learn_lacking.ensures.tells.crash.clean, c.in_ok-kept.ensures.tells.crash.clean)) tables has);
     }

@@ -6,7 +6,8 @@ use Rattle.lot_booking.specs.declared.booking.Booked.{Booked}
 use Rattle.lot_cost.specs.declared.cost.Cost.{Cost}
 use Rattle.lot_cost.specs.declared.method.Method.{Method}
 use Rattle.lot_booking.specs.declared.fault.BookingFault.TheVariants as fault
-use Rattle.lot_booking.specs.Booking.{Braced, ComesTo, Legs, Outcome, Refused as Rejected, Stores, posting_of}
+use Rattle.lot_booking.specs.Booking.{Braced, ComesTo, Legs, Outcome, Refused as Rejected, Stores, posting_by, posting_of}
+use Rattle.lot_booking.specs.Method.{Ties, ByKey}
 use Rattle.lot_booking.proofs.SameLots.{same_outcome, same_stop}
 use Rattle.lot_book.specs.declared.refusal.Stop.{Stop}
 use Rattle.lot_book.specs.declared.refusal.Stop.TheVariants.{Refused, Memory}
@@ -19,15 +20,21 @@ use Rattle.lot_posting.proofs.posting.book_lots.Goals as goal
 abbrev SameLots : Line → Held → Type 0
 SameLots line held = lots_of held line.amount.commodity ≡ lots_of line.held line.amount.commodity
 
-module _ (line : Line) (cost : Cost) (method : Method) (held : Held) (is : method ≡ line.method) (same : SameLots line held) where
+module _ (line : Line) (by_key : ByKey ≡ line.ties) (cost : Cost) (method : Method) (held : Held) (is : method ≡ line.method)
+    (same : SameLots line held) where
   -- the posting under a method and on an inventory
   abbrev under : Method → Braced
   under m = posting_of m held line.amount.commodity line.amount.units cost line.day
 
+  -- the posting as the line has it, where ties are decided so
+  abbrev on_line : Ties → Braced
+  on_line ties = posting_by ties line.method line.held line.amount.commodity line.amount.units cost line.day
+
   comes_to : (outcome : Outcome) → ComesTo (under method) outcome → ComesTo (braced line cost) outcome
   comes_to outcome comes =
-      same_outcome line.method held line.held line.amount.commodity line.amount.units cost line.day same outcome
-      (subst (λ (m : Method). ComesTo (under m) outcome) is comes)
+      subst (λ (ties : Ties). ComesTo (on_line ties) outcome) by_key
+      (same_outcome line.method held line.held line.amount.commodity line.amount.units cost line.day same outcome
+      (subst (λ (m : Method). ComesTo (under m) outcome) is comes))
 
   booked_on : (r : Result Booked Stop) → IfOk r (λ booked. ComesTo (under method) (Legs booked.reduces booked.legs.items))
       → IfOk r (λ booked. ComesTo (braced line cost) (Legs booked.reduces booked.legs.items))
@@ -49,8 +56,9 @@ module _ (line : Line) (cost : Cost) (method : Method) (held : Held) (is : metho
   stores_on braces stores =
       subst (StoresFor line) (sym braces)
       (inl
+      (subst (λ (ties : Ties). Stores (on_line ties)) by_key
       (same_stop line.method held line.held line.amount.commodity line.amount.units cost line.day same fault.Memory
-      (subst (λ (m : Method). Stores (under m)) is stores)))
+      (subst (λ (m : Method). Stores (under m)) is stores))))
 
 -- ---- some lot of the commodity has changed
 
@@ -58,14 +66,14 @@ pub returns-then-has_changed-clause-booked : goal.returns-then-has_changed-claus
 returns-then-has_changed-clause-booked c =
     let site = c.args.site.now in
     let line = line_of (known c.args.view.now) site.day c.args.tally.now.legs site.posting site.account.now site.amount.now in
-    booked_on line c.args.cost.now c.method_of-method.result c.in_ok-lots.lots c.method_of-method.ensures c.in_ok-lots.ensures
+    booked_on line refl c.args.cost.now c.method_of-method.result c.in_ok-lots.lots c.method_of-method.ensures c.in_ok-lots.ensures
     c.book_on.result c.book_on.ensures.booked
 
 pub returns-then-has_changed-clause-stops : goal.returns-then-has_changed-clause-stops
 returns-then-has_changed-clause-stops c =
     let site = c.args.site.now in
     let line = line_of (known c.args.view.now) site.day c.args.tally.now.legs site.posting site.account.now site.amount.now in
-    stops_on line c.args.cost.now c.method_of-method.result c.in_ok-lots.lots c.method_of-method.ensures c.in_ok-lots.ensures
+    stops_on line refl c.args.cost.now c.method_of-method.result c.in_ok-lots.lots c.method_of-method.ensures c.in_ok-lots.ensures
     c.requires.cost c.book_on.result c.book_on.ensures.stops
 
 pub returns-in_err-lots-clause-memory : goal.returns-in_err-lots-clause-memory
@@ -88,14 +96,14 @@ pub returns-in-Some-clause-booked : goal.returns-in-Some-clause-booked
 returns-in-Some-clause-booked c =
     let site = c.args.site.now in
     let line = line_of (known c.args.view.now) site.day c.args.tally.now.legs site.posting site.account.now site.amount.now in
-    booked_on line c.args.cost.now c.method_of-method.result c.in-Some.held.now c.method_of-method.ensures (same_in-Some c)
+    booked_on line refl c.args.cost.now c.method_of-method.result c.in-Some.held.now c.method_of-method.ensures (same_in-Some c)
     c.book_on-in-Some.result c.book_on-in-Some.ensures.booked
 
 pub returns-in-Some-clause-stops : goal.returns-in-Some-clause-stops
 returns-in-Some-clause-stops c =
     let site = c.args.site.now in
     let line = line_of (known c.args.view.now) site.day c.args.tally.now.legs site.posting site.account.now site.amount.now in
-    stops_on line c.args.cost.now c.method_of-method.result c.in-Some.held.now c.method_of-method.ensures (same_in-Some c)
+    stops_on line refl c.args.cost.now c.method_of-method.result c.in-Some.held.now c.method_of-method.ensures (same_in-Some c)
     c.requires.cost c.book_on-in-Some.result c.book_on-in-Some.ensures.stops
 
 -- ---- none has, and the account holds nothing
@@ -110,14 +118,14 @@ pub returns-in-None-clause-booked : goal.returns-in-None-clause-booked
 returns-in-None-clause-booked c =
     let site = c.args.site.now in
     let line = line_of (known c.args.view.now) site.day c.args.tally.now.legs site.posting site.account.now site.amount.now in
-    booked_on line c.args.cost.now c.method_of-method.result c.new.result c.method_of-method.ensures (same_in-None c)
+    booked_on line refl c.args.cost.now c.method_of-method.result c.new.result c.method_of-method.ensures (same_in-None c)
     c.book_on-in-None-2.result c.book_on-in-None-2.ensures.booked
 
 pub returns-in-None-clause-stops : goal.returns-in-None-clause-stops
 returns-in-None-clause-stops c =
     let site = c.args.site.now in
     let line = line_of (known c.args.view.now) site.day c.args.tally.now.legs site.posting site.account.now site.amount.now in
-    stops_on line c.args.cost.now c.method_of-method.result c.new.result c.method_of-method.ensures (same_in-None c)
+    stops_on line refl c.args.cost.now c.method_of-method.result c.new.result c.method_of-method.ensures (same_in-None c)
     c.requires.cost c.book_on-in-None-2.result c.book_on-in-None-2.ensures.stops
 
 pub returns-in-Some-clause-memory : goal.returns-in-Some-clause-memory
@@ -125,7 +133,7 @@ returns-in-Some-clause-memory c = λ lacks.
     let site = c.args.site.now in
     let line = line_of (known c.args.view.now) site.day c.args.tally.now.legs site.posting site.account.now site.amount.now in
     inl
-    (stores_on line c.args.cost.now c.method_of-method.result c.in-Some.held.now c.method_of-method.ensures (same_in-Some c)
+    (stores_on line refl c.args.cost.now c.method_of-method.result c.in-Some.held.now c.method_of-method.ensures (same_in-Some c)
     c.requires.cost (c.book_on-in-Some.ensures.memory lacks))
 
 pub returns-in-None-clause-memory : goal.returns-in-None-clause-memory
@@ -133,5 +141,5 @@ returns-in-None-clause-memory c = λ lacks.
     let site = c.args.site.now in
     let line = line_of (known c.args.view.now) site.day c.args.tally.now.legs site.posting site.account.now site.amount.now in
     inl
-    (stores_on line c.args.cost.now c.method_of-method.result c.new.result c.method_of-method.ensures (same_in-None c)
+    (stores_on line refl c.args.cost.now c.method_of-method.result c.new.result c.method_of-method.ensures (same_in-None c)
     c.requires.cost (c.book_on-in-None-2.ensures.memory lacks))

@@ -8,12 +8,12 @@ use Rattle.lot_report.proofs.gains.print_legs.Goals as goal
 pub loop-lot-preserved : goal.loop-lot-preserved
 loop-lot-preserved g c =
     each_written (leg_line c.commodity-commodity.result.now) _ _ _ _ _ _ _ c.loop-lot.invariant
-    (item_at c.legs-legs.result.now c.loop-lot.lot-index c.loop-lot-item.result (omega arith) c.loop-lot-item.is) c.in_ok-print_lot.ensures
+    (item_at c.legs-legs.result.now c.loop-lot.lot-index c.loop-lot-item.result (omega arith) c.loop-lot-item.is) c.in_ok-print_lot.ensures.line
 
-pub returns-in_err-print_lot : goal.returns-in_err-print_lot
-returns-in_err-print_lot g c =
+pub returns-in_err-print_lot-clause-lines : goal.returns-in_err-print_lot-clause-lines
+returns-in_err-print_lot-clause-lines g c =
     let fault = err_from_is_err_and c.from_residual.result c.from_residual.ensures.1 in
     rw (fault.1, fault.2)
-    (legs_of_sale _ _ _ _ (g.W.Write.contents c.args.writer.now) (g.W.Write.contents c.print_lot.new.writer) (Err c.in_err-print_lot.field-0.0) c.commodity-commodity.ensures c.legs-legs.ensures.value
+    (legs_of_sale _ _ _ _ (g.W.CountedWrite.contents c.args.writer.now) (g.W.CountedWrite.contents c.print_lot.new.writer) (Err c.in_err-print_lot.field-0.0) c.commodity-commodity.ensures c.legs-legs.ensures.value
     (each_stops (leg_line c.commodity-commodity.result.now) _ _ _ _ _ _ _ _ c.loop-lot.invariant
-    (item_at c.legs-legs.result.now c.loop-lot.lot-index c.loop-lot-item.result (omega arith) c.loop-lot-item.is) c.in_err-print_lot.ensures))
+    (item_at c.legs-legs.result.now c.loop-lot.lot-index c.loop-lot-item.result (omega arith) c.loop-lot-item.is) c.in_err-print_lot.ensures.line))

@@ -6,4 +6,4 @@ use Rattle.lot_report.proofs.gains.print_legs.Given as goal
 -- the legs so far are written
 abbrev pub invariant-loop-lot : goal.invariant-loop-lot
 invariant-loop-lot g l =
-    EachSoFar (leg_line l.commodity) l.legs (drop l.lot-index l.legs) (g.W.Write.contents l.initial.writer) (g.W.Write.contents l.writer)
+    EachSoFar (leg_line l.commodity) l.legs (drop l.lot-index l.legs) (g.W.CountedWrite.contents l.initial.writer) (g.W.CountedWrite.contents l.writer)

@@ -1,6 +1,10 @@
+use Rattle.lot_report.proofs.OutputLemmas.{AtLeast}
 use Rattle.lot_report.proofs.PrintLemmas.{IsWrittenTo}
 use Rattle.lot_report.proofs.line.put.Given as goal
 
--- some bytes are written, and the rest is left
-abbrev pub invariant-loop : goal.invariant-loop
-invariant-loop g l = IsWrittenTo (g.W.Write.contents l.fn.writer) (g.W.Write.contents l.writer) l.bytes l.rest
+-- some bytes are written, and the rest is left; each time round made a call
+abbrev pub invariant-loop-made : goal.invariant-loop-made
+invariant-loop-made g l = record {
+  written : IsWrittenTo (g.W.CountedWrite.contents l.fn.writer) (g.W.CountedWrite.contents l.writer) l.bytes l.rest;
+  calls : AtLeast l._made (g.W.CountedWrite.calls l.writer);
+}

@@ -5,4 +5,4 @@ use Rattle.lot_report.proofs.line.put_all.Given as goal
 -- the texts so far are written
 abbrev pub invariant-loop-text : goal.invariant-loop-text
 invariant-loop-text g l =
-    EachSoFar (λ t. t.now) l.texts (drop l.text-index l.texts) (g.W.Write.contents l.initial.writer) (g.W.Write.contents l.writer)
+    EachSoFar (λ t. t.now) l.texts (drop l.text-index l.texts) (g.W.CountedWrite.contents l.initial.writer) (g.W.CountedWrite.contents l.writer)

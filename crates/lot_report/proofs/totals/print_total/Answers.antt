@@ -1,5 +1,5 @@
 use Rattle.lot_report.proofs.TotalLemmas.{total_printed}
 use Rattle.lot_report.proofs.totals.print_total.Goals as goal
 
-pub returns : goal.returns
-returns g c = total_printed _ _ _ _ _ _ _ c.in_ok-total.ensures c.print_line.ensures.bytes
+pub returns-clause-line : goal.returns-clause-line
+returns-clause-line g c = total_printed _ _ _ _ _ _ _ c.in_ok-total.ensures c.print_line.ensures.bytes

@@ -11,8 +11,9 @@ use Rattle.lot_load.specs.Kept.{IsOf, Keeps, seen}
 use Rattle.lot_write.specs.Writes.{writes_of}
 use Rattle.lot_store.specs.Apply.{store_fault_of}
 use Rattle.lot_store.specs.declared.fault.StoreFault.TheVariants.{Device}
-use Rattle.lot_store.proofs.ApplyLemmas.{LooksOn, accepts, fails, refused, refused_number, refuses, repeats}
-use Rattle.lot_store.proofs.CommitLemmas.{of_device}
+use Rattle.lot_store.proofs.ApplyLemmas.{LooksOn, accepts, fails, fails_unwritten, refused, refused_number, refuses, repeats}
+use Rattle.lot_store.proofs.CommitLemmas.{of_damaged, of_device}
+use Rattle.lot_store.proofs.DamageLemmas.{looked_at}
 use Rattle.lot_store.proofs.KeptLemmas.{comes_on, kept_then, stops_on, writes_on}
 use Rattle.lot_store.proofs.book.apply_to.Goals as goal
 
@@ -52,6 +53,15 @@ returns-in-Err-Refused-clause-applies g c =
     (refuses (IsOf c.args.kept.now) (Keeps looked) c.args.key.now c.args.command.now (seen looked) old mid read.same looks
     (λ clean opened. c.is_autocommit-settled.ensures.settled (rw c.is_autocommit-settled.ensures.value (ap not (c.requires.outside (omega (arith, clean, read.crash.clean))))) opened)
     read.crash c.in-Err-Refused.refusal (stops_on looked c.view.result.now c.view.ensures c.args.command.now _ (Refused c.in-Err-Refused.refusal) c.in-Err-Refused.field-0-is c.in-Err-Refused.ensures.stops))
+
+pub returns-in_err-writes-in-Ok-Accept-clause-applies : goal.returns-in_err-writes-in-Ok-Accept-clause-applies
+returns-in_err-writes-in-Ok-Accept-clause-applies g c =
+    let read = c.in_ok-looked.ensures.looks in
+    let cause = c.in_err-writes-in-Ok-Accept.field-0.0 in
+    let fault = err_from_is_err_and c.from_residual-in_err-writes-in-Ok-Accept.result c.from_residual-in_err-writes-in-Ok-Accept.ensures.1 in
+    rw (fault.1, fault.2)
+    (fails_unwritten (IsOf c.args.kept.now) (IsOf c.take.new.self) c.args.key.now c.args.command.now (state g.S.Store c.args.conn.now) (state g.S.Store c.look_on.new.conn)
+    (store_fault_of cause) (λ is. c.in_err-writes-in-Ok-Accept.ensures.fault (ap Err (of_damaged cause is))) read.same read.crash)
 
 pub returns-in_err-commit-in-Ok-Accept-clause-applies : goal.returns-in_err-commit-in-Ok-Accept-clause-applies
 returns-in_err-commit-in-Ok-Accept-clause-applies g c =
@@ -129,3 +139,54 @@ returns-in_err-commit-in-Ok-Accept-clause-device g c clean is =
     c.is_sayable.ensures (rw c.deref.ensures.value made.good) old mid new read.same looks
     (λ clean opened. c.is_autocommit-settled.ensures.settled (rw c.is_autocommit-settled.ensures.value (ap not (c.requires.outside (omega (arith, clean, read.crash.clean))))) opened)
     read.crash (omega (arith, clean, c.in_err-commit-in-Ok-Accept.ensures.crash.clean)) (c.in_err-commit-in-Ok-Accept.ensures.device clean (ap Err told))
+
+-- ---- the text under the key
+
+pub returns-in_err-looked-clause-damage : goal.returns-in_err-looked-clause-damage
+returns-in_err-looked-clause-damage g c clean tables has damaged =
+    let fault = err_from_is_err_and c.from_residual.result c.from_residual.ensures.1 in
+    looked_at c.in_err-looked.field-0.0 (state g.S.Store c.args.conn.now) (state g.S.Store c.look_on.new.conn) c.from_residual.result (fault.1 ∙ ap Err fault.2)
+    (λ is. c.in_err-looked.ensures.looks.device clean (ap Err is))
+
+pub returns-in_err-writes-in-Ok-Accept-clause-damage : goal.returns-in_err-writes-in-Ok-Accept-clause-damage
+returns-in_err-writes-in-Ok-Accept-clause-damage g c clean tables has damaged = let none = c.in_ok-looked.ensures.damage clean tables has damaged in absurd cc
+
+pub returns-in_err-commit-in-Ok-Accept-clause-damage : goal.returns-in_err-commit-in-Ok-Accept-clause-damage
+returns-in_err-commit-in-Ok-Accept-clause-damage g c clean tables has damaged =
+    let none = c.in_ok-looked.ensures.damage (omega (arith, clean, c.in_err-commit-in-Ok-Accept.ensures.crash.clean)) tables has damaged in absurd cc
+
+pub returns-in_ok-commit-in-Ok-Accept-clause-damage : goal.returns-in_ok-commit-in-Ok-Accept-clause-damage
+returns-in_ok-commit-in-Ok-Accept-clause-damage g c clean tables has damaged =
+    let none = c.in_ok-looked.ensures.damage (omega (arith, clean, c.in_ok-commit-in-Ok-Accept.ensures.crash.clean)) tables has damaged in absurd cc
+
+pub returns-in-Ok-Repeat-clause-damage : goal.returns-in-Ok-Repeat-clause-damage
+returns-in-Ok-Repeat-clause-damage g c clean tables has damaged = let none = c.in_ok-looked.ensures.damage clean tables has damaged in absurd cc
+
+pub returns-in-Err-Refused-clause-damage : goal.returns-in-Err-Refused-clause-damage
+returns-in-Err-Refused-clause-damage g c clean tables has damaged = let none = c.in_ok-looked.ensures.damage clean tables has damaged in absurd cc
+
+pub returns-in-Err-Memory-clause-damage : goal.returns-in-Err-Memory-clause-damage
+returns-in-Err-Memory-clause-damage g c clean tables has damaged = let none = c.in_ok-looked.ensures.damage clean tables has damaged in absurd cc
+
+pub returns-in_ok-commit-in-Ok-Accept-clause-text : goal.returns-in_ok-commit-in-Ok-Accept-clause-text
+returns-in_ok-commit-in-Ok-Accept-clause-text g c clean tables has =
+    let looked = c.in_ok-looked.looked in
+    let comes : Comes (seen looked) c.args.command.now (Accept c.in-Ok-Accept.change) = comes_on looked c.view.result.now c.view.ensures c.args.command.now _ _ c.in-Ok-Accept.field-0-is c.in-Ok-Accept.ensures.decided in
+    (seen looked, c.in_ok-looked.ensures.text (omega (arith, clean, c.in_ok-commit-in-Ok-Accept.ensures.crash.clean)) tables has, (c.in-Ok-Accept.change.legs, comes.0))
+
+pub returns-in-Ok-Repeat-clause-text : goal.returns-in-Ok-Repeat-clause-text
+returns-in-Ok-Repeat-clause-text g c clean tables has =
+    let looked = c.in_ok-looked.looked in (
+      seen looked,
+      c.in_ok-looked.ensures.text clean tables has,
+      comes_on looked c.view.result.now c.view.ensures c.args.command.now _ Repeat c.in-Ok-Repeat.field-0-is c.in-Ok-Repeat.ensures.decided,
+    )
+
+pub returns-in-Err-Refused-clause-text : goal.returns-in-Err-Refused-clause-text
+returns-in-Err-Refused-clause-text g c clean tables has =
+    let looked = c.in_ok-looked.looked in
+    rw c.in-Err-Refused.refusal-is (
+      seen looked,
+      c.in_ok-looked.ensures.text clean tables has,
+      stops_on looked c.view.result.now c.view.ensures c.args.command.now _ (Refused c.in-Err-Refused.refusal) c.in-Err-Refused.field-0-is c.in-Err-Refused.ensures.stops,
+    )

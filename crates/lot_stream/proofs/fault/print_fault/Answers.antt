@@ -14,7 +14,7 @@ returns-in-Text-clause-bytes g c =
     ∙ ap (λ d. line (codes "fault line " ++ d ++ (codes " " ++ name))) c.format.ensures.text
     ∙ ap (λ n. line (codes "fault line " ++ decimal c.in-Text.line ++ (codes " " ++ n))) c.name.ensures in
     rw (c.in-Text.is)
-    (subst (WritesLine (g.W.Write.contents c.args.writer.now) (g.W.Write.contents c.print_texts-in-Text.new.writer) c.print_texts-in-Text.result) is c.print_texts-in-Text.ensures.bytes)
+    (subst (WritesLine (g.W.CountedWrite.contents c.args.writer.now) (g.W.CountedWrite.contents c.print_texts-in-Text.new.writer) c.print_texts-in-Text.result) is c.print_texts-in-Text.ensures.bytes)
 
 pub returns-in-Range-clause-bytes : goal.returns-in-Range-clause-bytes
 returns-in-Range-clause-bytes g c = rw (c.in-Range.is) c.print_texts-in-Range.ensures.bytes
@@ -28,4 +28,4 @@ returns-in-MemoryAt-clause-bytes g c =
     let is : digits ++ (codes " fault Memory" ++ 10 ∷ []) ≡ line (decimal c.in-MemoryAt.number ++ codes " fault Memory") =
     sym (append_assoc digits (codes " fault Memory") (10 ∷ [])) ∙ ap (λ d. line (d ++ codes " fault Memory")) c.format-in-MemoryAt.ensures.text in
     rw (c.in-MemoryAt.is)
-    (subst (WritesLine (g.W.Write.contents c.args.writer.now) (g.W.Write.contents c.print_texts-in-MemoryAt.new.writer) c.print_texts-in-MemoryAt.result) is c.print_texts-in-MemoryAt.ensures.bytes)
+    (subst (WritesLine (g.W.CountedWrite.contents c.args.writer.now) (g.W.CountedWrite.contents c.print_texts-in-MemoryAt.new.writer) c.print_texts-in-MemoryAt.result) is c.print_texts-in-MemoryAt.ensures.bytes)

@@ -9,14 +9,14 @@ loop-holding-preserved g c =
     row_taken _ _ _ c.in-Some.holding c.loop-holding.report c.print_row.new.report _ _ _ tt c.loop-holding.invariant c.in-Some.ensures.steps.0
     c.in_ok-print_row.ensures.text c.in_ok-print_row.ensures.after
 
-pub returns-in_err-print_row : goal.returns-in_err-print_row
-returns-in_err-print_row g c =
+pub returns-in_err-print_row-clause-report : goal.returns-in_err-print_row-clause-report
+returns-in_err-print_row-clause-report g c =
     let fault = err_from_is_err_and c.from_residual.result c.from_residual.ensures.1 in
     rw (fault.1, fault.2)
     (row_stops _ _ _ c.in-Some.holding c.loop-holding.report c.print_row.new.report _ _ _ c.in_err-print_row.field-0.0 c.loop-holding.invariant
     c.in-Some.ensures.steps.0 c.in_err-print_row.ensures.text)
 
-pub returns : goal.returns
-returns g c =
+pub returns-clause-report : goal.returns-clause-report
+returns-clause-report g c =
     report_ends _ _ c.loop-holding.report _ _ _ c.print_end.result c.loop-holding.invariant
-    (nil_from_length _ (sym c.loop-holding.holding-iterator.rest.ok.0 ∙ c.in-None.ensures.steps.0)) c.print_end.ensures
+    (nil_from_length _ (sym c.loop-holding.holding-iterator.rest.ok.0 ∙ c.in-None.ensures.steps.0)) c.print_end.ensures.text

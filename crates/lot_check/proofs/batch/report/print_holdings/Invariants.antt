@@ -4,4 +4,4 @@ use Rattle.lot_check.proofs.batch.report.print_holdings.Given as goal
 -- the rows so far were taken and written
 abbrev pub invariant-loop-holding : goal.invariant-loop-holding
 invariant-loop-holding g l =
-    SoFar l.fn.rows.items l.holding-iterator.rest.items l.report (g.W.Write.contents l.initial.writer) (g.W.Write.contents l.writer)
+    SoFar l.fn.rows.items l.holding-iterator.rest.items l.report (g.W.CountedWrite.contents l.initial.writer) (g.W.CountedWrite.contents l.writer)

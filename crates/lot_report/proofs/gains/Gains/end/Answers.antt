@@ -6,10 +6,10 @@ use Rattle.lot_report.proofs.gains.Gains.end.Goals as goal
 pub returns-in-Ok-clause-text : goal.returns-in-Ok-clause-text
 returns-in-Ok-clause-text g c sales start fed before =
     let taken = fed_with fits HasTaken sales c.args.self.progress c.in-Some.progress fed c.in-Some.is in
-    report_ends sale_lines fits IsEnd sales _ start _ _ tt fed.0 (end_is sales c.in-Some.progress taken) before c.in-Ok.ensures
+    report_ends sale_lines fits IsEnd sales _ start _ _ tt fed.0 (end_is sales c.in-Some.progress taken) before c.in-Ok.ensures.lines
 
 pub returns-clause-text : goal.returns-clause-text
 returns-clause-text g c sales start fed before =
     let taken = fed_with fits HasTaken sales c.args.self.progress c.in-Some.progress fed c.in-Some.is in
     rw (c.from.ensures)
-    (report_cut sale_lines fits IsEnd sales _ start _ _ c.in-Err.fault (end_is sales c.in-Some.progress taken) before c.in-Err.ensures)
+    (report_cut sale_lines fits IsEnd sales _ start _ _ c.in-Err.fault (end_is sales c.in-Some.progress taken) before c.in-Err.ensures.lines)

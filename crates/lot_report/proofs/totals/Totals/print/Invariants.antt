@@ -5,4 +5,4 @@ use Rattle.lot_report.proofs.totals.Totals.print.Given as goal
 -- the lines so far are written, and the others are left
 abbrev pub invariant-loop-currency : goal.invariant-loop-currency
 invariant-loop-currency g l =
-    EachSoFar (λ sum. total_of l.what sum.0 sum.1) l.self.sums.entries l.currency-iterator (g.W.Write.contents l.initial.writer) (g.W.Write.contents l.writer)
+    EachSoFar (λ sum. total_of l.what sum.0 sum.1) l.self.sums.entries l.currency-iterator (g.W.CountedWrite.contents l.initial.writer) (g.W.CountedWrite.contents l.writer)

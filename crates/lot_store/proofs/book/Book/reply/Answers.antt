@@ -2,6 +2,7 @@ use Rattle.std.proofs.Common.{◌∙◌, sym}
 use Rattle.std.proofs.lemmas.Result.{err_from_is_err_and}
 use Rattle.sqlite.specs.Held.{state}
 use Rattle.lot_load.specs.Kept.{IsOf}
+use Rattle.lot_store.proofs.OutputLemmas.{err_out}
 use Rattle.lot_store.proofs.RunLemmas.{reply_cut, reply_stops}
 use Rattle.lot_store.proofs.book.Book.reply.Goals as goal
 
@@ -10,11 +11,15 @@ returns-in_err-write_reply-in-Ok-clause-replies g c =
     let fault = err_from_is_err_and c.from_residual.result c.from_residual.ensures.1 in
     rw (fault.1, fault.2)
     (reply_cut (IsOf c.args.kept.now) (IsOf c.apply_with.new.kept) c.args.key.now c.args.command.now c.args.number (state g.S.Store c.args.self.now.conn) (state g.S.Store c.apply_with.new.self.conn) _ _ c.apply_with.new.self.condition c.apply_with.result c.apply_with.ensures.applies
-    (record { device = c.apply_with.ensures.device; in_doubt = c.apply_with.ensures.in_doubt }) c.apply_with.ensures.condition _
-    c.in-Ok.verdict (sym c.told.ensures ∙ c.in-Ok.is) c.in_err-write_reply-in-Ok.ensures)
+    (record { device = c.apply_with.ensures.device; in_doubt = c.apply_with.ensures.in_doubt; damage = c.apply_with.ensures.damage }) c.apply_with.ensures.condition _
+    c.in-Ok.verdict (sym c.told.ensures ∙ c.in-Ok.is) c.in_err-write_reply-in-Ok.ensures.line)
+
+pub returns-in_err-write_reply-in-Ok-clause-output : goal.returns-in_err-write_reply-in-Ok-clause-output
+returns-in_err-write_reply-in-Ok-clause-output g c =
+    err_out c.from_residual.result _ _ c.from_residual.ensures.1 c.in_err-write_reply-in-Ok.ensures.output
 
 pub returns-in-Err-clause-replies : goal.returns-in-Err-clause-replies
 returns-in-Err-clause-replies g c =
     reply_stops (IsOf c.args.kept.now) (IsOf c.apply_with.new.kept) c.args.key.now c.args.command.now c.args.number (state g.S.Store c.args.self.now.conn) (state g.S.Store c.apply_with.new.self.conn) _ _ c.apply_with.new.self.condition c.apply_with.result c.apply_with.ensures.applies
-    (record { device = c.apply_with.ensures.device; in_doubt = c.apply_with.ensures.in_doubt }) c.apply_with.ensures.condition _
-    c.in-Err.fault (sym c.told.ensures ∙ c.in-Err.is) c.apply_with.ensures.usable c.stop.ensures
+    (record { device = c.apply_with.ensures.device; in_doubt = c.apply_with.ensures.in_doubt; damage = c.apply_with.ensures.damage }) c.apply_with.ensures.condition _
+    c.in-Err.fault (sym c.told.ensures ∙ c.in-Err.is) c.apply_with.ensures.usable c.stop.ensures.line

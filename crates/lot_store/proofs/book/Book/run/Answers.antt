@@ -7,7 +7,7 @@ use Rattle.lot_store.proofs.book.Book.run.Goals as goal
 
 pub commands-init : goal.commands-init
 commands-init g c =
-    (so_far_none (IsOf None) (λ entries. tt) c.args.commands.now c.args.from (state g.S.Store c.args.self.now.conn) _, ready_ok c.args.self.now.condition (sym c.ready.ensures.value ∙ c.in_default.is))
+    (so_far_none (IsOf None) (λ entries. tt) c.args.commands.now c.args.from (state g.S.Store c.args.self.now.conn) _, ready_ok c.args.self.now.condition (sym c.ready.ensures.value ∙ c.in_default.is), λ flushed. flushed)
 
 pub overflow_add-refused : goal.overflow_add-refused
 overflow_add-refused g c =
@@ -17,7 +17,7 @@ overflow_add-refused g c =
 pub returns-in-Err : goal.returns-in-Err
 returns-in-Err g c =
     let spent = ready_fault c.args.self.now.condition c.in-Err.fault (sym c.ready.ensures.value ∙ c.in-Err.is) in
-    let line = subst (λ f. StopsWith c.args.from f (g.W.Write.contents c.args.writer.now) (g.W.Write.contents c.stop.new.writer) c.stop.result) spent c.stop.ensures in
+    let line = subst (λ f. StopsWith c.args.from f (g.W.CountedWrite.contents c.args.writer.now) (g.W.CountedWrite.contents c.stop.new.writer) c.stop.result) spent c.stop.ensures.line in
     let needs = spent_if c.args.self.now.condition c.in-Err.fault (sym c.ready.ensures.value ∙ c.in-Err.is) in
     record {
       runs = run_needs_reopening c.args.commands.now c.args.from (state g.S.Store c.args.self.now.conn) _ _ c.stop.result c.args.self.now.condition line needs
@@ -25,12 +25,14 @@ returns-in-Err g c =
       spent = λ is. (record { replied = refl; refused = refl; line = line }, refl);
       usable = λ ready. let both = sym ready ∙ needs in absurd cc;
       safe = λ opened trees may. g.met.S.Store.settled c.args.self.now.conn.store trees opened may;
+      output = λ flushed. c.stop.ensures.output;
     }
 
 pub returns-in-Err-reply : goal.returns-in-Err-reply
 returns-in-Err-reply g c = record {
   spent = λ is. let both = sym is ∙ ready_ok c.args.self.now.condition (sym c.ready.ensures.value ∙ c.in_default.is) in absurd cc;
   safe = c.reply.ensures.safe;
+  output = λ flushed. c.in-Err-reply.ensures.output;
   usable = λ ready. reply_usable (IsOf c.commands.kept) (IsOf c.reply.new.kept) _ _ (c.args.from + c.commands.index) (state g.S.Store c.commands.self.conn) (state g.S.Store c.reply.new.self.conn) _ _ c.reply.new.self.condition c.in-Err-reply.ending c.in-Err-reply.ensures.replies;
   runs = run_ends (IsOf c.commands.kept) (IsOf c.reply.new.kept) c.args.commands.now c.args.from c.commands.index c.commands.refused (c.args.from + c.commands.index) (state g.S.Store c.args.self.now.conn) (state g.S.Store c.commands.self.conn)
       (state g.S.Store c.reply.new.self.conn) _ _ _ c.commands.invariant.0 c.index-commands-index.result _ c.index-commands-index.is c.commands-test.true refl c.in-Err-reply.ending
@@ -45,6 +47,7 @@ commands-preserved g c = (
       (state g.S.Store c.reply.new.self.conn) _ _ _ c.commands.invariant.0 c.index-commands-index.result _ c.index-commands-index.is c.commands-test.true refl c.in-Ok.verdict
       c.reply.new.self.condition c.in-Ok.ensures.replies c.reply.ensures.safe),
   c.in-Ok.ensures.ready refl,
+  λ flushed. c.in-Ok.ensures.output,
 )
 
 pub returns : goal.returns
@@ -54,8 +57,9 @@ returns g c =
       spent = λ is. let both = sym is ∙ ready_ok c.args.self.now.condition (sym c.ready.ensures.value ∙ c.in_default.is) in absurd cc;
       usable = λ ready complete. absurd cc;
       safe = λ opened trees may. g.met.S.Store.settled c.commands.self.conn.store trees opened may;
+      output = c.commands.invariant.2;
       runs = run_completes (IsOf c.commands.kept) c.args.commands.now c.args.from c.commands.refused (state g.S.Store c.args.self.now.conn) (state g.S.Store c.commands.self.conn) _ _ c.args.self.now.condition c.commands.self.condition
-          (subst (λ n. SoFar (IsOf c.commands.kept) c.args.commands.now c.args.from n c.commands.refused (state g.S.Store c.args.self.now.conn) (state g.S.Store c.commands.self.conn) (g.W.Write.contents c.args.writer.now) (g.W.Write.contents c.commands.writer)) all c.commands.invariant.0)
+          (subst (λ n. SoFar (IsOf c.commands.kept) c.args.commands.now c.args.from n c.commands.refused (state g.S.Store c.args.self.now.conn) (state g.S.Store c.commands.self.conn) (g.W.CountedWrite.contents c.args.writer.now) (g.W.CountedWrite.contents c.commands.writer)) all c.commands.invariant.0)
           c.commands.invariant.1
           (leaves_what_stands (state g.S.Store c.args.self.now.conn) c.ready.ensures.settled (λ opened trees may. g.met.S.Store.settled c.args.self.now.conn.store trees opened may));
     }

@@ -1,30 +1,22 @@
 -- The orders by opening are orders, and distinct openings decide.
-use Rattle.std.specs.Prelude.{◌≡◌, ◌≢◌, ℕ, true, ◌||◌}
+use Rattle.std.specs.Prelude.{◌≡◌, ◌≢◌, ℕ}
 use Rattle.std.specs.declared.cmp.Ordering.{Ordering}
 use Rattle.std.specs.declared.cmp.Ordering.TheVariants.{Less, Equal, Greater}
 use Rattle.std.specs.Cmp.{IsTotalOrder}
-use Rattle.std.specs.Ordering.{nat_cmp, int_cmp, is_lt, ordering_reverse, ordering_then}
+use Rattle.std.specs.Ordering.{nat_cmp, int_cmp, ordering_then}
 use Rattle.std.proofs.Common.{refl, ap}
-use Rattle.std.proofs.lemmas.Cmp.{back_total, then_total, on_total, nat_cmp_total, int_cmp_total, tied_itself}
-use Rattle.std.proofs.lemmas.Map.Lookups.{exact_unsigned}
+use Rattle.std.proofs.lemmas.Cmp.{back_total, then_total, on_total, nat_cmp_total, int_cmp_total}
+use Rattle.std.proofs.lemmas.Map.Lookups.{CmpEqualImpliesEq, exact_unsigned}
 use Rattle.lot_base.proofs.OrderLemmas.{equal_parts}
 use Rattle.lot_cost.proofs.OrderLemmas.{lots_total, exact_lots}
 use Rattle.lot_cost.specs.LotKey.{lot_cmp}
 use Rattle.lot_cost.specs.declared.lot_key.LotKey.{LotKey}
+use Rattle.lot_cost.specs.declared.method.Method.{Method}
+use Rattle.lot_cost.specs.declared.method.Method.TheVariants.{Strict, Fifo, Lifo, Hifo, Unmatched}
+use Rattle.lot_booking.specs.Method.{Ties, ByKey, ByOpening, order_by}
+use Rattle.lot_booking.specs.OpeningOrder.{OpenedLot, by_opening, highest_opened_cmp, newest_opened_cmp, oldest_opened_cmp, opened_cmp}
 use Rattle.lot_booking.specs.Order.{IsOrder}
-use Rattle.lot_laws.specs.OpeningOrder.{OpenedLot, by_opening, highest_opened_cmp, newest_opened_cmp, oldest_opened_cmp, opened_cmp}
-
--- ---- An order of keys from a comparison.
-
-Less-from_lt : (o : Ordering) → is_lt o ≡ true → o ≡ Less
-Less-from_lt Less e = refl
-Less-from_lt Equal e = cc
-Less-from_lt Greater e = cc
-
-one_is_below : (there back : Ordering) → back ≡ ordering_reverse there → there ≢ Equal → (is_lt there || is_lt back) ≡ true
-one_is_below Less back e apart = refl
-one_is_below Equal back e apart = absurd (apart refl)
-one_is_below Greater back e apart = ap is_lt e
+use Rattle.lot_booking.specs.OrderLaws.{is_order, oldest_is_order, newest_is_order, highest_is_order}
 
 -- ---- Comparisons that begin with another one, and go on by opening.
 
@@ -44,17 +36,12 @@ module _ (first : OpenedLot → OpenedLot → Ordering) (total : IsTotalOrder fi
   compare_keys : IsTotalOrder (λ (a b : LotKey). compare (a, opening a) (b, opening b))
   compare_keys = on_total (λ (key : LotKey). (key, opening key)) (then_total total opened_total)
 
-  is_order : IsOrder (by_opening compare opening)
-  is_order =
-      let cmp : LotKey → LotKey → Ordering = λ a b. compare (a, opening a) (b, opening b) in
-      record {
-        never_itself = λ key. ap is_lt (tied_itself compare_keys key);
-        transitive = λ a b c there next.
-            ap is_lt (compare_keys.trans a b c (Less-from_lt (cmp a b) there) (Less-from_lt (cmp b c) next));
-        total = λ a b apart.
-            one_is_below (cmp a b) (cmp b a) (compare_keys.antisymm b a)
-            (λ e. apart (one_key (first (a, opening a) (b, opening b)) (a, opening a) (b, opening b) e));
-      }
+  -- keys that tie are one
+  exact_keys : CmpEqualImpliesEq (λ (a b : LotKey). compare (a, opening a) (b, opening b))
+  exact_keys a b e = one_key (first (a, opening a) (b, opening b)) (a, opening a) (b, opening b) e
+
+  opened_is_order : IsOrder (by_opening compare opening)
+  opened_is_order = is_order compare_keys exact_keys
 
 days_total : IsTotalOrder (λ (a b : OpenedLot). int_cmp a.0.day b.0.day)
 days_total = on_total (λ (lot : OpenedLot). lot.0.day) int_cmp_total
@@ -63,13 +50,25 @@ numbers_total : IsTotalOrder (λ (a b : OpenedLot). nat_cmp a.0.number b.0.numbe
 numbers_total = on_total (λ (lot : OpenedLot). lot.0.number) nat_cmp_total
 
 pub oldest_opened_is_order : (opening : LotKey → ℕ) → IsOrder (by_opening oldest_opened_cmp opening)
-oldest_opened_is_order opening = is_order (λ a b. int_cmp a.0.day b.0.day) days_total opening
+oldest_opened_is_order opening = opened_is_order (λ a b. int_cmp a.0.day b.0.day) days_total opening
 
 pub newest_opened_is_order : (opening : LotKey → ℕ) → IsOrder (by_opening newest_opened_cmp opening)
-newest_opened_is_order opening = is_order (λ a b. int_cmp b.0.day a.0.day) (back_total days_total) opening
+newest_opened_is_order opening = opened_is_order (λ a b. int_cmp b.0.day a.0.day) (back_total days_total) opening
 
 pub highest_opened_is_order : (opening : LotKey → ℕ) → IsOrder (by_opening highest_opened_cmp opening)
-highest_opened_is_order opening = is_order (λ a b. nat_cmp b.0.number a.0.number) (back_total numbers_total) opening
+highest_opened_is_order opening = opened_is_order (λ a b. nat_cmp b.0.number a.0.number) (back_total numbers_total) opening
+
+-- ---- However ties are decided, the order of a method is one.
+
+pub is_order_by : (ties : Ties) (method : Method) → IsOrder (order_by ties method)
+is_order_by ties Strict = oldest_is_order
+is_order_by ByKey Fifo = oldest_is_order
+is_order_by ByKey Lifo = newest_is_order
+is_order_by ByKey Hifo = highest_is_order
+is_order_by (ByOpening opening) Fifo = oldest_opened_is_order opening
+is_order_by (ByOpening opening) Lifo = newest_opened_is_order opening
+is_order_by (ByOpening opening) Hifo = highest_opened_is_order opening
+is_order_by ties Unmatched = oldest_is_order
 
 -- ---- Distinct openings.
 

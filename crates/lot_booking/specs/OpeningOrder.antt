@@ -1,5 +1,5 @@
--- In which order the next edition takes lots: ties go to the lot that was opened first (docs/PROMISES.md, Migration). No code
--- uses these orders yet.
+-- In which order edition 2 takes lots: ties go to the lot that was opened first (docs/PROMISES.md, Migration). No code uses
+-- these orders yet.
 use Rattle.std.specs.Prelude.{ℕ, Bool}
 use Rattle.std.specs.declared.cmp.Ordering.{Ordering}
 use Rattle.std.specs.Ordering.{nat_cmp, int_cmp, is_lt, ordering_then}

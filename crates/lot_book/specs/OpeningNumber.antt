@@ -1,8 +1,9 @@
 -- Opening numbers: which lot was opened before which (docs/PROMISES.md, Migration). They say it of legs alone, and no code
 -- uses them yet.
 use Rattle.std.specs.Prelude.{◌≡◌, ◌≢◌, ℕ, ◌+◌, ◌-◌, ◌*◌, ◌&&◌, Bool, if◌then◌else◌, List, [], ◌∷◌, ◌++◌, Option, None, Some, pos}
-use Rattle.std.specs.Option.{option_map, option_or}
+use Rattle.std.specs.Option.{option_map, option_or, unwrap_or}
 use Rattle.std.specs.Ordering.{int_eq}
+use Rattle.lot_cost.specs.declared.lot_key.LotKey.{LotKey}
 use Rattle.lot_book.specs.declared.leg.Leg.{Leg}
 use Rattle.lot_book.specs.declared.leg.Position.{Position}
 use Rattle.lot_book.specs.Leg.{same_position, sum_at}
@@ -51,3 +52,8 @@ last_to_open lot before (leg ∷ legs) =
 abbrev pub opening_number : List Leg → Position → Option ℕ
 opening_number legs lot =
     if int_eq (sum_at legs lot) (pos 0) then None else option_map posting_number (last_to_open lot [] legs)
+
+-- the opening number of each lot of an account and a commodity, 0 for a lot that holds nothing
+abbrev pub opening_in : List Leg → List ℕ → List ℕ → LotKey → ℕ
+opening_in legs account commodity lot =
+    unwrap_or (opening_number legs (record { account = account; commodity = commodity; lot = Some lot })) 0

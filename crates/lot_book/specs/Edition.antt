@@ -1,0 +1,32 @@
+-- The editions, and which of them judged an entry (docs/PROMISES.md, Migration). All code is of edition 1 so far.
+use Rattle.std.specs.Prelude.{ℕ, nat_lt, if◌then◌else◌, List, ◌++◌, length}
+use Rattle.lot_booking.specs.Method.{ByOpening}
+use Rattle.lot_book.specs.Booking.{TieRule, all_by_key}
+use Rattle.lot_book.specs.Facts.{Entry, legs_of}
+use Rattle.lot_book.specs.OpeningNumber.{opening_in}
+
+-- edition 1 decides ties by the keys of the lots, edition 2 by which lot was opened first
+pub data Edition : Type 0 where
+  First : Edition
+  Second : Edition
+
+abbrev pub edition_number : Edition → ℕ
+edition_number First = 1
+edition_number Second = 2
+
+-- how an edition decides ties on a book: edition 2 by the opening numbers over the legs of the book and the legs so far of
+-- the transaction
+abbrev pub ties_in : Edition → List Entry → TieRule
+ties_in First book = all_by_key
+ties_in Second book = λ before account commodity. ByOpening (opening_in (legs_of book ++ before) account commodity)
+
+-- whether a book is of edition 1, not yet migrated, or of edition 2, migrated after so many entries: its place of migration,
+-- 0 where it was made in edition 2
+pub data Migration : Type 0 where
+  NotYet : Migration
+  After : ℕ → Migration
+
+-- the edition that judges on a book: of a migrated one the first for as many entries as the migration found, then the second
+abbrev pub edition_on : Migration → List Entry → Edition
+edition_on NotYet book = First
+edition_on (After place) book = if nat_lt (length book) place then First else Second

@@ -1,0 +1,100 @@
+ghost use Rattle.std.specs.Prelude.{◌≡◌, ◌<◌, ℕ, List, length, Option, None, Some};
+ghost use Rattle.std.specs.Io.{WritesAtMost};
+ghost use Rattle.std.specs.Io.KnownBytes.{Keeps, WriteAppends};
+ghost use Rattle.lot_report.specs.CountedWriter.{calls_of, writer_of};
+ghost use Rattle.lot_report.specs.Output.{CountsFlush, CountsWrite, WriteCalls, no_calls};
+
+use std::io::{self, ErrorKind, Write};
+
+/// A writer of which it may be known what its calls came to: how many were made, whether one failed, and whether all that it
+/// took is flushed.
+///
+/// Each writer is one of which that isn't known. Of a `CountedWriter` it is.
+pub trait CountedWrite {
+    // The bytes that the writer holds, where they are known.
+    ghost contents: { Self → Option (List ℕ) };
+
+    // What all calls came to so far, where that is known.
+    ghost calls: { Self → Option WriteCalls };
+
+    /// Makes one call of `write`, of at least one byte.
+    fn write_counted(&mut self, chunk: &[u8]) -> io::Result<usize>
+        requires some { 0 < length chunk.now }
+        ensures bound { WritesAtMost result chunk.now }
+        ensures bytes { WriteAppends (contents self.old) (contents self.new) result chunk.now }
+        ensures calls { CountsWrite (calls self.old) (calls self.new) result };
+
+    /// Makes one call of `flush`.
+    fn flush_counted(&mut self) -> io::Result<()>
+        ensures bytes { Keeps (contents self.old) (contents self.new) }
+        ensures calls { CountsFlush (calls self.old) (calls self.new) result };
+}
+
+impl<W: Write> CountedWrite for W {
+    ghost contents = { W.contents };
+
+    ghost calls = { λ _. None };
+
+    fn write_counted(&mut self, chunk: &[u8]) -> io::Result<usize> {
+        self.write(chunk)
+    }
+
+    fn flush_counted(&mut self) -> io::Result<()> {
+        self.flush()
+    }
+}
+
+/// A writer of which it is known what its calls came to. The count of calls of `write` stops at `u64::MAX`.
+#[derive(Drop)]
+pub struct CountedWriter<W> {
+    writer: W,
+    /// How many calls of `write` were made.
+    made: u64,
+    /// Whether a call failed: one of `write` that took nothing or met an error, those aside that were interrupted, or one of
+    /// `flush`.
+    has_failed: bool,
+    /// Whether nothing was taken since the last flush that succeeded.
+    is_flushed: bool,
+}
+
+impl<W> CountedWriter<W> {
+    /// Returns the writer, of which no call was counted yet.
+    pub fn new(writer: W) -> CountedWriter<W>
+        ensures writer { writer_of result ≡ writer }
+        ensures calls { calls_of result ≡ no_calls }
+    {
+        CountedWriter {
+            writer,
+            made: 0,
+            has_failed: false,
+            is_flushed: true,
+        }
+    }
+}
+
+impl<W: Write> CountedWrite for CountedWriter<W> {
+    ghost contents = { λ counted. W.contents (writer_of counted) };
+
+    ghost calls = { λ counted. Some (calls_of counted) };
+
+    fn write_counted(&mut self, chunk: &[u8]) -> io::Result<usize> {
+        let outcome = self.writer.write(chunk);
+        self.made = self.made.saturating_add(1);
+        match &outcome {
+            Ok(0) => self.has_failed = true,
+            Ok(_) => self.is_flushed = false,
+            Err(error) if error.kind() == ErrorKind::Interrupted => {}
+            Err(_) => self.has_failed = true,
+        }
+        outcome
+    }
+
+    fn flush_counted(&mut self) -> io::Result<()> {
+        let outcome = self.writer.flush();
+        match &outcome {
+            Ok(()) => self.is_flushed = true,
+            Err(_) => self.has_failed = true,
+        }
+        outcome
+    }
+}
