@@ -10,10 +10,11 @@ use Rattle.std.proofs.lemmas.List.Sums.{sum_by_push, sum_by-take-le}
 use Rattle.lot_num.specs.Amount.{IsUnits, rate_limit, units_limit}
 use Rattle.lot_num.specs.Sum.{sum_of}
 use Rattle.lot_cost.specs.declared.lot_key.LotKey.{LotKey}
+use Rattle.lot_inv.specs.Inventory.{held_in}
+use Rattle.lot_inv.proofs.AvailableLemmas.{held_in-cons}
 use Rattle.lot_booking.specs.Booking.{units_in}
-use Rattle.lot_booking.specs.Choice.{held_in, with_sign_of}
+use Rattle.lot_booking.specs.Choice.{with_sign_of}
 use Rattle.lot_booking.proofs.BookingLaws.{size_of-sign}
-use Rattle.lot_booking.proofs.ChoiceLemmas.{held_in-cons}
 use Rattle.lot_book.specs.Sale.{AreLegsOf, same_sign}
 
 -- ---- how many units legs move

@@ -14,8 +14,10 @@ use Rattle.lot_cost.specs.declared.lot_key.LotKey.{LotKey}
 use Rattle.lot_cost.specs.LotKey.{lot_cmp}
 use Rattle.lot_cost.proofs.OrderLemmas.{lots_total}
 use Rattle.lot_cost.proofs.ListLemmas.{all_weaker}
+use Rattle.lot_inv.specs.Inventory.{held_in}
+use Rattle.lot_inv.proofs.AvailableLemmas.{held_in-cons}
 use Rattle.lot_booking.proofs.ListLemmas.{all_permuted, same_terms, smaller_terms}
-use Rattle.lot_booking.specs.Choice.{Choice, HasNoChoice, HaveDistinctKeys, InTurn, IsWhole, Rule, given, held_in}
+use Rattle.lot_booking.specs.Choice.{Choice, HasNoChoice, HaveDistinctKeys, InTurn, IsWhole, Rule, given}
 
 -- what holds of each key holds of the key of each lot
 pub all_keys : (P : LotKey → Type 0) (lots : List (LotKey × ℤ)) → AllByRecursion P (keys_of lots) → AllByRecursion (λ (lot : LotKey × ℤ). P lot.0) lots
@@ -26,9 +28,6 @@ all_keys P (lot ∷ lots) all = (all.0, all_keys P lots all.1)
 
 pub given-cons : (choice : Choice) (lot : LotKey × ℤ) (lots : List (LotKey × ℤ)) → given choice (lot ∷ lots) ≡ choice lot.0 + given choice lots
 given-cons choice lot lots = sum_by-cons (λ (lot : LotKey × ℤ). choice lot.0) lot lots
-
-pub held_in-cons : (lot : LotKey × ℤ) (lots : List (LotKey × ℤ)) → held_in (lot ∷ lots) ≡ unsigned_abs lot.1 + held_in lots
-held_in-cons lot lots = sum_by-cons (λ (lot : LotKey × ℤ). unsigned_abs lot.1) lot lots
 
 -- a choice that gives no lot more than it holds gives all of them no more than they hold
 pub given-le-held_in : (choice : Choice) (lots : List (LotKey × ℤ)) → AllByRecursion (λ (lot : LotKey × ℤ). choice lot.0 ≤ unsigned_abs lot.1) lots

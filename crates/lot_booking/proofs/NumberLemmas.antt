@@ -6,8 +6,7 @@ use Rattle.std.proofs.lemmas.Bool.Decides.{nat_tests}
 use Rattle.lot_cost.specs.declared.cost_spec.CostSpec.{CostSpec}
 use Rattle.lot_cost.specs.declared.lot_key.LotKey.{LotKey}
 use Rattle.lot_cost.specs.CostSpec.{fits}
-use Rattle.lot_inv.specs.Inventory.{Held, lots_of, matching, other_sign}
-use Rattle.lot_booking.specs.Booking.{fitting, with_number}
+use Rattle.lot_inv.specs.Inventory.{Held, fitting, lots_of, other_sign, with_number}
 
 -- three tests of which the last one is split in two
 filtered : (test sign : LotKey × ℤ → Bool) (old new : LotKey → Bool) → ((lot : LotKey × ℤ) → new lot.0 ≡ (test lot && old lot.0)) → (lots : List (LotKey × ℤ))
@@ -66,12 +65,3 @@ fitting-with_number held commodity units spec number given =
 pub with_no_number : (spec : CostSpec) (number : Option ℕ) → (spec.number ≡ None) ⊎ (spec.number ≡ number) → number ≡ None → spec ≡ with_number number spec
 with_no_number spec number (inl none) e = λ i. with_number ((none ∙ sym e) i) spec
 with_no_number spec number (inr some) e = λ i. with_number (some i) spec
-
--- where nothing fits what is given, nothing fits at a number
-pub none_fits : (held : Held) (commodity : List ℕ) (units : ℤ) (spec : CostSpec) (number : Option ℕ) → (spec.number ≡ None) ⊎ (spec.number ≡ number)
-    → matching held commodity spec ≡ [] → fitting held commodity units (with_number number spec) ≡ []
-none_fits held commodity units spec None given none =
-    ap (fitting held commodity units) (sym (with_no_number spec None given refl)) ∙ ap (filter (λ (lot : LotKey × ℤ). other_sign lot.1 units)) none
-none_fits held commodity units spec (Some number) given none =
-    sym (fitting-with_number held commodity units spec number given)
-    ∙ ap (λ lots. filter (λ (lot : LotKey × ℤ). lot.0.number == number) (filter (λ (lot : LotKey × ℤ). other_sign lot.1 units) lots)) none

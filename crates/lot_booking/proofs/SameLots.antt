@@ -8,10 +8,9 @@ use Rattle.lot_cost.specs.declared.lot_key.LotKey.{LotKey}
 use Rattle.lot_cost.specs.CostSpec.{fits}
 use Rattle.lot_inv.specs.Inventory.{Held, lots_of, matching, other_sign}
 use Rattle.lot_cost.specs.declared.cost.Cost.{Cost}
-use Rattle.lot_booking.specs.declared.fault.BookingFault.{BookingFault}
 use Rattle.lot_booking.specs.declared.fault.BookingFault.TheVariants.{ZeroUnits, InexactCost, IncompleteCost, NoMatch, Ambiguous, NotEnough, Memory}
 use Rattle.lot_cost.specs.declared.method.Method.{Method}
-use Rattle.lot_booking.specs.Booking.{Augments, Braced, ComesTo, Legs, Outcome, Reduces, Refused, Stops, candidates, given_of, is_ambiguous, is_reducing, posting_of, spec_of}
+use Rattle.lot_booking.specs.Booking.{Augments, Braced, ComesTo, Legs, Outcome, Reduces, Refused, candidates, is_ambiguous, is_reducing, posting_of, spec_of}
 use Rattle.lot_booking.specs.Choice.{HasNoChoice, Takes}
 use Rattle.lot_booking.specs.Method.{is_strict, may_reduce, order_of, rule_of}
 
@@ -54,17 +53,3 @@ module _ (method : Method) (a b : Held) (commodity : List ℕ) (units : ℤ) (co
   same_outcome (Refused Ambiguous) h = (still_reduces h.0, sym same_ambiguous ∙ h.1, still_none h.2)
   same_outcome (Refused NotEnough) h = (still_reduces h.0, (λ none. h.1 (same_candidates ∙ none)), sym same_ambiguous ∙ h.2, still_none h.3)
   same_outcome (Refused Memory) h = h
-
-  pub same_stop : (fault : BookingFault) → Stops there fault → Stops here fault
-  same_stop ZeroUnits h = same_outcome (Refused ZeroUnits) h
-  same_stop InexactCost h = same_outcome (Refused InexactCost) h
-  same_stop IncompleteCost h = same_outcome (Refused IncompleteCost) h
-  same_stop NoMatch h = same_outcome (Refused NoMatch) h
-  same_stop Ambiguous h = same_outcome (Refused Ambiguous) h
-  same_stop NotEnough h = same_outcome (Refused NotEnough) h
-  same_stop Memory h = record {
-    some = h.some;
-    exact = h.exact;
-    opens = λ augments. h.opens (same_reducing ∙ augments);
-    takes = λ reduces none. h.takes (same_reducing ∙ reduces) (same_matching (given_of cost) ∙ none);
-  }

@@ -10,18 +10,18 @@ use Rattle.std.proofs.lemmas.Int.{ints}
 use Rattle.std.proofs.lemmas.List.Sorted.{IsPermutation-refl, IsPermutation-cons, IsPermutation-swap, IsPermutation-trans}
 use Rattle.std.proofs.lemmas.Map.Keys.{IsDistinct-head, IsDistinct-tail}
 use Rattle.lot_cost.specs.declared.lot_key.LotKey.{LotKey}
-use Rattle.lot_inv.specs.Inventory.{MatchingLotsAreDistinct}
+use Rattle.lot_inv.specs.Inventory.{MatchingLotsAreDistinct, held_in}
 use Rattle.lot_cost.specs.LotKey.{lot_cmp}
 use Rattle.lot_cost.proofs.OrderLemmas.{lots_total}
 use Rattle.lot_booking.specs.declared.fault.BookingFault.TheVariants.{ZeroUnits, InexactCost, IncompleteCost, NoMatch, Ambiguous, NotEnough}
 use Rattle.lot_cost.specs.declared.method.Method.{Method}
 use Rattle.lot_cost.specs.declared.method.Method.TheVariants.{Strict, Fifo, Lifo, Hifo, Unmatched}
 use Rattle.lot_booking.specs.Booking.{Augments, Braced, ComesTo, FindsNone, Legs, Outcome, Reduces, Refused, candidates, is_ambiguous, is_inexact, is_reducing, opened_key, spec_of}
-use Rattle.lot_booking.specs.Choice.{AreInOrder, HasNoChoice, HaveDistinctKeys, InTurn, OneOrWhole, Takes, held_in}
+use Rattle.lot_booking.specs.Choice.{AreInOrder, HasNoChoice, HaveDistinctKeys, InTurn, OneOrWhole, Takes}
 use Rattle.lot_booking.specs.Method.{Ties, highest_by, may_reduce, newest_by, oldest_by, order_by, rule_by}
 use Rattle.lot_booking.specs.Order.{IsOrder, oldest_first}
 use Rattle.lot_booking.specs.OrderLaws.{oldest_is_order}
-use Rattle.lot_booking.specs.Way.{walked}
+use Rattle.lot_booking.specs.Way.{Suffice, walked}
 use Rattle.lot_booking.proofs.BookLemmas.{none_of_several, taken_strictly}
 use Rattle.lot_booking.proofs.BookingLaws.{candidates_distinct}
 use Rattle.lot_booking.proofs.ChoiceLemmas.{all_keys, held_in-permuted, no_choice-from_less}
@@ -159,6 +159,15 @@ takes_or_not ties Fifo may lots units distinct = in_turn_or_not (oldest_by ties)
 takes_or_not ties Lifo may lots units distinct = in_turn_or_not (newest_by ties) (is_order_by ties Lifo) lots units distinct
 takes_or_not ties Hifo may lots units distinct = in_turn_or_not (highest_by ties) (is_order_by ties Hifo) lots units distinct
 takes_or_not ties Unmatched may lots units distinct = absurd (true≢false (sym may))
+
+-- lots that suffice have legs
+pub suffice-takes : (ties : Ties) (method : Method) → may_reduce method ≡ true → (lots : Lots) (units : ℤ) → HaveDistinctKeys lots
+    → Suffice method (length lots) (held_in lots) (unsigned_abs units) → (legs : Lots) × Takes (rule_by ties method) (order_by ties method) lots units legs
+suffice-takes ties Strict may lots units distinct h = strictly lots units distinct h.enough (h.exact refl)
+suffice-takes ties Fifo may lots units distinct h = taken_in_turn (oldest_by ties) (is_order_by ties Fifo) lots units distinct h.enough
+suffice-takes ties Lifo may lots units distinct h = taken_in_turn (newest_by ties) (is_order_by ties Lifo) lots units distinct h.enough
+suffice-takes ties Hifo may lots units distinct h = taken_in_turn (highest_by ties) (is_order_by ties Hifo) lots units distinct h.enough
+suffice-takes ties Unmatched may lots units distinct h = absurd (true≢false (sym may))
 
 -- ---- some outcome
 

@@ -15,10 +15,12 @@ use Rattle.std.proofs.lemmas.Map.Keys.{IsDistinct-head, IsDistinct-tail}
 use Rattle.lot_cost.specs.declared.lot_key.LotKey.{LotKey}
 use Rattle.lot_cost.specs.LotKey.{lot_cmp}
 use Rattle.lot_cost.proofs.OrderLemmas.{lots_total}
-use Rattle.lot_booking.specs.Choice.{AreInOrder, Choice, HaveDistinctKeys, InTurn, IsWhole, Takes, chosen_legs, given, held_in, with_sign_of}
+use Rattle.lot_inv.specs.Inventory.{held_in}
+use Rattle.lot_inv.proofs.AvailableLemmas.{held_in-cons}
+use Rattle.lot_booking.specs.Choice.{AreInOrder, Choice, HaveDistinctKeys, InTurn, IsWhole, Takes, chosen_legs, given, with_sign_of}
 use Rattle.lot_booking.specs.Order.{IsOrder}
 use Rattle.lot_booking.specs.Way.{walked}
-use Rattle.lot_booking.proofs.ChoiceLemmas.{all_keys, distinct-permuted, given-cons, given-permuted, held_in-cons, in_turn-permuted}
+use Rattle.lot_booking.proofs.ChoiceLemmas.{all_keys, distinct-permuted, given-cons, given-permuted, in_turn-permuted}
 use Rattle.lot_cost.proofs.ListLemmas.{all_weaker}
 use Rattle.lot_booking.proofs.ListLemmas.{all_both, all_permuted}
 

@@ -1,5 +1,5 @@
 -- What becomes of a posting with braces: its legs and whether it reduces, or why it has none (docs/RULES.md, Legs).
-use Rattle.std.specs.Prelude.{◌≡◌, ◌≢◌, ℕ, ◌≤◌, nat_le, Bool, true, false, ◌&&◌, ◌||◌, List, [], ◌∷◌, length, filter, Option, Some, ℤ, pos, unsigned_abs, is_none}
+use Rattle.std.specs.Prelude.{◌≡◌, ◌≢◌, ℕ, ◌≤◌, nat_le, Bool, true, false, ◌&&◌, ◌||◌, List, [], ◌∷◌, length, Option, Some, ℤ, pos, unsigned_abs, is_none}
 use Rattle.std.specs.BTreeMap.{is_at}
 use Rattle.std.specs.Map.{lookup, values_of}
 use Rattle.std.specs.Option.{unwrap_or}
@@ -7,7 +7,7 @@ use Rattle.lot_num.specs.Amount.{per_unit}
 use Rattle.lot_num.specs.Sum.{sum_of}
 use Rattle.lot_cost.specs.declared.cost_spec.CostSpec.{CostSpec}
 use Rattle.lot_cost.specs.declared.lot_key.LotKey.{LotKey}
-use Rattle.lot_inv.specs.Inventory.{Held, matching, other_sign, reduces}
+use Rattle.lot_inv.specs.Inventory.{Held, fitting, other_sign, reduces, with_number}
 use Rattle.lot_cost.specs.LotKey.{lot_cmp}
 use Rattle.lot_cost.specs.declared.cost.Cost.{Cost}
 use Rattle.lot_cost.specs.declared.cost.Cost.TheVariants.{Each, Whole}
@@ -47,10 +47,6 @@ number_of units (Whole whole) = per_unit units whole.0
 abbrev pub given_of : Cost → CostSpec
 given_of (Each spec) = spec
 given_of (Whole whole) = whole.1
-
--- a specification with that number
-abbrev pub with_number : Option ℕ → CostSpec → CostSpec
-with_number number spec = record { number = number; currency = spec.currency; day = spec.day; label = spec.label }
 
 -- the specification of a cost for so many units
 abbrev pub spec_of : ℤ → Cost → CostSpec
@@ -94,11 +90,6 @@ is_incomplete spec = is_none spec.number || is_none spec.currency
 abbrev pub Reduces : Braced → Type 0
 Reduces posting = (posting.units ≢ pos 0) × (is_inexact posting.units posting.cost ≡ false) × (is_reducing posting ≡ true)
 
--- the lots of a commodity that units may take: those of the other sign that the specification fits, in the order of
--- their keys
-abbrev pub fitting : Held → List ℕ → ℤ → CostSpec → List (LotKey × ℤ)
-fitting held commodity units spec = filter (λ (lot : LotKey × ℤ). other_sign lot.1 units) (matching held commodity spec)
-
 -- the lots that a posting may take
 abbrev pub candidates : Braced → List (LotKey × ℤ)
 candidates posting = fitting posting.held posting.commodity posting.units (spec_of posting.units posting.cost)
@@ -134,15 +125,11 @@ ComesTo posting (Refused Ambiguous) = Reduces posting × (is_ambiguous posting �
 ComesTo posting (Refused NotEnough) = Reduces posting × (candidates posting ≢ []) × (is_ambiguous posting ≡ false) × FindsNone posting
 ComesTo posting (Refused Memory) = ⊥
 
--- booking a posting stores something: the key of the lot that it opens, or those of the lots that fit what it gives, the
--- total of a whole cost aside
-pub record Stores (posting : Braced) : Type 0 where
-  pub some : posting.units ≢ pos 0
-  pub exact : is_inexact posting.units posting.cost ≡ false
-  pub opens : is_reducing posting ≡ false → is_incomplete (spec_of posting.units posting.cost) ≡ false
-  pub takes : is_reducing posting ≡ true → matching posting.held posting.commodity (given_of posting.cost) ≢ []
+-- the posting comes to legs
+abbrev pub ComesToLegs : Braced → Type 0
+ComesToLegs posting = (reduces : Bool) × (legs : List (LotKey × ℤ)) × ComesTo posting (Legs reduces legs)
 
--- a booking stops at the refusal of the posting, or out of memory where it stores something
+-- a booking stops at the refusal of the posting, or out of memory where the posting comes to legs
 abbrev pub Stops : Braced → BookingFault → Type 0
 Stops posting ZeroUnits = ComesTo posting (Refused ZeroUnits)
 Stops posting InexactCost = ComesTo posting (Refused InexactCost)
@@ -150,7 +137,7 @@ Stops posting IncompleteCost = ComesTo posting (Refused IncompleteCost)
 Stops posting NoMatch = ComesTo posting (Refused NoMatch)
 Stops posting Ambiguous = ComesTo posting (Refused Ambiguous)
 Stops posting NotEnough = ComesTo posting (Refused NotEnough)
-Stops posting Memory = Stores posting
+Stops posting Memory = ComesToLegs posting
 
 -- ---- laws
 

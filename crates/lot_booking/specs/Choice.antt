@@ -20,10 +20,6 @@ HaveDistinctKeys lots = IsDistinct (λ a b. is_eq (lot_cmp a b)) (keys_of lots)
 abbrev pub given : Choice → List (LotKey × ℤ) → ℕ
 given choice lots = sum_by (λ (lot : LotKey × ℤ). choice lot.0) lots
 
--- what the lots hold, sign aside
-abbrev pub held_in : List (LotKey × ℤ) → ℕ
-held_in lots = sum_by (λ (lot : LotKey × ℤ). unsigned_abs lot.1) lots
-
 -- the lot is taken whole
 abbrev pub IsWhole : Choice → LotKey × ℤ → Type 0
 IsWhole choice lot = choice lot.0 ≡ unsigned_abs lot.1

@@ -1,6 +1,5 @@
 pub mod Booking
 pub mod Choice
-pub mod Fault
 pub mod Method
 pub mod OpeningOrder
 pub mod Order

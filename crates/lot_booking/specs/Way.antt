@@ -1,11 +1,13 @@
 -- The parts on the way to a posting's legs, for the contracts of private functions.
-use Rattle.std.specs.Prelude.{◌≡◌, ℕ, ◌≤◌, ◌<◌, ◌-◌, min, nat_eq, true, false, if◌then◌else◌, List, [], ◌∷◌, length, ℤ, unsigned_abs}
+use Rattle.std.specs.Prelude.{◌≡◌, ◌≢◌, ℕ, ◌≤◌, ◌<◌, ◌-◌, min, nat_eq, true, false, if◌then◌else◌, List, [], ◌∷◌, ℤ, unsigned_abs}
 use Rattle.lot_cost.specs.declared.cost_spec.CostSpec.{CostSpec}
 use Rattle.lot_cost.specs.declared.lot_key.LotKey.{LotKey}
+use Rattle.lot_cost.specs.declared.method.Method.{Method}
 use Rattle.lot_booking.specs.declared.fault.BookingFault.{BookingFault}
 use Rattle.lot_booking.specs.declared.fault.BookingFault.TheVariants.{ZeroUnits, InexactCost, IncompleteCost, NoMatch, Ambiguous, NotEnough, Memory}
 use Rattle.lot_booking.specs.Booking.{is_incomplete}
-use Rattle.lot_booking.specs.Choice.{Choice, HasNoChoice, IsChoice, OneOrWhole, with_sign_of}
+use Rattle.lot_booking.specs.Choice.{with_sign_of}
+use Rattle.lot_booking.specs.Method.{is_strict}
 
 -- the legs of units of which so much is left to take, each lot giving what it can
 abbrev pub walked : ℤ → ℕ → List (LotKey × ℤ) → List (LotKey × ℤ)
@@ -24,12 +26,19 @@ StopsOpening spec NoMatch = ⊥
 StopsOpening spec Ambiguous = ⊥
 StopsOpening spec NotEnough = ⊥
 
--- why a posting under STRICT takes none of the lots that fit; memory may lack only for the legs of a choice
-abbrev pub StopsStrict : List (LotKey × ℤ) → ℤ → BookingFault → Type 0
-StopsStrict lots units Ambiguous = (2 ≤ length lots) × HasNoChoice OneOrWhole lots (unsigned_abs units)
-StopsStrict lots units NotEnough = (length lots < 2) × HasNoChoice OneOrWhole lots (unsigned_abs units)
-StopsStrict lots units Memory = (choice : Choice) × IsChoice OneOrWhole lots (unsigned_abs units) choice
-StopsStrict lots units ZeroUnits = ⊥
-StopsStrict lots units InexactCost = ⊥
-StopsStrict lots units IncompleteCost = ⊥
-StopsStrict lots units NoMatch = ⊥
+-- lots of which there are so many, and which hold so much together, suffice for an amount: they hold as much, and exactly as
+-- much under STRICT where they are several
+pub record Suffice (method : Method) (lots held amount : ℕ) : Type 0 where
+  pub enough : amount ≤ held
+  pub exact : is_strict method ≡ true → 2 ≤ lots → held ≡ amount
+
+-- why they don't
+abbrev pub FallShort : Method → ℕ → ℕ → ℕ → BookingFault → Type 0
+FallShort method lots held amount NoMatch = lots ≡ 0
+FallShort method lots held amount Ambiguous = (is_strict method ≡ true) × (2 ≤ lots) × (held ≢ amount)
+FallShort method lots held amount NotEnough =
+    (lots ≢ 0) × (is_strict method ≡ true → lots < 2) × (held < amount)
+FallShort method lots held amount ZeroUnits = ⊥
+FallShort method lots held amount InexactCost = ⊥
+FallShort method lots held amount IncompleteCost = ⊥
+FallShort method lots held amount Memory = ⊥

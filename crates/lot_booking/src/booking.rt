@@ -1,21 +1,21 @@
-ghost use Rattle.std.specs.Prelude.{◌≡◌, ◌≢◌, ◌⊎◌, None, IfOk, IfErr, OnErr, ℤ, ◌<◌, [], true, unsigned_abs};
+ghost use Rattle.std.specs.Prelude.{◌≡◌, ◌≢◌, ◌⊎◌, None, length, IfOk, IfErr, IsOk, OnErr, ℤ, [], true, unsigned_abs};
 ghost use Rattle.std.specs.List.{AllByRecursion};
 ghost use Rattle.lot_cost.specs.declared.lot_key.LotKey.{LotKey};
-ghost use Rattle.lot_inv.specs.Inventory.{matching, other_sign};
+ghost use Rattle.lot_inv.specs.Inventory.{fitting, held_in, matching, other_sign, with_number};
 ghost use Rattle.lot_cost.specs.declared.method.Method.{Method};
 ghost use Rattle.lot_cost.specs.declared.cost.Cost.{Cost};
-ghost use Rattle.lot_booking.specs.Booking.{ComesTo, IsOneLeg, Legs, Stops, fitting, posting_of, with_number};
-ghost use Rattle.lot_booking.specs.Choice.{HaveDistinctKeys, OneOrWhole, Takes};
-ghost use Rattle.lot_booking.specs.Order.{oldest_first};
-ghost use Rattle.lot_booking.specs.Way.{StopsStrict, StopsOpening};
+ghost use Rattle.lot_booking.specs.Booking.{ComesTo, IsOneLeg, Legs, Stops, posting_of};
+ghost use Rattle.lot_booking.specs.Choice.{HaveDistinctKeys, Takes};
+ghost use Rattle.lot_booking.specs.Method.{may_reduce, order_of, rule_of};
+ghost use Rattle.lot_booking.specs.Way.{FallShort, StopsOpening, Suffice};
 
-use crate::choice::{held_in, take, take_enough};
+use crate::choice::take_enough;
 use crate::cost::{given, number};
 use crate::fault::BookingFault;
-use crate::order::{Highest, LotOrder, Newest, Oldest};
+use crate::order::{Highest, Newest, Oldest};
 use lot_base::{Commodity, Day};
 use lot_cost::{Cost, CostSpec, LotKey, Method};
-use lot_inv::{Inventory, is_other_sign};
+use lot_inv::{Available, Inventory, is_other_sign};
 use lot_num::{Rate, Units};
 use std::alloc::{AllocError, Global};
 
@@ -36,9 +36,7 @@ pub struct Booked {
 /// The error is the first of these that holds: `ZeroUnits`; `InexactCost` where a whole cost by the units isn't exactly a
 /// rate; `IncompleteCost` where the posting takes no lots away and gives no number or no currency; `NoMatch` where no lot of
 /// the other sign fits; `Ambiguous` under STRICT where several fit and they don't hold exactly its units; `NotEnough` where
-/// they hold less. It is `Memory` where there is no memory for the legs or for the lots that fit. That is never where the
-/// error is `ZeroUnits`, `InexactCost` or `IncompleteCost`, nor where the posting takes lots away and no lot of either sign
-/// fits what is given beside the total of a whole cost.
+/// they hold less. Each of these is told without memory: `Memory` comes only where the posting has legs.
 pub fn book(
     alloc: Global,
     method: Method,
@@ -61,18 +59,10 @@ pub fn book(
         let legs = open(alloc, number, spec, units, day)?;
         return Ok(Booked { reduces, legs });
     }
-    let lots = fitting_at(inventory, commodity, units, number, spec)?;
-    if lots.is_empty() {
-        return Err(BookingFault::NoMatch);
-    }
-    let legs = match method {
-        Method::Strict => take_strict(alloc, lots, units)?,
-        Method::Fifo => take::<Oldest>(alloc, lots, units)?,
-        Method::Lifo => take::<Newest>(alloc, lots, units)?,
-        Method::Hifo => take::<Highest>(alloc, lots, units)?,
-        // It never reduces.
-        Method::Unmatched => unreachable!(),
-    };
+    let available = inventory.available(commodity, units, &number, spec);
+    ensure_enough(method, &available, units)?;
+    let lots = fitting_at(inventory, commodity, units, &number, spec)?;
+    let legs = take_by(alloc, method, lots, units)?;
     Ok(Booked { reduces, legs })
 }
 
@@ -103,6 +93,26 @@ fn open(
     Ok(vec![in alloc; (key, units)]?)
 }
 
+/// Returns why units take none of the lots that there are for them, where these don't suffice. It takes no memory.
+fn ensure_enough(method: Method, available: &Available, units: Units) -> Result<(), BookingFault>
+    ensures suffice { IsOk result
+        → Suffice method available.now.lots available.now.held (unsigned_abs units) }
+    ensures short { IfErr result (λ fault.
+        FallShort method available.now.lots available.now.held (unsigned_abs units) fault) }
+{
+    let wanted = u128::from(units.mantissa().unsigned_abs());
+    if available.lots == 0 {
+        return Err(BookingFault::NoMatch);
+    }
+    if method == Method::Strict && 1 < available.lots && available.held != wanted {
+        return Err(BookingFault::Ambiguous);
+    }
+    if available.held < wanted {
+        return Err(BookingFault::NotEnough);
+    }
+    Ok(())
+}
+
 /// Returns the lots that a reduction may take, in the order of their keys: those of the other sign that fit. They are as
 /// `take` requires them. The only error is out of memory, and comes only where some lot of either sign fits.
 pub fn fitting(
@@ -121,47 +131,46 @@ pub fn fitting(
     Ok(lots)
 }
 
-/// Returns the lots that a reduction may take at that number, as `fitting` does with the number in the specification.
+/// Returns the lots that a reduction may take at that number, as `fitting` does with the number in the specification. The
+/// only error is out of memory.
 fn fitting_at(
     inventory: &Inventory,
     commodity: &Commodity,
     units: Units,
-    number: Option<Rate>,
+    number: &Option<Rate>,
     spec: &CostSpec,
 ) -> Result<Vec<(LotKey, Units)>, AllocError>
-    requires { (spec.now.number ≡ None) ⊎ (spec.now.number ≡ number) }
-    ensures all { IfOk result (λ lots. lots.items ≡ fitting inventory.now commodity.now units (with_number number spec.now)) }
+    requires { (spec.now.number ≡ None) ⊎ (spec.now.number ≡ number.now) }
+    ensures all { IfOk result (λ lots. lots.items
+        ≡ fitting inventory.now commodity.now units (with_number number.now spec.now)) }
     ensures distinct { IfOk result (λ lots. HaveDistinctKeys lots.items) }
-    ensures signs { IfOk result (λ lots. AllByRecursion (λ (lot : LotKey × ℤ). other_sign lot.1 units ≡ true) lots.items) }
-    ensures stored { IfOk result (λ lots. lots.items ≢ [] → matching inventory.now commodity.now spec.now ≢ []) }
-    ensures memory { OnErr result (matching inventory.now commodity.now spec.now ≢ []) }
 {
     let mut lots = fitting(inventory, commodity, units, spec)?;
     if let Some(number) = number {
-        lots.retain(|lot| lot.0.number == number);
+        lots.retain(|lot| lot.0.number == *number);
     }
     Ok(lots)
 }
 
-/// Returns the legs that take the one lot, or each of several whole. Memory may lack only where there is such a choice.
-fn take_strict(
+/// Returns the legs that units take by a method of lots that suffice for them. The only error is out of memory.
+fn take_by(
     alloc: Global,
+    method: Method,
     lots: Vec<(LotKey, Units)>,
     units: Units,
-) -> Result<Vec<(LotKey, Units)>, BookingFault>
+) -> Result<Vec<(LotKey, Units)>, AllocError>
+    requires reduces { may_reduce method ≡ true }
     requires distinct { HaveDistinctKeys lots.items }
-    requires signs { AllByRecursion (λ (lot : LotKey × ℤ). other_sign lot.1 units ≡ true) lots.items }
-    ensures taken { IfOk result (λ legs. Takes OneOrWhole oldest_first lots.items units legs.items) }
-    ensures stops { IfErr result (λ fault. StopsStrict lots.items units fault) }
+    requires suffice { Suffice method (length lots.items) (held_in lots.items) (unsigned_abs units) }
+    ensures taken { IfOk result (λ legs.
+        Takes (rule_of method) (order_of method) lots.items units legs.items) }
 {
-    let held = held_in(&lots);
-    let wanted = u128::from(units.mantissa().unsigned_abs());
-    if 1 < lots.len() && held != wanted {
-        return Err(BookingFault::Ambiguous);
+    match method {
+        // The oldest lots first is the order of the keys.
+        Method::Strict | Method::Fifo => take_enough::<Oldest>(alloc, lots, units),
+        Method::Lifo => take_enough::<Newest>(alloc, lots, units),
+        Method::Hifo => take_enough::<Highest>(alloc, lots, units),
+        // It never reduces.
+        Method::Unmatched => unreachable!(),
     }
-    if held < wanted {
-        return Err(BookingFault::NotEnough);
-    }
-    // The oldest lots first is the order of the keys.
-    Ok(take_enough::<Oldest>(alloc, lots, units)?)
 }

@@ -1,8 +1,8 @@
 ghost use Rattle.std.specs.Prelude.{◌≡◌, true, IfOk, IsOk, IsErrOf, OnErr, ℤ, ◌<◌, ◌≤◌, unsigned_abs};
 ghost use Rattle.std.specs.List.{AllByRecursion};
 ghost use Rattle.std.specs.Ordering.{is_lt};
-ghost use Rattle.lot_inv.specs.Inventory.{other_sign};
-ghost use Rattle.lot_booking.specs.Choice.{HasNoChoice, HaveDistinctKeys, InTurn, Takes, held_in, with_sign_of};
+ghost use Rattle.lot_inv.specs.Inventory.{held_in, other_sign};
+ghost use Rattle.lot_booking.specs.Choice.{HasNoChoice, HaveDistinctKeys, InTurn, Takes, with_sign_of};
 ghost use Rattle.lot_booking.specs.Way.{walked};
 ghost use Rattle.lot_booking.specs.declared.fault.TakeFault.TheVariants.{Memory, NotEnough};
 
@@ -57,7 +57,7 @@ pub(crate) fn take_enough<O: LotOrder>(
 }
 
 /// Returns what the lots hold, sign aside.
-pub(crate) fn held_in(lots: &[(LotKey, Units)]) -> u128
+fn held_in(lots: &[(LotKey, Units)]) -> u128
     ensures { result ≡ held_in lots.now }
 {
     let mut held = 0;

@@ -70,17 +70,3 @@ impl<T: Drop> From<AllocFailed<T>> for BookingFault {
         BookingFault::Memory
     }
 }
-
-impl From<TakeFault> for BookingFault {
-    ghost use Rattle.std.specs.Prelude.{◌≡◌};
-    ghost use Rattle.lot_booking.specs.Fault.{booking_fault};
-
-    ghost from_gives = { λ fault e. e ≡ booking_fault fault };
-
-    fn from(fault: TakeFault) -> BookingFault {
-        match fault {
-            TakeFault::NotEnough => BookingFault::NotEnough,
-            TakeFault::Memory => BookingFault::Memory,
-        }
-    }
-}

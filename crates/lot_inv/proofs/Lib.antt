@@ -1,3 +1,4 @@
+pub mod AvailableLemmas
 pub mod InventoryLemmas
 pub mod LawLemmas
 pub mod LotLemmas

@@ -1,5 +1,5 @@
 -- How an inventory is kept: what is held of each commodity, its plain units and its lots.
-use Rattle.std.specs.Prelude.{◌≡◌, ℕ, false, if◌then◌else◌, List, [], ◌∷◌, ◌++◌, Option, None, Some, ℤ, pos, IsSome, IfSome, option_and_then}
+use Rattle.std.specs.Prelude.{◌≡◌, ℕ, false, if◌then◌else◌, List, [], ◌∷◌, ◌++◌, filter, Option, None, Some, ℤ, pos, IsSome, IfSome, option_and_then}
 use Rattle.std.specs.BTreeMap.{get, is_at}
 use Rattle.std.specs.List.Sorted.{IsStrictlySortedBy}
 use Rattle.std.specs.Map.{keys_of, lookup}
@@ -7,8 +7,10 @@ use Rattle.std.specs.Option.{unwrap_or}
 use Rattle.std.specs.Ordering.{int_eq, is_eq}
 use Rattle.lot_base.specs.Text.{text_cmp}
 use Rattle.lot_inv.specs.declared.inventory.Holding.{Holding}
+use Rattle.lot_cost.specs.declared.cost_spec.CostSpec.{CostSpec}
 use Rattle.lot_cost.specs.declared.lot_key.LotKey.{LotKey}
-use Rattle.lot_inv.specs.Inventory.{Held, Position, position_cmp, non_zero, with_units}
+use Rattle.lot_cost.specs.CostSpec.{fits}
+use Rattle.lot_inv.specs.Inventory.{Held, Position, position_cmp, non_zero, other_sign, with_units}
 use Rattle.lot_cost.specs.LotKey.{lot_cmp}
 
 -- what a holding has in the lot of that key, or plain
@@ -46,6 +48,11 @@ rows (entry ∷ entries) = plain_rows entry.0 entry.1.plain ++ (lot_rows entry.0
 abbrev pub with_lots : Held → List ℕ → List (LotKey × ℤ) → Held
 with_lots held commodity [] = held
 with_lots held commodity (lot ∷ lots) = with_lots (with_units held (commodity, Some lot.0) lot.1) commodity lots
+
+-- those of lots that units may take: of the other sign, where the specification fits
+abbrev pub takeable : ℤ → CostSpec → List (LotKey × ℤ) → List (LotKey × ℤ)
+takeable units spec lots =
+    filter (λ (lot : LotKey × ℤ). other_sign lot.1 units) (filter (λ (lot : LotKey × ℤ). fits spec lot.0) lots)
 
 -- setting units at a key stores a new lot
 abbrev pub NeedsLot : Holding → Option LotKey → Type 0

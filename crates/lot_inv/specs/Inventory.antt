@@ -1,5 +1,5 @@
 -- What an inventory holds: a finite map from positions to units that aren't zero (docs/RULES.md, Inventory).
-use Rattle.std.specs.Prelude.{◌≡◌, ◌≢◌, ℕ, Bool, ◌&&◌, ◌||◌, if◌then◌else◌, List, [], ◌∷◌, filter, map, Option, None, Some, is_some, ℤ, pos, ◌+ℤ◌, int_lt}
+use Rattle.std.specs.Prelude.{◌≡◌, ◌≢◌, ℕ, Bool, ◌&&◌, ◌||◌, if◌then◌else◌, List, [], ◌∷◌, filter, map, sum_by, Option, None, Some, is_some, ℤ, pos, ◌+ℤ◌, int_lt, unsigned_abs}
 use Rattle.std.specs.declared.cmp.Ordering.{Ordering}
 use Rattle.std.specs.BTreeMap.{is_at}
 use Rattle.std.specs.Coded.{Coded, coded×, coded_option}
@@ -82,6 +82,19 @@ matching held commodity spec = filter (λ (lot : LotKey × ℤ). fits spec lot.0
 -- whether one number is below zero and the other above it
 abbrev pub other_sign : ℤ → ℤ → Bool
 other_sign a b = (int_lt a (pos 0) && int_lt (pos 0) b) || (int_lt (pos 0) a && int_lt b (pos 0))
+
+-- a specification with that number
+abbrev pub with_number : Option ℕ → CostSpec → CostSpec
+with_number number spec = record { number = number; currency = spec.currency; day = spec.day; label = spec.label }
+
+-- the lots of a commodity that units may take: those of the other sign that the specification fits, in the order of
+-- their keys
+abbrev pub fitting : Held → List ℕ → ℤ → CostSpec → List (LotKey × ℤ)
+fitting held commodity units spec = filter (λ (lot : LotKey × ℤ). other_sign lot.1 units) (matching held commodity spec)
+
+-- what lots hold together, sign aside
+abbrev pub held_in : List (LotKey × ℤ) → ℕ
+held_in lots = sum_by (λ (lot : LotKey × ℤ). unsigned_abs lot.1) lots
 
 -- whether some lot of the commodity has the other sign
 abbrev pub reduces : Held → List ℕ → ℤ → Bool

@@ -1,4 +1,4 @@
-ghost use Rattle.std.specs.Prelude.{◌≡◌, ◌≢◌, ℕ, List, [], ◌++◌, map, ℤ, pos, ◌+ℤ◌, ◌*ℤ◌, ◌+◌, ◌*◌, ◌^◌, ◌≤◌, length, option_copied, unsigned_abs, SomeIff, Option, None, cond, filter, ◌↔◌, IsTrue, IsFalse, IsOk, IsErrOf, IfOk, OnOk, OnErr};
+ghost use Rattle.std.specs.Prelude.{◌≡◌, ◌≢◌, ◌⊎◌, ℕ, List, [], ◌++◌, map, ℤ, pos, ◌+ℤ◌, ◌*ℤ◌, ◌+◌, ◌*◌, ◌^◌, ◌≤◌, length, option_copied, unsigned_abs, SomeIff, Option, None, cond, filter, ◌↔◌, IsTrue, IsFalse, IsOk, IsErrOf, IfOk, OnOk, OnErr};
 ghost use Rattle.std.specs.FinMap as finite;
 ghost use Rattle.std.specs.List.{list_any};
 ghost use Rattle.std.specs.List.Sorted.{IsStrictlySortedBy};
@@ -8,18 +8,18 @@ ghost use Rattle.std.specs.Option.{option_cmp, unwrap_or};
 ghost use Rattle.std.specs.Ordering.{is_eq};
 ghost use Rattle.lot_num.specs.Amount.{IsUnits, IsWide, one, units_limit};
 ghost use Rattle.lot_num.specs.Sum.{sum_of};
-ghost use Rattle.lot_inv.specs.Inventory.{StoresMore, added, as_entries, lots_of, matching, non_zero, only_lots, other_sign, reduces, sum, units_at, with_units};
+ghost use Rattle.lot_inv.specs.Inventory.{StoresMore, added, as_entries, fitting, held_in, lots_of, matching, non_zero, only_lots, other_sign, reduces, sum, units_at, with_number, with_units};
 ghost use Rattle.lot_cost.specs.CostSpec.{fits};
 ghost use Rattle.lot_inv.specs.Zeros.{HasNoZeros};
 ghost use Rattle.lot_cost.specs.LotKey.{lot_cmp};
-ghost use Rattle.lot_inv.specs.Holding.{AreAlike, AreHoldings, ChangesPosition, NeedsPosition, NoneIsEmpty, NoOtherIsEmpty, lot_rows, plain_rows, rows_of, with_lots};
+ghost use Rattle.lot_inv.specs.Holding.{AreAlike, AreHoldings, ChangesPosition, NeedsPosition, NoneIsEmpty, NoOtherIsEmpty, lot_rows, plain_rows, rows_of, takeable, with_lots};
 ghost use Rattle.lot_cost.specs.declared.lot_key.LotKey.{LotKey};
 ghost use Rattle.lot_inv.specs.declared.fault.InventoryFault.TheVariants.{Memory, Range};
 
 use crate::fault::InventoryFault;
 use lot_base::Commodity;
 use lot_cost::{CostSpec, LotKey};
-use lot_num::{Units, Wide};
+use lot_num::{Rate, Units, Wide};
 use std::alloc::{AllocError, Global};
 use std::collections::BTreeMap;
 use std::marker::Model;
@@ -39,6 +39,15 @@ pub struct Inventory {
 struct Holding {
     plain: Units,
     lots: BTreeMap<LotKey, Units>,
+}
+
+/// Lots that units may take.
+#[derive(Clone, Copy, Debug)]
+pub struct Available {
+    /// How many they are.
+    pub lots: u64,
+    /// What they hold together: the sum of the mantissas of their units, sign aside.
+    pub held: u128,
 }
 
 impl Model for Inventory {
@@ -137,6 +146,29 @@ impl Inventory {
         match self.held.get(commodity) {
             Some(holding) => holding.matching(self.alloc, spec),
             None => Ok(Vec::new(self.alloc)),
+        }
+    }
+
+    /// Returns how many lots of a commodity units may take at a number, and what these hold: the lots of the other sign that
+    /// the specification fits, with that number where one is given. It takes no memory.
+    ///
+    /// The specification has that number itself, or none.
+    pub fn available(
+        &self,
+        commodity: &Commodity,
+        units: Units,
+        number: &Option<Rate>,
+        spec: &CostSpec,
+    ) -> Available
+        requires { (spec.now.number ≡ None) ⊎ (spec.now.number ≡ number.now) }
+        ensures lots { result.lots
+            ≡ length (fitting self.now commodity.now units (with_number number.now spec.now)) }
+        ensures held { result.held
+            ≡ held_in (fitting self.now commodity.now units (with_number number.now spec.now)) }
+    {
+        match self.held.get(commodity) {
+            Some(holding) => holding.available(units, number, spec),
+            None => Available { lots: 0, held: 0 },
         }
     }
 
@@ -284,6 +316,24 @@ impl Holding {
         Ok(fitting)
     }
 
+    /// Returns how many of the lots units may take at a number, and what these hold.
+    fn available(&self, units: Units, number: &Option<Rate>, spec: &CostSpec) -> Available
+        requires { (spec.now.number ≡ None) ⊎ (spec.now.number ≡ number.now) }
+        ensures lots { result.lots
+            ≡ length (takeable units (with_number number.now spec.now) self.now.lots.entries) }
+        ensures held { result.held
+            ≡ held_in (takeable units (with_number number.now spec.now) self.now.lots.entries) }
+    {
+        let mut available = Available { lots: 0, held: 0 };
+        for (key, held) in &self.lots {
+            if is_other_sign(*held, units) && fits_at(number, spec, key) {
+                available.lots += 1;
+                available.held += u128::from(held.mantissa().unsigned_abs());
+            }
+        }
+        available
+    }
+
     /// Returns an inventory of these lots, as lots of the commodity.
     fn only_lots(&self, alloc: Global, commodity: &Commodity) -> Result<Inventory, AllocError>
         ensures lots { IfOk result (λ inventory. inventory ≡ with_lots finite.empty commodity.now self.now.lots.entries) }
@@ -318,6 +368,18 @@ impl Holding {
             total = plus(total, *held);
         }
         total
+    }
+}
+
+/// Returns whether a specification fits a key, and the key has that number where one is given. The specification has that
+/// number itself, or none.
+fn fits_at(number: &Option<Rate>, spec: &CostSpec, key: &LotKey) -> bool
+    requires { (spec.now.number ≡ None) ⊎ (spec.now.number ≡ number.now) }
+    ensures { result ≡ fits (with_number number.now spec.now) key.now }
+{
+    match number {
+        Some(number) => key.number == *number && spec.fits(key),
+        None => spec.fits(key),
     }
 }
 

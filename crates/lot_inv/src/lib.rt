@@ -2,7 +2,7 @@
 //!
 //! Lot keys and cost specifications are those of `lot_cost`.
 //!
-//! - `inventory`: `Inventory`, the units of each position of an account.
+//! - `inventory`: `Inventory`, the units of each position of an account, and `Available`, the lots that units may take.
 //! - `fault`: `InventoryFault`, why units aren't added.
 //! - `laws`: what holds of the definitions that the contracts cite.
 #![tactic(auto)]
@@ -12,5 +12,5 @@ mod inventory;
 pub mod laws;
 
 pub use fault::InventoryFault;
-pub use inventory::{Inventory, is_other_sign};
+pub use inventory::{Available, Inventory, is_other_sign};
 pub use lot_cost::{CostSpec, LotKey};

@@ -49,11 +49,11 @@ sales_in-push day (first ∷ booked) next = ap (λ sales. sales_of day first ++ 
 
 -- ---- where memory may lack
 
--- something is stored for a posting that has legs
+-- the legs of a posting that is booked are stored
 stores_legs : (line : Line) (cost : Option Cost) (reduces : Bool) (legs : List Leg) → HasLegs line cost reduces legs
     → leave_range line.held legs ≡ false → StoresFor line cost
 stores_legs line None reduces legs has within = ap (leave_range line.held) (sym has.1) ∙ within
-stores_legs line (Some cost) reduces legs has within = inr (reduces, has.0, has.1)
+stores_legs line (Some cost) reduces legs has within = (reduces, has.0, has.1)
 
 -- lots that no legs have changed aren't copied
 none_copied : (before : List Leg) (cost : Option Cost) → CopiesLots before cost → before ≡ [] → ⊥
@@ -78,13 +78,13 @@ stores_first facts day place [] booked h = inr (cc, refl)
 stores_first facts day place (posting ∷ postings) booked h =
     stores_with facts day place posting.account posting.amount postings booked h (stores_first facts day (suc place) postings booked)
 
--- Something is stored for the first posting with an amount of all: it stands among those before, or it does so where it is so
+-- Legs are stored for the first posting with an amount of all: it stands among those before, or it does so where it is so
 -- of those that are left, and then there are no legs so far.
 abbrev pub FirstOf : Facts → ℤ → List Posting → Draft → ℕ → List Posting → Type 0
 FirstOf facts day all draft place left =
     ((draft.tally.legs ≡ []) × (StoresFirst facts day place left → StoresFirst facts day 1 all)) ⊎ StoresFirst facts day 1 all
 
--- something is stored for a posting with an amount
+-- legs are stored for a posting with an amount
 first_stored : (facts : Facts) (day : ℤ) (all : List Posting) (old : Draft) (place : ℕ) (account : List ℕ) (amount : Amount) (left : List Posting)
     → FirstOf facts day all old place (record { account = account; amount = Some amount } ∷ left)
     → StoresFor (line_of facts day old.tally.legs place account amount) amount.cost → StoresFirst facts day 1 all

@@ -123,19 +123,19 @@ conditions_on facts t legs rs =
 
 -- ---- where memory may lack
 
--- something is stored for a posting at that place on no legs so far, or, where it has no amount, the others decide
+-- legs are stored for a posting at that place on no legs so far, or, where it has no amount, the others decide
 abbrev pub StoresAt : Facts → ℤ → ℕ → List ℕ → Option Amount → Type 0 → Type 0
 StoresAt facts day place account None Others = Others
 StoresAt facts day place account (Some amount) Others = StoresFor (line_of facts day [] place account amount) amount.cost
 
--- something is stored for the first posting with an amount, of those from that place on
+-- legs are stored for the first posting with an amount, of those from that place on
 abbrev pub StoresFirst : Facts → ℤ → ℕ → List Posting → Type 0
 StoresFirst facts day place [] = ⊥
 StoresFirst facts day place (posting ∷ postings) =
     StoresAt facts day place posting.account posting.amount (StoresFirst facts day (suc place) postings)
 
--- judging a command whose key is new may lack memory: it is a transaction, none of the first conditions holds, and something
--- is stored for its first posting with an amount
+-- judging a command whose key is new may lack memory: it is a transaction, none of the first conditions holds, and legs are
+-- stored for its first posting with an amount
 abbrev pub JudgingMayLackMemory : Facts → Command → Type 0
 JudgingMayLackMemory facts (Opening o) = ⊥
 JudgingMayLackMemory facts (Closing c) = ⊥

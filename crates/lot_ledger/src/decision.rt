@@ -41,8 +41,8 @@ pub enum Outcome {
 /// command's key: it has the text that stands under it, if there is one.
 ///
 /// Memory may lack where a text stands under the key, since it is compared with that of the command. Where the key is new it
-/// may lack for a transaction alone, and only where no check that comes before its booking refuses it and something is
-/// stored for its first posting with an amount (`MayLackMemory`).
+/// may lack for a transaction alone, and only where no check that comes before its booking refuses it and its first posting
+/// with an amount has legs, which without braces stay in range (`MayLackMemory`).
 pub fn decide(alloc: Global, view: &View, command: &Command) -> Result<Outcome, Stop>
     ensures decided { IfOk result (λ outcome. Comes (known view.now) command.now outcome) }
     ensures stops { IfErr result (λ stop. StopsStep (known view.now) command.now stop) }

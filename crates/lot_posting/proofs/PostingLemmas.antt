@@ -10,8 +10,9 @@ use Rattle.std.proofs.lemmas.List.Sorted.{sum_by-IsPermutation}
 use Rattle.std.proofs.lemmas.List.Sums.{sum_by-cons}
 use Rattle.lot_cost.specs.declared.lot_key.LotKey.{LotKey}
 use Rattle.lot_cost.specs.declared.cost.Cost.{Cost}
+use Rattle.lot_inv.specs.Inventory.{held_in}
 use Rattle.lot_booking.specs.Booking.{Braced, ComesTo, Legs, candidates}
-use Rattle.lot_booking.specs.Choice.{Choice, chosen_legs, given, held_in, with_sign_of}
+use Rattle.lot_booking.specs.Choice.{Choice, chosen_legs, given, with_sign_of}
 use Rattle.lot_booking.proofs.BookingLaws.{size_of-sign, units_of_legs}
 use Rattle.lot_command.specs.declared.transaction.Amount.{Amount}
 use Rattle.lot_posting.specs.declared.draft.Draft.{Draft}
@@ -253,7 +254,7 @@ plain_out facts day before place account amount is out =
       refusal = refl;
     })
 
--- else something is stored for it
+-- else its leg is stored
 pub plain_in : (facts : Facts) (day : ℤ) (before : List Leg) (place : ℕ) (account : List ℕ) (amount : Amount) → amount.cost ≡ None
     → IsUnits (plain_after facts before account amount) → MayLackMemory before (line_of facts day before place account amount)
 plain_in facts day before place account amount is within =

@@ -1,7 +1,6 @@
 -- Booking one posting of a transaction: what it adds to what is booked so far.
 use Rattle.std.specs.Prelude.{◌≡◌, ◌≢◌, ◌⊎◌, ℕ, suc, Bool, false, List, [], ◌∷◌, ◌++◌, Option, None, Some, ℤ, ⊤}
 use Rattle.lot_cost.specs.declared.cost.Cost.{Cost}
-use Rattle.lot_cost.specs.declared.lot_key.LotKey.{LotKey}
 use Rattle.lot_command.specs.declared.transaction.Amount.{Amount}
 use Rattle.lot_posting.specs.declared.draft.Draft.{Draft}
 use Rattle.lot_book.specs.declared.leg.Leg.{Leg}
@@ -10,7 +9,7 @@ use Rattle.lot_book.specs.declared.refusal.Stop.TheVariants.{Refused, Memory}
 use Rattle.lot_book.specs.Balance.{AreWithin, residuals, weights_of}
 use Rattle.lot_booking.specs.declared.fault.BookingFault.{BookingFault}
 use Rattle.lot_booking.specs.declared.fault.BookingFault.TheVariants as fault
-use Rattle.lot_booking.specs.Booking.{Braced, ComesTo, Legs, Refused as Rejected, Stores}
+use Rattle.lot_booking.specs.Booking.{Braced, ComesTo, ComesToLegs, Refused as Rejected}
 use Rattle.lot_book.specs.Booking.{IsRefusalOf, Booked, BooksTo, Fails, HasNoLegs, IsBooked, Line, braced, line_of, plain_leg}
 use Rattle.lot_book.specs.Change.{ListsSums}
 use Rattle.lot_book.specs.Facts.{Facts}
@@ -41,19 +40,18 @@ StopsWithoutLegs line Memory = ⊤
 
 -- ---- memory
 
--- something is stored for a posting with that cost: without braces its leg, unless that leaves its sum out of range; with braces
--- its legs, or what its booking stores
+-- legs are stored for a posting with that cost: with braces those that it comes to; without braces its one leg, where that
+-- leaves its sum in range
 abbrev pub StoresFor : Line → Option Cost → Type 0
 StoresFor line None = leave_range line.held (plain_leg line ∷ []) ≡ false
-StoresFor line (Some cost) =
-    Stores (braced line cost) ⊎ ((reduces : Bool) × (lots : List (LotKey × ℤ)) × ComesTo (braced line cost) (Legs reduces lots))
+StoresFor line (Some cost) = ComesToLegs (braced line cost)
 
 -- lots that legs before it have changed are copied for a posting with that cost: only where it has braces
 abbrev pub CopiesLots : List Leg → Option Cost → Type 0
 CopiesLots before None = ⊥
 CopiesLots before (Some cost) = before ≢ []
 
--- booking a posting may lack memory: something is stored for it, or lots are copied
+-- booking a posting may lack memory: legs are stored for it, or lots are copied
 abbrev pub MayLackMemory : List Leg → Line → Type 0
 MayLackMemory before line = StoresFor line line.amount.cost ⊎ CopiesLots before line.amount.cost
 

@@ -1,7 +1,7 @@
 ghost use Rattle.std.specs.Prelude.{◌≡◌, ◌≤◌, ◌-◌, ◌∷◌, [], suc, true, false, IfErr, IfOk, IsErrOf, OnOk, Some, None, ℤ};
 ghost use Rattle.std.specs.FinMap as finite;
 ghost use Rattle.lot_inv.specs.Inventory.{Held, lots_of};
-ghost use Rattle.lot_booking.specs.Booking.{ComesTo, Legs, Stores, posting_of};
+ghost use Rattle.lot_booking.specs.Booking.{ComesTo, ComesToLegs, Legs, posting_of};
 ghost use Rattle.lot_book.specs.declared.refusal.Stop.TheVariants.{Memory};
 ghost use Rattle.lot_book.specs.Balance.{AreWithin};
 ghost use Rattle.lot_book.specs.Booking.{braced, line_of, method_of, plain_leg};
@@ -36,9 +36,11 @@ pub struct Site<'a> {
     pub amount: &'a Amount,
 }
 
-/// Books a posting with an amount on what is booked so far. The error is its refusal, or out of memory. That is only where
-/// something is stored for it (`MayLackMemory`): never for a posting without braces that is refused, nor for the first posting
-/// where its booking stores nothing.
+/// Books a posting with an amount on what is booked so far. The error is its refusal, or out of memory (`MayLackMemory`).
+///
+/// Without braces memory may lack only where the posting is booked; with braces only where it has legs, or where legs stand
+/// before it, whose lots may be copied. So no refusal of a posting without braces is told as out of memory, and where no legs
+/// stand before one with braces only its `Range`.
 pub fn book_posting(
     alloc: Global,
     view: &View,
@@ -171,7 +173,7 @@ fn book_on(
     ensures stops { IfErr result (λ stop. StopsOn
         (posting_of method held.now site.now.amount.now.commodity site.now.amount.now.units cost.now site.now.day)
         site.now.posting stop) }
-    ensures memory { IsErrOf result Memory → Stores
+    ensures memory { IsErrOf result Memory → ComesToLegs
         (posting_of method held.now site.now.amount.now.commodity site.now.amount.now.units
         cost.now site.now.day) }
 {

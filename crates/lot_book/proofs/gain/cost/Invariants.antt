@@ -1,7 +1,7 @@
 use Rattle.std.proofs.Common.{◌≡◌, ◌*◌, ◌≤◌, take}
 use Rattle.std.specs.Prelude.{unsigned_abs}
 use Rattle.lot_num.specs.Amount.{rate_limit}
-use Rattle.lot_booking.specs.Choice.{held_in}
+use Rattle.lot_inv.specs.Inventory.{held_in}
 use Rattle.lot_book.specs.Gain.{cost_of}
 use Rattle.lot_book.proofs.gain.cost.Given as goal
 

@@ -1,17 +1,14 @@
 -- The lots at the number among those that fit.
-use Rattle.std.proofs.Common.{◌≡◌, ◌⊎◌, true, ℕ, ℤ, List, Option, None, filter, sym, subst, ap, ◌∙◌, rules}
+use Rattle.std.proofs.Common.{◌≡◌, ◌⊎◌, ℕ, ℤ, List, Option, None, filter, sym, subst, ap, ◌∙◌, rules}
 use Rattle.std.specs.Prelude.{◌==◌}
-use Rattle.std.specs.List.{AllByRecursion}
 use Rattle.std.proofs.lemmas.Fn.{filter_same}
-use Rattle.lot_inv.specs.Inventory.{matching, other_sign}
+use Rattle.lot_inv.specs.Inventory.{fitting, with_number}
 use Rattle.lot_cost.specs.declared.lot_key.LotKey.{LotKey}
-use Rattle.lot_booking.specs.Booking.{fitting, with_number}
 use Rattle.lot_booking.specs.Choice.{HaveDistinctKeys}
-use Rattle.lot_booking.proofs.BookLemmas.{each_passes}
 use Rattle.std.specs.Ordering.{eq_by_cmp}
 use Rattle.std.proofs.lemmas.Map.Made.{IsDistinct-keys_filter}
 use Rattle.lot_cost.specs.LotKey.{lot_cmp}
-use Rattle.lot_booking.proofs.NumberLemmas.{fitting-with_number, none_fits, with_no_number}
+use Rattle.lot_booking.proofs.NumberLemmas.{fitting-with_number, with_no_number}
 use Rattle.lot_booking.proofs.booking.fitting_at.Goals as goal
 use Rattle.lot_booking.proofs.booking.fitting_at.Goals.{in-Some, in_default}
 
@@ -31,7 +28,7 @@ returns-clause-all c =
           ∙ ap lots_at (sym w.in-Some.is)
       | in_default w ↦
           ap (λ lots. lots.items) w.lots-is ∙ c.in_ok-lots.ensures.all
-          ∙ ap (fitting c.args.inventory.now c.args.commodity.now c.args.units) (with_no_number spec c.args.number c.requires w.in_default.is)
+          ∙ ap (fitting c.args.inventory.now c.args.commodity.now c.args.units) (with_no_number spec c.args.number.now c.requires w.in_default.is)
     ]
 
 pub returns-clause-distinct : goal.returns-clause-distinct
@@ -45,13 +42,3 @@ returns-clause-distinct c =
           subst HaveDistinctKeys (sym (ap (λ lots. lots.items) w.lots-is ∙ kept)) (IsDistinct-keys_filter (eq_by_cmp lot_cmp) test lots c.in_ok-lots.ensures.distinct)
       | in_default w ↦ subst HaveDistinctKeys (sym (ap (λ lots. lots.items) w.lots-is)) c.in_ok-lots.ensures.distinct
     ]
-
-pub returns-clause-signs : goal.returns-clause-signs
-returns-clause-signs c =
-    let other = λ (lot : LotKey × ℤ). other_sign lot.1 c.args.units in
-    subst (AllByRecursion (λ (lot : LotKey × ℤ). other lot ≡ true)) (sym (returns-clause-all c))
-    (each_passes other (matching c.args.inventory.now c.args.commodity.now (with_number c.args.number c.args.spec.now)))
-
-pub returns-clause-stored : goal.returns-clause-stored
-returns-clause-stored c some none =
-    some (returns-clause-all c ∙ none_fits c.args.inventory.now c.args.commodity.now c.args.units c.args.spec.now c.args.number c.requires none)

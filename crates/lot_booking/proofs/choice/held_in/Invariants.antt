@@ -1,6 +1,6 @@
 use Rattle.std.proofs.Common.{◌≡◌, ◌*◌, ◌≤◌, take}
 use Rattle.lot_num.specs.Amount.{units_limit}
-use Rattle.lot_booking.specs.Choice.{held_in}
+use Rattle.lot_inv.specs.Inventory.{held_in}
 use Rattle.lot_booking.proofs.choice.held_in.Given as goal
 
 -- what the lots so far hold, each of them less than the limit of units

@@ -1,5 +1,5 @@
 use Rattle.std.proofs.Common.{◌≡◌, ◌≤◌, ◌-◌, ◌++◌, unsigned_abs}
-use Rattle.lot_booking.specs.Choice.{held_in}
+use Rattle.lot_inv.specs.Inventory.{held_in}
 use Rattle.lot_booking.specs.Way.{walked}
 use Rattle.lot_booking.proofs.choice.in_turn.Given as goal
 

@@ -1,7 +1,8 @@
 -- Lots that hold less than is wanted have no choice.
 use Rattle.std.proofs.Common.{arith, ap, ◌∙◌, ◌≡◌, unsigned_abs}
 use Rattle.std.proofs.lemmas.Int.{ints, to_z-of_z}
-use Rattle.lot_booking.specs.Choice.{InTurn, held_in}
+use Rattle.lot_inv.specs.Inventory.{held_in}
+use Rattle.lot_booking.specs.Choice.{InTurn}
 use Rattle.lot_booking.proofs.ChoiceLemmas.{no_choice-from_less}
 use Rattle.lot_booking.proofs.choice.take.Goals as goal
 

@@ -3,7 +3,7 @@ use Rattle.std.proofs.Common.{rules, arith, ◌≤◌, ℤ, Vec, Global, unsigne
 use Rattle.std.proofs.lemmas.List.Sorted.{answers_always}
 use Rattle.std.proofs.lemmas.Result.{IfOk-weaker}
 use Rattle.lot_cost.specs.declared.lot_key.LotKey.{LotKey}
-use Rattle.lot_booking.specs.Choice.{held_in}
+use Rattle.lot_inv.specs.Inventory.{held_in}
 use Rattle.lot_booking.proofs.ChoiceLemmas.{held_in-permuted}
 use Rattle.lot_booking.proofs.TakeLemmas.{orders_lots, takes-walked}
 use Rattle.lot_booking.proofs.choice.take_enough.Goals as goal

@@ -5,10 +5,9 @@ use Rattle.lot_inv.specs.Inventory.{Held, lots_of}
 use Rattle.lot_booking.specs.declared.booking.Booked.{Booked}
 use Rattle.lot_cost.specs.declared.cost.Cost.{Cost}
 use Rattle.lot_cost.specs.declared.method.Method.{Method}
-use Rattle.lot_booking.specs.declared.fault.BookingFault.TheVariants as fault
-use Rattle.lot_booking.specs.Booking.{Braced, ComesTo, Legs, Outcome, Refused as Rejected, Stores, posting_by, posting_of}
+use Rattle.lot_booking.specs.Booking.{Braced, ComesTo, ComesToLegs, Legs, Outcome, Refused as Rejected, posting_by, posting_of}
 use Rattle.lot_booking.specs.Method.{Ties, ByKey}
-use Rattle.lot_booking.proofs.SameLots.{same_outcome, same_stop}
+use Rattle.lot_booking.proofs.SameLots.{same_outcome}
 use Rattle.lot_book.specs.declared.refusal.Stop.{Stop}
 use Rattle.lot_book.specs.declared.refusal.Stop.TheVariants.{Refused, Memory}
 use Rattle.lot_book.specs.Booking.{HasNoLegs, Line, braced, line_of}
@@ -52,13 +51,8 @@ module _ (line : Line) (by_key : ByKey ≡ line.ties) (cost : Cost) (method : Me
   stops_on braces (Ok booked) stops = tt
   stops_on braces (Err stop) stops = stops_at braces stop stops
 
-  stores_on : line.amount.cost ≡ Some cost → Stores (under method) → StoresFor line line.amount.cost
-  stores_on braces stores =
-      subst (StoresFor line) (sym braces)
-      (inl
-      (subst (λ (ties : Ties). Stores (on_line ties)) by_key
-      (same_stop line.method held line.held line.amount.commodity line.amount.units cost line.day same fault.Memory
-      (subst (λ (m : Method). Stores (under m)) is stores))))
+  legs_on : line.amount.cost ≡ Some cost → ComesToLegs (under method) → StoresFor line line.amount.cost
+  legs_on braces legs = subst (StoresFor line) (sym braces) (legs.0, legs.1, comes_to (Legs legs.0 legs.1) legs.2)
 
 -- ---- some lot of the commodity has changed
 
@@ -133,7 +127,7 @@ returns-in-Some-clause-memory c = λ lacks.
     let site = c.args.site.now in
     let line = line_of (known c.args.view.now) site.day c.args.tally.now.legs site.posting site.account.now site.amount.now in
     inl
-    (stores_on line refl c.args.cost.now c.method_of-method.result c.in-Some.held.now c.method_of-method.ensures (same_in-Some c)
+    (legs_on line refl c.args.cost.now c.method_of-method.result c.in-Some.held.now c.method_of-method.ensures (same_in-Some c)
     c.requires.cost (c.book_on-in-Some.ensures.memory lacks))
 
 pub returns-in-None-clause-memory : goal.returns-in-None-clause-memory
@@ -141,5 +135,5 @@ returns-in-None-clause-memory c = λ lacks.
     let site = c.args.site.now in
     let line = line_of (known c.args.view.now) site.day c.args.tally.now.legs site.posting site.account.now site.amount.now in
     inl
-    (stores_on line refl c.args.cost.now c.method_of-method.result c.new.result c.method_of-method.ensures (same_in-None c)
+    (legs_on line refl c.args.cost.now c.method_of-method.result c.new.result c.method_of-method.ensures (same_in-None c)
     c.requires.cost (c.book_on-in-None-2.ensures.memory lacks))
