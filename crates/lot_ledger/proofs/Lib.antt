@@ -3,3 +3,5 @@ pub mod ConcludeLemmas
 pub mod CheckLemmas
 pub mod HeadLemmas
 pub mod FillLemmas
+pub mod OpenLotLemmas
+pub mod OpeningRowLemmas

@@ -1,1 +1,2 @@
 pub mod Decide
+pub mod Openings

@@ -13,7 +13,7 @@ use lot_view::View;
 use std::marker::Model;
 
 /// The most postings that a transaction may have (`most_postings` of the definitions).
-const MOST_POSTINGS: usize = 64;
+pub(crate) const MOST_POSTINGS: usize = 64;
 
 /// The most lots that an account may hold of one commodity (`most_lots` of the definitions).
 const MOST_LOTS: u128 = 10_000;

@@ -4,15 +4,18 @@
 //! - `checks`: the refusals of a transaction that look at its postings and accounts.
 //! - `fill`: the legs of the elided posting.
 //! - `heads`: the latest days of postings with braces.
+//! - `opening_numbers`: which lots legs leave units in, and the posting that opened each.
 #![tactic(auto)]
 
 mod checks;
 mod decision;
 mod fill;
 mod heads;
+mod opening_numbers;
 
 pub use decision::{Outcome, decide};
 pub use lot_book::{
     Change, Gain, Holding, Leg, LotKey, Pair, Position, Refusal, Sale, Standing, Stop, Verdict,
 };
 pub use lot_view::{Touched, View, touches};
+pub use opening_numbers::{LotOpening, openings};

@@ -1,0 +1,67 @@
+-- The opening numbers of the lots that legs leave units in, as rows.
+use Rattle.std.specs.Prelude.{◌≡◌, ◌≢◌, ◌≤◌, ℕ, if◌then◌else◌, List, take, map, All, Contains, Option, None, Some, IsSome, ℤ, pos}
+use Rattle.std.specs.BTreeMap.{BTreeMap, get}
+use Rattle.std.specs.List.Sorted.{IsStrictlySortedBy}
+use Rattle.std.specs.Option.{option_map}
+use Rattle.std.specs.Ordering.{int_eq}
+use Rattle.lot_num.specs.Amount.{IsUnits}
+use Rattle.lot_cost.specs.declared.lot_key.LotKey.{LotKey}
+use Rattle.lot_book.specs.declared.leg.Leg.{Leg}
+use Rattle.lot_book.specs.declared.leg.Position.{Position}
+use Rattle.lot_book.specs.Leg.{position_cmp, sum_at}
+use Rattle.lot_book.specs.OpeningNumber.{HasOpeningNumber}
+use Rattle.lot_book.specs.Refusals.{most_entries, most_postings}
+use Rattle.lot_ledger.specs.declared.opening_numbers.LotOpening.{LotOpening}
+use Rattle.lot_ledger.specs.declared.opening_numbers.OpenLot.{OpenLot}
+
+-- ---- What legs have to be.
+
+-- a leg is numbered as in a book: entries count from 1 to the most of a book, postings from 1 to the most of a transaction
+pub record IsNumbered (leg : Leg) : Type 0 where
+  pub entry_from_one : 1 ≤ leg.entry
+  pub entry_in_book : leg.entry ≤ most_entries
+  pub posting_from_one : 1 ≤ leg.posting
+  pub posting_in_entry : leg.posting ≤ most_postings
+
+-- however many legs are booked so far, what they leave at a position is in the range of units
+abbrev pub StayInRange : List Leg → Type 0
+StayInRange legs = (count : ℕ) (position : Position) → IsUnits (sum_at (take count legs) position)
+
+-- ---- The rows.
+
+-- the lot of a row
+abbrev pub lot_of : LotOpening → Position
+lot_of row = record { account = row.account; commodity = row.commodity; lot = Some row.lot }
+
+-- Rows list the openings of the lots that legs leave units in: each row has the opening number of its lot, each lot in which
+-- some units are left has a row, and they are in the order of the lots, so that none has two.
+pub record ListsOpenings (legs : List Leg) (rows : List LotOpening) : Type 0 where
+  pub numbers : All (λ (row : LotOpening). HasOpeningNumber legs (lot_of row) row.opening) rows
+  pub every_lot : (lot : Position) → IsSome lot.lot → sum_at legs lot ≢ pos 0 → Contains (map lot_of rows) lot
+  pub in_order : IsStrictlySortedBy position_cmp (map lot_of rows)
+
+-- ---- What is kept of each lot on the way.
+
+-- the units that are kept of a lot
+abbrev pub units_kept : Option OpenLot → ℤ
+units_kept None = pos 0
+units_kept (Some lot) = lot.units
+
+-- what is kept of a lot is what legs leave in it, and where those are some units, its opening number
+abbrev pub IsKept : List Leg → Position → Option OpenLot → Type 0
+IsKept legs lot None = sum_at legs lot ≡ pos 0
+IsKept legs lot (Some kept) =
+    (kept.units ≡ sum_at legs lot) × (kept.units ≢ pos 0 → HasOpeningNumber legs lot kept.opening)
+
+-- each lot is kept so
+abbrev pub KeepsLots : List Leg → BTreeMap Position OpenLot → Type 0
+KeepsLots legs lots = (lot : Position) → IsSome lot.lot → IsKept legs lot (get position_cmp lots lot)
+
+-- the row of what is kept of a position, where that is a lot with some units
+abbrev pub row_of : Position × OpenLot → Option LotOpening
+row_of kept = if int_eq kept.1.units (pos 0) then None else option_map (λ (lot : LotKey). record {
+  account = kept.0.account;
+  commodity = kept.0.commodity;
+  lot = lot;
+  opening = kept.1.opening;
+}) kept.0.lot
