@@ -1,10 +1,6 @@
-pub mod Keyed
 pub mod HaltLine
 pub mod Says
-pub mod Input
 pub mod Runs
-pub mod Posts
-pub mod Imports
 pub mod Reports
 pub mod Serve
 pub mod Headline

@@ -7,10 +7,13 @@ use Rattle.lot_stream.specs.declared.status.Status.TheVariants.{Accepted, Refuse
 use Rattle.lot_command.specs.declared.command.Command.{Command}
 use Rattle.lot_command.specs.declared.key.Key.{Key}
 use Rattle.lot_rows.specs.Tables.{Has, Tables}
-use Rattle.lot_cli.specs.Input.{Gives, GivesNone, Reading}
+use Rattle.lot_import.specs.declared.accounts.Accounts.{Accounts}
+use Rattle.lot_input.specs.Input.{Gives, GivesNone, Reading}
+use Rattle.lot_input.specs.Rows.{FileMeans, IsFaultyFile}
+use Rattle.lot_input.specs.Text.{IsFaultyText, TextMeans}
+use Rattle.lot_input.specs.declared.fault.InputFault.{InputFault}
 use Rattle.lot_cli.specs.Says.{Halts}
 use Rattle.lot_report.specs.Output.{IsFlushed, WritesMade}
-use Rattle.lot_cli.specs.declared.fault.InputFault.{InputFault}
 use Rattle.lot_cli.specs.declared.halt.Halt.TheVariants as halt
 use Rattle.lot_store.specs.Create.{IsHandedBack, IsTaken, TellsBook, TellsOf}
 use Rattle.lot_store.specs.Run.{IsWrittenOut, RunsSession}
@@ -77,3 +80,10 @@ abbrev pub RunsInput : (List ℕ → List (Key × Command) → Type 0) → (List
 RunsInput Means IsFaulty from reading old new before written calls status =
     ((fault : InputFault) × GivesNone IsFaulty reading fault × IsUntouched old new × Halts (halt.Input fault) before written calls.after status)
     ⊎ ((keyed : List (Key × Command)) × Gives Means reading keyed × RunsOn keyed from old new before written calls status)
+
+-- ledger text that is posted, and a broker file that is imported (docs/RULES.md, The program)
+abbrev pub Posts : List ℕ → ℕ → Reading → State → State → Option (List ℕ) → Option (List ℕ) → WritesMade → ℕ → Type 0
+Posts batch from = RunsInput (TextMeans batch from) IsFaultyText from
+
+abbrev pub Imports : List ℕ → Accounts → ℕ → Reading → State → State → Option (List ℕ) → Option (List ℕ) → WritesMade → ℕ → Type 0
+Imports batch accounts from = RunsInput (FileMeans batch accounts from) IsFaultyFile from

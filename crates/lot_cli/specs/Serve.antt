@@ -6,11 +6,9 @@ use Rattle.lot_stream.specs.declared.status.Status.TheVariants.{Accepted}
 use Rattle.lot_stored.specs.StandFor.{Left, Stands}
 use Rattle.lot_report.specs.Output.{WriteCalls, WritesMade}
 use Rattle.lot_report.specs.Printed.{line}
-use Rattle.lot_cli.specs.Imports.{Imports}
-use Rattle.lot_cli.specs.Input.{Reading}
-use Rattle.lot_cli.specs.Posts.{Posts}
+use Rattle.lot_input.specs.Input.{Reading}
 use Rattle.lot_cli.specs.Reports.{Reports}
-use Rattle.lot_cli.specs.Runs.{IsUntouched}
+use Rattle.lot_cli.specs.Runs.{Imports, IsUntouched, Posts}
 use Rattle.lot_cli.specs.Says.{Halts, Says}
 use Rattle.lot_cli.specs.declared.halt.Halt.TheVariants as halt
 use Rattle.lot_cli.specs.declared.report.Report.TheVariants as report

@@ -3,7 +3,7 @@ ghost use Rattle.lot_report.specs.Output.{HasFailed};
 ghost use Rattle.lot_report.specs.Written.{WritesLine};
 ghost use Rattle.lot_cli.specs.HaltLine.{adopt_name, create_name, halt_line, status_of_halt};
 
-use crate::fault::{InputFault, print_input_fault};
+use lot_input::{InputFault, print_input_fault};
 use lot_report::{CountedWrite, PrintFault, print_texts};
 use lot_store::{AdoptFault, CreateFault};
 use lot_stream::Status;

@@ -3,19 +3,17 @@
 //! program). The first two are passed on from `lot_args` and `lot_stream`.
 //!
 //! - `action`: `serve`, and what an action leaves.
-//! - `post`: the commands of ledger text; `import`: those of the rows of a broker file.
+//! - `post`: ledger text posted to the book that is there; `import`: a broker file. What an input gives is the affair of
+//!   `lot_input`.
 //! - `run`: commands run on the book that is there.
 //! - `report`: reports of the book that is there.
-//! - `keyed`: the keys of the commands of a batch.
-//! - `halt`: why an action ends before its first command; `fault`: why an input gives no commands.
+//! - `halt`: why an action ends before its first command.
 //! - `laws`: what becomes of a row that comes again.
 #![tactic(auto)]
 
 mod action;
-mod fault;
 mod halt;
 mod import;
-mod keyed;
 pub mod laws;
 mod post;
 mod report;

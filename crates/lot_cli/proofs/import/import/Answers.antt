@@ -1,4 +1,4 @@
-use Rattle.lot_cli.specs.Imports.{FileMeans, IsFaultyFile}
+use Rattle.lot_input.specs.Rows.{FileMeans, IsFaultyFile}
 use Rattle.lot_cli.proofs.InputLemmas.{runs_given}
 use Rattle.lot_cli.proofs.import.import.Goals as goal
 

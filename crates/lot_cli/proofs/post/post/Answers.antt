@@ -1,4 +1,4 @@
-use Rattle.lot_cli.specs.Posts.{IsFaultyText, TextMeans}
+use Rattle.lot_input.specs.Text.{IsFaultyText, TextMeans}
 use Rattle.lot_cli.proofs.InputLemmas.{runs_given}
 use Rattle.lot_cli.proofs.post.post.Goals as goal
 

@@ -1,14 +1,10 @@
--- Ledger text that is posted to a book (docs/RULES.md, The program).
-use Rattle.std.specs.Prelude.{◌≡◌, ℕ, List, Option}
-use Rattle.sqlite.specs.State.{State}
+-- The commands of an input that is ledger text, and why it isn't (docs/FORMATS.md, Ledger text).
+use Rattle.std.specs.Prelude.{◌≡◌, ℕ, List}
 use Rattle.lot_command.specs.declared.command.Command.{Command}
 use Rattle.lot_command.specs.declared.key.Key.{Key}
-use Rattle.lot_report.specs.Output.{WritesMade}
-use Rattle.lot_cli.specs.Input.{Reading}
-use Rattle.lot_cli.specs.Keyed.{keyed_from, post_source}
-use Rattle.lot_cli.specs.Runs.{RunsInput}
-use Rattle.lot_cli.specs.declared.fault.InputFault.{InputFault}
-use Rattle.lot_cli.specs.declared.fault.InputFault.TheVariants.{Unasked, Unread, Text, Rows, Cash, Memory}
+use Rattle.lot_input.specs.Keyed.{keyed_from, post_source}
+use Rattle.lot_input.specs.declared.fault.InputFault.{InputFault}
+use Rattle.lot_input.specs.declared.fault.InputFault.TheVariants.{Unasked, Unread, Text, Rows, Cash, Memory}
 use Rattle.lot_read.specs.Text.{IsFaultOf, Reads}
 
 -- the input is ledger text, and these are its commands from that number on, each under the key of its number in the batch
@@ -24,6 +20,3 @@ IsFaultyText input (Text fault) = IsFaultOf input fault
 IsFaultyText input (Rows fault) = ⊥
 IsFaultyText input (Cash fault) = ⊥
 IsFaultyText input Memory = (commands : List Command) × Reads input commands
-
-abbrev pub Posts : List ℕ → ℕ → Reading → State → State → Option (List ℕ) → Option (List ℕ) → WritesMade → ℕ → Type 0
-Posts batch from = RunsInput (TextMeans batch from) IsFaultyText from

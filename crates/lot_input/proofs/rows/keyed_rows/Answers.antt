@@ -1,10 +1,10 @@
 use native.Mathlib.Omega.{arith}
 use Rattle.std.proofs.Common.{subst, vec_len}
 use Rattle.std.specs.Prelude.{IfOk}
-use Rattle.lot_cli.specs.Imports.{FileMeans, HasRowsOf, IsFaultyFile}
-use Rattle.lot_cli.proofs.InputLemmas.{gives_of, none_of}
-use Rattle.lot_cli.proofs.KeyedLemmas.{import_is_label}
-use Rattle.lot_cli.proofs.import.keyed_rows.Goals as goal
+use Rattle.lot_input.specs.Rows.{FileMeans, HasRowsOf, IsFaultyFile}
+use Rattle.lot_input.proofs.InputLemmas.{gives_of, none_of}
+use Rattle.lot_input.proofs.KeyedLemmas.{import_is_label}
+use Rattle.lot_input.proofs.rows.keyed_rows.Goals as goal
 
 pub source-requires-clause-label : goal.source-requires-clause-label
 source-requires-clause-label g c = import_is_label

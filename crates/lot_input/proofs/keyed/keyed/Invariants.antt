@@ -1,6 +1,6 @@
-use Rattle.lot_cli.specs.Keyed.{post_source}
-use Rattle.lot_cli.proofs.KeyedLemmas.{TakenIn}
-use Rattle.lot_cli.proofs.keyed.keyed.Given as goal
+use Rattle.lot_input.specs.Keyed.{post_source}
+use Rattle.lot_input.proofs.KeyedLemmas.{TakenIn}
+use Rattle.lot_input.proofs.keyed.keyed.Given as goal
 
 -- the commands so far were taken in, or skipped
 abbrev pub invariant-loop-index : goal.invariant-loop-index

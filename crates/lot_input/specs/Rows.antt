@@ -1,6 +1,5 @@
--- A broker file that is imported into a book (docs/RULES.md, The program; docs/FORMATS.md, Broker files).
-use Rattle.std.specs.Prelude.{ℕ, List, Option}
-use Rattle.sqlite.specs.State.{State}
+-- The commands of the rows of an input that is a broker file, and why it isn't (docs/FORMATS.md, Broker files).
+use Rattle.std.specs.Prelude.{ℕ, List}
 use Rattle.lot_command.specs.declared.command.Command.{Command}
 use Rattle.lot_command.specs.declared.key.Key.{Key}
 use Rattle.lot_import.specs.File.{AreRows, HasFault}
@@ -9,12 +8,9 @@ use Rattle.lot_import.specs.declared.accounts.Accounts.{Accounts}
 use Rattle.lot_import.specs.declared.fault.KeyedFault.{KeyedFault}
 use Rattle.lot_import.specs.declared.fault.KeyedFault.TheVariants as cash
 use Rattle.lot_import.specs.declared.row.Row.{Row}
-use Rattle.lot_report.specs.Output.{WritesMade}
-use Rattle.lot_cli.specs.Input.{Reading}
-use Rattle.lot_cli.specs.Keyed.{import_source}
-use Rattle.lot_cli.specs.Runs.{RunsInput}
-use Rattle.lot_cli.specs.declared.fault.InputFault.{InputFault}
-use Rattle.lot_cli.specs.declared.fault.InputFault.TheVariants.{Unasked, Unread, Text, Rows, Cash, Memory}
+use Rattle.lot_input.specs.Keyed.{import_source}
+use Rattle.lot_input.specs.declared.fault.InputFault.{InputFault}
+use Rattle.lot_input.specs.declared.fault.InputFault.TheVariants.{Unasked, Unread, Text, Rows, Cash, Memory}
 
 -- the input is a broker file, and these are the commands of its rows from that number on, each under the key of its row in
 -- that source
@@ -40,6 +36,3 @@ IsFaultyFile input (Text fault) = ⊥
 IsFaultyFile input (Rows fault) = HasFault input fault
 IsFaultyFile input (Cash fault) = (rows : List Row) × AreRows input rows × HasCashFault rows fault
 IsFaultyFile input Memory = ⊥
-
-abbrev pub Imports : List ℕ → Accounts → ℕ → Reading → State → State → Option (List ℕ) → Option (List ℕ) → WritesMade → ℕ → Type 0
-Imports batch accounts from = RunsInput (FileMeans batch accounts from) IsFaultyFile from

@@ -12,7 +12,7 @@ use Rattle.std.specs.Prelude.{◌||◌, ◌==◌}
 use Rattle.lot_base.specs.Name.{is_label, is_label_byte, longest_label}
 use Rattle.lot_command.specs.declared.command.Command.{Command}
 use Rattle.lot_command.specs.declared.key.Key.{Key}
-use Rattle.lot_cli.specs.Keyed.{keyed_from, numbered_key, source_of, under_keys}
+use Rattle.lot_input.specs.Keyed.{keyed_from, numbered_key, source_of, under_keys}
 use Rattle.lot_args.specs.Batch.{is_batch, is_batch_byte, longest_batch}
 
 -- ---- labels

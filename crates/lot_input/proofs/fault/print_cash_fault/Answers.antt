@@ -2,7 +2,7 @@ use Rattle.std.proofs.Common.{◌≡◌, ◌∙◌, [], ◌∷◌, ◌++◌, ap,
 use Rattle.std.specs.Prelude.{codes, decimal}
 use Rattle.lot_report.specs.Printed.{line}
 use Rattle.lot_report.specs.Written.{WritesLine}
-use Rattle.lot_cli.proofs.fault.print_cash_fault.Goals as goal
+use Rattle.lot_input.proofs.fault.print_cash_fault.Goals as goal
 
 pub returns-in-InexactAmount-clause-bytes : goal.returns-in-InexactAmount-clause-bytes
 returns-in-InexactAmount-clause-bytes g c =

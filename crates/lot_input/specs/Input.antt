@@ -6,8 +6,8 @@ use Rattle.lot_stream.specs.declared.input.SlurpFault.{SlurpFault}
 use Rattle.lot_stream.specs.declared.input.SlurpFault.TheVariants as slurp
 use Rattle.lot_command.specs.declared.command.Command.{Command}
 use Rattle.lot_command.specs.declared.key.Key.{Key}
-use Rattle.lot_cli.specs.declared.fault.InputFault.{InputFault}
-use Rattle.lot_cli.specs.declared.fault.InputFault.TheVariants.{Unasked, Unread, Text, Rows, Cash, Memory}
+use Rattle.lot_input.specs.declared.fault.InputFault.{InputFault}
+use Rattle.lot_input.specs.declared.fault.InputFault.TheVariants.{Unasked, Unread, Text, Rows, Cash, Memory}
 
 -- what is known of a reader: the bytes that it had, those that it has left, and what its calls came to
 pub record Reading : Type 0 where

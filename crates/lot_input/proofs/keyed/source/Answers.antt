@@ -1,8 +1,8 @@
 use Rattle.std.proofs.Common.{◌∙◌, IsTrue, ap, subst, sym}
 use Rattle.lot_base.specs.Name.{is_label}
-use Rattle.lot_cli.specs.Keyed.{source_of}
-use Rattle.lot_cli.proofs.KeyedLemmas.{source_is_label}
-use Rattle.lot_cli.proofs.keyed.source.Goals as goal
+use Rattle.lot_input.specs.Keyed.{source_of}
+use Rattle.lot_input.proofs.KeyedLemmas.{source_is_label}
+use Rattle.lot_input.proofs.keyed.source.Goals as goal
 
 pub label-requires : goal.label-requires
 label-requires c =

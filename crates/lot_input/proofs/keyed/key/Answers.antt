@@ -1,7 +1,7 @@
 use Rattle.std.proofs.Common.{◌∙◌, IsTrue, subst, sym}
 use Rattle.lot_base.specs.Name.{is_label}
-use Rattle.lot_cli.proofs.KeyedLemmas.{number_is_label}
-use Rattle.lot_cli.proofs.keyed.key.Goals as goal
+use Rattle.lot_input.proofs.KeyedLemmas.{number_is_label}
+use Rattle.lot_input.proofs.keyed.key.Goals as goal
 
 pub label-requires : goal.label-requires
 label-requires c =

@@ -1,8 +1,8 @@
 use Rattle.std.proofs.Common.{◌∙◌, ◌+◌, ◌++◌, ◌∷◌, [], ap}
 use Rattle.lot_command.specs.declared.key.Key.{Key}
-use Rattle.lot_cli.specs.Keyed.{numbered_key}
-use Rattle.lot_cli.proofs.KeyedLemmas.{none_yet, post_is_label, skips_next, takes_next}
-use Rattle.lot_cli.proofs.keyed.keyed.Goals as goal
+use Rattle.lot_input.specs.Keyed.{numbered_key}
+use Rattle.lot_input.proofs.KeyedLemmas.{none_yet, post_is_label, skips_next, takes_next}
+use Rattle.lot_input.proofs.keyed.keyed.Goals as goal
 
 pub source-requires-clause-label : goal.source-requires-clause-label
 source-requires-clause-label c = post_is_label

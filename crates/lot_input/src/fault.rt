@@ -1,7 +1,7 @@
 ghost use Rattle.std.specs.Prelude.{◌≡◌, IfErr, OnErr};
 ghost use Rattle.lot_report.specs.Output.{HasFailed};
 ghost use Rattle.lot_report.specs.Written.{WritesLine};
-ghost use Rattle.lot_cli.specs.HaltLine.{cash_line, cause_name, input_line, memory_line, rows_line, status_of_cash, status_of_input, status_of_rows};
+ghost use Rattle.lot_input.specs.InputLine.{cash_line, cause_name, input_line, memory_line, rows_line, status_of_cash, status_of_input, status_of_rows};
 
 use itoa::Buffer;
 use lot_import::{Cause, KeyedFault, RowsFault};
@@ -9,27 +9,34 @@ use lot_report::{CountedWrite, PrintFault, print_texts};
 use lot_stream::{Fault, SlurpFault, Status, print_fault};
 use lot_text::TextFault;
 use std::alloc::AllocError;
+use thiserror::Error;
 
 /// Why an input gives no commands.
-#[derive(Clone, Copy, Debug, PartialEq, Eq)]
-pub(crate) enum InputFault {
+#[derive(Clone, Copy, Debug, PartialEq, Eq, Error)]
+pub enum InputFault {
     /// Out of memory before anything was read.
+    #[error("out of memory")]
     Unasked,
     /// Not all of it is had.
+    #[error("{0}")]
     Unread(SlurpFault),
     /// It isn't ledger text.
+    #[error("{0}")]
     Text(TextFault),
     /// It has no rows of a broker file.
+    #[error("{0}")]
     Rows(RowsFault),
     /// The cash that one of its rows moves isn't units.
+    #[error("{0}")]
     Cash(KeyedFault),
     /// Out of memory for the keys of the commands of ledger text.
+    #[error("out of memory")]
     Memory,
 }
 
 impl From<SlurpFault> for InputFault {
     ghost use Rattle.std.specs.Prelude.{◌≡◌};
-    ghost use Rattle.lot_cli.specs.declared.fault.InputFault.TheVariants.{Unread};
+    ghost use Rattle.lot_input.specs.declared.fault.InputFault.TheVariants.{Unread};
 
     ghost from_gives = { λ fault e. e ≡ Unread fault };
 
@@ -40,7 +47,7 @@ impl From<SlurpFault> for InputFault {
 
 impl From<TextFault> for InputFault {
     ghost use Rattle.std.specs.Prelude.{◌≡◌};
-    ghost use Rattle.lot_cli.specs.declared.fault.InputFault.TheVariants.{Text};
+    ghost use Rattle.lot_input.specs.declared.fault.InputFault.TheVariants.{Text};
 
     ghost from_gives = { λ fault e. e ≡ Text fault };
 
@@ -51,7 +58,7 @@ impl From<TextFault> for InputFault {
 
 impl From<RowsFault> for InputFault {
     ghost use Rattle.std.specs.Prelude.{◌≡◌};
-    ghost use Rattle.lot_cli.specs.declared.fault.InputFault.TheVariants.{Rows};
+    ghost use Rattle.lot_input.specs.declared.fault.InputFault.TheVariants.{Rows};
 
     ghost from_gives = { λ fault e. e ≡ Rows fault };
 
@@ -62,7 +69,7 @@ impl From<RowsFault> for InputFault {
 
 impl From<KeyedFault> for InputFault {
     ghost use Rattle.std.specs.Prelude.{◌≡◌};
-    ghost use Rattle.lot_cli.specs.declared.fault.InputFault.TheVariants.{Cash};
+    ghost use Rattle.lot_input.specs.declared.fault.InputFault.TheVariants.{Cash};
 
     ghost from_gives = { λ fault e. e ≡ Cash fault };
 
@@ -73,7 +80,7 @@ impl From<KeyedFault> for InputFault {
 
 impl From<AllocError> for InputFault {
     ghost use Rattle.std.specs.Prelude.{◌≡◌};
-    ghost use Rattle.lot_cli.specs.declared.fault.InputFault.TheVariants.{Memory};
+    ghost use Rattle.lot_input.specs.declared.fault.InputFault.TheVariants.{Memory};
 
     ghost from_gives = { λ _ e. e ≡ Memory };
 
@@ -99,7 +106,7 @@ impl InputFault {
 
 /// Writes the line that reports why an input gives no commands. It takes no memory, which may have ended: the only fault is that
 /// of the writer.
-pub(crate) fn print_input_fault<W: CountedWrite>(
+pub fn print_input_fault<W: CountedWrite>(
     writer: &mut W,
     fault: InputFault,
 ) -> Result<(), PrintFault>

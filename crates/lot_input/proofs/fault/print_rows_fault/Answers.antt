@@ -2,8 +2,8 @@ use Rattle.std.proofs.Common.{◌≡◌, ◌∙◌, [], ◌∷◌, ◌++◌, ap,
 use Rattle.std.specs.Prelude.{codes, decimal}
 use Rattle.lot_report.specs.Printed.{line}
 use Rattle.lot_report.specs.Written.{WritesLine}
-use Rattle.lot_cli.specs.HaltLine.{cause_name}
-use Rattle.lot_cli.proofs.fault.print_rows_fault.Goals as goal
+use Rattle.lot_input.specs.InputLine.{cause_name}
+use Rattle.lot_input.proofs.fault.print_rows_fault.Goals as goal
 
 pub returns-in-BadRow-clause-bytes : goal.returns-in-BadRow-clause-bytes
 returns-in-BadRow-clause-bytes g c =

@@ -1,6 +1,6 @@
 ghost use Rattle.std.specs.Prelude.{◌≡◌, ◌≤◌, IfOk, IsTrue, length};
 ghost use Rattle.lot_base.specs.Name.{is_label};
-ghost use Rattle.lot_cli.specs.Keyed.{keyed_from, numbered_key, post_source, source_of};
+ghost use Rattle.lot_input.specs.Keyed.{keyed_from, numbered_key, post_source, source_of};
 
 use lot_args::Batch;
 use lot_base::Label;
@@ -16,7 +16,8 @@ pub(crate) fn keyed(
     commands: Vec<Command>,
 ) -> Result<Vec<(Key, Command)>, AllocError>
     requires { 1 ≤ from }
-    ensures { IfOk result (λ keyed. keyed.items ≡ keyed_from (post_source batch.now) from commands.items) }
+    ensures { IfOk result (λ keyed.
+        keyed.items ≡ keyed_from (post_source batch.now) from commands.items) }
 {
     let source = source(alloc, "post", batch)?;
     let mut keyed = Vec::new(alloc);

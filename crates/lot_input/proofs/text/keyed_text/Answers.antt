@@ -1,8 +1,8 @@
 use native.Mathlib.Omega.{arith}
 use Rattle.std.proofs.Common.{vec_len}
-use Rattle.lot_cli.specs.Posts.{IsFaultyText, TextMeans}
-use Rattle.lot_cli.proofs.InputLemmas.{gives_of, none_of}
-use Rattle.lot_cli.proofs.post.keyed_text.Goals as goal
+use Rattle.lot_input.specs.Text.{IsFaultyText, TextMeans}
+use Rattle.lot_input.proofs.InputLemmas.{gives_of, none_of}
+use Rattle.lot_input.proofs.text.keyed_text.Goals as goal
 
 pub returns-clause-ok : goal.returns-clause-ok
 returns-clause-ok g c =

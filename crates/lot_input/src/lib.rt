@@ -1,0 +1,17 @@
+//! What an input says before any book is looked at: its commands, each under its key, or why it gives none
+//! (docs/RULES.md, The program).
+//!
+//! - `text`: the commands of ledger text (`keyed_text`).
+//! - `rows`: those of the rows of a broker file (`keyed_rows`).
+//! - `keyed`: the keys of the commands of a batch.
+//! - `fault`: why an input gives no commands, and the line that reports it (`print_input_fault`).
+#![tactic(auto)]
+
+mod fault;
+mod keyed;
+mod rows;
+mod text;
+
+pub use fault::{InputFault, print_input_fault};
+pub use rows::keyed_rows;
+pub use text::keyed_text;

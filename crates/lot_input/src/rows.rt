@@ -1,0 +1,60 @@
+ghost use Rattle.std.specs.Prelude.{◌≤◌, IfErr, IfOk};
+ghost use Rattle.lot_input.specs.Input.{Gives, GivesNone};
+ghost use Rattle.lot_input.specs.Rows.{FileMeans, HasRowsOf, IsFaultyFile};
+
+use crate::fault::InputFault;
+use crate::keyed::source;
+use lot_args::Batch;
+use lot_base::Label;
+use lot_command::{Command, Key};
+use lot_import::{Accounts, keyed_commands, read_rows};
+use lot_stream::{CountedRead, slurp};
+use std::alloc::Global;
+
+/// Returns the commands of the rows of all that a reader has, which is a broker file, from that number on: each posts to the
+/// accounts, under the key of its row in the batch. The first row has the number 1.
+///
+/// The errors are `Unread`, `Rows` and `Cash`, and `Unasked` where nothing is read: the source of the keys is made before.
+/// Behind that, out of memory for it would stand in place of a fault of the file.
+pub fn keyed_rows<R: CountedRead>(
+    alloc: Global,
+    batch: &Batch,
+    accounts: &Accounts,
+    from: usize,
+    reader: &mut R,
+) -> Result<Vec<(Key, Command)>, InputFault>
+    requires { 1 ≤ from }
+    ensures ok { IfOk result (λ keyed. Gives (FileMeans batch.now accounts.now from) (record {
+      bytes = R.remaining reader.old;
+      left = R.remaining reader.new;
+      calls = record { before = R.calls reader.old; after = R.calls reader.new };
+    }) keyed.items) }
+    ensures err { IfErr result (GivesNone IsFaultyFile (record {
+      bytes = R.remaining reader.old;
+      left = R.remaining reader.new;
+      calls = record { before = R.calls reader.old; after = R.calls reader.new };
+    })) }
+{
+    let Ok(source) = source(alloc, "import", batch) else {
+        return Err(InputFault::Unasked);
+    };
+    let file = slurp(alloc, reader)?;
+    commands_in(alloc, &source, accounts, from, &file)
+}
+
+/// Returns the same of a file that was read, which has no fault of a reader.
+fn commands_in(
+    alloc: Global,
+    source: &Label,
+    accounts: &Accounts,
+    from: usize,
+    file: &[u8],
+) -> Result<Vec<(Key, Command)>, InputFault>
+    requires { 1 ≤ from }
+    ensures ok { IfOk result (λ keyed.
+        HasRowsOf source.now accounts.now from file.now keyed.items) }
+    ensures err { IfErr result (IsFaultyFile file.now) }
+{
+    let rows = read_rows(alloc, file)?;
+    Ok(keyed_commands(alloc, source, accounts, from, &rows)?)
+}

@@ -1,0 +1,53 @@
+ghost use Rattle.std.specs.Prelude.{◌≤◌, IfErr, IfOk};
+ghost use Rattle.lot_input.specs.Input.{Gives, GivesNone};
+ghost use Rattle.lot_input.specs.Text.{IsFaultyText, TextMeans};
+
+use crate::fault::InputFault;
+use crate::keyed::keyed;
+use lot_args::Batch;
+use lot_command::{Command, Key};
+use lot_stream::{CountedRead, slurp};
+use lot_text::read;
+use std::alloc::Global;
+
+/// Returns the commands of all that a reader has, which is ledger text, from that number on: each under the key of its number
+/// in the batch. The first command of the text has the number 1.
+///
+/// The errors are `Unread`, `Text` and `Memory`.
+pub fn keyed_text<R: CountedRead>(
+    alloc: Global,
+    batch: &Batch,
+    from: usize,
+    reader: &mut R,
+) -> Result<Vec<(Key, Command)>, InputFault>
+    requires { 1 ≤ from }
+    ensures ok { IfOk result (λ keyed. Gives (TextMeans batch.now from) (record {
+      bytes = R.remaining reader.old;
+      left = R.remaining reader.new;
+      calls = record { before = R.calls reader.old; after = R.calls reader.new };
+    }) keyed.items) }
+    ensures err { IfErr result (GivesNone IsFaultyText (record {
+      bytes = R.remaining reader.old;
+      left = R.remaining reader.new;
+      calls = record { before = R.calls reader.old; after = R.calls reader.new };
+    })) }
+{
+    let text = slurp(alloc, reader)?;
+    commands_in(alloc, batch, from, &text)
+}
+
+/// Returns the same of a text that was read, which has no fault of a reader. Out of memory comes only where its lines up to one
+/// say commands, or all of them.
+fn commands_in(
+    alloc: Global,
+    batch: &Batch,
+    from: usize,
+    text: &[u8],
+) -> Result<Vec<(Key, Command)>, InputFault>
+    requires { 1 ≤ from }
+    ensures ok { IfOk result (λ keyed. TextMeans batch.now from text.now keyed.items) }
+    ensures err { IfErr result (IsFaultyText text.now) }
+{
+    let commands = read(alloc, text)?;
+    Ok(keyed(alloc, batch, from, commands)?)
+}
