@@ -1,5 +1,6 @@
 pub mod StepLemmas
 pub mod StepHeld
+pub mod StepTies
 pub mod StepAgree
 pub mod StepLooks
 pub mod RecordedDays

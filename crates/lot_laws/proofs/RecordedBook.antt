@@ -23,16 +23,17 @@ use Rattle.lot_command.specs.declared.key.Key.{Key}
 use Rattle.lot_book.specs.declared.leg.Leg.{Leg}
 use Rattle.lot_book.specs.declared.refusal.Refusal.{Refusal}
 use Rattle.lot_book.specs.declared.refusal.Refusal.TheVariants.{AlreadyOpen, BookFull, KeyReused, UnknownAccount}
-use Rattle.lot_book.specs.Book.{Continues, ContinuesIn, IsBook, IsBookIn, entry_of}
-use Rattle.lot_book.specs.Edition.{Migration, NotYet, edition_on}
+use Rattle.lot_book.specs.Book.{ContinuesIn, IsBook, IsBookIn, entry_of}
+use Rattle.lot_book.specs.Edition.{Edition, Migration, NotYet, edition_on, ties_in}
 use Rattle.lot_book.specs.Facts.{Entry, Facts, closing_by, closing_of, declares, facts_of, is_declared, legs_of, opening_by, opening_of, standing_by, standing_of, text_under}
 use Rattle.lot_book.specs.Leg.{inventory_of, with_legs}
 use Rattle.lot_book.specs.Refusals.{already_declared, already_open, book_full, closing_again, closing_too_early, closing_unknown, fill_not_allowed, fill_out_of_range, holds_as, inexact_fill, most_entries, not_balanced, too_many_lots}
-use Rattle.lot_book.specs.Step.{Accept, Decides, DecidesBy, Judges, JudgesTransaction, Refuse, Repeat, Step, StepIn, accept_unless, all_legs, concluded, fill_legs, first_conditions, first_of}
+use Rattle.lot_book.specs.Step.{Accept, Decides, DecidesBy, Judges, JudgesTransaction, JudgesUnder, Refuse, Repeat, Step, StepIn, accept_unless, all_legs, concluded, fill_legs, first_conditions, first_of}
 use Rattle.lot_book.specs.Balance.{elided_postings, residuals, weights_in}
-use Rattle.lot_book.specs.Booking.{All, Bookings, Stopped, legs_in}
+use Rattle.lot_book.specs.Booking.{All, Bookings, Stopped, TieRule, all_by_key, legs_in}
 use Rattle.lot_book.specs.declared.change.Change.{Change}
-use Rattle.lot_laws.proofs.RecordedDays.{last_none, latest-recorded}
+use Rattle.lot_laws.proofs.LawBooks.{accepted_in}
+use Rattle.lot_laws.proofs.RecordedDays.{last_none, latest-recorded_under}
 use Rattle.lot_book.specs.Change.{IsChange, ListsSums, day_listed}
 use Rattle.lot_book.specs.Recorded.{closed_on, facts_in, nothing_but, recorded, standing_after, with_rows, with_text}
 use Rattle.lot_book.proofs.LegLemmas.{with_legs-append}
@@ -151,14 +152,14 @@ first_none None p e = refl
 first_none (Some x) p e = cc
 
 -- a command that is accepted closes no account that wasn't opened
-closes_none : (book : List Entry) (key : Key) (command : Command) (legs : List Leg) (account : List ℕ)
-    → Judges (facts_of book key) command (Accept legs)
+closes_none : (ties : TieRule) (book : List Entry) (key : Key) (command : Command) (legs : List Leg) (account : List ℕ)
+    → JudgesUnder ties (facts_of book key) command (Accept legs)
     → opening_of book account ≡ None → closing_by account command ≡ None
-closes_none book key (Opening o) legs account judges e = refl
-closes_none book key (Declaring d) legs account judges e = refl
-closes_none book key (Quoting q) legs account judges e = refl
-closes_none book key (Transaction t) legs account judges e = refl
-closes_none book key (Closing c) legs account judges e = by (same_text account c.account) refl
+closes_none ties book key (Opening o) legs account judges e = refl
+closes_none ties book key (Declaring d) legs account judges e = refl
+closes_none ties book key (Quoting q) legs account judges e = refl
+closes_none ties book key (Transaction t) legs account judges e = refl
+closes_none ties book key (Closing c) legs account judges e = by (same_text account c.account) refl
   where
     known : is_none (standing_of book c.account) ≡ false
     known = closing_is_known (facts_of book key) c legs judges
@@ -171,27 +172,30 @@ closes_none book key (Closing c) legs account judges e = by (same_text account c
         cc
     by false apart = refl
 
-closes_opened-append : (before : List Entry) (entry : Entry) → ClosesOpened before
-    → Step before entry.key entry.command (Accept entry.legs) → ClosesOpened (before ++ entry ∷ [])
-closes_opened-append before entry closes step account e =
+closes_opened-append : (edition : Edition) (before : List Entry) (entry : Entry) → ClosesOpened before
+    → StepIn edition before entry.key entry.command (Accept entry.legs) → ClosesOpened (before ++ entry ∷ [])
+closes_opened-append edition before entry closes step account e =
     let unknown : opening_of before account ≡ None =
     first_none (opening_of before account) (opening_by account entry.command)
     (sym (opening_of-append before entry account) ∙ e) in
-    let facts = facts_of before entry.key in
-    let judges = (key_was_new facts entry.command entry.legs facts.text step).1 in
+    let judges = (accepted_in edition before entry.key entry.command entry.legs step).1 in
     closing_of-append before entry account
     ∙ ap (λ o. option_or o (closing_by account entry.command)) (closes account unknown)
-    ∙ closes_none before entry.key entry.command entry.legs account judges unknown
+    ∙ closes_none (ties_in edition before) before entry.key entry.command entry.legs account judges unknown
 
-closes_opened-continues : (before entries : List Entry) → ClosesOpened before → Continues before entries
+closes_opened-continues : (migration : Migration) (before entries : List Entry) → ClosesOpened before → ContinuesIn migration before entries
     → ClosesOpened (before ++ entries)
-closes_opened-continues before [] closes continues = subst ClosesOpened (sym (append-nil before)) closes
-closes_opened-continues before (entry ∷ entries) closes continues =
+closes_opened-continues migration before [] closes continues = subst ClosesOpened (sym (append-nil before)) closes
+closes_opened-continues migration before (entry ∷ entries) closes continues =
     subst ClosesOpened (append_assoc before (entry ∷ []) entries)
-    (closes_opened-continues (before ++ entry ∷ []) entries (closes_opened-append before entry closes continues.0) continues.1)
+    (closes_opened-continues migration (before ++ entry ∷ []) entries
+    (closes_opened-append (edition_on migration before) before entry closes continues.0) continues.1)
+
+pub closes_opened_in : (migration : Migration) (book : List Entry) → IsBookIn migration book → ClosesOpened book
+closes_opened_in migration book is = closes_opened-continues migration [] book (λ account e. refl) is
 
 pub closes_opened : (book : List Entry) → IsBook book → ClosesOpened book
-closes_opened book is = closes_opened-continues [] book (λ account e. refl) is
+closes_opened = closes_opened_in NotYet
 
 -- how an account stands is what its opening and its closing say
 standing_of-append : (book : List Entry) (entry : Entry) (account : List ℕ)
@@ -205,14 +209,14 @@ standing_kept : (closing : Option ℤ) (opening : Option OpeningOf)
     → option_map (standing_by closing) opening ≡ option_map (standing_by (option_or closing None)) (option_or opening None)
 standing_kept closing opening = λ i. option_map (standing_by (sym (or_none closing) i)) (sym (or_none opening) i)
 
-pub standing-recorded : (book : List Entry) (key : Key) (command : Command) (legs : List Leg) → ClosesOpened book
-    → Judges (facts_of book key) command (Accept legs)
+standing-recorded_under : (ties : TieRule) (book : List Entry) (key : Key) (command : Command) (legs : List Leg) → ClosesOpened book
+    → JudgesUnder ties (facts_of book key) command (Accept legs)
     → (account : List ℕ) → standing_after account command (standing_of book account)
     ≡ standing_of (book ++ entry_of key command legs ∷ []) account
-standing-recorded book key command legs closes judges account =
+standing-recorded_under ties book key command legs closes judges account =
     by command judges ∙ sym (standing_of-append book (entry_of key command legs) account)
   where
-    by : (c : Command) → Judges (facts_of book key) c (Accept legs)
+    by : (c : Command) → JudgesUnder ties (facts_of book key) c (Accept legs)
         → standing_after account c (standing_of book account)
         ≡ option_map (standing_by (option_or (closing_of book account) (closing_by account c)))
         (option_or (opening_of book account) (opening_by account c))
@@ -241,6 +245,13 @@ standing-recorded book key command legs closes judges account =
             not_mapped (standing_by (closing_of book account)) (opening_of book account) new in
             rw (unknown, closes account unknown) refl
         opens_by false apart = standing_kept (closing_of book account) (opening_of book account)
+
+-- the same where all ties are decided by key
+pub standing-recorded : (book : List Entry) (key : Key) (command : Command) (legs : List Leg) → ClosesOpened book
+    → Judges (facts_of book key) command (Accept legs)
+    → (account : List ℕ) → standing_after account command (standing_of book account)
+    ≡ standing_of (book ++ entry_of key command legs ∷ []) account
+standing-recorded = standing-recorded_under all_by_key
 
 -- ---- commodities
 
@@ -282,33 +293,43 @@ entries-recorded : (book : List Entry) (entry : Entry) → suc (length book) ≡
 entries-recorded book entry = sym (length-append book (entry ∷ []) ∙ add-one (length book))
 
 -- the facts of a book, once an accepted command is recorded, are those of the book with its entry
-pub recorded-facts : (book : List Entry) (key : Key) (command : Command) (legs : List Leg) (change : Change)
-    → IsBook book → Step book key command (Accept legs) → IsChange (facts_of book key) command legs change
+recorded-facts : (migration : Migration) (book : List Entry) (key : Key) (command : Command) (legs : List Leg) (change : Change)
+    → IsBookIn migration book → StepIn (edition_on migration book) book key command (Accept legs)
+    → IsChange (facts_of book key) command legs change
     → recorded (facts_of book key) command change ≡ facts_in (book ++ entry_of key command legs ∷ [])
-recorded-facts book key command legs change is step changes =
+recorded-facts migration book key command legs change is step changes =
     let entry = entry_of key command legs in
     let facts = facts_of book key in
-    let judges = (key_was_new facts command legs facts.text step).1 in
+    let edition = edition_on migration book in
+    let ties = ties_in edition book in
+    let judges = (accepted_in edition book key command legs step).1 in
     same_facts (recorded facts command change) (facts_in (book ++ entry ∷ []))
     (entries-recorded book entry)
     refl
-    (standing-recorded book key command legs (closes_opened book is) judges)
+    (standing-recorded_under ties book key command legs (closes_opened_in migration book is) judges)
     (declared-recorded book entry)
-    (λ account commodity. latest-recorded book key entry account commodity (day_listed change.heads account commodity) judges
+    (λ account commodity. latest-recorded_under ties book key entry account commodity (day_listed change.heads account commodity) judges
     (changes.heads account commodity))
     (λ account. held-recorded facts legs change.positions.entries account
     (no_zeros-legs account finite.empty (legs_of book) no_zeros-empty) changes.positions
     ∙ sym (inventory_of-append book entry account))
 
 -- the same of facts that are those of the book, as a view holds them
+pub recorded-known_in : (migration : Migration) (facts : Facts) (book : List Entry) (key : Key) (command : Command) (legs : List Leg) (change : Change)
+    → IsBookIn migration book → facts ≡ facts_of book key → StepIn (edition_on migration book) book key command (Accept legs)
+    → IsChange facts command legs change
+    → recorded facts command change ≡ facts_in (book ++ entry_of key command legs ∷ [])
+recorded-known_in migration facts book key command legs change is same step changes =
+    ap (λ (f : Facts). recorded f command change) same
+    ∙ recorded-facts migration book key command legs change is step
+    (subst (λ (f : Facts). IsChange f command legs change) same changes)
+
 pub recorded-known : (facts : Facts) (book : List Entry) (key : Key) (command : Command) (legs : List Leg) (change : Change)
     → IsBook book → facts ≡ facts_of book key → Decides facts command (Accept legs) → IsChange facts command legs change
     → recorded facts command change ≡ facts_in (book ++ entry_of key command legs ∷ [])
 recorded-known facts book key command legs change is same decides changes =
-    ap (λ (f : Facts). recorded f command change) same
-    ∙ recorded-facts book key command legs change is
-    (subst (λ (f : Facts). Decides f command (Accept legs)) same decides)
-    (subst (λ (f : Facts). IsChange f command legs change) same changes)
+    recorded-known_in NotYet facts book key command legs change is same
+    (subst (λ (f : Facts). Decides f command (Accept legs)) same decides) changes
 
 -- a book says no more to a command with a new key
 pub new-key : (entries : List Entry) (key : Key) → text_under entries key ≡ None → facts_in entries ≡ facts_of entries key

@@ -27,7 +27,7 @@ use Rattle.lot_book.specs.Balance.{elided_postings}
 use Rattle.lot_book.specs.Booking.{TieRule, all_by_key}
 use Rattle.lot_book.specs.Facts.{Entry, Facts, day_at_cost, facts_of, is_at_cost, later, latest_at_cost, posts_at_cost}
 use Rattle.lot_book.specs.Refusals.{back_dated, closed, currency_not_allowed, dates_back, is_before, not_open_yet, place_of, too_many_postings, two_elided, unknown_account}
-use Rattle.lot_book.specs.Step.{Accept, Judges, JudgesTransactionUnder, first_conditions, first_of}
+use Rattle.lot_book.specs.Step.{Accept, Judges, JudgesTransactionUnder, JudgesUnder, first_conditions, first_of}
 
 -- ---- the later of two days
 
@@ -121,13 +121,13 @@ not_back_dated facts t account commodity none posts =
     day_of_posting facts t.day account commodity posting.account posting.amount parts.0 parts.1 dated
 
 -- the day of an accepted transaction is the latest wherever it posts with braces
-pub day_is_latest : (facts : Facts) (t : TransactionOf) (legs : List Leg) (account commodity : List ℕ)
-    → Judges facts (Transaction t) (Accept legs)
+day_is_latest : (ties : TieRule) (facts : Facts) (t : TransactionOf) (legs : List Leg) (account commodity : List ℕ)
+    → JudgesUnder ties facts (Transaction t) (Accept legs)
     → list_any (posts_at_cost account commodity) t.postings ≡ true
     → is_before t.day (facts.latest_at_cost account commodity) ≡ false
-day_is_latest facts t legs account commodity judges posts =
+day_is_latest ties facts t legs account commodity judges posts =
     let none : first_of (first_conditions facts t) ≡ None =
-    none_refused all_by_key facts t legs (first_of (first_conditions facts t)) judges in
+    none_refused ties facts t legs (first_of (first_conditions facts t)) judges in
     let others : List (Option Refusal) =
     unknown_account facts t.postings ∷ not_open_yet facts t.day t.postings ∷ closed facts t.day t.postings
     ∷ currency_not_allowed facts t.postings
@@ -136,15 +136,15 @@ day_is_latest facts t legs account commodity judges posts =
 
 -- ---- the days of a book with one more entry
 
-pub latest-recorded : (book : List Entry) (key : Key) (entry : Entry) (account commodity : List ℕ) (listed : Option ℤ)
-    → Judges (facts_of book key) entry.command (Accept entry.legs) → listed ≡ day_at_cost account commodity entry.command
+pub latest-recorded_under : (ties : TieRule) (book : List Entry) (key : Key) (entry : Entry) (account commodity : List ℕ) (listed : Option ℤ)
+    → JudgesUnder ties (facts_of book key) entry.command (Accept entry.legs) → listed ≡ day_at_cost account commodity entry.command
     → option_or listed (latest_at_cost book account commodity) ≡ latest_at_cost (book ++ entry ∷ []) account commodity
-latest-recorded book key entry account commodity listed judges is =
+latest-recorded_under ties book key entry account commodity listed judges is =
     ap (λ day. option_or day (latest_at_cost book account commodity)) is
     ∙ by entry.command judges
     ∙ sym (latest_at_cost-append book entry account commodity)
   where
-    by : (c : Command) → Judges (facts_of book key) c (Accept entry.legs)
+    by : (c : Command) → JudgesUnder ties (facts_of book key) c (Accept entry.legs)
         → option_or (day_at_cost account commodity c) (latest_at_cost book account commodity)
         ≡ later (latest_at_cost book account commodity) (day_at_cost account commodity c)
     by (Opening o) judges = sym (later-none (latest_at_cost book account commodity))
@@ -158,5 +158,11 @@ latest-recorded book key entry account commodity listed judges is =
             ≡ later (latest_at_cost book account commodity) (cond b (Some t.day) None)
         posts_by true posts = sym
             (later-given (latest_at_cost book account commodity) t.day
-            (day_is_latest (facts_of book key) t entry.legs account commodity judges posts))
+            (day_is_latest ties (facts_of book key) t entry.legs account commodity judges posts))
         posts_by false none = sym (later-none (latest_at_cost book account commodity))
+
+-- the same where all ties are decided by key
+pub latest-recorded : (book : List Entry) (key : Key) (entry : Entry) (account commodity : List ℕ) (listed : Option ℤ)
+    → Judges (facts_of book key) entry.command (Accept entry.legs) → listed ≡ day_at_cost account commodity entry.command
+    → option_or listed (latest_at_cost book account commodity) ≡ latest_at_cost (book ++ entry ∷ []) account commodity
+latest-recorded = latest-recorded_under all_by_key

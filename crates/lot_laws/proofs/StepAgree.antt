@@ -7,8 +7,7 @@ use Rattle.lot_inv.specs.Inventory.{Held}
 use Rattle.lot_cost.specs.declared.cost.Cost.{Cost}
 use Rattle.lot_cost.specs.declared.method.Method.{Method}
 use Rattle.lot_booking.specs.Booking.{Legs, Refused}
-use Rattle.lot_booking.specs.Method.{ByKey}
-use Rattle.lot_booking.proofs.SameLots.{same_outcome}
+use Rattle.lot_booking.specs.Method.{Ties}
 use Rattle.lot_command.specs.declared.transaction.Amount.{Amount}
 use Rattle.lot_command.specs.declared.transaction.Posting.{Posting}
 use Rattle.lot_cost.specs.declared.lot_key.LotKey.{LotKey}
@@ -18,16 +17,17 @@ use Rattle.lot_book.specs.declared.refusal.Refusal.{Refusal}
 use Rattle.lot_book.specs.Agree.{HaveSameOf, HaveSamePlain}
 use Rattle.lot_book.specs.Touched.{accounts_of, elided_of, if_elided, pair_of, pairs_of}
 use Rattle.lot_book.specs.Balance.{elided_postings}
-use Rattle.lot_book.specs.Booking.{Booking, Bookings, Books, BooksAll, BooksTo, BooksWith, Continue, Fails, HasLegs, HasNoLegs, Line, line_of, method_of}
+use Rattle.lot_book.specs.Booking.{Booking, Bookings, Books, BooksAll, BooksAllUnder, BooksTo, BooksWithUnder, Continue, Fails, HasLegs, HasNoLegs, Line, TieRule, all_by_key, line_under, method_of}
 use Rattle.lot_book.specs.Facts.{Facts}
 use Rattle.lot_book.specs.Leg.{leave_range, legs_at_lots, with_legs}
 use Rattle.lot_laws.proofs.StepHeld.{HaveSame, IsOf, same_lots_of, same_of, same_range, same_with_legs}
+use Rattle.lot_laws.proofs.StepTies.{IsHeldLot, SameOrders, comes_alike}
 
 -- ---- one posting with an amount, on inventories with the same of its commodity
 
-abbrev line_at : ℕ → ℕ → ℤ → Method → List ℕ → Amount → Held → Line
-line_at entry place day method account amount held =
-    record { entry = entry; place = place; day = day; method = method; ties = ByKey; held = held; account = account; amount = amount }
+abbrev line_at : ℕ → ℕ → ℤ → Method → List ℕ → Amount → Ties → Held → Line
+line_at entry place day method account amount ties held =
+    record { entry = entry; place = place; day = day; method = method; ties = ties; held = held; account = account; amount = amount }
 
 of_lots : (entry place : ℕ) (account commodity : List ℕ) (at : ℕ) (lots : List (LotKey × ℤ))
     → AllByRecursion (λ (leg : Leg). leg.position.commodity ≡ commodity) (legs_at_lots entry place account commodity at lots)
@@ -43,20 +43,20 @@ of_posting line (Some cost) reduces legs h =
     subst (λ ls. AllByRecursion (λ (leg : Leg). leg.position.commodity ≡ line.amount.commodity) ls) (sym h.2)
     (of_lots line.entry line.place line.account line.amount.commodity 0 h.0)
 
-module _ (entry place : ℕ) (day : ℤ) (method : Method) (account : List ℕ) (amount : Amount) (a b : Held)
-    (same : HaveSame (IsOf amount.commodity) a b) where
+module _ (entry place : ℕ) (day : ℤ) (method : Method) (account : List ℕ) (amount : Amount) (s t : Ties) (a b : Held)
+    (same : HaveSame (IsOf amount.commodity) a b) (orders : SameOrders (IsHeldLot a amount.commodity) s t) where
   abbrev there : Line
-  there = line_at entry place day method account amount a
+  there = line_at entry place day method account amount s a
 
   abbrev here : Line
-  here = line_at entry place day method account amount b
+  here = line_at entry place day method account amount t b
 
   still_legs : (cost : Option Cost) (reduces : Bool) (legs : List Leg) → HasLegs there cost reduces legs
       → HasLegs here cost reduces legs
   still_legs None reduces legs h = h
   still_legs (Some cost) reduces legs h = (
     h.0,
-    same_outcome method a b amount.commodity amount.units cost day (same_lots_of amount.commodity a b same)
+    comes_alike s t method a b amount.commodity amount.units cost day (same_lots_of amount.commodity a b same) orders
         (Legs reduces h.0) h.1,
     h.2,
   )
@@ -65,7 +65,7 @@ module _ (entry place : ℕ) (day : ℤ) (method : Method) (account : List ℕ) 
   still_none None refused h = h
   still_none (Some cost) refused h = (
     h.0,
-    same_outcome method a b amount.commodity amount.units cost day (same_lots_of amount.commodity a b same)
+    comes_alike s t method a b amount.commodity amount.units cost day (same_lots_of amount.commodity a b same) orders
         (Refused h.0) h.1,
     h.2,
   )
@@ -146,47 +146,85 @@ module _ (a b : Facts) where
         | Some amount ↦ λ both. alike_elided (suc place) ps alike.1
       ] alike.0.1
 
-  -- ---- all postings
+-- ---- how ties are decided
 
-  module _ (entries : a.entries ≡ b.entries) where
-    same_booking : (day : ℤ) (before : List Leg) (place : ℕ) (account : List ℕ) (amount : Amount) (first : Booking)
-        → SameStanding account → HaveSameOf amount.commodity (a.held account) (b.held account)
-        → BooksTo (line_of a day before place account amount) first → BooksTo (line_of b day before place account amount) first
-    same_booking day before place account amount first standing held h =
-        let x = with_legs account (a.held account) before in
-        let y = with_legs account (b.held account) before in
-        let moved : BooksTo (line_at (suc b.entries) place day (method_of (b.standing account)) account amount x) first =
-        subst (λ entry. BooksTo (line_at entry place day (method_of (b.standing account)) account amount x) first)
-        (ap suc entries)
-        (subst (λ standing. BooksTo (line_at (suc a.entries) place day
-        (method_of standing) account amount x) first) standing h) in
-        still_books (suc b.entries) place day (method_of (b.standing account)) account amount x y
-        (same_with_legs (IsOf amount.commodity) account (a.held account) (b.held account) before
-        (same_of amount.commodity (a.held account) (b.held account) held))
-        first moved
+-- the orders of an account and a commodity are the same among the lots held there, behind whatever legs of a transaction
+abbrev pub TiesAlike : TieRule → TieRule → Facts → Pair → Type 0
+TiesAlike s t facts pair =
+    (before : List Leg) → SameOrders (IsHeldLot (with_legs pair.account (facts.held pair.account) before) pair.commodity)
+    (s before pair.account pair.commodity) (t before pair.account pair.commodity)
 
-    same_continue : (Others More : List Leg → Bookings → Type 0)
-        → ((legs : List Leg) (outcome : Bookings) → Others legs outcome → More legs outcome)
-        → (before : List Leg) (outcome : Bookings) (first : Booking) → Continue Others before outcome first
-        → Continue More before outcome first
-    same_continue Others More on before outcome (Fails refused) h = h
-    same_continue Others More on before outcome (Books booked) h = (h.0, on (before ++ booked.legs) h.0 h.1, h.2)
+-- what holds of everything holds of all in a list
+pub all_of : {X : Type 0} (P : X → Type 0) → ((x : X) → P x) → (xs : List X) → AllByRecursion P xs
+all_of P holds [] = tt
+all_of P holds (x ∷ xs) = (holds x, all_of P holds xs)
 
-    same_with : (Others More : List Leg → Bookings → Type 0) →
-        ((legs : List Leg) (outcome : Bookings) → Others legs outcome → More legs outcome)
-        → (day : ℤ) (before : List Leg) (place : ℕ) (account : List ℕ) (amount : Option Amount) (outcome : Bookings)
-        → SameStanding account → AlikeIn a b account amount
-        → BooksWith Others a day before place account amount outcome → BooksWith More b day before place account amount outcome
-    same_with Others More on day before place account None outcome standing alike h = on before outcome h
-    same_with Others More on day before place account (Some amount) outcome standing alike h =
-        (h.0, same_booking day before place account amount h.0 standing alike.1 h.1, same_continue Others More on before outcome h.0 h.2)
+pub ties_themselves : (ties : TieRule) (facts : Facts) (pairs : List Pair) → AllByRecursion (TiesAlike ties ties facts) pairs
+ties_themselves ties facts = all_of (TiesAlike ties ties facts) (λ pair before method x y is other. refl)
 
-    pub same_books : (day : ℤ) (before : List Leg) (place : ℕ) (postings : List Posting) (outcome : Bookings)
-        → AllByRecursion (Alike a b) postings
-        → BooksAll a day before place postings outcome → BooksAll b day before place postings outcome
-    same_books day before place [] outcome alike h = h
-    same_books day before place (p ∷ ps) outcome alike h =
-        same_with (λ legs others. BooksAll a day legs (suc place) ps others)
-        (λ legs others. BooksAll b day legs (suc place) ps others)
-        (λ legs others books. same_books day legs
-        (suc place) ps others alike.1 books) day before place p.account p.amount outcome alike.0.0 alike.0.1 h
+-- what holds of two lists holds of each
+all_parts : {X : Type 0} (P : X → Type 0) (xs ys : List X) → AllByRecursion P (xs ++ ys) → AllByRecursion P xs × AllByRecursion P ys
+all_parts P [] ys all = (tt, all)
+all_parts P (x ∷ xs) ys all = let parts = all_parts P xs ys all.1 in ((all.0, parts.0), parts.1)
+
+-- ---- all postings
+
+module _ (s t : TieRule) (a b : Facts) (entries : a.entries ≡ b.entries) where
+  same_booking : (day : ℤ) (before : List Leg) (place : ℕ) (account : List ℕ) (amount : Amount) (first : Booking)
+      → SameStanding a b account → HaveSameOf amount.commodity (a.held account) (b.held account)
+      → SameOrders (IsHeldLot (with_legs account (a.held account) before) amount.commodity)
+      (s before account amount.commodity) (t before account amount.commodity)
+      → BooksTo (line_under s a day before place account amount) first
+      → BooksTo (line_under t b day before place account amount) first
+  same_booking day before place account amount first standing held orders h =
+      let x = with_legs account (a.held account) before in
+      let y = with_legs account (b.held account) before in
+      let was = s before account amount.commodity in
+      let moved : BooksTo (line_at (suc b.entries) place day (method_of (b.standing account)) account amount was x) first =
+      subst (λ entry. BooksTo (line_at entry place day (method_of (b.standing account)) account amount was x) first)
+      (ap suc entries)
+      (subst (λ standing. BooksTo (line_at (suc a.entries) place day
+      (method_of standing) account amount was x) first) standing h) in
+      still_books (suc b.entries) place day (method_of (b.standing account)) account amount was (t before account amount.commodity) x y
+      (same_with_legs (IsOf amount.commodity) account (a.held account) (b.held account) before
+      (same_of amount.commodity (a.held account) (b.held account) held)) orders
+      first moved
+
+  same_continue : (Others More : List Leg → Bookings → Type 0)
+      → ((legs : List Leg) (outcome : Bookings) → Others legs outcome → More legs outcome)
+      → (before : List Leg) (outcome : Bookings) (first : Booking) → Continue Others before outcome first
+      → Continue More before outcome first
+  same_continue Others More on before outcome (Fails refused) h = h
+  same_continue Others More on before outcome (Books booked) h = (h.0, on (before ++ booked.legs) h.0 h.1, h.2)
+
+  same_with : (Others More : List Leg → Bookings → Type 0) →
+      ((legs : List Leg) (outcome : Bookings) → Others legs outcome → More legs outcome)
+      → (day : ℤ) (before : List Leg) (place : ℕ) (account : List ℕ) (amount : Option Amount) (outcome : Bookings)
+      → SameStanding a b account → AlikeIn a b account amount → AllByRecursion (TiesAlike s t a) (pair_of account amount)
+      → BooksWithUnder s Others a day before place account amount outcome
+      → BooksWithUnder t More b day before place account amount outcome
+  same_with Others More on day before place account None outcome standing alike ties h = on before outcome h
+  same_with Others More on day before place account (Some amount) outcome standing alike ties h = (
+    h.0,
+    same_booking day before place account amount h.0 standing alike.1 (ties.0 before) h.1,
+    same_continue Others More on before outcome h.0 h.2,
+  )
+
+  pub same_books_under : (day : ℤ) (before : List Leg) (place : ℕ) (postings : List Posting) (outcome : Bookings)
+      → AllByRecursion (Alike a b) postings → AllByRecursion (TiesAlike s t a) (pairs_of postings)
+      → BooksAllUnder s a day before place postings outcome → BooksAllUnder t b day before place postings outcome
+  same_books_under day before place [] outcome alike ties h = h
+  same_books_under day before place (p ∷ ps) outcome alike ties h =
+      let parts = all_parts (TiesAlike s t a) (pair_of p.account p.amount) (pairs_of ps) ties in
+      same_with (λ legs others. BooksAllUnder s a day legs (suc place) ps others)
+      (λ legs others. BooksAllUnder t b day legs (suc place) ps others)
+      (λ legs others books. same_books_under day legs (suc place) ps others alike.1 parts.1 books)
+      day before place p.account p.amount outcome alike.0.0 alike.0.1 parts.0 h
+
+-- the same where all ties are decided by key
+pub same_books : (a b : Facts) → a.entries ≡ b.entries
+    → (day : ℤ) (before : List Leg) (place : ℕ) (postings : List Posting) (outcome : Bookings)
+    → AllByRecursion (Alike a b) postings → BooksAll a day before place postings outcome → BooksAll b day before place postings outcome
+same_books a b entries day before place postings outcome alike h =
+    same_books_under all_by_key all_by_key a b entries day before place postings outcome alike
+    (ties_themselves all_by_key a (pairs_of postings)) h

@@ -50,7 +50,7 @@ module _ (Is : Position → Type 0) where
       ] refl
       ∙ sym (get-with_units b at (units_at b at +ℤ units) other)
 
-  same_with_leg : (account : List ℕ) (a b : Held) (leg : Leg) → HaveSame Is a b
+  pub same_with_leg : (account : List ℕ) (a b : Held) (leg : Leg) → HaveSame Is a b
       → HaveSame Is (with_leg account a leg) (with_leg account b leg)
   same_with_leg account a b leg same =
       let at : Position = (leg.position.commodity, leg.position.lot) in

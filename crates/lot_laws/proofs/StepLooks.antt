@@ -15,14 +15,14 @@ use Rattle.lot_book.specs.declared.refusal.Refusal.TheVariants.{AlreadyDeclared,
 use Rattle.lot_book.specs.declared.standing.Standing.{Standing}
 use Rattle.lot_book.specs.declared.change.Pair.{Pair}
 use Rattle.lot_book.specs.Agree.{Agrees, HaveSameOf, HaveSamePlain}
-use Rattle.lot_book.specs.Touched.{accounts_in, declared_in, pairs_in, plain_in}
+use Rattle.lot_book.specs.Touched.{accounts_in, declared_in, pairs_in, pairs_of, plain_in}
 use Rattle.lot_book.specs.Balance.{elided_postings, fill_from, fill_of, left_over, residuals, weights_in}
-use Rattle.lot_book.specs.Booking.{All, Booked, Bookings, Stopped, legs_in}
+use Rattle.lot_book.specs.Booking.{All, Booked, Bookings, Stopped, TieRule, all_by_key, legs_in}
 use Rattle.lot_book.specs.Facts.{Facts}
 use Rattle.lot_book.specs.Leg.{with_legs}
 use Rattle.lot_book.specs.Refusals.{bars, bars_amount, book_full, closed_before, dates_back, fill_not_allowed, fill_out_of_range, first_currency, holds_as, holds_too_many, inexact_fill, is_before, most_entries, most_lots, not_balanced, opens_after, place_of, too_many_lots, too_many_postings, two_elided, was_closed}
-use Rattle.lot_book.specs.Step.{Decides, DecidesBy, Judges, JudgesTransaction, Outcome, accept_unless, all_legs, concluded, fill_legs, first_conditions, first_of, last_conditions}
-use Rattle.lot_laws.proofs.StepAgree.{Alike, AlikeElided, AlikeIn, alike_all, alike_elided, same_books}
+use Rattle.lot_book.specs.Step.{Decides, DecidesByUnder, DecidesUnder, JudgesTransactionUnder, JudgesUnder, Outcome, accept_unless, all_legs, concluded, fill_legs, first_conditions, first_of, last_conditions}
+use Rattle.lot_laws.proofs.StepAgree.{Alike, AlikeElided, AlikeIn, TiesAlike, all_of, alike_all, alike_elided, same_books_under, ties_themselves}
 use Rattle.lot_laws.proofs.StepHeld.{IsOf, IsPlain, same_lots_of, same_of, same_plain, same_range, same_with_legs}
 
 -- ---- first places
@@ -148,45 +148,72 @@ module _ (a b : Facts) (entries : a.entries ≡ b.entries) where
   same_conclusion t (All booked) alike =
       λ i. accept_unless (same_last t booked alike i) (legs_in booked ++ same_fill t booked i)
 
-  same_judgement : (t : TransactionOf) (first : Option Refusal) (outcome : Outcome) → AllByRecursion (Alike a b) t.postings
-      → JudgesTransaction a t first outcome → JudgesTransaction b t first outcome
-  same_judgement t (Some refused) outcome alike h = h
-  same_judgement t None outcome alike h =
-      (h.0, same_books a b entries t.day [] 1 t.postings h.0 alike h.1, h.2 ∙ same_conclusion t h.0 alike)
+  same_judgement : (r s : TieRule) (t : TransactionOf) (first : Option Refusal) (outcome : Outcome) → AllByRecursion (Alike a b) t.postings
+      → AllByRecursion (TiesAlike r s a) (pairs_of t.postings)
+      → JudgesTransactionUnder r a t first outcome → JudgesTransactionUnder s b t first outcome
+  same_judgement r s t (Some refused) outcome alike ties h = h
+  same_judgement r s t None outcome alike ties h = (
+    h.0,
+    same_books_under r s a b entries t.day [] 1 t.postings h.0 alike ties h.1,
+    h.2 ∙ same_conclusion t h.0 alike,
+  )
 
 -- ---- all commands
 
-same_judging : (a b : Facts) (command : Command) (outcome : Outcome) → Agrees a b command → Judges a command outcome
-    → Judges b command outcome
-same_judging a b (Opening o) outcome agrees h =
-    h ∙ (λ i. accept_unless
-    (first_of (holds_as (is_some (agrees.standing.0 i)) AlreadyOpen ∷ full_alike a b agrees.entries i ∷ [])) [])
-same_judging a b (Closing c) outcome agrees h =
-    h ∙ (λ i. accept_unless (first_of (
-    holds_as (is_none (agrees.standing.0 i)) (UnknownAccount None)
-    ∷ holds_as (opens_after c.day (agrees.standing.0 i)) (NotOpenYet None)
-    ∷ holds_as (was_closed (agrees.standing.0 i)) (Closed None)
-    ∷ full_alike a b agrees.entries i ∷ [])) [])
-same_judging a b (Declaring d) outcome agrees h =
-    h ∙ (λ i. accept_unless
-    (first_of (holds_as (agrees.is_declared.0 i) AlreadyDeclared ∷ full_alike a b agrees.entries i ∷ [])) [])
-same_judging a b (Quoting q) outcome agrees h = h ∙ (λ i. accept_unless (first_of (full_alike a b agrees.entries i ∷ [])) [])
-same_judging a b (Transaction t) outcome agrees h =
-    let alike = alike_all a b t.postings agrees.standing agrees.latest_at_cost agrees.held agrees.plain_units in
-    same_judgement a b agrees.entries t (first_of (first_conditions b t)) outcome alike
-    (subst (λ first. JudgesTransaction a t first outcome) (same_first a b agrees.entries t alike) h)
+module _ (r s : TieRule) (a b : Facts) where
+  same_judging : (command : Command) (outcome : Outcome) → Agrees a b command → AllByRecursion (TiesAlike r s a) (pairs_in command)
+      → JudgesUnder r a command outcome → JudgesUnder s b command outcome
+  same_judging (Opening o) outcome agrees ties h =
+      h ∙ (λ i. accept_unless
+      (first_of (holds_as (is_some (agrees.standing.0 i)) AlreadyOpen ∷ full_alike a b agrees.entries i ∷ [])) [])
+  same_judging (Closing c) outcome agrees ties h =
+      h ∙ (λ i. accept_unless (first_of (
+      holds_as (is_none (agrees.standing.0 i)) (UnknownAccount None)
+      ∷ holds_as (opens_after c.day (agrees.standing.0 i)) (NotOpenYet None)
+      ∷ holds_as (was_closed (agrees.standing.0 i)) (Closed None)
+      ∷ full_alike a b agrees.entries i ∷ [])) [])
+  same_judging (Declaring d) outcome agrees ties h =
+      h ∙ (λ i. accept_unless
+      (first_of (holds_as (agrees.is_declared.0 i) AlreadyDeclared ∷ full_alike a b agrees.entries i ∷ [])) [])
+  same_judging (Quoting q) outcome agrees ties h =
+      h ∙ (λ i. accept_unless (first_of (full_alike a b agrees.entries i ∷ [])) [])
+  same_judging (Transaction t) outcome agrees ties h =
+      let alike = alike_all a b t.postings agrees.standing agrees.latest_at_cost agrees.held agrees.plain_units in
+      same_judgement a b agrees.entries r s t (first_of (first_conditions b t)) outcome alike ties
+      (subst (λ first. JudgesTransactionUnder r a t first outcome) (same_first a b agrees.entries t alike) h)
 
-same_by_text : (a b : Facts) (text : Option (List ℕ)) (command : Command) (outcome : Outcome) → Agrees a b command
-    → DecidesBy text a command outcome → DecidesBy text b command outcome
-same_by_text a b None command outcome agrees h = same_judging a b command outcome agrees h
-same_by_text a b (Some text) command outcome agrees h = h
+  same_by_text : (text : Option (List ℕ)) (command : Command) (outcome : Outcome) → Agrees a b command
+      → AllByRecursion (TiesAlike r s a) (pairs_in command)
+      → DecidesByUnder r text a command outcome → DecidesByUnder s text b command outcome
+  same_by_text None command outcome agrees ties h = same_judging command outcome agrees ties h
+  same_by_text (Some text) command outcome agrees ties h = h
 
+  pub same_decision_under : (command : Command) (outcome : Outcome) → Agrees a b command
+      → AllByRecursion (TiesAlike r s a) (pairs_in command)
+      → DecidesUnder r a command outcome → DecidesUnder s b command outcome
+  same_decision_under command outcome agrees ties h =
+      same_by_text b.text command outcome agrees ties (subst (λ text. DecidesByUnder r text a command outcome) agrees.text h)
+
+-- the same where all ties are decided by key
 pub same_decision : (a b : Facts) (command : Command) (outcome : Outcome) → Agrees a b command → Decides a command outcome
     → Decides b command outcome
-same_decision a b command outcome agrees h =
-    same_by_text a b b.text command outcome agrees (subst (λ text. DecidesBy text a command outcome) agrees.text h)
+same_decision a b command outcome agrees =
+    same_decision_under all_by_key all_by_key a b command outcome agrees (ties_themselves all_by_key a (pairs_in command))
 
--- ---- agreeing goes both ways
+-- ---- facts agree with themselves, and agreeing goes both ways
+
+pub agrees_itself : (a : Facts) (command : Command) → Agrees a a command
+agrees_itself a command = record {
+  entries = refl;
+  text = refl;
+  standing = all_of (λ (account : List ℕ). a.standing account ≡ a.standing account) (λ account. refl) (accounts_in command);
+  is_declared = all_of (λ (commodity : List ℕ). a.is_declared commodity ≡ a.is_declared commodity) (λ commodity. refl) (declared_in command);
+  latest_at_cost = all_of (λ (p : Pair). a.latest_at_cost p.account p.commodity ≡ a.latest_at_cost p.account p.commodity)
+      (λ p. refl) (pairs_in command);
+  held = all_of (λ (p : Pair). HaveSameOf p.commodity (a.held p.account) (a.held p.account)) (λ p lot. refl) (pairs_in command);
+  plain_units = all_of (λ (account : List ℕ). HaveSamePlain (a.held account) (a.held account)) (λ account commodity. refl)
+      (plain_in command);
+}
 
 turned : {X Y : Type 0} (f g : X → Y) (xs : List X) → AllByRecursion (λ x. f x ≡ g x) xs → AllByRecursion (λ x. g x ≡ f x) xs
 turned f g xs same = each (λ x. f x ≡ g x) (λ x. g x ≡ f x) (λ x e. sym e) xs same
