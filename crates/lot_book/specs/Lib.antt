@@ -14,5 +14,6 @@ pub mod Recorded
 pub mod Holding
 pub mod Touched
 pub mod Agree
+pub mod Openings
 pub mod Sale
 pub mod Gain

@@ -25,4 +25,5 @@ pub mod GainLaws
 pub mod OpeningLemmas
 pub mod OpeningBooks
 pub mod OpeningPostings
+pub mod StepOpenings
 pub mod MigrationLaws

@@ -6,10 +6,12 @@
 //! - `gains`: sales and their gains.
 //! - `opening_numbers`: which lot was opened before which, and the orders by that.
 //! - `editions`: books of either edition.
+//! - `openings`: opening numbers as facts, on which the step of edition 2 rests.
 #![tactic(auto)]
 
 pub mod books;
 pub mod editions;
 pub mod gains;
 pub mod opening_numbers;
+pub mod openings;
 pub mod steps;

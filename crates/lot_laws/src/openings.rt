@@ -1,0 +1,65 @@
+//! Laws of opening numbers as facts, on which the step of edition 2 rests. No code uses them yet.
+ghost use Rattle.std.specs.Prelude.{◌≡◌, ◌↔◌, ℕ, List, [], ◌∷◌, ◌++◌};
+ghost use Rattle.lot_command.specs.declared.command.Command.{Command};
+ghost use Rattle.lot_command.specs.declared.key.Key.{Key};
+ghost use Rattle.lot_book.specs.declared.change.Change.{Change};
+ghost use Rattle.lot_book.specs.declared.leg.Leg.{Leg};
+ghost use Rattle.lot_book.specs.Book.{IsBookIn, entry_of};
+ghost use Rattle.lot_book.specs.Change.{IsChange};
+ghost use Rattle.lot_book.specs.Edition.{Migration, Second, edition_on};
+ghost use Rattle.lot_book.specs.Facts.{Entry, facts_of, legs_of};
+ghost use Rattle.lot_book.specs.Leg.{inventory_of};
+ghost use Rattle.lot_book.specs.OpeningNumber.{opening_in};
+ghost use Rattle.lot_book.specs.Openings.{AgreesWithOpenings, AreOpeningsOf, DecidesByOpening};
+ghost use Rattle.lot_book.specs.Openings.{FactsWithOpenings, HaveSameOpenings, facts_with_openings};
+ghost use Rattle.lot_book.specs.Openings.{opening_after, recorded_with_openings};
+ghost use Rattle.lot_book.specs.Recorded.{facts_in};
+ghost use Rattle.lot_book.specs.Step.{Accept, Outcome, StepIn};
+
+/// Further legs make of the opening numbers of a book those over its legs and the further ones, of each lot that holds
+/// something then.
+pub fn further_legs_make_the_opening_numbers_over_all_legs()
+    ensures numbers { (known : FactsWithOpenings) (book : List Entry) (key : Key) (legs : List Leg)
+        (account commodity : List ℕ)
+        → known.facts ≡ facts_of book key → AreOpeningsOf book known.opening
+        → HaveSameOpenings commodity (inventory_of (legs_of book ++ legs) account)
+        (opening_after known legs account commodity)
+        (opening_in (legs_of book ++ legs) account commodity) }
+{}
+
+/// The step of edition 2 on a book is what the command comes to on the facts of the book with its opening numbers, or with
+/// numbers that are those of each lot that is held.
+pub fn a_step_of_edition_2_is_one_on_facts_with_openings()
+    ensures book { (book : List Entry) (key : Key) (command : Command) (outcome : Outcome)
+        → StepIn Second book key command outcome
+        ↔ DecidesByOpening (facts_with_openings book key) command outcome }
+    ensures known { (known : FactsWithOpenings) (book : List Entry) (key : Key) (command : Command)
+        (outcome : Outcome) → known.facts ≡ facts_of book key → AreOpeningsOf book known.opening
+        → StepIn Second book key command outcome ↔ DecidesByOpening known command outcome }
+{}
+
+/// In edition 2, too, what a command comes to depends on what it looks at alone: that is what it looks at in edition 1, and
+/// the opening numbers of the lots that are held where it posts.
+pub fn a_step_by_opening_looks_at_what_a_command_touches()
+    ensures decides { (a b : FactsWithOpenings) (command : Command) (outcome : Outcome)
+        → AgreesWithOpenings a b command
+        → DecidesByOpening a command outcome → DecidesByOpening b command outcome }
+{}
+
+/// The facts of a book of either edition, once an accepted command is recorded, are those of the book with its entry; and so
+/// are its opening numbers, of each lot that is held.
+pub fn what_is_recorded_is_what_the_book_says()
+    ensures facts { (known : FactsWithOpenings) (migration : Migration) (book : List Entry)
+        (key : Key) (command : Command) (legs : List Leg) (change : Change)
+        → IsBookIn migration book → known.facts ≡ facts_of book key
+        → StepIn (edition_on migration book) book key command (Accept legs)
+        → IsChange known.facts command legs change
+        → (recorded_with_openings known command change).facts
+        ≡ facts_in (book ++ entry_of key command legs ∷ []) }
+    ensures numbers { (known : FactsWithOpenings) (book : List Entry) (key : Key) (command : Command)
+        (legs : List Leg) (change : Change)
+        → known.facts ≡ facts_of book key → AreOpeningsOf book known.opening
+        → IsChange known.facts command legs change
+        → AreOpeningsOf (book ++ entry_of key command legs ∷ [])
+        (recorded_with_openings known command change).opening }
+{}
