@@ -34,7 +34,8 @@ pub fn a_step_of_edition_2_is_one_on_facts_with_openings()
         → StepIn Second book key command outcome
         ↔ DecidesByOpening (facts_with_openings book key) command outcome }
     ensures known { (known : FactsWithOpenings) (book : List Entry) (key : Key) (command : Command)
-        (outcome : Outcome) → known.facts ≡ facts_of book key → AreOpeningsOf book known.opening
+        (outcome : Outcome) → known.facts ≡ facts_of book key
+        → AreOpeningsOf book known.opening
         → StepIn Second book key command outcome ↔ DecidesByOpening known command outcome }
 {}
 
@@ -56,8 +57,8 @@ pub fn what_is_recorded_is_what_the_book_says()
         → IsChange known.facts command legs change
         → (recorded_with_openings known command change).facts
         ≡ facts_in (book ++ entry_of key command legs ∷ []) }
-    ensures numbers { (known : FactsWithOpenings) (book : List Entry) (key : Key) (command : Command)
-        (legs : List Leg) (change : Change)
+    ensures numbers { (known : FactsWithOpenings) (book : List Entry) (key : Key)
+        (command : Command) (legs : List Leg) (change : Change)
         → known.facts ≡ facts_of book key → AreOpeningsOf book known.opening
         → IsChange known.facts command legs change
         → AreOpeningsOf (book ++ entry_of key command legs ∷ [])

@@ -97,7 +97,8 @@ fn posting_number(leg: &Leg) -> u64
 /// Adds one more leg to what is kept of the lots. The only error is out of memory.
 fn post(lots: &mut BTreeMap<Position, OpenLot>, leg: &Leg) -> Result<(), AllocError>
     requires numbered { IsNumbered leg.now }
-    requires in_range { IsUnits (units_kept (get position_cmp lots.old leg.now.position) +ℤ leg.now.units) }
+    requires in_range { IsUnits
+        (units_kept (get position_cmp lots.old leg.now.position) +ℤ leg.now.units) }
     ensures { OnOk result ((legs : List Leg) → KeepsLots legs lots.old
         → KeepsLots (legs ++ leg.now ∷ []) lots.new) }
 {
