@@ -7,6 +7,7 @@
 //! - `copies`: copies of other values equal their source.
 //! - `faults`: the texts of faults, and which of several faults of a number is told.
 //! - `full_book`: a book with as many entries as it may have.
+//! - `opening_numbers`: the lots that legs leave, with their opening numbers.
 //! - `streams`: readers and writers that give or take little, are interrupted, or fail, by a script (`scripted`).
 //!
 //! Each function here is proved, too. What keeps that short: tables of cases, in few tests; no `?`, which adds a path on which all
@@ -26,6 +27,8 @@ mod faults;
 mod full_book;
 #[cfg(test)]
 mod make;
+#[cfg(test)]
+mod opening_numbers;
 #[cfg(test)]
 mod scripted;
 #[cfg(test)]
