@@ -1,4 +1,4 @@
-ghost use Rattle.std.specs.Prelude.{◌≡◌, ◌≢◌, [], ◌∷◌, ◌++◌, All, Any, Contains, IfOk, IsSome, List, OnErr, OnOk, pos, ◌+ℤ◌};
+ghost use Rattle.std.specs.Prelude.{◌≡◌, ◌≢◌, [], ◌∷◌, ◌++◌, All, Any, IfOk, IsSome, List, OnErr, OnOk, pos, ◌+ℤ◌};
 ghost use Rattle.std.specs.BTreeMap.{get};
 ghost use Rattle.lot_num.specs.Amount.{IsUnits};
 ghost use Rattle.lot_book.specs.declared.leg.Leg.{Leg};
