@@ -1,5 +1,5 @@
--- Opening numbers: which lot was opened before which (docs/PROMISES.md, Migration). They say it of legs alone, and no code
--- uses them yet.
+-- Opening numbers: which lot was opened before which (docs/PROMISES.md, Migration). They say it of legs alone, and the
+-- program doesn't use them yet.
 use Rattle.std.specs.Prelude.{◌≡◌, ◌≢◌, ℕ, ◌+◌, ◌-◌, ◌*◌, ◌&&◌, Bool, if◌then◌else◌, List, [], ◌∷◌, ◌++◌, Option, None, Some, pos}
 use Rattle.std.specs.Option.{option_map, option_or, unwrap_or}
 use Rattle.std.specs.Ordering.{int_eq}

@@ -1,4 +1,4 @@
-//! Laws of opening numbers, and of the orders by them. No code uses either yet.
+//! Laws of opening numbers, and of the orders by them. The program uses neither yet.
 ghost use Rattle.std.specs.Prelude.{◌≡◌, ◌≢◌, ◌↔◌, ℕ, ◌+◌, ◌<◌, ◌≤◌, ◌*◌, Some, None, List, [], ◌∷◌, ◌++◌, length, ℤ, pos};
 ghost use Rattle.std.specs.List.{Contains};
 ghost use Rattle.std.specs.Ordering.{nat_cmp, int_cmp, ordering_then};
