@@ -1,8 +1,10 @@
 pub mod AvailableLemmas
 pub mod InventoryLemmas
 pub mod LawLemmas
+pub mod ListedLemmas
 pub mod LotLemmas
 pub mod OnlyLotsLemmas
+pub mod OpeningLemmas
 pub mod OrderLemmas
 pub mod RowLemmas
 pub mod SetLemmas

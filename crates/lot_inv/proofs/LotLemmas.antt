@@ -101,7 +101,7 @@ find-other_lots : (key other : LotKey) (lots : List (LotKey × ℤ))
 find-other_lots key other lots =
     find-where_key lot_cmp (λ k. not (eq_by_cmp lot_cmp key k)) other (λ k tied. ap (λ o. not (is_eq o)) (sym (alike_right lots_total other k key tied))) lots
 
-lot_position : (commodity : List ℕ) (other key : LotKey) → eq_by_cmp position_cmp (commodity, Some other) (commodity, Some key) ≡ eq_by_cmp lot_cmp other key
+pub lot_position : (commodity : List ℕ) (other key : LotKey) → eq_by_cmp position_cmp (commodity, Some other) (commodity, Some key) ≡ eq_by_cmp lot_cmp other key
 lot_position commodity other key = ap (λ o. is_eq (ordering_then o (lot_cmp other key))) (tied_itself nat_list_cmp_total commodity)
 
 -- setting one lot leaves the other ones

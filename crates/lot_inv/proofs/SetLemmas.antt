@@ -1,8 +1,9 @@
--- What a change of one holding does to the map that the rows of all holdings make.
-use Rattle.std.specs.Prelude.{◌≡◌, ◌≢◌, ℕ, Bool, true, false, cond, ◌&&◌, List, [], ◌∷◌, length, Option, None, Some, is_some, ℤ, pos, ◌+ℤ◌, option_and_then, IfSome, Result, Ok, Err, OnErr, OnOk}
+-- What a change of one holding does to the maps that the rows of all holdings make.
+use Rattle.std.specs.Prelude.{◌≡◌, ◌≢◌, ℕ, Bool, true, false, cond, ◌&&◌, List, [], ◌∷◌, length, Option, None, Some, is_some, ℤ, pos, option_and_then, IfSome, Result, Ok, Err, OnErr, OnOk}
+use Rattle.std.specs.declared.cmp.Ordering.TheVariants.{Less}
 use Rattle.std.specs.BTreeMap.{is_at}
 use Rattle.std.specs.Cmp.{eq_by_cmp_equiv, tied_itself}
-use Rattle.std.specs.FinMap.{get, insert, remove, from_entries, get-insert, get-remove, same_map}
+use Rattle.std.specs.FinMap.{get, same_map}
 use Rattle.std.specs.List.Sorted.{IsStrictlySortedBy}
 use Rattle.std.specs.Map.{keys_of, lookup}
 use Rattle.std.specs.Option.{option_cmp, unwrap_or}
@@ -11,14 +12,17 @@ use Rattle.std.proofs.Common.{refl, sym, ap, subst, ◌∙◌}
 use Rattle.std.proofs.lemmas.Map.Lookups.{exact_bytes}
 use Rattle.lot_base.specs.Text.{text_cmp}
 use Rattle.lot_inv.specs.declared.inventory.Holding.{Holding}
+use Rattle.lot_inv.specs.declared.inventory.OpenLot.{OpenLot}
 use Rattle.lot_cost.specs.declared.lot_key.LotKey.{LotKey}
-use Rattle.lot_inv.specs.Holding.{AreAlike, AreHoldings, HoldsSomething, IsHolding, ChangesPosition, NeedsPosition, NoneIsEmpty, NoOtherIsEmpty, held_at, found, rows}
-use Rattle.lot_inv.specs.Inventory.{Held, Position, StoresMore, position_cmp, non_zero, units_at, with_units}
+use Rattle.lot_inv.specs.Holding.{AreAlike, AreHoldings, HoldsSomething, IsHolding, ChangesPosition, NeedsPosition, NoneIsEmpty, NoOtherIsEmpty, held_at, found, kept, kept_at, opening_of, units_of}
+use Rattle.lot_inv.specs.Inventory.{Position, Stock, StoresMore, position_cmp, non_zero, with_lot, with_opening, with_units}
 use Rattle.lot_cost.specs.LotKey.{lot_cmp}
 use Rattle.lot_cost.proofs.OrderLemmas.{eq_then, is_equal}
-use Rattle.lot_inv.proofs.InventoryLemmas.{found_seen, get-rows}
+use Rattle.lot_inv.proofs.InventoryLemmas.{AreOf, found_seen, get-held_of, get-opened_of, get-opened_of_plain, held_of, made_of, never_less, opened_of, units_of-kept, units_of-kept_at}
+use Rattle.lot_inv.proofs.LotLemmas.{get-with_units, same_held}
+use Rattle.lot_inv.proofs.OpeningLemmas.{get-with_opening}
 use Rattle.lot_cost.proofs.OrderLemmas.{lots_total, lot_options_total}
-use Rattle.lot_inv.proofs.OrderLemmas.{positions_total, exact_positions}
+use Rattle.lot_inv.proofs.OrderLemmas.{exact_positions, positions_total}
 
 pub on_err : {X Y : Type 0} {P : Type 0} (r : Result X Y) → P → OnErr r P
 on_err (Ok x) p = tt
@@ -36,10 +40,6 @@ pub on_err-both : {X Y : Type 0} {P Q R : Type 0} (r : Result X Y) → (P → Q 
 on_err-both (Ok x) f p q = tt
 on_err-both (Err y) f p q = f p q
 
--- where nothing is held, what is added is the sum
-added_some : (at : Option ℤ) (units sum : ℤ) → at ≡ None → sum ≢ pos 0 → sum ≡ unwrap_or at (pos 0) +ℤ units → units ≢ pos 0
-added_some at units sum none some is zero = some (is ∙ ap (λ o. unwrap_or o (pos 0) +ℤ units) none ∙ ap (λ u. pos 0 +ℤ u) zero)
-
 -- units that are kept as they are to be, and are then set at one key, are so again
 pub kept_when_set : (b : Bool) (units : ℤ) (before after : Option ℤ) → after ≡ cond b (non_zero units) before
     → before ≡ non_zero (unwrap_or before (pos 0)) → after ≡ non_zero (unwrap_or after (pos 0))
@@ -54,15 +54,27 @@ kept_when_set b units before after e h = e ∙ elim b as (λ b. cond b (non_zero
       | false ↦ λ e. sym (ap (λ b. cond b None (Some z)) e)
     ] refl
 
+-- the lots of a holding are so, once one of them was set
+pub nonzero_when_set : (b : Bool) (units : ℤ) (opening : ℕ) (before after : Option OpenLot) → after ≡ cond b (kept units opening) before
+    → units_of before ≡ non_zero (unwrap_or (units_of before) (pos 0)) → units_of after ≡ non_zero (unwrap_or (units_of after) (pos 0))
+nonzero_when_set b units opening before after e =
+    kept_when_set b units (units_of before) (units_of after)
+    (ap units_of e ∙ elim b as (λ b. units_of (cond b (kept units opening) before) ≡ cond b (non_zero units) (units_of before)) [
+      | true ↦ units_of-kept units opening
+      | false ↦ refl
+    ])
+
 -- a lot that wasn't held is one more
-pub lot_inserted : (old mid new : List (LotKey × ℤ)) (key copied : LotKey) (units : ℤ) → copied ≡ key → mid ≡ old → int_eq units (pos 0) ≡ false
-    → ((other : LotKey) → lookup (is_at (lot_cmp other)) new ≡ cond (is_eq (lot_cmp copied other)) (Some units) (lookup (is_at (lot_cmp other)) mid))
-    → (other : LotKey) → lookup (is_at (lot_cmp other)) new ≡ cond (is_eq (lot_cmp key other)) (non_zero units) (lookup (is_at (lot_cmp other)) old)
-lot_inserted old mid new key copied units e m some updates other =
+pub lot_inserted : (old mid new : List (LotKey × OpenLot)) (key copied : LotKey) (units : ℤ) (opening : ℕ) → copied ≡ key → mid ≡ old → int_eq units (pos 0) ≡ false
+    → ((other : LotKey) → lookup (is_at (lot_cmp other)) new
+    ≡ cond (is_eq (lot_cmp copied other)) (Some (record { units = units; opening = opening })) (lookup (is_at (lot_cmp other)) mid))
+    → (other : LotKey) → lookup (is_at (lot_cmp other)) new ≡ cond (is_eq (lot_cmp key other)) (kept units opening) (lookup (is_at (lot_cmp other)) old)
+lot_inserted old mid new key copied units opening e m some updates other =
+    let lot : OpenLot = record { units = units; opening = opening } in
     updates other
-    ∙ ap (λ k. cond (is_eq (lot_cmp k other)) (Some units) (lookup (is_at (lot_cmp other)) mid)) e
-    ∙ ap (λ es. cond (is_eq (lot_cmp key other)) (Some units) (lookup (is_at (lot_cmp other)) es)) m
-    ∙ ap (λ b. cond (is_eq (lot_cmp key other)) (cond b None (Some units)) (lookup (is_at (lot_cmp other)) old)) (sym some)
+    ∙ ap (λ k. cond (is_eq (lot_cmp k other)) (Some lot) (lookup (is_at (lot_cmp other)) mid)) e
+    ∙ ap (λ es. cond (is_eq (lot_cmp key other)) (Some lot) (lookup (is_at (lot_cmp other)) es)) m
+    ∙ ap (λ b. cond (is_eq (lot_cmp key other)) (cond b None (Some lot)) (lookup (is_at (lot_cmp other)) old)) (sym some)
 
 -- the holding of a commodity is another one, or there is none any more
 abbrev pub Changes : List (List ℕ × Holding) → List (List ℕ × Holding) → List ℕ → Option Holding → Type 0
@@ -99,20 +111,20 @@ found_forgotten old new commodity holding at nothing changes position =
       | false ↦ λ e. refl
     ] refl
 
-pub found_changed : (old new : List (List ℕ × Holding)) (commodity : List ℕ) (key : Option LotKey) (units : ℤ) (holding : Holding) (at : Option Holding)
+pub found_changed : (old new : List (List ℕ × Holding)) (commodity : List ℕ) (key : Option LotKey) (lot : Option OpenLot) (holding : Holding) (at : Option Holding)
     → at ≡ lookup (is_at (text_cmp commodity)) old
-    → ((other : Option LotKey) → held_at holding other ≡ cond (is_eq (option_cmp lot_cmp key other)) (non_zero units) (option_and_then (λ (h : Holding). held_at h other) at))
-    → Changes old new commodity (Some holding) → (position : Position) → found new position ≡ cond (is_eq (position_cmp (commodity, key) position)) (non_zero units) (found old position)
-found_changed old new commodity key units holding at is sets changes position =
+    → ((other : Option LotKey) → held_at holding other ≡ cond (is_eq (option_cmp lot_cmp key other)) lot (option_and_then (λ (h : Holding). held_at h other) at))
+    → Changes old new commodity (Some holding) → ChangesPosition old new (commodity, key) lot
+found_changed old new commodity key lot holding at is sets changes position =
     let find = option_and_then (λ (h : Holding). held_at h position.1) in
     let o = text_cmp commodity position.0 in
     let k = option_cmp lot_cmp key position.1 in
     ap find (changes position.0)
-    ∙ elim (is_eq o) as (λ b. is_eq o ≡ b → find (cond b (Some holding) (lookup (is_at (text_cmp position.0)) old)) ≡ cond (b && is_eq k) (non_zero units) (found old position)) [
-      | true ↦ λ e. sets position.1 ∙ ap (cond (is_eq k) (non_zero units)) (ap find is ∙ ap (λ c. find (lookup (is_at (text_cmp c)) old)) (exact_bytes commodity position.0 (is_equal o e)))
+    ∙ elim (is_eq o) as (λ b. is_eq o ≡ b → find (cond b (Some holding) (lookup (is_at (text_cmp position.0)) old)) ≡ cond (b && is_eq k) lot (found old position)) [
+      | true ↦ λ e. sets position.1 ∙ ap (cond (is_eq k) lot) (ap find is ∙ ap (λ c. find (lookup (is_at (text_cmp c)) old)) (exact_bytes commodity position.0 (is_equal o e)))
       | false ↦ λ e. refl
     ] refl
-    ∙ ap (λ b. cond b (non_zero units) (found old position)) (sym (eq_then o k))
+    ∙ ap (λ b. cond b lot (found old position)) (sym (eq_then o k))
 
 pub found_alike : (old new : List (List ℕ × Holding)) (commodity : List ℕ) (holding : Holding) (at : Option Holding)
     → at ≡ lookup (is_at (text_cmp commodity)) old
@@ -127,55 +139,111 @@ found_alike old new commodity holding at is same changes position =
       | false ↦ λ e. refl
     ] refl
 
-pub set_nothing : (old new : List (List ℕ × Holding)) (commodity : List ℕ) (key : Option LotKey) (units : ℤ)
-    → None ≡ lookup (is_at (text_cmp commodity)) old → new ≡ old → non_zero units ≡ None → ChangesPosition old new (commodity, key) units
-set_nothing old new commodity key units at same zero position =
+pub set_nothing : (old new : List (List ℕ × Holding)) (commodity : List ℕ) (key : Option LotKey) (lot : Option OpenLot)
+    → None ≡ lookup (is_at (text_cmp commodity)) old → new ≡ old → lot ≡ None → ChangesPosition old new (commodity, key) lot
+set_nothing old new commodity key lot at same zero position =
     let find = option_and_then (λ (h : Holding). held_at h position.1) in
     let o = text_cmp commodity position.0 in
     let k = option_cmp lot_cmp key position.1 in
     ap (λ es. found es position) same
-    ∙ elim (is_eq o) as (λ b. is_eq o ≡ b → found old position ≡ cond (b && is_eq k) (non_zero units) (found old position)) [
+    ∙ elim (is_eq o) as (λ b. is_eq o ≡ b → found old position ≡ cond (b && is_eq k) lot (found old position)) [
       | true ↦ λ e.
           let none : found old position ≡ None = ap (λ c. find (lookup (is_at (text_cmp c)) old)) (sym (exact_bytes commodity position.0 (is_equal o e))) ∙ ap find (sym at) in
-          none ∙ elim (is_eq k) as (λ b. None ≡ cond b (non_zero units) (found old position)) [ true ↦ sym zero | false ↦ sym none ]
+          none ∙ elim (is_eq k) as (λ b. None ≡ cond b lot (found old position)) [ true ↦ sym zero | false ↦ sym none ]
       | false ↦ λ e. refl
     ] refl
-    ∙ ap (λ b. cond b (non_zero units) (found old position)) (sym (eq_then o k))
+    ∙ ap (λ b. cond b lot (found old position)) (sym (eq_then o k))
 
-pub map_alike : (old new : List (List ℕ × Holding)) (held : Held) → AreHoldings old → AreHoldings new → from_entries (rows old) ≡ held
-    → AreAlike old new → from_entries (rows new) ≡ held
-map_alike old new held are still view alike =
-    same_map positions_total exact_positions (from_entries (rows new)) held (λ position.
-    get-rows new position still.sorted ∙ alike position ∙ sym (get-rows old position are.sorted) ∙ ap (λ m. get m position) view)
+-- what is kept of zero units is nothing
+pub nothing_kept : (key : Option LotKey) (units : ℤ) (opening : ℕ) → int_eq units (pos 0) ≡ true → kept_at key units opening ≡ None
+nothing_kept None units opening zero = ap (λ b. cond b None (Some (record { units = units; opening = 0 }))) zero
+nothing_kept (Some key) units opening zero = ap (λ b. cond b None (Some (record { units = units; opening = opening }))) zero
 
-pub map_set : (old new : List (List ℕ × Holding)) (held : Held) (position : Position) (units : ℤ) → AreHoldings old → AreHoldings new → from_entries (rows old) ≡ held
-    → ChangesPosition old new position units → from_entries (rows new) ≡ with_units held position units
-map_set old new held position units are still view is =
-    same_map positions_total exact_positions (from_entries (rows new)) (with_units held position units) (λ other.
+-- ---- the two maps
+
+-- holdings of which the same is found make the same opening numbers
+opened_alike : (old new : List (List ℕ × Holding)) → AreHoldings old → AreHoldings new → AreAlike old new → opened_of new ≡ opened_of old
+opened_alike old new are still alike = same_map positions_total exact_positions (opened_of new) (opened_of old) each
+  where
+    each : (position : Position) → get (opened_of new) position ≡ get (opened_of old) position
+    each (commodity, None) = get-opened_of_plain new commodity ∙ sym (get-opened_of_plain old commodity)
+    each (commodity, Some key) =
+        get-opened_of new commodity key still.sorted ∙ ap opening_of (alike (commodity, Some key)) ∙ sym (get-opened_of old commodity key are.sorted)
+
+held_alike : (old new : List (List ℕ × Holding)) → AreHoldings old → AreHoldings new → AreAlike old new → held_of new ≡ held_of old
+held_alike old new are still alike =
+    same_held (held_of new) (held_of old) (λ position.
+    get-held_of new position still.sorted ∙ ap units_of (alike position) ∙ sym (get-held_of old position are.sorted))
+
+pub stock_alike : (old new : List (List ℕ × Holding)) (stock : Stock) → AreHoldings old → AreHoldings new → AreOf old stock
+    → AreAlike old new → AreOf new stock
+stock_alike old new stock are still view alike =
+    let held = held_alike old new are still alike in
+    let opened = opened_alike old new are still alike in
+    let same : made_of new ≡ made_of old = λ i. record { held = held i; opened = opened i } in
+    same ∙ view
+
+held_set : (old new : List (List ℕ × Holding)) (position : Position) (units : ℤ) (opening : ℕ) → AreHoldings old → AreHoldings new
+    → ChangesPosition old new position (kept_at position.1 units opening) → held_of new ≡ with_units (held_of old) position units
+held_set old new position units opening are still is =
+    same_held (held_of new) (with_units (held_of old) position units) (λ other.
     let same : eq_by_cmp position_cmp position other ≡ eq_by_cmp position_cmp other position = (eq_by_cmp_equiv positions_total).symm position other in
-    let before : found old other ≡ get held other = sym (get-rows old other are.sorted) ∙ ap (λ m. get m other) view in
-    get-rows new other still.sorted ∙ is other
-    ∙ ap (λ b. cond b (non_zero units) (found old other)) same
-    ∙ ap (cond (eq_by_cmp position_cmp other position) (non_zero units)) before
-    ∙ elim (int_eq units (pos 0)) as (λ b. cond (eq_by_cmp position_cmp other position) (cond b None (Some units)) (get held other)
-    ≡ get (cond b (remove held position) (insert held position units)) other) [
-      | true ↦ sym (get-remove positions_total held position other)
-      | false ↦ sym (get-insert positions_total held position units other)
-    ])
+    get-held_of new other still.sorted ∙ ap units_of (is other)
+    ∙ elim (eq_by_cmp position_cmp position other) as (λ b. units_of (cond b (kept_at position.1 units opening) (found old other)) ≡ cond b (non_zero units) (units_of (found old other))) [
+      | true ↦ units_of-kept_at position.1 units opening
+      | false ↦ refl
+    ]
+    ∙ ap (λ b. cond b (non_zero units) (units_of (found old other))) same
+    ∙ ap (cond (eq_by_cmp position_cmp other position) (non_zero units)) (sym (get-held_of old other are.sorted))
+    ∙ sym (get-with_units (held_of old) position units other))
+
+opened_set : (old new : List (List ℕ × Holding)) (position : Position) (units : ℤ) (opening : ℕ) → AreHoldings old → AreHoldings new
+    → ChangesPosition old new position (kept_at position.1 units opening) → opened_of new ≡ with_opening (opened_of old) position units opening
+opened_set old new (commodity, None) units opening are still is = same_map positions_total exact_positions (opened_of new) (opened_of old) each
+  where
+    each : (position : Position) → get (opened_of new) position ≡ get (opened_of old) position
+    each (other, None) = get-opened_of_plain new other ∙ sym (get-opened_of_plain old other)
+    each (other, Some key) =
+        let o = text_cmp commodity other in
+        get-opened_of new other key still.sorted ∙ ap opening_of (is (other, Some key)
+        ∙ ap (λ b. cond b (kept units 0) (found old (other, Some key))) (eq_then o Less ∙ never_less (is_eq o)))
+        ∙ sym (get-opened_of old other key are.sorted)
+opened_set old new (commodity, Some key) units opening are still is = same_map positions_total exact_positions (opened_of new) (with_opening (opened_of old) (commodity, Some key) units opening) each
+  where
+    each : (position : Position) → get (opened_of new) position ≡ get (with_opening (opened_of old) (commodity, Some key) units opening) position
+    each (other, None) =
+        let o = text_cmp other commodity in
+        get-opened_of_plain new other ∙ sym (get-opened_of_plain old other)
+        ∙ sym (ap (λ b. cond b (opening_of (kept units opening)) (get (opened_of old) (other, None))) (eq_then o Less ∙ never_less (is_eq o)))
+        ∙ sym (get-with_opening (opened_of old) commodity key units opening (other, None))
+    each (other, Some lot) =
+        let here : Position = (commodity, Some key) in
+        let there : Position = (other, Some lot) in
+        let same : eq_by_cmp position_cmp here there ≡ eq_by_cmp position_cmp there here = (eq_by_cmp_equiv positions_total).symm here there in
+        get-opened_of new other lot still.sorted ∙ ap opening_of (is there)
+        ∙ elim (eq_by_cmp position_cmp here there) as (λ b. opening_of (cond b (kept units opening) (found old there)) ≡ cond b (opening_of (kept units opening)) (opening_of (found old there))) [
+          | true ↦ refl
+          | false ↦ refl
+        ]
+        ∙ ap (λ b. cond b (opening_of (kept units opening)) (opening_of (found old there))) same
+        ∙ ap (cond (eq_by_cmp position_cmp there here) (opening_of (kept units opening))) (sym (get-opened_of old other lot are.sorted))
+        ∙ sym (get-with_opening (opened_of old) commodity key units opening there)
+
+pub stock_set : (old new : List (List ℕ × Holding)) (stock : Stock) (position : Position) (units : ℤ) (opening : ℕ) → AreHoldings old → AreHoldings new
+    → AreOf old stock → ChangesPosition old new position (kept_at position.1 units opening) → AreOf new (with_lot stock position units opening)
+stock_set old new stock position units opening are still view is =
+    let held = held_set old new position units opening are still is in
+    let opened = opened_set old new position units opening are still is in
+    let same : made_of new ≡ with_lot (made_of old) position units opening = λ i. record { held = held i; opened = opened i } in
+    same ∙ ap (λ (s : Stock). with_lot s position units opening) view
 
 -- what is new among the holdings is new in the map
-pub stores_more : (holdings : List (List ℕ × Holding)) (held : Held) (commodity : List ℕ) (key : Option LotKey) (units : ℤ) → AreHoldings holdings
-    → from_entries (rows holdings) ≡ held → NeedsPosition holdings (commodity, key) → units ≢ pos 0 → StoresMore held (commodity, key) units
-stores_more holdings held commodity None units are view needs some =
-    (some, λ other. found_seen holdings held commodity other None are view (sym needs))
-stores_more holdings held commodity (Some key) units are view needs some =
-    (some, ap (λ m. get m (commodity, Some key)) (sym view) ∙ get-rows holdings (commodity, Some key) are.sorted ∙ needs)
-
--- where the sum is new, the units that are added aren't zero
-pub stores_sum : (held : Held) (commodity : List ℕ) (key : Option LotKey) (units sum : ℤ) → StoresMore held (commodity, key) sum
-    → sum ≡ units_at held (commodity, key) +ℤ units → StoresMore held (commodity, key) units
-stores_sum held commodity None units sum more is = (added_some (get held (commodity, None)) units sum (more.1 None) more.0 is, more.1)
-stores_sum held commodity (Some key) units sum more is = (added_some (get held (commodity, Some key)) units sum more.1 more.0 is, more.1)
+pub stores_more : (holdings : List (List ℕ × Holding)) (stock : Stock) (commodity : List ℕ) (key : Option LotKey) (units : ℤ) → AreHoldings holdings
+    → AreOf holdings stock → NeedsPosition holdings (commodity, key) → units ≢ pos 0 → StoresMore stock.held (commodity, key) units
+stores_more holdings stock commodity None units are view needs some =
+    (some, λ other. found_seen holdings stock commodity other None are view (sym needs))
+stores_more holdings stock commodity (Some key) units are view needs some =
+    (some, ap (λ (s : Stock). get s.held (commodity, Some key)) (sym view) ∙ get-held_of holdings (commodity, Some key) are.sorted ∙ ap units_of needs)
 
 -- ---- no holding is kept of which nothing is left
 
@@ -202,15 +270,19 @@ none_empty_still holdings commodity kept holds =
     ] refl) holds
 
 -- units that aren't zero, set at a key, are something
-pub something_set : (holding : Holding) (key : Option LotKey) (units : ℤ) (before : Option ℤ)
-    → held_at holding key ≡ cond (is_eq (option_cmp lot_cmp key key)) (non_zero units) before → int_eq units (pos 0) ≡ false → HoldsSomething holding
-something_set holding key units before sets e = (
+pub something_set : (holding : Holding) (key : Option LotKey) (units : ℤ) (opening : ℕ) (before : Option OpenLot)
+    → held_at holding key ≡ cond (is_eq (option_cmp lot_cmp key key)) (kept_at key units opening) before → int_eq units (pos 0) ≡ false → HoldsSomething holding
+something_set holding key units opening before sets e = (
   key,
-  ap is_some (sets ∙ ap (λ o. cond (is_eq o) (non_zero units) before) (tied_itself lot_options_total key) ∙ ap (λ b. cond b None (Some units)) e),
+  ap is_some (sets ∙ ap (λ o. cond (is_eq o) (kept_at key units opening) before) (tied_itself lot_options_total key)) ∙ something_kept key,
 )
+  where
+    something_kept : (key : Option LotKey) → is_some (kept_at key units opening) ≡ true
+    something_kept None = ap (λ b. is_some {T = OpenLot} (cond b None (Some (record { units = units; opening = 0 })))) e
+    something_kept (Some key) = ap (λ b. is_some {T = OpenLot} (cond b None (Some (record { units = units; opening = opening })))) e
 
 -- so is a lot
-pub lot_something : (holding : Holding) (lots : List (LotKey × ℤ)) → lots ≡ holding.lots.entries → length lots ≢ 0 → HoldsSomething holding
+pub lot_something : (holding : Holding) (lots : List (LotKey × OpenLot)) → lots ≡ holding.lots.entries → length lots ≢ 0 → HoldsSomething holding
 lot_something holding [] same some = absurd (some refl)
 lot_something holding (lot ∷ lots) same some = (
   Some lot.0,

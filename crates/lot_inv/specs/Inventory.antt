@@ -2,7 +2,7 @@
 use Rattle.std.specs.Prelude.{◌≡◌, ◌≢◌, ℕ, Bool, ◌&&◌, ◌||◌, if◌then◌else◌, List, [], ◌∷◌, filter, map, sum_by, Option, None, Some, is_some, ℤ, pos, ◌+ℤ◌, int_lt, unsigned_abs}
 use Rattle.std.specs.declared.cmp.Ordering.{Ordering}
 use Rattle.std.specs.BTreeMap.{is_at}
-use Rattle.std.specs.Coded.{Coded, coded×, coded_option}
+use Rattle.std.specs.Coded.{Coded, code_by, coded×, coded_option, coded_ℕ, coded_ℤ}
 use Rattle.std.specs.FinMap as finite
 use Rattle.std.specs.List.{list_any}
 use Rattle.std.specs.List.Sorted.{IsStrictlySortedBy}
@@ -48,6 +48,64 @@ with_units held position units = if int_eq units (pos 0) then finite.remove held
 -- the inventory with these units added at a position
 abbrev pub added : Held → Position → ℤ → Held
 added held position units = with_units held position (units_at held position +ℤ units)
+
+-- ---- opening numbers
+
+-- the opening number of each lot that is held; plain units have none
+abbrev pub Opened : Type 0
+Opened = finite.FinMap position_cmp ℕ
+
+-- an inventory: the units of each position that holds some, and the opening number of each lot among them
+pub record Stock : Type 0 where
+  pub held : Held
+  pub opened : Opened
+
+abbrev stock_of : Held × Opened → Stock
+stock_of maps = record { held = maps.0; opened = maps.1 }
+
+abbrev pub coded_stock : Coded Stock
+coded_stock =
+    code_by (Held × Opened) (coded× (finite.code coded_position coded_ℤ) (finite.code coded_position coded_ℕ))
+    (λ stock. (stock.held, stock.opened)) stock_of (λ stock _. stock)
+
+-- an inventory that holds nothing
+abbrev pub nothing : Stock
+nothing = record { held = finite.empty; opened = finite.empty }
+
+-- the opening number of a lot, none where it isn't held
+abbrev pub opened_at : Stock → List ℕ → LotKey → Option ℕ
+opened_at stock commodity lot = finite.get stock.opened (commodity, Some lot)
+
+-- the same as a number, 0 where it isn't held
+abbrev pub opening_at : Stock → List ℕ → LotKey → ℕ
+opening_at stock commodity lot = unwrap_or (opened_at stock commodity lot) 0
+
+-- a lot has an opening number exactly where it is held
+abbrev pub NumbersLots : Stock → Type 0
+NumbersLots stock = (commodity : List ℕ) (lot : LotKey)
+    → is_some (opened_at stock commodity lot) ≡ is_some (finite.get stock.held (commodity, Some lot))
+
+-- the opening numbers once a position holds these units: a lot that holds some has that number
+abbrev pub with_opening : Opened → Position → ℤ → ℕ → Opened
+with_opening opened (commodity, None) units opening = opened
+with_opening opened (commodity, Some key) units opening =
+    if int_eq units (pos 0) then finite.remove opened (commodity, Some key)
+    else finite.insert opened (commodity, Some key) opening
+
+-- the inventory with these units at a position, opened under that number where it is a lot
+abbrev pub with_lot : Stock → Position → ℤ → ℕ → Stock
+with_lot stock position units opening = record {
+  held = with_units stock.held position units;
+  opened = with_opening stock.opened position units opening;
+}
+
+-- the inventory with these units added at a position: a lot that isn't held is opened under that number, and one that is
+-- keeps its own
+abbrev pub added_lot : Stock → Position → ℤ → ℕ → Stock
+added_lot stock position units opening =
+    with_lot stock position (units_at stock.held position +ℤ units) (unwrap_or (finite.get stock.opened position) opening)
+
+-- ---- memory
 
 -- adding units at a position stores a new lot, or the first position of its commodity
 abbrev pub StoresMore : Held → Position → ℤ → Type 0

@@ -1,3 +1,4 @@
 pub mod Holding
 pub mod Inventory
+pub mod Lot
 pub mod Zeros

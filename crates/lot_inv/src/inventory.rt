@@ -8,15 +8,17 @@ ghost use Rattle.std.specs.Option.{option_cmp, unwrap_or};
 ghost use Rattle.std.specs.Ordering.{is_eq};
 ghost use Rattle.lot_num.specs.Amount.{IsUnits, IsWide, one, units_limit};
 ghost use Rattle.lot_num.specs.Sum.{sum_of};
-ghost use Rattle.lot_inv.specs.Inventory.{StoresMore, added, as_entries, fitting, held_in, lots_of, matching, non_zero, only_lots, other_sign, reduces, sum, units_at, with_number, with_units};
+ghost use Rattle.lot_inv.specs.Inventory.{NumbersLots, StoresMore, added_lot, as_entries, fitting, held_in, lots_of, matching, non_zero, nothing, only_lots, opened_at, opening_at, other_sign, reduces, sum, units_at, with_lot, with_number};
+ghost use Rattle.lot_inv.specs.Lot.{AreNumberedBy, key_and_units};
 ghost use Rattle.lot_cost.specs.CostSpec.{fits};
 ghost use Rattle.lot_inv.specs.Zeros.{HasNoZeros};
 ghost use Rattle.lot_cost.specs.LotKey.{lot_cmp};
-ghost use Rattle.lot_inv.specs.Holding.{AreAlike, AreHoldings, ChangesPosition, NeedsPosition, NoneIsEmpty, NoOtherIsEmpty, lot_rows, plain_rows, rows_of, takeable, with_lots};
+ghost use Rattle.lot_inv.specs.Holding.{AreAlike, AreHoldings, ChangesPosition, NeedsPosition, NoneIsEmpty, NoOtherIsEmpty, kept, kept_at, lot_rows, plain_rows, rows_of, takeable, units_in, with_lots};
 ghost use Rattle.lot_cost.specs.declared.lot_key.LotKey.{LotKey};
 ghost use Rattle.lot_inv.specs.declared.fault.InventoryFault.TheVariants.{Memory, Range};
 
 use crate::fault::InventoryFault;
+use crate::lot::Lot;
 use lot_base::Commodity;
 use lot_cost::{CostSpec, LotKey};
 use lot_num::{Rate, Units, Wide};
@@ -24,10 +26,10 @@ use std::alloc::{AllocError, Global};
 use std::collections::BTreeMap;
 use std::marker::Model;
 
-/// What is held of each commodity, plain and lot by lot.
+/// What is held of each commodity, plain and lot by lot, and the opening number of each lot.
 ///
-/// A contract sees an inventory as a finite map from positions (a commodity, and the key of a lot or none) to units that
-/// aren't zero.
+/// A contract sees an inventory as two finite maps: from positions (a commodity, and the key of a lot or none) to units that
+/// aren't zero, and from the lots among them to their opening numbers.
 #[derive(Drop)]
 pub struct Inventory {
     alloc: Global,
@@ -38,7 +40,14 @@ pub struct Inventory {
 #[derive(Drop)]
 struct Holding {
     plain: Units,
-    lots: BTreeMap<LotKey, Units>,
+    lots: BTreeMap<LotKey, OpenLot>,
+}
+
+/// What is kept of a lot under its key.
+#[derive(Clone, Copy)]
+struct OpenLot {
+    units: Units,
+    opening: u64,
 }
 
 /// Lots that units may take.
@@ -51,16 +60,18 @@ pub struct Available {
 }
 
 impl Model for Inventory {
-    ghost use Rattle.std.specs.Coded.{coded_ℤ};
     ghost use Rattle.std.specs.FinMap as finite;
-    ghost use Rattle.lot_inv.specs.Holding.{AreHoldings, NoneIsEmpty, rows};
-    ghost use Rattle.lot_inv.specs.Inventory.{Held, coded_position};
+    ghost use Rattle.lot_inv.specs.Holding.{AreHoldings, NoneIsEmpty, openings_in, rows, units_in};
+    ghost use Rattle.lot_inv.specs.Inventory.{Stock, coded_stock};
 
-    ghost Value = { Held };
+    ghost Value = { Stock };
 
-    ghost coded = { finite.code coded_position coded_ℤ };
+    ghost coded = { coded_stock };
 
-    ghost view = { λ i. finite.from_entries (rows i.held.entries) };
+    ghost view = { λ i. record {
+      held = finite.from_entries (units_in (rows i.held.entries));
+      opened = finite.from_entries (openings_in (rows i.held.entries));
+    } };
 
     ghost invariant = { λ i. AreHoldings i.held.entries × NoneIsEmpty i.held.entries };
 }
@@ -68,7 +79,7 @@ impl Model for Inventory {
 impl Inventory {
     /// Returns an inventory that holds nothing.
     pub fn new(alloc: Global) -> Inventory
-        ensures { result ≡ finite.empty }
+        ensures { result ≡ nothing }
     {
         Inventory {
             alloc,
@@ -79,8 +90,8 @@ impl Inventory {
     /// Returns the units of a commodity in the lot of that key, or without a key its plain units. They are zero where
     /// none are held.
     pub fn units(&self, commodity: &Commodity, key: Option<&LotKey>) -> Units
-        ensures value { result ≡ units_at self.now (commodity.now, option_copied key.entry) }
-        ensures held { finite.get self.now (commodity.now, option_copied key.entry) ≡ non_zero result }
+        ensures value { result ≡ units_at self.now.held (commodity.now, option_copied key.entry) }
+        ensures held { finite.get self.now.held (commodity.now, option_copied key.entry) ≡ non_zero result }
     {
         match self.held.get(commodity) {
             Some(holding) => holding.units(key),
@@ -88,16 +99,28 @@ impl Inventory {
         }
     }
 
-    /// No position holds zero units. It does nothing: its contract tells this to a caller.
+    /// Returns the opening number of a lot, or `None` where it isn't held. It takes no memory.
+    pub fn opening(&self, commodity: &Commodity, key: &LotKey) -> Option<u64>
+        ensures { result ≡ opened_at self.now commodity.now key.now }
+    {
+        match self.held.get(commodity) {
+            Some(holding) => holding.opening(key),
+            None => None,
+        }
+    }
+
+    /// No position holds zero units, and each lot that is held has an opening number. It does nothing: its contract tells
+    /// this to a caller.
     pub fn has_no_zeros(&self)
-        ensures { HasNoZeros self.now }
+        ensures no_zeros { HasNoZeros self.now.held }
+        ensures numbered { NumbersLots self.now }
     {
         let _ = &self.held;
     }
 
     /// Returns how many lots of a commodity are held.
     pub fn lots(&self, commodity: &Commodity) -> u64
-        ensures { result ≡ length (lots_of self.now commodity.now) }
+        ensures { result ≡ length (lots_of self.now.held commodity.now) }
     {
         match self.held.get(commodity) {
             Some(holding) => holding.lots.len() as u64,
@@ -107,7 +130,7 @@ impl Inventory {
 
     /// Returns whether some lot of the commodity has the other sign than the units. Plain units don't count.
     pub fn reduces(&self, commodity: &Commodity, units: Units) -> bool
-        ensures { result ≡ reduces self.now commodity.now units }
+        ensures { result ≡ reduces self.now.held commodity.now units }
     {
         match self.held.get(commodity) {
             Some(holding) => holding.has_other_sign(units),
@@ -117,14 +140,14 @@ impl Inventory {
 
     /// Returns the sum of the units of all lots of a commodity, at scale 16, or `None` where it is out of range.
     pub fn sum(&self, commodity: &Commodity) -> Option<Wide>
-        ensures { SomeIff result (IsWide (sum self.now commodity.now *ℤ pos one)) (sum self.now commodity.now *ℤ pos one) }
+        ensures { SomeIff result (IsWide (sum self.now.held commodity.now *ℤ pos one)) (sum self.now.held commodity.now *ℤ pos one) }
     {
         wide(self.total(commodity))
     }
 
     /// Returns the sum of the mantissas of all lots of a commodity, at scale 8.
     fn total(&self, commodity: &Commodity) -> i128
-        ensures { result ≡ sum self.now commodity.now }
+        ensures { result ≡ sum self.now.held commodity.now }
     {
         match self.held.get(commodity) {
             Some(holding) => holding.total(),
@@ -134,14 +157,11 @@ impl Inventory {
 
     /// Returns the lots of a commodity that a specification fits, in the order of their keys. The only error is out of
     /// memory, and comes only where some lot fits.
-    pub fn matching(
-        &self,
-        commodity: &Commodity,
-        spec: &CostSpec,
-    ) -> Result<Vec<(LotKey, Units)>, AllocError>
-        ensures all { IfOk result (λ lots. lots.items ≡ matching self.now commodity.now spec.now) }
-        ensures distinct { IfOk result (λ lots. IsStrictlySortedBy lot_cmp (keys_of lots.items)) }
-        ensures memory { OnErr result (matching self.now commodity.now spec.now ≢ []) }
+    pub fn matching(&self, commodity: &Commodity, spec: &CostSpec) -> Result<Vec<Lot>, AllocError>
+        ensures all { IfOk result (λ lots. map key_and_units lots.items ≡ matching self.now.held commodity.now spec.now) }
+        ensures numbers { IfOk result (λ lots. AreNumberedBy (opening_at self.now commodity.now) lots.items) }
+        ensures distinct { IfOk result (λ lots. IsStrictlySortedBy lot_cmp (keys_of (map key_and_units lots.items))) }
+        ensures memory { OnErr result (matching self.now.held commodity.now spec.now ≢ []) }
     {
         match self.held.get(commodity) {
             Some(holding) => holding.matching(self.alloc, spec),
@@ -162,9 +182,9 @@ impl Inventory {
     ) -> Available
         requires { (spec.now.number ≡ None) ⊎ (spec.now.number ≡ number.now) }
         ensures lots { result.lots
-            ≡ length (fitting self.now commodity.now units (with_number number.now spec.now)) }
+            ≡ length (fitting self.now.held commodity.now units (with_number number.now spec.now)) }
         ensures held { result.held
-            ≡ held_in (fitting self.now commodity.now units (with_number number.now spec.now)) }
+            ≡ held_in (fitting self.now.held commodity.now units (with_number number.now spec.now)) }
     {
         match self.held.get(commodity) {
             Some(holding) => holding.available(units, number, spec),
@@ -172,11 +192,13 @@ impl Inventory {
         }
     }
 
-    /// Returns an inventory of the lots of a commodity alone, each with its units: no plain units, and no other commodity.
-    /// The only error is out of memory, and comes only where there is such a lot.
+    /// Returns an inventory of the lots of a commodity alone, each with its units and its opening number: no plain units, and
+    /// no other commodity. The only error is out of memory, and comes only where there is such a lot.
     pub fn only_lots(&self, commodity: &Commodity) -> Result<Inventory, AllocError>
-        ensures lots { IfOk result (λ inventory. inventory ≡ only_lots self.now commodity.now) }
-        ensures memory { OnErr result (lots_of self.now commodity.now ≢ []) }
+        ensures lots { IfOk result (λ inventory. inventory.held ≡ only_lots self.now.held commodity.now) }
+        ensures openings { IfOk result (λ inventory. (lot : LotKey)
+            → opened_at inventory commodity.now lot ≡ opened_at self.now commodity.now lot) }
+        ensures memory { OnErr result (lots_of self.now.held commodity.now ≢ []) }
     {
         match self.held.get(commodity) {
             Some(holding) => holding.only_lots(self.alloc, commodity),
@@ -187,8 +209,8 @@ impl Inventory {
     /// Returns all that is held, a row for each position: by commodity, the plain units first, then the lots in the order of
     /// their keys. The only error is out of memory, and comes only where something is held.
     pub fn rows(&self) -> Result<Vec<(Commodity, Option<LotKey>, Units)>, AllocError>
-        ensures all { IfOk result (λ rows. as_entries rows.items ≡ finite.entries self.now) }
-        ensures memory { OnErr result (finite.entries self.now ≢ []) }
+        ensures all { IfOk result (λ rows. as_entries rows.items ≡ finite.entries self.now.held) }
+        ensures memory { OnErr result (finite.entries self.now.held ≢ []) }
     {
         let mut rows = Vec::new(self.alloc);
         for (commodity, holding) in &self.held {
@@ -197,7 +219,8 @@ impl Inventory {
         Ok(rows)
     }
 
-    /// Adds units to the lot of that key, or without a key to the plain units. What becomes zero is held no more.
+    /// Adds units to the lot of that key, or without a key to the plain units. What becomes zero is held no more. A lot that
+    /// isn't held is opened under the opening number, and one that is keeps its own; plain units have none.
     ///
     /// The error is `Range` exactly where the sum is out of range. It is `Memory` only where units that aren't zero are
     /// added to a lot that isn't held, or to plain units of a commodity of which nothing is held. On an error nothing
@@ -207,22 +230,28 @@ impl Inventory {
         commodity: &Commodity,
         key: Option<&LotKey>,
         units: Units,
+        opening: u64,
     ) -> Result<(), InventoryFault>
-        ensures ok { OnOk result (self.new ≡ added self.old (commodity.now, option_copied key.entry) units) }
-        ensures good { IsOk result → IsUnits (units_at self.old (commodity.now, option_copied key.entry) +ℤ units) }
-        ensures range { IsErrOf result Range ↔ (IsUnits (units_at self.old (commodity.now, option_copied key.entry) +ℤ units) → ⊥) }
-        ensures memory { IsErrOf result Memory → StoresMore self.old (commodity.now, option_copied key.entry) units }
+        ensures ok { OnOk result (self.new ≡ added_lot self.old (commodity.now, option_copied key.entry) units opening) }
+        ensures good { IsOk result → IsUnits (units_at self.old.held (commodity.now, option_copied key.entry) +ℤ units) }
+        ensures range { IsErrOf result Range ↔ (IsUnits (units_at self.old.held (commodity.now, option_copied key.entry) +ℤ units) → ⊥) }
+        ensures memory { IsErrOf result Memory → StoresMore self.old.held (commodity.now, option_copied key.entry) units }
         ensures err { OnErr result (self.new ≡ self.old) }
     {
         let sum = match self.units(commodity, key).checked_add(units) {
             Some(sum) => sum,
             None => return Err(InventoryFault::Range),
         };
-        self.set(commodity, key, sum)?;
+        let opening = match key {
+            Some(key) => self.opening(commodity, key).unwrap_or(opening),
+            None => opening,
+        };
+        self.set(commodity, key, sum, opening)?;
         Ok(())
     }
 
-    /// Sets the units in the lot of that key, or without a key the plain units. Zero units are held no more.
+    /// Sets the units in the lot of that key and its opening number, or without a key the plain units, which have none. Zero
+    /// units are held no more.
     ///
     /// The only error is out of memory. It comes only where units that aren't zero are set in a lot that isn't held, or as
     /// plain units of a commodity of which nothing is held. On an error nothing changes.
@@ -231,34 +260,43 @@ impl Inventory {
         commodity: &Commodity,
         key: Option<&LotKey>,
         units: Units,
+        opening: u64,
     ) -> Result<(), AllocError>
-        ensures ok { OnOk result (self.new ≡ with_units self.old (commodity.now, option_copied key.entry) units) }
-        ensures memory { OnErr result (StoresMore self.old (commodity.now, option_copied key.entry) units) }
+        ensures ok { OnOk result (self.new ≡ with_lot self.old (commodity.now, option_copied key.entry) units opening) }
+        ensures memory { OnErr result (StoresMore self.old.held (commodity.now, option_copied key.entry) units) }
         ensures err { OnErr result (self.new ≡ self.old) }
     {
-        set(&mut self.held, self.alloc, commodity, key, units)
+        set(&mut self.held, self.alloc, commodity, key, units, opening)
     }
 }
 
 impl Holding {
-    ghost use Rattle.lot_inv.specs.Holding.{HoldsSomething, IsHolding, NeedsLot, held_at};
+    ghost use Rattle.lot_inv.specs.Holding.{HoldsSomething, IsHolding, NeedsLot, held_at, listed, opening_of, units_of};
+    ghost use Rattle.lot_inv.specs.declared.lot.Lot.{Lot};
 
     /// Returns the units in the lot of that key, or the plain ones. They are zero where none are held.
     fn units(&self, key: Option<&LotKey>) -> Units
-        ensures { result ≡ unwrap_or (held_at self.now (option_copied key.entry)) (pos 0) }
+        ensures { result ≡ unwrap_or (units_of (held_at self.now (option_copied key.entry))) (pos 0) }
     {
         match key {
-            Some(key) => self.lots.get(key).copied().unwrap_or(Units::ZERO),
+            Some(key) => self.lots.get(key).map_or(Units::ZERO, |lot| lot.units),
             None => self.plain,
         }
     }
 
+    /// Returns the opening number of the lot of that key, or `None` where it isn't held.
+    fn opening(&self, key: &LotKey) -> Option<u64>
+        ensures { result ≡ opening_of (get lot_cmp self.now.lots key.now) }
+    {
+        self.lots.get(key).map(|lot| lot.opening)
+    }
+
     /// Returns whether some lot has the other sign than the units.
     fn has_other_sign(&self, units: Units) -> bool
-        ensures { result ≡ list_any (λ held. other_sign held units) (values_of self.now.lots.entries) }
+        ensures { result ≡ list_any (λ held. other_sign held units) (values_of (units_in self.now.lots.entries)) }
     {
-        for held in self.lots.values() {
-            if is_other_sign(*held, units) {
+        for lot in self.lots.values() {
+            if is_other_sign(lot.units, units) {
                 return true;
             }
         }
@@ -284,33 +322,39 @@ impl Holding {
         self.plain == Units::ZERO && self.lots.is_empty()
     }
 
-    /// Sets the units in the lot of that key, or the plain ones. A lot of zero units is held no more. Only a lot that isn't
-    /// held yet needs memory.
-    fn set(&mut self, key: Option<&LotKey>, units: Units) -> Result<(), AllocError>
+    /// Sets the units in the lot of that key and its opening number, or the plain units. A lot of zero units is held no more.
+    /// Only a lot that isn't held yet needs memory.
+    fn set(&mut self, key: Option<&LotKey>, units: Units, opening: u64) -> Result<(), AllocError>
         requires { IsHolding self.old }
         ensures holding { IsHolding self.new }
         ensures ok { OnOk result ((other : Option LotKey) → held_at self.new other
-            ≡ cond (is_eq (option_cmp lot_cmp (option_copied key.entry) other)) (non_zero units) (held_at self.old other)) }
+            ≡ cond (is_eq (option_cmp lot_cmp (option_copied key.entry) other))
+            (kept_at (option_copied key.entry) units opening) (held_at self.old other)) }
         ensures err { OnErr result ((other : Option LotKey) → held_at self.new other ≡ held_at self.old other) }
         ensures memory { OnErr result (NeedsLot self.old (option_copied key.entry)) }
         ensures some { OnErr result (units ≢ pos 0) }
     {
         match key {
-            Some(key) => set_lot(&mut self.lots, key, units)?,
+            Some(key) => set_lot(&mut self.lots, key, units, opening)?,
             None => self.plain = units,
         }
         Ok(())
     }
 
     /// Returns the lots that a specification fits, in the order of their keys.
-    fn matching(&self, alloc: Global, spec: &CostSpec) -> Result<Vec<(LotKey, Units)>, AllocError>
-        ensures all { IfOk result (λ lots. lots.items ≡ filter (λ (lot : LotKey × ℤ). fits spec.now lot.0) self.now.lots.entries) }
-        ensures memory { OnErr result (filter (λ (lot : LotKey × ℤ). fits spec.now lot.0) self.now.lots.entries ≢ []) }
+    fn matching(&self, alloc: Global, spec: &CostSpec) -> Result<Vec<Lot>, AllocError>
+        ensures all { IfOk result (λ lots. lots.items
+            ≡ filter (λ (lot : Lot). fits spec.now lot.key) (listed self.now.lots.entries)) }
+        ensures memory { OnErr result (filter (λ (lot : Lot). fits spec.now lot.key) (listed self.now.lots.entries) ≢ []) }
     {
         let mut fitting = Vec::new(alloc);
-        for (key, units) in &self.lots {
+        for (key, lot) in &self.lots {
             if spec.fits(key) {
-                fitting.push((key.copy()?, *units))?;
+                fitting.push(Lot {
+                    key: key.copy()?,
+                    units: lot.units,
+                    opening: lot.opening,
+                })?;
             }
         }
         Ok(fitting)
@@ -320,15 +364,15 @@ impl Holding {
     fn available(&self, units: Units, number: &Option<Rate>, spec: &CostSpec) -> Available
         requires { (spec.now.number ≡ None) ⊎ (spec.now.number ≡ number.now) }
         ensures lots { result.lots
-            ≡ length (takeable units (with_number number.now spec.now) self.now.lots.entries) }
+            ≡ length (takeable units (with_number number.now spec.now) (units_in self.now.lots.entries)) }
         ensures held { result.held
-            ≡ held_in (takeable units (with_number number.now spec.now) self.now.lots.entries) }
+            ≡ held_in (takeable units (with_number number.now spec.now) (units_in self.now.lots.entries)) }
     {
         let mut available = Available { lots: 0, held: 0 };
-        for (key, held) in &self.lots {
-            if is_other_sign(*held, units) && fits_at(number, spec, key) {
+        for (key, lot) in &self.lots {
+            if is_other_sign(lot.units, units) && fits_at(number, spec, key) {
                 available.lots += 1;
-                available.held += u128::from(held.mantissa().unsigned_abs());
+                available.held += u128::from(lot.units.mantissa().unsigned_abs());
             }
         }
         available
@@ -336,12 +380,12 @@ impl Holding {
 
     /// Returns an inventory of these lots, as lots of the commodity.
     fn only_lots(&self, alloc: Global, commodity: &Commodity) -> Result<Inventory, AllocError>
-        ensures lots { IfOk result (λ inventory. inventory ≡ with_lots finite.empty commodity.now self.now.lots.entries) }
+        ensures lots { IfOk result (λ inventory. inventory ≡ with_lots nothing commodity.now self.now.lots.entries) }
         ensures memory { OnErr result (self.now.lots.entries ≢ []) }
     {
         let mut lots = Inventory::new(alloc);
-        for (key, units) in &self.lots {
-            lots.set(commodity, Some(key), *units)?;
+        for (key, lot) in &self.lots {
+            lots.set(commodity, Some(key), lot.units, lot.opening)?;
         }
         Ok(lots)
     }
@@ -352,7 +396,7 @@ impl Holding {
         commodity: &Commodity,
         rows: &mut Vec<(Commodity, Option<LotKey>, Units)>,
     ) -> Result<(), AllocError>
-        ensures all { OnOk result (as_entries rows.new.items ≡ as_entries rows.old.items ++ rows_of commodity.now self.now) }
+        ensures all { OnOk result (as_entries rows.new.items ≡ as_entries rows.old.items ++ units_in (rows_of commodity.now self.now)) }
         ensures memory { OnErr result (rows_of commodity.now self.now ≢ []) }
     {
         list_plain(self.plain, commodity, rows)?;
@@ -361,11 +405,11 @@ impl Holding {
 
     /// Returns the sum of the mantissas of all lots, at scale 8.
     fn total(&self) -> i128
-        ensures { result ≡ sum_of (values_of self.now.lots.entries) }
+        ensures { result ≡ sum_of (values_of (units_in self.now.lots.entries)) }
     {
         let mut total = 0;
-        for held in self.lots.values() {
-            total = plus(total, *held);
+        for lot in self.lots.values() {
+            total = plus(total, lot.units);
         }
         total
     }
@@ -389,7 +433,7 @@ fn list_plain(
     commodity: &Commodity,
     rows: &mut Vec<(Commodity, Option<LotKey>, Units)>,
 ) -> Result<(), AllocError>
-    ensures all { OnOk result (as_entries rows.new.items ≡ as_entries rows.old.items ++ plain_rows commodity.now units) }
+    ensures all { OnOk result (as_entries rows.new.items ≡ as_entries rows.old.items ++ units_in (plain_rows commodity.now units)) }
     ensures memory { OnErr result (plain_rows commodity.now units ≢ []) }
 {
     if units.mantissa() != 0 {
@@ -400,46 +444,48 @@ fn list_plain(
 
 /// Lists the lots of a commodity behind other rows, in the order of their keys.
 fn list_lots(
-    lots: &BTreeMap<LotKey, Units>,
+    lots: &BTreeMap<LotKey, OpenLot>,
     commodity: &Commodity,
     rows: &mut Vec<(Commodity, Option<LotKey>, Units)>,
 ) -> Result<(), AllocError>
-    ensures all { OnOk result (as_entries rows.new.items ≡ as_entries rows.old.items ++ lot_rows commodity.now lots.now.entries) }
+    ensures all { OnOk result (as_entries rows.new.items ≡ as_entries rows.old.items ++ units_in (lot_rows commodity.now lots.now.entries)) }
     ensures memory { OnErr result (lot_rows commodity.now lots.now.entries ≢ []) }
 {
-    for (key, units) in lots {
-        rows.push((commodity.copy()?, Some(key.copy()?), *units))?;
+    for (key, lot) in lots {
+        rows.push((commodity.copy()?, Some(key.copy()?), lot.units))?;
     }
     Ok(())
 }
 
-/// Sets the units at a position. Only a lot that isn't held yet, or a commodity of which nothing is held, needs memory.
+/// Sets the units at a position, and the opening number where it is a lot. Only a lot that isn't held yet, or a commodity of which nothing is held, needs memory.
 fn set(
     held: &mut BTreeMap<Commodity, Holding>,
     alloc: Global,
     commodity: &Commodity,
     key: Option<&LotKey>,
     units: Units,
+    opening: u64,
 ) -> Result<(), AllocError>
     requires holdings { AreHoldings held.old.entries }
     requires none_empty { NoneIsEmpty held.old.entries }
     ensures holdings { AreHoldings held.new.entries }
     ensures none_empty { NoneIsEmpty held.new.entries }
-    ensures ok { OnOk result (ChangesPosition held.old.entries held.new.entries (commodity.now, option_copied key.entry) units) }
+    ensures ok { OnOk result (ChangesPosition held.old.entries held.new.entries (commodity.now, option_copied key.entry)
+        (kept_at (option_copied key.entry) units opening)) }
     ensures memory { OnErr result (NeedsPosition held.old.entries (commodity.now, option_copied key.entry)) }
     ensures some { OnErr result (units ≢ pos 0) }
     ensures err { OnErr result (AreAlike held.old.entries held.new.entries) }
 {
     match held.get_mut(commodity) {
         Some(holding) => {
-            holding.set(key, units)?;
+            holding.set(key, units, opening)?;
             forget_if_empty(held, commodity);
         }
         // Nothing is held there, and nothing is to be.
         None if units.mantissa() == 0 => {}
         None => {
             let mut holding = Holding::new(alloc);
-            holding.set(key, units)?;
+            holding.set(key, units, opening)?;
             held.insert(commodity.copy()?, holding)?;
         }
     }
@@ -462,11 +508,18 @@ fn forget_if_empty(held: &mut BTreeMap<Commodity, Holding>, commodity: &Commodit
     }
 }
 
-/// Sets the units of a lot, which is held no more where they are zero. A lot that is held already changes in place.
-fn set_lot(lots: &mut BTreeMap<LotKey, Units>, key: &LotKey, units: Units) -> Result<(), AllocError>
+/// Sets the units of a lot and its opening number. It is held no more where they are zero. A lot that is held already changes
+/// in place.
+fn set_lot(
+    lots: &mut BTreeMap<LotKey, OpenLot>,
+    key: &LotKey,
+    units: Units,
+    opening: u64,
+) -> Result<(), AllocError>
     requires { IsOrdered lot_cmp lots.old }
     ensures ordered { IsOrdered lot_cmp lots.new }
-    ensures each { OnOk result ((other : LotKey) → get lot_cmp lots.new other ≡ cond (is_eq (lot_cmp key.now other)) (non_zero units) (get lot_cmp lots.old other)) }
+    ensures each { OnOk result ((other : LotKey) → get lot_cmp lots.new other
+        ≡ cond (is_eq (lot_cmp key.now other)) (kept units opening) (get lot_cmp lots.old other)) }
     ensures err { OnErr result (lots.new.entries ≡ lots.old.entries) }
     ensures memory { OnErr result (get lot_cmp lots.old key.now ≡ None) }
     ensures some { OnErr result (units ≢ pos 0) }
@@ -475,10 +528,11 @@ fn set_lot(lots: &mut BTreeMap<LotKey, Units>, key: &LotKey, units: Units) -> Re
         lots.remove(key);
         return Ok(());
     }
+    let lot = OpenLot { units, opening };
     match lots.get_mut(key) {
-        Some(held) => *held = units,
+        Some(held) => *held = lot,
         None => {
-            lots.insert(key.copy()?, units)?;
+            lots.insert(key.copy()?, lot)?;
         }
     }
     Ok(())

@@ -1,5 +1,5 @@
 use Rattle.std.proofs.Common.{◌≡◌, ◌≤◌, ◌++◌, length}
-use Rattle.lot_inv.specs.Holding.{lot_rows}
+use Rattle.lot_inv.specs.Holding.{lot_rows, units_in}
 use Rattle.lot_inv.specs.Inventory.{as_entries}
 use Rattle.lot_inv.proofs.inventory.list_lots.Given as goal
 
@@ -7,6 +7,7 @@ use Rattle.lot_inv.proofs.inventory.list_lots.Given as goal
 -- than there were
 abbrev pub invariant-loop-key : goal.invariant-loop-key
 invariant-loop-key l = record {
-  all : as_entries l.rows.items ++ lot_rows l.commodity l.key-iterator ≡ as_entries l.initial.rows.items ++ lot_rows l.commodity l.lots.entries;
+  all : as_entries l.rows.items ++ units_in (lot_rows l.commodity l.key-iterator)
+      ≡ as_entries l.initial.rows.items ++ units_in (lot_rows l.commodity l.lots.entries);
   left : length l.key-iterator ≤ length l.lots.entries;
 }
