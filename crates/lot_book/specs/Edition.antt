@@ -1,14 +1,11 @@
--- The editions, and which of them judged an entry (docs/PROMISES.md, Migration). All code is of edition 1 so far.
+-- The editions, and which of them judged an entry (docs/PROMISES.md, Migration).
 use Rattle.std.specs.Prelude.{ℕ, nat_lt, if◌then◌else◌, List, ◌++◌, length}
+pub use Rattle.lot_booking.specs.declared.edition.Edition.{Edition}
+pub use Rattle.lot_booking.specs.declared.edition.Edition.TheVariants.{First, Second}
 use Rattle.lot_booking.specs.Method.{ByOpening}
 use Rattle.lot_book.specs.Booking.{TieRule, all_by_key}
 use Rattle.lot_book.specs.Facts.{Entry, legs_of}
 use Rattle.lot_book.specs.OpeningNumber.{opening_in}
-
--- edition 1 decides ties by the keys of the lots, edition 2 by which lot was opened first
-pub data Edition : Type 0 where
-  First : Edition
-  Second : Edition
 
 abbrev pub edition_number : Edition → ℕ
 edition_number First = 1

@@ -1,13 +1,14 @@
--- Opening numbers: which lot was opened before which (docs/PROMISES.md, Migration). They say it of legs alone, and the
--- program doesn't use them yet.
-use Rattle.std.specs.Prelude.{◌≡◌, ◌≢◌, ℕ, ◌+◌, ◌-◌, ◌*◌, ◌&&◌, Bool, if◌then◌else◌, List, [], ◌∷◌, ◌++◌, Option, None, Some, pos}
+-- Opening numbers: which lot was opened before which (docs/PROMISES.md, Migration). They say it of legs alone.
+use Rattle.std.specs.Prelude.{◌≡◌, ◌≢◌, ℕ, ◌+◌, ◌-◌, ◌*◌, ◌^◌, ◌<◌, ◌≤◌, ◌&&◌, Bool, if◌then◌else◌, List, [], ◌∷◌, ◌++◌, take, Option, None, Some, pos}
 use Rattle.std.specs.Option.{option_map, option_or, unwrap_or}
 use Rattle.std.specs.Ordering.{int_eq}
+use Rattle.lot_num.specs.Amount.{IsUnits}
 use Rattle.lot_cost.specs.declared.lot_key.LotKey.{LotKey}
+use Rattle.lot_inv.specs.Inventory.{Held, units_at}
 use Rattle.lot_book.specs.declared.leg.Leg.{Leg}
 use Rattle.lot_book.specs.declared.leg.Position.{Position}
-use Rattle.lot_book.specs.Leg.{same_position, sum_at}
-use Rattle.lot_book.specs.Refusals.{most_postings}
+use Rattle.lot_book.specs.Leg.{same_position, sum_at, with_leg}
+use Rattle.lot_book.specs.Refusals.{most_entries, most_postings}
 
 -- ---- What is so.
 
@@ -57,3 +58,37 @@ opening_number legs lot =
 abbrev pub opening_in : List Leg → List ℕ → List ℕ → LotKey → ℕ
 opening_in legs account commodity lot =
     unwrap_or (opening_number legs (record { account = account; commodity = commodity; lot = Some lot })) 0
+
+-- ---- What further legs make of the numbers.
+
+-- the opening numbers of the lots of an account and a commodity after a leg: the lot of the leg has the number of the leg's
+-- posting where it held nothing, and any other keeps its own
+abbrev pub opening_with_leg : List ℕ → List ℕ → Held → (LotKey → ℕ) → Leg → LotKey → ℕ
+opening_with_leg account commodity held opening leg lot =
+    if same_position (record { account = account; commodity = commodity; lot = Some lot }) leg.position
+    && int_eq (units_at held (commodity, Some lot)) (pos 0)
+    then posting_number leg else opening lot
+
+-- the same after further legs
+abbrev pub opening_with_legs : List ℕ → List ℕ → Held → (LotKey → ℕ) → List Leg → LotKey → ℕ
+opening_with_legs account commodity held opening [] = opening
+opening_with_legs account commodity held opening (leg ∷ legs) =
+    opening_with_legs account commodity (with_leg account held leg) (opening_with_leg account commodity held opening leg) legs
+
+-- ---- Where legs have numbers.
+
+-- the posting at a place of an entry has a number that 64 bits hold
+pub record HasNumber (entry posting : ℕ) : Type 0 where
+  pub from_one : 1 ≤ entry
+  pub fits : most_postings * (entry - 1) + posting < 2 ^ 64
+
+-- a leg is numbered as in a book: entries count from 1 to the most of a book, postings from 1 to the most of a transaction
+pub record IsNumbered (leg : Leg) : Type 0 where
+  pub entry_from_one : 1 ≤ leg.entry
+  pub entry_in_book : leg.entry ≤ most_entries
+  pub posting_from_one : 1 ≤ leg.posting
+  pub posting_in_entry : leg.posting ≤ most_postings
+
+-- however many legs are booked so far, what they leave at a position is in the range of units
+abbrev pub StayInRange : List Leg → Type 0
+StayInRange legs = (count : ℕ) (position : Position) → IsUnits (sum_at (take count legs) position)

@@ -1,5 +1,6 @@
--- Opening numbers as facts: what edition 2 looks at beside what edition 1 does. No code uses them yet.
-use Rattle.std.specs.Prelude.{◌≡◌, ◌≢◌, ℕ, ◌&&◌, if◌then◌else◌, List, [], ◌∷◌, Some, pos}
+-- Opening numbers as facts: what edition 2 looks at beside what edition 1 does.
+use Rattle.std.specs.Prelude.{◌≡◌, ◌≢◌, ℕ, ◌&&◌, if◌then◌else◌, List, Some, ℤ, pos}
+use Rattle.std.specs.BTreeMap.{BTreeMap}
 use Rattle.std.specs.List.{AllByRecursion}
 use Rattle.std.specs.Ordering.{int_eq}
 use Rattle.lot_cost.specs.declared.lot_key.LotKey.{LotKey}
@@ -7,14 +8,18 @@ use Rattle.lot_inv.specs.Inventory.{Held, units_at}
 use Rattle.lot_booking.specs.Method.{ByOpening}
 use Rattle.lot_command.specs.declared.command.Command.{Command}
 use Rattle.lot_command.specs.declared.key.Key.{Key}
+use Rattle.lot_command.specs.declared.transaction.Amount.{Amount}
 use Rattle.lot_book.specs.declared.change.Change.{Change}
 use Rattle.lot_book.specs.declared.change.Pair.{Pair}
 use Rattle.lot_book.specs.declared.leg.Leg.{Leg}
+use Rattle.lot_book.specs.declared.leg.Position.{Position}
 use Rattle.lot_book.specs.Agree.{Agrees}
-use Rattle.lot_book.specs.Booking.{TieRule}
+use Rattle.lot_book.specs.Booking.{Line, TieRule, all_by_key, line_under}
+use Rattle.lot_book.specs.Change.{listed_or}
+use Rattle.lot_book.specs.Edition.{Edition, First, Second}
 use Rattle.lot_book.specs.Facts.{Entry, Facts, facts_of, legs_of}
-use Rattle.lot_book.specs.Leg.{inventory_of, same_position, with_leg}
-use Rattle.lot_book.specs.OpeningNumber.{opening_in, posting_number}
+use Rattle.lot_book.specs.Leg.{inventory_of, same_position}
+use Rattle.lot_book.specs.OpeningNumber.{opening_in, opening_with_legs}
 use Rattle.lot_book.specs.Recorded.{recorded}
 use Rattle.lot_book.specs.Step.{DecidesUnder, Outcome}
 use Rattle.lot_book.specs.Touched.{pairs_in}
@@ -46,20 +51,6 @@ AreOpeningsOf entries opening =
 
 -- ---- what further legs make of the numbers
 
--- the opening numbers of the lots of an account and a commodity after a leg: the lot of the leg has the number of the leg's
--- posting where it held nothing, and any other keeps its own
-abbrev pub opening_with_leg : List ℕ → List ℕ → Held → (LotKey → ℕ) → Leg → LotKey → ℕ
-opening_with_leg account commodity held opening leg lot =
-    if same_position (record { account = account; commodity = commodity; lot = Some lot }) leg.position
-    && int_eq (units_at held (commodity, Some lot)) (pos 0)
-    then posting_number leg else opening lot
-
--- the same after further legs
-abbrev pub opening_with_legs : List ℕ → List ℕ → Held → (LotKey → ℕ) → List Leg → LotKey → ℕ
-opening_with_legs account commodity held opening [] = opening
-opening_with_legs account commodity held opening (leg ∷ legs) =
-    opening_with_legs account commodity (with_leg account held leg) (opening_with_leg account commodity held opening leg) legs
-
 -- all opening numbers after further legs
 abbrev pub opening_after : FactsWithOpenings → List Leg → Openings
 opening_after known legs account commodity =
@@ -70,11 +61,32 @@ abbrev pub recorded_with_openings : FactsWithOpenings → Command → Change →
 recorded_with_openings known command change =
     record { facts = recorded known.facts command change; opening = opening_after known change.legs }
 
+-- all opening numbers once those of a change are put in: a lot has the one that the change lists, or else its own
+abbrev pub with_listed : BTreeMap Position ℕ → Openings → Openings
+with_listed openings opening account commodity lot = listed_or openings account commodity lot (opening account commodity lot)
+
+-- all opening numbers once units are added at a position under an opening number: a lot that holds nothing has that one
+abbrev pub with_opening : FactsWithOpenings → Position → ℕ → Openings
+with_opening known position number account commodity lot =
+    if same_position (record { account = account; commodity = commodity; lot = Some lot }) position
+    && int_eq (units_at (known.facts.held account) (commodity, Some lot)) (pos 0)
+    then number else known.opening account commodity lot
+
 -- ---- the step of edition 2 on facts
 
 -- ties are decided by the opening numbers behind the legs so far of the transaction
 abbrev pub ties_on : FactsWithOpenings → TieRule
 ties_on known before account commodity = ByOpening (opening_after known before account commodity)
+
+-- how an edition decides ties on what a book says
+abbrev pub ties_for : Edition → FactsWithOpenings → TieRule
+ties_for First known = all_by_key
+ties_for Second known = ties_on known
+
+-- the posting with that amount, on what a book says and the legs so far of the transaction, by an edition
+abbrev pub line_in : Edition → FactsWithOpenings → ℤ → List Leg → ℕ → List ℕ → Amount → Line
+line_in edition known day before place account amount =
+    line_under (ties_for edition known) known.facts day before place account amount
 
 -- what a command comes to on what a book says, by edition 2
 abbrev pub DecidesByOpening : FactsWithOpenings → Command → Outcome → Type 0

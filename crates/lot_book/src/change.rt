@@ -36,6 +36,9 @@ pub struct Change {
     pub sales: Items<(usize, Sale)>,
     /// What each position that a leg touches holds after them; at zero it holds nothing any more.
     pub positions: BTreeMap<Position, Units>,
+    /// The opening number of each lot that a leg opens, which is that of the last one that does. A lot that is held before
+    /// them and is never emptied keeps its own, and isn't listed.
+    pub openings: BTreeMap<Position, u64>,
     /// The pairs that are posted to with braces, each with the transaction's day, which is the latest one there.
     pub heads: BTreeMap<Pair, Day>,
 }

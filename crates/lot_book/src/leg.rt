@@ -1,11 +1,15 @@
 ghost use Rattle.std.specs.Prelude.{◌≡◌, ◌≤◌, ◌*◌, unsigned_abs, IfOk};
 ghost use Rattle.lot_num.specs.Amount.{rate_limit};
 ghost use Rattle.lot_book.specs.Balance.{weight_of};
+ghost use Rattle.lot_book.specs.OpeningNumber.{HasNumber, posting_number};
 
 use lot_base::{Account, Commodity};
 use lot_cost::LotKey;
 use lot_num::{Units, Wide, weight};
 use std::alloc::AllocError;
+
+/// The most postings of a transaction.
+pub const MOST_POSTINGS: usize = 64;
 
 /// Where units are held: an account, a commodity, and the key of a lot, or none for plain units. Positions are ordered as
 /// the holdings are: by account, then commodity, the plain one before the lots.
@@ -58,5 +62,13 @@ impl Leg {
             Some(lot) => (&lot.currency, weight(self.units, lot.number)),
             None => (&self.position.commodity, self.units.wide()),
         }
+    }
+
+    /// Returns the number of the leg's posting in its book: 64 for each entry before its own, and its place there, from 1.
+    pub fn number(&self) -> u64
+        requires { HasNumber self.now.entry self.now.posting }
+        ensures { result ≡ posting_number self.now }
+    {
+        MOST_POSTINGS as u64 * (self.entry - 1) + self.posting as u64
     }
 }
