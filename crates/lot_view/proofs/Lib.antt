@@ -1,4 +1,5 @@
 pub mod ViewHeld
 pub mod ViewLemmas
+pub mod ViewOpenings
 pub mod HoldingLemmas
 pub mod TouchedLemmas

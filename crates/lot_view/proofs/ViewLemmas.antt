@@ -3,7 +3,6 @@ use Rattle.std.specs.Prelude.{◌≡◌, ℕ, Bool, true, false, cond, ◌&&◌,
 use Rattle.std.specs.BTreeMap.{BTreeMap, get, is_at}
 use Rattle.std.specs.Map.{keys_of, lookup}
 use Rattle.std.specs.BTreeSet.{BTreeSet, contains}
-use Rattle.std.specs.FinMap.{empty}
 use Rattle.std.specs.Cmp.Lexicographic.{texts_ties}
 use Rattle.std.specs.List.Sorted.{IsStrictlySortedBy}
 use Rattle.std.specs.Option.{option_map, option_or, unwrap_or}
@@ -16,10 +15,10 @@ use Rattle.lot_base.proofs.TextLemmas.{one_text, same_text-ordered}
 use Rattle.lot_cost.proofs.OrderLemmas.{eq_then}
 use Rattle.lot_command.specs.declared.command.Opening.{Opening}
 use Rattle.lot_book.specs.declared.change.Pair.{Pair}
-use Rattle.lot_inv.specs.Inventory.{Held, Position, added, units_at, with_units}
+use Rattle.lot_inv.specs.Inventory.{Position, Stock, added, nothing, units_at, with_lot, with_units}
 use Rattle.lot_book.specs.declared.standing.Standing.{Standing}
 use Rattle.lot_book.specs.Facts.{standing_by}
-use Rattle.lot_view.specs.View.{day_in, held_in}
+use Rattle.lot_view.specs.View.{day_in, held_in, stock_in}
 use Rattle.lot_book.specs.Recorded.{closed_on}
 use Rattle.lot_book.specs.Change.{pair_cmp}
 
@@ -102,46 +101,64 @@ days_new old new commodity copied day nothing e sets what =
 
 -- ---- inventories
 
-pub held_set : (old new : BTreeMap (List ℕ) Held) (account : List ℕ) (position : Position) (units : ℤ) (inventory : Held)
-    (at : Option Held)
+-- one position of one account has other units, and a lot there that opening number
+abbrev pub SetsLot : BTreeMap (List ℕ) Stock → BTreeMap (List ℕ) Stock → List ℕ → Position → ℤ → ℕ → Type 0
+SetsLot old new account position units opening =
+    (other : List ℕ) → stock_in new other
+    ≡ cond (same_text other account) (with_lot (stock_in old other) position units opening) (stock_in old other)
+
+pub stock_set : (old new : BTreeMap (List ℕ) Stock) (account : List ℕ) (position : Position) (units : ℤ) (opening : ℕ)
+    (inventory : Stock) (at : Option Stock)
     → at ≡ get text_cmp old account
-    → inventory ≡ with_units (unwrap_or at empty) position units
+    → inventory ≡ with_lot (unwrap_or at nothing) position units opening
     → Sets old new account inventory
-    → (other : List ℕ) → held_in new other
-    ≡ cond (same_text other account) (with_units (held_in old other) position units) (held_in old other)
-held_set old new account position units inventory at is sets changes other =
-    ap (λ (o : Option Held). unwrap_or o empty) (sets-seen old new account inventory changes other)
+    → SetsLot old new account position units opening
+stock_set old new account position units opening inventory at is sets changes other =
+    ap (λ (o : Option Stock). unwrap_or o nothing) (sets-seen old new account inventory changes other)
     ∙ by (same_text other account) refl
   where
     by : (b : Bool) → same_text other account ≡ b
-        → unwrap_or (cond b (Some inventory) (get text_cmp old other)) empty
-        ≡ cond b (with_units (held_in old other) position units) (held_in old other)
-    by true e = sets ∙ ap (λ (o : Option Held). with_units (unwrap_or o empty) position units)
+        → unwrap_or (cond b (Some inventory) (get text_cmp old other)) nothing
+        ≡ cond b (with_lot (stock_in old other) position units opening) (stock_in old other)
+    by true e = sets ∙ ap (λ (o : Option Stock). with_lot (unwrap_or o nothing) position units opening)
         (is ∙ ap (get text_cmp old) (sym (one_text other account e)))
     by false e = refl
 
-pub held_kept : (old new : BTreeMap (List ℕ) Held) (account : List ℕ) (inventory : Held) (at : Option Held)
+pub stock_kept : (old new : BTreeMap (List ℕ) Stock) (account : List ℕ) (inventory : Stock) (at : Option Stock)
     → at ≡ get text_cmp old account
-    → inventory ≡ unwrap_or at empty
+    → inventory ≡ unwrap_or at nothing
     → Sets old new account inventory
-    → (other : List ℕ) → held_in new other ≡ held_in old other
-held_kept old new account inventory at is same changes other =
-    ap (λ (o : Option Held). unwrap_or o empty) (sets-seen old new account inventory changes other)
+    → (other : List ℕ) → stock_in new other ≡ stock_in old other
+stock_kept old new account inventory at is same changes other =
+    ap (λ (o : Option Stock). unwrap_or o nothing) (sets-seen old new account inventory changes other)
     ∙ by (same_text other account) refl
   where
     by : (b : Bool) → same_text other account ≡ b
-        → unwrap_or (cond b (Some inventory) (get text_cmp old other)) empty ≡ held_in old other
-    by true e = same ∙ ap (λ (o : Option Held). unwrap_or o empty) (is ∙ ap (get text_cmp old) (sym (one_text other account e)))
+        → unwrap_or (cond b (Some inventory) (get text_cmp old other)) nothing ≡ stock_in old other
+    by true e = same ∙ ap (λ (o : Option Stock). unwrap_or o nothing) (is ∙ ap (get text_cmp old) (sym (one_text other account e)))
     by false e = refl
 
+-- the units that are held then
+pub held_set : (old new : BTreeMap (List ℕ) Stock) (account : List ℕ) (position : Position) (units : ℤ) (opening : ℕ)
+    → SetsLot old new account position units opening
+    → (other : List ℕ) → held_in new other
+    ≡ cond (same_text other account) (with_units (held_in old other) position units) (held_in old other)
+held_set old new account position units opening sets other =
+    ap (λ (stock : Stock). stock.held) (sets other) ∙ by (same_text other account)
+  where
+    by : (b : Bool) → (cond b (with_lot (stock_in old other) position units opening) (stock_in old other)).held
+        ≡ cond b (with_units (held_in old other) position units) (held_in old other)
+    by true = refl
+    by false = refl
+
 -- units are added where their sum is set
-pub held_added : (old new : BTreeMap (List ℕ) Held) (account : List ℕ) (position : Position) (units sum : ℤ)
+pub held_added : (old new : BTreeMap (List ℕ) Stock) (account : List ℕ) (position : Position) (units sum : ℤ) (opening : ℕ)
     → sum ≡ units_at (held_in old account) position +ℤ units
-    → ((other : List ℕ) → held_in new other
-    ≡ cond (same_text other account) (with_units (held_in old other) position sum) (held_in old other))
+    → SetsLot old new account position sum opening
     → (other : List ℕ) → held_in new other
     ≡ cond (same_text other account) (added (held_in old other) position units) (held_in old other)
-held_added old new account position units sum is sets other = sets other ∙ by (same_text other account) refl
+held_added old new account position units sum opening is sets other =
+    held_set old new account position sum opening sets other ∙ by (same_text other account) refl
   where
     by : (b : Bool) → same_text other account ≡ b
         → cond b (with_units (held_in old other) position sum) (held_in old other)

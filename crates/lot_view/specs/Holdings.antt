@@ -1,7 +1,7 @@
 -- What accounts hold, as the entries of rows.
 use Rattle.std.specs.Prelude.{ℕ, List, [], ◌∷◌, ◌++◌, ℤ}
 use Rattle.std.specs.FinMap as finite
-use Rattle.lot_inv.specs.Inventory.{Held, Position as Place}
+use Rattle.lot_inv.specs.Inventory.{Position as Place, Stock}
 use Rattle.lot_book.specs.declared.leg.Position.{Position}
 
 -- what a place in an account's inventory holds, as an entry of its position
@@ -14,6 +14,6 @@ entries_in account [] = []
 entries_in account (entry ∷ entries) = entry_in account entry ∷ entries_in account entries
 
 -- what accounts hold, one after another
-abbrev pub entries_of : List (List ℕ × Held) → List (Position × ℤ)
+abbrev pub entries_of : List (List ℕ × Stock) → List (Position × ℤ)
 entries_of [] = []
-entries_of (kept ∷ rest) = entries_in kept.0 (finite.entries kept.1) ++ entries_of rest
+entries_of (kept ∷ rest) = entries_in kept.0 (finite.entries kept.1.held) ++ entries_of rest

@@ -1,4 +1,4 @@
-ghost use Rattle.std.specs.Prelude.{◌≡◌, ℕ, ◌+ℤ◌, ◌<◌, ◌&&◌, ◌||◌, ◌↔◌, if◌then◌else◌, List, None, Some, MatchOption, IfOk, OnOk, OnErr, IsOk, IsErrOf, option_copied};
+ghost use Rattle.std.specs.Prelude.{◌≡◌, ℕ, ◌+ℤ◌, ◌<◌, ◌&&◌, ◌||◌, ◌↔◌, if◌then◌else◌, List, None, Some, MatchOption, IfOk, IfSome, OnOk, OnErr, IsOk, IsErrOf, option_and_then, option_copied};
 ghost use Rattle.std.specs.BTreeMap.{get};
 ghost use Rattle.std.specs.BTreeSet.{contains};
 ghost use Rattle.std.specs.FinMap as finite;
@@ -6,13 +6,14 @@ ghost use Rattle.std.specs.Option.{option_map, option_or};
 ghost use Rattle.std.specs.String.{string_bytes};
 ghost use Rattle.lot_num.specs.Amount.{IsUnits};
 ghost use Rattle.lot_base.specs.Text.{same_text, text_cmp};
-ghost use Rattle.lot_inv.specs.Inventory.{units_at, with_units};
+ghost use Rattle.lot_inv.specs.Inventory.{NumbersLots, non_zero, opened_at, opening_at, units_at, with_lot};
 ghost use Rattle.lot_inv.specs.Zeros.{HasNoZeros};
 ghost use Rattle.lot_inv.specs.declared.fault.InventoryFault.TheVariants.{Range};
 ghost use Rattle.lot_book.specs.Facts.{declares, standing_by};
 ghost use Rattle.lot_book.specs.Holding.{ListsHoldings};
 ghost use Rattle.lot_book.specs.Refusals.{most_entries};
-ghost use Rattle.lot_view.specs.View.{day_in, held_in, known};
+ghost use Rattle.lot_book.specs.Openings.{HaveSameOpenings, with_listed, with_opening};
+ghost use Rattle.lot_view.specs.View.{day_in, held_in, known, known_with_openings, openings_in, stock_in};
 ghost use Rattle.lot_book.specs.Recorded.{closed_on, nothing_but, recorded, standing_after, with_declared, with_head, with_position, with_rows, with_standing, with_text, without_text};
 ghost use Rattle.lot_book.specs.Change.{day_listed};
 
@@ -104,28 +105,45 @@ impl View {
         Ok(())
     }
 
-    /// Puts further units at a position. The error is `Range` exactly where the sum is out of range, else out of memory;
-    /// nothing changes then.
+    /// Puts further units at a position. A lot that holds nothing is opened under the opening number, and one that holds
+    /// some keeps its own. The error is `Range` exactly where the sum is out of range, else out of memory; nothing changes
+    /// then.
     pub fn put_position(
         &mut self,
         account: &Account,
         commodity: &Commodity,
         lot: Option<&LotKey>,
         units: Units,
+        opening: u64,
     ) -> Result<(), InventoryFault>
         ensures ok { OnOk result
             (known self.new ≡ with_position account.now commodity.now (option_copied lot.entry) units (known self.old)) }
+        ensures openings { OnOk result ((other what : List ℕ)
+            → HaveSameOpenings what ((known self.new).held other)
+            (with_opening (known_with_openings self.old)
+            (record { account = account.now; commodity = commodity.now; lot = option_copied lot.entry })
+            opening other what)
+            ((known_with_openings self.new).opening other what)) }
         ensures good { IsOk result
             → IsUnits (units_at ((known self.old).held account.now) (commodity.now, option_copied lot.entry) +ℤ units) }
         ensures range { IsErrOf result Range
             ↔ (IsUnits (units_at ((known self.old).held account.now) (commodity.now, option_copied lot.entry) +ℤ units) → ⊥) }
-        ensures err { OnErr result (known self.new ≡ known self.old) }
+        ensures err { OnErr result (known_with_openings self.new ≡ known_with_openings self.old) }
     {
         let sum = match self.units(account, commodity, lot).checked_add(units) {
             Some(sum) => sum,
             None => return Err(InventoryFault::Range),
         };
-        set_units(&mut self.held, self.alloc, account, commodity, lot, sum)?;
+        let number = opening_of(&self.held, account, commodity, lot).unwrap_or(opening);
+        set_units(
+            &mut self.held,
+            self.alloc,
+            account,
+            commodity,
+            lot,
+            sum,
+            number,
+        )?;
         Ok(())
     }
 
@@ -133,15 +151,19 @@ impl View {
     /// command's key. The error is out of memory; the view is then lost.
     pub fn record(mut self, command: &Command, change: &Change) -> Result<View, AllocError>
         requires { (known self).entries < most_entries }
-        ensures { IfOk result (λ view. known view ≡ recorded (known self) command.now change.now) }
+        ensures facts { IfOk result (λ view. known view ≡ recorded (known self) command.now change.now) }
+        ensures openings { IfOk result (λ view. (account commodity : List ℕ)
+            → HaveSameOpenings commodity ((known view).held account)
+            (with_listed change.now.openings (known_with_openings self).opening account commodity)
+            ((known_with_openings view).opening account commodity)) }
     {
         keep_standing(&mut self.standings, self.alloc, command)?;
         keep_declared(&mut self.declared, command)?;
         keep_heads(&mut self.heads, self.alloc, &change.heads)?;
         keep_held(&mut self.held, self.alloc, &change.positions)?;
+        keep_openings(&mut self.held, self.alloc, &change.openings)?;
         self.entries += 1;
-        self.clear_text();
-        Ok(self)
+        Ok(View { text: None, ..self })
     }
 
     /// Returns the number of entries.
@@ -183,17 +205,18 @@ impl View {
     pub fn units(&self, account: &Account, commodity: &Commodity, lot: Option<&LotKey>) -> Units
         ensures { result ≡ units_at ((known self.now).held account.now) (commodity.now, option_copied lot.entry) }
     {
-        match self.held.get(account) {
-            Some(inventory) => inventory.units(commodity, lot),
-            None => Units::ZERO,
-        }
+        units_of(&self.held, account, commodity, lot)
     }
 
     /// Returns the inventory of an account, or `None` where nothing is known of what it holds.
     pub fn held(&self, account: &Account) -> Option<&Inventory>
         ensures value { MatchOption result ((known self.now).held account.now ≡ finite.empty)
-            (λ held. held.now ≡ (known self.now).held account.now) }
+            (λ held. held.now.held ≡ (known self.now).held account.now) }
+        ensures openings { IfSome result (λ held. (commodity : List ℕ)
+            → opening_at held.now commodity
+            ≡ (known_with_openings self.now).opening account.now commodity) }
         ensures no_zeros { HasNoZeros ((known self.now).held account.now) }
+        ensures numbered { IfSome result (λ held. NumbersLots held.now) }
     {
         let held = self.held.get(account)?;
         held.has_no_zeros();
@@ -289,17 +312,22 @@ fn keep_heads(
     Ok(())
 }
 
-/// Keeps the units that are listed. The error is out of memory.
+/// Keeps the units that are listed; a lot keeps its opening number. The error is out of memory.
 fn keep_held(
     held: &mut BTreeMap<Account, Inventory>,
     alloc: Global,
     listed: &BTreeMap<Position, Units>,
 ) -> Result<(), AllocError>
-    ensures { OnOk result ((account : List ℕ) → held_in held.new account
+    ensures units { OnOk result ((account : List ℕ) → held_in held.new account
         ≡ with_rows account (held_in held.old account) listed.now.entries) }
+    ensures openings { OnOk result ((account commodity : List ℕ)
+        → HaveSameOpenings commodity (held_in held.new account)
+        (openings_in held.old account commodity) (openings_in held.new account commodity)) }
 {
     for (position, units) in listed {
         let lot = position.lot.as_ref();
+        // the number of a lot that the change opens is among its opening numbers
+        let opening = opening_of(held, &position.account, &position.commodity, lot).unwrap_or(0);
         set_units(
             held,
             alloc,
@@ -307,6 +335,35 @@ fn keep_held(
             &position.commodity,
             lot,
             *units,
+            opening,
+        )?;
+    }
+    Ok(())
+}
+
+/// Keeps the opening numbers that are listed, of the lots that hold something. The error is out of memory.
+fn keep_openings(
+    held: &mut BTreeMap<Account, Inventory>,
+    alloc: Global,
+    listed: &BTreeMap<Position, u64>,
+) -> Result<(), AllocError>
+    ensures units { OnOk result ((account : List ℕ) → held_in held.new account ≡ held_in held.old account) }
+    ensures openings { OnOk result ((account commodity : List ℕ)
+        → HaveSameOpenings commodity (held_in held.new account)
+        (with_listed listed.now (openings_in held.old) account commodity)
+        (openings_in held.new account commodity)) }
+{
+    for (position, opening) in listed {
+        let lot = position.lot.as_ref();
+        let units = units_of(held, &position.account, &position.commodity, lot);
+        set_units(
+            held,
+            alloc,
+            &position.account,
+            &position.commodity,
+            lot,
+            units,
+            *opening,
         )?;
     }
     Ok(())
@@ -337,7 +394,41 @@ fn set_day(
     Ok(())
 }
 
-/// Sets the units at a position of an account. The error is out of memory; nothing changes then.
+/// Returns the units at a position of an account, zero where it holds none.
+fn units_of(
+    held: &BTreeMap<Account, Inventory>,
+    account: &Account,
+    commodity: &Commodity,
+    lot: Option<&LotKey>,
+) -> Units
+    ensures value { result ≡ units_at (held_in held.now account.now) (commodity.now, option_copied lot.entry) }
+    ensures held { finite.get (held_in held.now account.now) (commodity.now, option_copied lot.entry) ≡ non_zero result }
+{
+    match held.get(account) {
+        Some(inventory) => inventory.units(commodity, lot),
+        None => Units::ZERO,
+    }
+}
+
+/// Returns the opening number of a lot of an account, or `None` where it holds nothing. Plain units have none.
+fn opening_of(
+    held: &BTreeMap<Account, Inventory>,
+    account: &Account,
+    commodity: &Commodity,
+    lot: Option<&LotKey>,
+) -> Option<u64>
+    ensures value { result
+        ≡ option_and_then (opened_at (stock_in held.now account.now) commodity.now) (option_copied lot.entry) }
+    ensures numbered { NumbersLots (stock_in held.now account.now) }
+    ensures no_zeros { HasNoZeros (held_in held.now account.now) }
+{
+    let inventory = held.get(account)?;
+    inventory.has_no_zeros();
+    inventory.opening(commodity, lot?)
+}
+
+/// Sets the units at a position of an account, and the opening number of a lot. The error is out of memory; nothing changes
+/// then.
 fn set_units(
     held: &mut BTreeMap<Account, Inventory>,
     alloc: Global,
@@ -345,18 +436,19 @@ fn set_units(
     commodity: &Commodity,
     lot: Option<&LotKey>,
     units: Units,
+    opening: u64,
 ) -> Result<(), AllocError>
-    ensures ok { OnOk result ((other : List ℕ) → held_in held.new other
+    ensures ok { OnOk result ((other : List ℕ) → stock_in held.new other
         ≡ if same_text other account.now
-        then with_units (held_in held.old other) (commodity.now, option_copied lot.entry) units
-        else held_in held.old other) }
-    ensures err { OnErr result ((other : List ℕ) → held_in held.new other ≡ held_in held.old other) }
+        then with_lot (stock_in held.old other) (commodity.now, option_copied lot.entry) units opening
+        else stock_in held.old other) }
+    ensures err { OnErr result ((other : List ℕ) → stock_in held.new other ≡ stock_in held.old other) }
 {
     match held.get_mut(account) {
-        Some(inventory) => inventory.set(commodity, lot, units)?,
+        Some(inventory) => inventory.set(commodity, lot, units, opening)?,
         None => {
             let mut inventory = Inventory::new(alloc);
-            inventory.set(commodity, lot, units)?;
+            inventory.set(commodity, lot, units, opening)?;
             held.insert(account.copy()?, inventory)?;
         }
     }

@@ -15,7 +15,7 @@ returns c entries key book keeps agrees comes =
     let change = c.args.change.now in
     let facts = seen c.args.self in
     let grown : List Entry = entries ++ entry_of key command change.legs ∷ [] in
-    let is = c.in_ok-view.ensures in record {
+    let is = c.in_ok-view.ensures.facts in record {
       count = ap (λ (f : Facts). f.entries) is
           ∙ recorded_count entries key command change facts book agrees comes keeps.part keeps.count;
       part = subst (IsPart (facts_in grown)) (sym is) (recorded_part entries key command change facts book agrees comes keeps.part);
