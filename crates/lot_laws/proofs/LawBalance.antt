@@ -16,24 +16,41 @@ use Rattle.lot_book.specs.Step.{Accept, JudgesTransactionUnder, StepIn, all_legs
 use Rattle.lot_laws.proofs.BalanceLaw.{unrefused_balances}
 use Rattle.lot_laws.proofs.LawBooks.{accepted_in, continued, none_holds}
 
-balanced_by : (ties : TieRule) (facts : Facts) (t : TransactionOf) (legs : List Leg) (bookings : Bookings) → BooksAllUnder ties facts t.day [] 1 t.postings bookings
-    → Accept legs ≡ concluded facts t bookings → IsBalancedUnder ties facts t legs
-balanced_by ties facts t legs (Stopped refusal) books e = absurd cc
-balanced_by ties facts t legs (All booked) books e =
-    let none = none_holds (first_of (last_conditions facts t booked)) legs (all_legs facts t booked) e in
-    record { booked = booked; books = books; all = none.1; balances = λ currency. unrefused_balances facts t booked currency none.0 }
+-- the legs are those of a transaction whose postings are booked, and then no condition holds
+pub record IsUnrefused (ties : TieRule) (facts : Facts) (t : TransactionOf) (legs : List Leg) : Type 0 where
+  pub booked : List Booked
+  pub books : BooksAllUnder ties facts t.day [] 1 t.postings (All booked)
+  pub all : legs ≡ all_legs facts t booked
+  pub none : first_of (last_conditions facts t booked) ≡ None
 
-balanced_unless : (ties : TieRule) (condition : Option Refusal) (facts : Facts) (t : TransactionOf) (legs : List Leg)
-    → JudgesTransactionUnder ties facts t condition (Accept legs) → IsBalancedUnder ties facts t legs
-balanced_unless ties None facts t legs h = balanced_by ties facts t legs h.0 h.1 h.2
-balanced_unless ties (Some refusal) facts t legs h = absurd cc
+unrefused_by : (ties : TieRule) (facts : Facts) (t : TransactionOf) (legs : List Leg) (bookings : Bookings) → BooksAllUnder ties facts t.day [] 1 t.postings bookings
+    → Accept legs ≡ concluded facts t bookings → IsUnrefused ties facts t legs
+unrefused_by ties facts t legs (Stopped refusal) books e = absurd cc
+unrefused_by ties facts t legs (All booked) books e =
+    let none = none_holds (first_of (last_conditions facts t booked)) legs (all_legs facts t booked) e in
+    record { booked = booked; books = books; all = none.1; none = none.0 }
+
+unrefused_unless : (ties : TieRule) (condition : Option Refusal) (facts : Facts) (t : TransactionOf) (legs : List Leg)
+    → JudgesTransactionUnder ties facts t condition (Accept legs) → IsUnrefused ties facts t legs
+unrefused_unless ties None facts t legs h = unrefused_by ties facts t legs h.0 h.1 h.2
+unrefused_unless ties (Some refusal) facts t legs h = absurd cc
+
+pub accepted_unrefused : (edition : Edition) (book : List Entry) (key : Key) (t : TransactionOf) (legs : List Leg)
+    → StepIn edition book key (Transaction t) (Accept legs) → IsUnrefused (ties_in edition book) (facts_of book key) t legs
+accepted_unrefused edition book key t legs h =
+    let facts = facts_of book key in
+    unrefused_unless (ties_in edition book) (first_of (first_conditions facts t)) facts t legs
+    (accepted_in edition book key (Transaction t) legs h).1
 
 pub accepted_balances : (edition : Edition) (book : List Entry) (key : Key) (t : TransactionOf) (legs : List Leg)
     → StepIn edition book key (Transaction t) (Accept legs) → IsBalancedUnder (ties_in edition book) (facts_of book key) t legs
 accepted_balances edition book key t legs h =
-    let facts = facts_of book key in
-    balanced_unless (ties_in edition book) (first_of (first_conditions facts t)) facts t legs
-    (accepted_in edition book key (Transaction t) legs h).1
+    let is = accepted_unrefused edition book key t legs h in record {
+      booked = is.booked;
+      books = is.books;
+      all = is.all;
+      balances = λ currency. unrefused_balances (facts_of book key) t is.booked currency is.none;
+    }
 
 pub book_balances : (migration : Migration) (before more : List Entry) (key : Key) (t : TransactionOf) (legs : List Leg)
     → IsBookIn migration (before ++ entry_of key (Transaction t) legs ∷ more)

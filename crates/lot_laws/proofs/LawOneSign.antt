@@ -6,8 +6,7 @@ use Rattle.std.specs.Option.{option_map, option_or, unwrap_or}
 use Rattle.std.proofs.Common.{refl, sym, ap, subst, ◌∙◌, append_assoc}
 use Rattle.std.proofs.lemmas.Grind.{flat_map-append}
 use Rattle.std.proofs.lemmas.List.{append-nil}
-use Rattle.std.proofs.lemmas.List.Elements.{All-contains, All-filter, All-from_recursion, filter_passes}
-use Rattle.std.proofs.lemmas.Bool.{true≢false}
+use Rattle.std.proofs.lemmas.List.Elements.{All-contains, All-filter, All-from_recursion}
 use Rattle.std.proofs.lemmas.Map.Views.{Contains-from_lookup}
 use Rattle.lot_base.specs.Text.{same_text}
 use Rattle.lot_base.proofs.TextLemmas.{one_text, same_text-itself}
@@ -26,6 +25,7 @@ use Rattle.lot_booking.specs.Method.{may_reduce}
 use Rattle.lot_booking.proofs.BookingLaws.{taken_distinct, taken_from}
 use Rattle.lot_cost.proofs.ListLemmas.{all_weaker}
 use Rattle.lot_booking.proofs.ListLemmas.{each_member}
+use Rattle.lot_booking.proofs.SameTies.{held_lot}
 use Rattle.lot_command.specs.declared.command.Command.{Command}
 use Rattle.lot_command.specs.declared.command.Command.TheVariants.{Opening, Closing, Declaring, Quoting, Transaction}
 use Rattle.lot_command.specs.declared.command.Opening.{Opening as OpeningOf}
@@ -41,7 +41,7 @@ use Rattle.lot_book.specs.Leg.{inventory_of, leg_at, legs_at_lots, with_leg, wit
 use Rattle.lot_book.specs.Step.{fill_legs}
 use Rattle.lot_laws.proofs.LawBalance.{command_booked}
 use Rattle.lot_laws.proofs.LawBooks.{over_booked_under}
-use Rattle.lot_laws.proofs.LawSigns.{IsSigned, TakesHeld, adding, held_lot, one_sign, sign_none, signed_less, signed_more, signed_plain}
+use Rattle.lot_laws.proofs.LawSigns.{IsSigned, TakesHeld, adding, one_sign, signed_less, signed_more, signed_plain}
 use Rattle.lot_book.proofs.LegLemmas.{with_legs-append}
 use Rattle.lot_book.proofs.CaseLemmas.{by_bool}
 
@@ -61,24 +61,6 @@ takes_held posting leg takes =
     (All-from_recursion IsHeld (lots_of held name) (each_member IsHeld (lots_of held name) (λ lot among. held_lot held name lot among)))) in
     let is : units_at held (name, Some leg.0) ≡ takes.held = All-contains IsHeld (candidates posting) (leg.0, takes.held) all member in
     record { sign = rw is takes.sign; bound = rw is takes.bound }
-
--- a lot that a posting may take is held
-pub candidate_held : (posting : Braced) (lot : LotKey × ℤ) → Contains (candidates posting) lot
-    → units_at posting.held (posting.commodity, Some lot.0) ≢ pos 0
-candidate_held posting lot among zero =
-    let held = posting.held in
-    let name = posting.commodity in
-    let IsHeld : LotKey × ℤ → Type 0 = λ lot. units_at held (name, Some lot.0) ≡ lot.1 in
-    let HasOtherSign : LotKey × ℤ → Type 0 = λ lot. other_sign lot.1 posting.units ≡ true in
-    let all : AllOf IsHeld (candidates posting) =
-    All-filter (λ (lot : LotKey × ℤ). other_sign lot.1 posting.units) IsHeld (matching held name (spec_of posting.units posting.cost))
-    (All-filter (λ (lot : LotKey × ℤ). fits (spec_of posting.units posting.cost) lot.0) IsHeld (lots_of held name)
-    (All-from_recursion IsHeld (lots_of held name) (each_member IsHeld (lots_of held name) (λ lot among. held_lot held name lot among)))) in
-    let is : units_at held (name, Some lot.0) ≡ lot.1 = All-contains IsHeld (candidates posting) lot all among in
-    let sign : other_sign lot.1 posting.units ≡ true =
-    All-contains HasOtherSign (candidates posting) lot
-    (filter_passes (λ (lot : LotKey × ℤ). other_sign lot.1 posting.units) (matching held name (spec_of posting.units posting.cost))) among in
-    true≢false (sym sign ∙ ap (λ z. other_sign z posting.units) (sym is ∙ zero) ∙ sign_none posting.units)
 
 -- legs at lots of an account are added to what it holds
 lots_here : (account : List ℕ) (held : Held) (entry posting place : ℕ) (name : List ℕ) (lots : List (LotKey × ℤ))

@@ -2,25 +2,25 @@
 use Rattle.std.specs.Prelude.{◌≡◌, ◌≢◌, ◌⊎◌, ℕ, ◌≤◌, true, false, cond, List, [], ◌∷◌, Option, None, Some, ℤ, pos, ◌+ℤ◌, unsigned_abs}
 use Rattle.std.specs.BTreeMap.{is_at}
 use Rattle.std.specs.Cmp.{eq_by_cmp_equiv}
-use Rattle.std.specs.List.{AllByRecursion, Contains, list_any}
+use Rattle.std.specs.List.{AllByRecursion, list_any}
 use Rattle.std.specs.Map.{keys_of, lookup, values_of}
 use Rattle.std.specs.Option.{unwrap_or}
 use Rattle.std.specs.Ordering.{eq_by_cmp}
 use Rattle.std.proofs.Common.{sym, ap, subst, ◌∙◌, arith, inl, inr}
 use Rattle.std.proofs.lemmas.Bool.{or_parts, true≢false}
 use Rattle.std.proofs.lemmas.Int.{ints}
-use Rattle.std.proofs.lemmas.Map.Keys.{IsDistinct-from_sorted, IsDistinct-head, IsDistinct-tail}
-use Rattle.std.proofs.lemmas.Map.Views.{lookup-from_Contains}
+use Rattle.std.proofs.lemmas.Map.Keys.{IsDistinct-head, IsDistinct-tail}
 use Rattle.lot_cost.specs.declared.lot_key.LotKey.{LotKey}
 use Rattle.lot_inv.specs.Inventory.{Held, Position, added, lots_of, other_sign, position_cmp, reduces, units_at}
 use Rattle.lot_cost.specs.LotKey.{lot_cmp}
 use Rattle.lot_cost.proofs.OrderLemmas.{is_equal}
-use Rattle.lot_inv.proofs.LawLemmas.{lots_of-get, sorted_lots_of}
+use Rattle.lot_inv.proofs.LawLemmas.{lots_of-get}
 use Rattle.lot_inv.proofs.LotLemmas.{get-with_units_apart, units_at-set}
 use Rattle.lot_cost.proofs.OrderLemmas.{lots_total}
 use Rattle.lot_inv.proofs.OrderLemmas.{exact_positions, positions_total}
 use Rattle.lot_booking.specs.Choice.{HaveDistinctKeys}
 use Rattle.lot_booking.proofs.ListLemmas.{each_member}
+use Rattle.lot_booking.proofs.SameTies.{held_lot, sign_none}
 use Rattle.lot_laws.specs.Laws.{HaveOneSign}
 use Rattle.lot_book.proofs.CaseLemmas.{by_bool}
 
@@ -42,9 +42,6 @@ sign_less : (held units other : ℤ) → other_sign held units ≡ true → unsi
     → other_sign (held +ℤ units) other ≡ false
 sign_less held units other e within g = grind (arith, ints)
 
-pub sign_none : (units : ℤ) → other_sign (pos 0) units ≡ false
-sign_none units = grind (arith, ints)
-
 -- ---- Lots of one sign.
 
 abbrev lot_at : List ℕ → LotKey → Position
@@ -57,14 +54,6 @@ in_lot held name key = units_at held (name, Some key)
 -- in each commodity no two lots have other signs
 pub record IsSigned (held : Held) : Type 0 where
   pub each : (name : List ℕ) (a b : LotKey) → other_sign (in_lot held name a) (in_lot held name b) ≡ false
-
--- a lot that is listed is held
-pub held_lot : (held : Held) (name : List ℕ) (lot : LotKey × ℤ) → Contains (lots_of held name) lot → units_at held (name, Some lot.0) ≡ lot.1
-held_lot held name lot member =
-    ap (λ (found : Option ℤ). unwrap_or found (pos 0))
-    (sym (lots_of-get held name lot.0)
-    ∙ lookup-from_Contains (eq_by_cmp_equiv lots_total) lot.0 lot.1 (lots_of held name)
-    (IsDistinct-from_sorted lot_cmp (keys_of (lots_of held name)) (sorted_lots_of held name)) member)
 
 -- the lots of each commodity, as they are listed
 pub one_sign : (held : Held) → IsSigned held → (name : List ℕ) → HaveOneSign (lots_of held name)

@@ -1,6 +1,5 @@
 pub mod StepLemmas
 pub mod StepHeld
-pub mod StepTies
 pub mod StepAgree
 pub mod StepLooks
 pub mod RecordedDays
@@ -25,5 +24,6 @@ pub mod GainLaws
 pub mod OpeningLemmas
 pub mod OpeningBooks
 pub mod OpeningPostings
+pub mod LegRange
 pub mod StepOpenings
 pub mod MigrationLaws

@@ -46,8 +46,9 @@ use Rattle.lot_laws.proofs.LawBalance.{command_booked}
 use Rattle.lot_laws.proofs.LawBooks.{accepted_in, over_placed_under}
 use Rattle.lot_laws.proofs.LawHoldings.{holds_sum}
 use Rattle.lot_laws.proofs.LawNone.{first_none, others_none}
-use Rattle.lot_laws.proofs.LawOneSign.{candidate_held, takes_held}
-use Rattle.lot_laws.proofs.LawSigns.{TakesHeld, sign_none}
+use Rattle.lot_booking.proofs.SameTies.{candidate_held, sign_none}
+use Rattle.lot_laws.proofs.LawOneSign.{takes_held}
+use Rattle.lot_laws.proofs.LawSigns.{TakesHeld}
 use Rattle.lot_laws.proofs.OpeningLemmas.{apart_from, is_zero, not_zero, number_is, sum_at-push_apart, where_held}
 use Rattle.lot_laws.proofs.RecordedDays.{none_refused}
 
@@ -334,7 +335,7 @@ postings_ascend ties book key day postings booked books =
 
 -- ---- An accepted transaction has no more postings than it may.
 
-not_held : (b : Bool) (refusal : Refusal) → holds_as b refusal ≡ None → b ≡ false
+pub not_held : (b : Bool) (refusal : Refusal) → holds_as b refusal ≡ None → b ≡ false
 not_held true refusal e = absurd cc
 not_held false refusal e = refl
 

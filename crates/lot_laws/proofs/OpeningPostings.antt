@@ -1,4 +1,4 @@
--- The legs of an entry have its number, and the places of its postings.
+-- The legs of an entry have its number, and the places of its postings; all legs of a book are numbered.
 use Rattle.std.specs.Prelude.{◌≡◌, ℕ, suc, ◌+◌, ◌-◌, ◌*◌, ◌≤◌, ◌<◌, Bool, true, false, cond, is_none, List, [], ◌∷◌, ◌++◌, length, Option, None, Some, ℤ}
 use Rattle.std.specs.List.{AllByRecursion, Contains}
 use Rattle.std.proofs.Common.{refl, sym, ap, subst, ◌∙◌, arith}
@@ -12,18 +12,19 @@ use Rattle.lot_command.specs.declared.key.Key.{Key}
 use Rattle.lot_command.specs.declared.transaction.Posting.{Posting}
 use Rattle.lot_book.specs.declared.leg.Leg.{Leg}
 use Rattle.lot_book.specs.Balance.{elided_postings, fill_from, fill_of, left_over, residuals, weights_in}
-use Rattle.lot_book.specs.Book.{IsBookIn}
+use Rattle.lot_book.specs.Book.{ContinuesIn, IsBookIn}
 use Rattle.lot_book.specs.Booking.{All, Booked, BooksAllUnder, HasLegs, Line, TieRule, legs_in, line_under}
 use Rattle.lot_book.specs.Edition.{Edition, Migration, edition_on, ties_in}
-use Rattle.lot_book.specs.Facts.{Entry, Facts, facts_of}
+use Rattle.lot_book.specs.Facts.{Entry, Facts, facts_of, legs_of}
 use Rattle.lot_book.specs.Leg.{legs_at_lots}
-use Rattle.lot_book.specs.Refusals.{most_postings}
+use Rattle.lot_book.specs.Refusals.{most_entries, most_postings}
 use Rattle.lot_book.specs.Step.{Accept, StepIn, fill_legs}
 use Rattle.lot_laws.specs.Laws.{BooksCommandUnder}
-use Rattle.lot_book.specs.OpeningNumber.{posting_number}
+use Rattle.lot_book.specs.OpeningNumber.{IsNumbered, posting_number}
 use Rattle.lot_laws.proofs.LawBalance.{command_booked}
-use Rattle.lot_laws.proofs.LawBooks.{continued, over_placed_under}
+use Rattle.lot_laws.proofs.LawBooks.{accepted_in, continued, over_placed_under}
 use Rattle.lot_laws.proofs.OpeningBooks.{few, number_at}
+use Rattle.lot_laws.proofs.RecordedBook.{room_where_accepted_under}
 
 -- the leg is of the entry, and of a posting from one place to below another
 record IsOf (entry low high : ℕ) (leg : Leg) : Type 0 where
@@ -159,3 +160,28 @@ module _ (migration : Migration) (before more : List Entry) (entry : Entry) (leg
 
   pub most_place : leg.posting ≤ most_postings
   most_place = omega (arith, leg_of_entry.below_high)
+
+-- ---- The legs of a book.
+
+numbered_in : (book : List Entry) → length book < most_entries → (leg : Leg) → IsOf (suc (length book)) 1 (suc most_postings) leg
+    → IsNumbered leg
+numbered_in book room leg is = record {
+  entry_from_one = omega (arith, is.of_entry);
+  entry_in_book = omega (arith, is.of_entry, room);
+  posting_from_one = is.from_low;
+  posting_in_entry = omega (arith, is.below_high);
+}
+
+pub all_numbered : (migration : Migration) (before entries : List Entry) → ContinuesIn migration before entries
+    → AllByRecursion IsNumbered (legs_of entries)
+all_numbered migration before [] h = tt
+all_numbered migration before (entry ∷ entries) h =
+    let edition = edition_on migration before in
+    let booked = command_booked edition before entry.key entry.command entry.legs h.0 in
+    let room : length before < most_entries =
+    room_where_accepted_under (ties_in edition before) (facts_of before entry.key) entry.command entry.legs
+    (accepted_in edition before entry.key entry.command entry.legs h.0).1 in
+    each-append IsNumbered entry.legs (legs_of entries)
+    (all_weaker (IsOf (suc (length before)) 1 (suc most_postings)) IsNumbered (numbered_in before room) entry.legs
+    (legs_of_command edition before entry.key entry.command entry.legs booked.0 h.0 booked.1))
+    (all_numbered migration (before ++ entry ∷ []) entries h.1)

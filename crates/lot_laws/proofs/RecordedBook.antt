@@ -28,7 +28,7 @@ use Rattle.lot_book.specs.Edition.{Edition, Migration, NotYet, edition_on, ties_
 use Rattle.lot_book.specs.Facts.{Entry, Facts, closing_by, closing_of, declares, facts_of, is_declared, legs_of, opening_by, opening_of, standing_by, standing_of, text_under}
 use Rattle.lot_book.specs.Leg.{inventory_of, with_legs}
 use Rattle.lot_book.specs.Refusals.{already_declared, already_open, book_full, closing_again, closing_too_early, closing_unknown, fill_not_allowed, fill_out_of_range, holds_as, inexact_fill, most_entries, not_balanced, too_many_lots}
-use Rattle.lot_book.specs.Step.{Accept, Decides, DecidesBy, Judges, JudgesTransaction, JudgesUnder, Refuse, Repeat, Step, StepIn, accept_unless, all_legs, concluded, fill_legs, first_conditions, first_of}
+use Rattle.lot_book.specs.Step.{Accept, Decides, DecidesBy, Judges, JudgesTransactionUnder, JudgesUnder, Refuse, Repeat, Step, StepIn, accept_unless, all_legs, concluded, fill_legs, first_conditions, first_of}
 use Rattle.lot_book.specs.Balance.{elided_postings, residuals, weights_in}
 use Rattle.lot_book.specs.Booking.{All, Bookings, Stopped, TieRule, all_by_key, legs_in}
 use Rattle.lot_book.specs.declared.change.Change.{Change}
@@ -88,11 +88,12 @@ room_where_not_full facts none = by facts.entries most_entries none
     ]
 
 -- a book that accepts a command isn't full
-pub room_where_accepted : (facts : Facts) (command : Command) (legs : List Leg) → Judges facts command (Accept legs)
+pub room_where_accepted_under : (ties : TieRule) (facts : Facts) (command : Command) (legs : List Leg)
+    → JudgesUnder ties facts command (Accept legs)
     → facts.entries < most_entries
-room_where_accepted facts command legs judges = room_where_not_full facts (by command judges)
+room_where_accepted_under ties facts command legs judges = room_where_not_full facts (by command judges)
   where
-    by : (c : Command) → Judges facts c (Accept legs) → book_full facts ≡ None
+    by : (c : Command) → JudgesUnder ties facts c (Accept legs) → book_full facts ≡ None
     by (Opening o) judges =
         let conditions = already_open facts o.account ∷ [] in
         last_none conditions (book_full facts) (none_holds (first_of (conditions ++ book_full facts ∷ [])) legs [] judges)
@@ -118,9 +119,14 @@ room_where_accepted facts command legs judges = room_where_not_full facts (by co
             last_none conditions (book_full facts)
             (none_holds (first_of (conditions ++ book_full facts ∷ [])) legs (all_legs facts t booked) e)
 
-        transacts : (refused : Option Refusal) → JudgesTransaction facts t refused (Accept legs) → book_full facts ≡ None
+        transacts : (refused : Option Refusal) → JudgesTransactionUnder ties facts t refused (Accept legs)
+            → book_full facts ≡ None
         transacts (Some refusal) e = cc
         transacts None judges = books judges.0 judges.2
+
+pub room_where_accepted : (facts : Facts) (command : Command) (legs : List Leg) → Judges facts command (Accept legs)
+    → facts.entries < most_entries
+room_where_accepted = room_where_accepted_under all_by_key
 
 pub room_where_decided : (facts : Facts) (command : Command) (legs : List Leg) → Decides facts command (Accept legs)
     → facts.entries < most_entries

@@ -21,7 +21,7 @@ use Rattle.lot_book.specs.Booking.{Booking, Bookings, Books, BooksAll, BooksAllU
 use Rattle.lot_book.specs.Facts.{Facts}
 use Rattle.lot_book.specs.Leg.{leave_range, legs_at_lots, with_legs}
 use Rattle.lot_laws.proofs.StepHeld.{HaveSame, IsOf, same_lots_of, same_of, same_range, same_with_legs}
-use Rattle.lot_laws.proofs.StepTies.{IsHeldLot, SameOrders, comes_alike}
+use Rattle.lot_booking.proofs.SameTies.{IsHeldLot, SameOrders, comes_alike}
 
 -- ---- one posting with an amount, on inventories with the same of its commodity
 

@@ -16,12 +16,12 @@ use Rattle.lot_book.specs.declared.leg.Leg.{Leg}
 use Rattle.lot_book.specs.declared.leg.Position.{Position}
 use Rattle.lot_book.specs.Agree.{HaveSameOf}
 use Rattle.lot_book.specs.Book.{entry_of}
-use Rattle.lot_book.specs.Change.{IsChange}
+use Rattle.lot_book.specs.Change.{IsChange, ListsOpened}
 use Rattle.lot_book.specs.Edition.{Second, ties_in}
 use Rattle.lot_book.specs.Facts.{Entry, Facts, facts_of, legs_of}
 use Rattle.lot_book.specs.Leg.{inventory_of, same_position, sum_at, with_leg, with_legs}
-use Rattle.lot_book.specs.OpeningNumber.{opening_in, opening_number, posting_number}
-use Rattle.lot_book.specs.Openings.{AgreesWithOpenings, AreOpeningsOf, DecidesByOpening, FactsWithOpenings, HaveSameOpenings, facts_with_openings, opening_after, opening_with_leg, opening_with_legs, recorded_with_openings, ties_on}
+use Rattle.lot_book.specs.OpeningNumber.{opening_in, opening_number, opening_with_leg, opening_with_legs, posting_number}
+use Rattle.lot_book.specs.Openings.{AgreesWithOpenings, AreOpeningsOf, DecidesByOpening, FactsWithOpenings, HaveSameOpenings, facts_with_openings, opening_after, ties_on, with_listed}
 use Rattle.lot_book.specs.Step.{DecidesUnder, Outcome, StepIn}
 use Rattle.lot_book.specs.Touched.{pairs_in}
 use Rattle.lot_book.proofs.CaseLemmas.{by_bool}
@@ -34,7 +34,7 @@ use Rattle.lot_laws.proofs.RecordedBook.{legs_of-append}
 use Rattle.lot_laws.proofs.StepAgree.{TiesAlike, all_of}
 use Rattle.lot_laws.proofs.StepHeld.{HaveSame, IsOf, same_of, same_with_leg}
 use Rattle.lot_laws.proofs.StepLooks.{agrees_itself, same_decision_under}
-use Rattle.lot_laws.proofs.StepTies.{IsHeldLot, same_by_opening}
+use Rattle.lot_booking.proofs.SameTies.{IsHeldLot, same_by_opening}
 
 -- ---- numbers that are the same for the lots that are held
 
@@ -166,15 +166,23 @@ numbers_after known book key legs account commodity same are =
     (sym (ap (λ (f : Facts). f.held account) same))
     (numbers_with_legs account commodity (legs_of book) legs (known.opening account commodity) (are account commodity))
 
+-- those that a change lists, put in, are what its legs make of the numbers before
+pub listed_after : (known : FactsWithOpenings) (change : Change) (account commodity : List ℕ) (lot : LotKey)
+    → ListsOpened known.facts change.legs change.openings
+    → with_listed change.openings known.opening account commodity lot ≡ opening_after known change.legs account commodity lot
+listed_after known change account commodity lot lists = sym (lists account commodity lot (known.opening account commodity))
+
 -- once a command is recorded they are those of the book with its entry
 pub numbers_recorded : (known : FactsWithOpenings) (book : List Entry) (key : Key) (command : Command) (legs : List Leg) (change : Change)
     → known.facts ≡ facts_of book key → AreOpeningsOf book known.opening → IsChange known.facts command legs change
-    → AreOpeningsOf (book ++ entry_of key command legs ∷ []) (recorded_with_openings known command change).opening
+    → AreOpeningsOf (book ++ entry_of key command legs ∷ []) (with_listed change.openings known.opening)
 numbers_recorded known book key command legs change same are is account commodity =
-    let after = opening_after known change.legs account commodity in
-    subst (λ (all : List Leg). HaveSameOpenings commodity (inventory_of all account) after (opening_in all account commodity))
-    (ap (λ ls. legs_of book ++ ls) is.same_legs ∙ sym (legs_of-append book (entry_of key command legs)))
-    (numbers_after known book key change.legs account commodity same are)
+    let numbers = with_listed change.openings known.opening account commodity in
+    subst (λ (all : List Leg). HaveSameOpenings commodity (inventory_of all account) numbers (opening_in all account commodity))
+    (sym (legs_of-append book (entry_of key command legs)))
+    (λ lot some.
+    sym (is.openings account commodity lot (known.opening account commodity))
+    ∙ numbers_after known book key legs account commodity same are lot some)
 
 -- numbers that are those of the book decide as those over its legs do
 known_ties : (known : FactsWithOpenings) (book : List Entry) (key : Key) (pair : Pair)

@@ -25,7 +25,7 @@ ghost use Rattle.lot_book.specs.Facts.{Entry, facts_of, legs_of, standing_of};
 ghost use Rattle.lot_book.specs.Judged.{JudgesAllIn};
 ghost use Rattle.lot_book.specs.Leg.{inventory_of};
 ghost use Rattle.lot_book.specs.OpeningNumber.{HasOpeningNumber, opening_in};
-ghost use Rattle.lot_book.specs.Step.{Outcome, StepIn};
+ghost use Rattle.lot_book.specs.Step.{Accept, Outcome, StepIn};
 ghost use Rattle.lot_laws.specs.Worked.{added_to, bought_each, broker, hool, lot_a, lot_b};
 ghost use Rattle.lot_laws.specs.Worked.{reopened, reopened_within};
 ghost use Rattle.lot_laws.specs.Laws.{BooksEntriesIn, HaveOneSign, IsBalancedUnder};
@@ -93,6 +93,15 @@ pub fn a_book_up_to_its_place_of_migration_is_of_edition_1()
         → IsBookIn migration (entries ++ more) → IsBookIn migration entries }
 {}
 
+/// Behind its place of migration a book goes on by edition 2: with one more entry it is a book exactly where the step of
+/// edition 2 accepts the entry's command with its legs. The first such entry stands right behind as many as the place says.
+pub fn a_book_behind_its_place_of_migration_is_of_edition_2()
+    ensures { (place : ℕ) (before : List Entry) (entry : Entry) → place ≤ length before
+        → IsBookIn (After place) before
+        → IsBookIn (After place) (before ++ entry ∷ [])
+        ↔ StepIn Second before entry.key entry.command (Accept entry.legs) }
+{}
+
 /// However ties are decided, the order of each method is an order of lot keys, and STRICT lists its legs in the order of
 /// their keys.
 pub fn each_method_has_an_order_however_ties_are_decided()
@@ -100,15 +109,9 @@ pub fn each_method_has_an_order_however_ties_are_decided()
     ensures strict { (ties : Ties) → order_by ties Strict ≡ oldest_first }
 {}
 
-/// No two lots of a book of either edition have one opening number. Nor do two of the lots among which a posting chooses,
-/// over the legs of the book and of the postings before it; so in edition 2 the order of keys never decides.
-pub fn opening_numbers_are_distinct_in_either_edition()
-    ensures distinct { (migration : Migration) (entries : List Entry)
-        (account commodity other name : List ℕ) (lot key : LotKey) (number : ℕ)
-        → IsBookIn migration entries
-        → HasOpeningNumber (legs_of entries) (lot_at account commodity lot) number
-        → HasOpeningNumber (legs_of entries) (lot_at other name key) number
-        → lot_at account commodity lot ≡ lot_at other name key }
+/// No two of the lots among which a posting chooses have one opening number, over the legs of a book of either edition and
+/// of the postings before it; so in edition 2 the order of keys never decides.
+pub fn lots_to_choose_among_have_distinct_opening_numbers()
     ensures chosen_among { (migration : Migration) (book : List Entry) (key : Key) (day : ℤ)
         (postings : List Posting) (booked : List Booked) → IsBookIn migration book
         → BooksAllUnder (ties_in Second book) (facts_of book key) day [] 1 postings (All booked)

@@ -1,5 +1,6 @@
-//! Laws of opening numbers, and of the orders by them. The program uses neither yet.
-ghost use Rattle.std.specs.Prelude.{◌≡◌, ◌≢◌, ◌↔◌, ℕ, ◌+◌, ◌<◌, ◌≤◌, ◌*◌, Some, None, List, [], ◌∷◌, ◌++◌, length, ℤ, pos};
+//! Laws of opening numbers, and of the orders by them: on any legs, or in a book of either edition. The program judges by
+//! edition 1 so far.
+ghost use Rattle.std.specs.Prelude.{◌≡◌, ◌≢◌, ◌↔◌, ℕ, ◌+◌, ◌<◌, ◌≤◌, ◌*◌, Some, None, List, [], ◌∷◌, ◌++◌, length, All, ℤ, pos};
 ghost use Rattle.std.specs.List.{Contains};
 ghost use Rattle.std.specs.Ordering.{nat_cmp, int_cmp, ordering_then};
 ghost use Rattle.lot_cost.specs.declared.lot_key.LotKey.{LotKey};
@@ -9,12 +10,13 @@ ghost use Rattle.lot_booking.specs.OpeningOrder.{highest_opened_cmp, newest_open
 ghost use Rattle.lot_booking.specs.Order.{IsOrder};
 ghost use Rattle.lot_book.specs.declared.leg.Leg.{Leg};
 ghost use Rattle.lot_book.specs.declared.leg.Position.{Position};
-ghost use Rattle.lot_book.specs.Book.{IsBook};
+ghost use Rattle.lot_book.specs.Book.{IsBookIn};
+ghost use Rattle.lot_book.specs.Edition.{Migration};
 ghost use Rattle.lot_book.specs.Facts.{Entry, legs_of};
 ghost use Rattle.lot_book.specs.Leg.{inventory_of, sum_at};
 ghost use Rattle.lot_book.specs.Refusals.{most_postings};
 ghost use Rattle.lot_laws.specs.Laws.{lot_at};
-ghost use Rattle.lot_book.specs.OpeningNumber.{HasOpeningNumber, IsLastToOpen};
+ghost use Rattle.lot_book.specs.OpeningNumber.{HasOpeningNumber, IsLastToOpen, IsNumbered, StayInRange};
 ghost use Rattle.lot_book.specs.OpeningNumber.{opening_number, posting_number};
 
 /// A lot has an opening number exactly where some units are held in it, and only one, which the definition that computes
@@ -44,45 +46,57 @@ pub fn a_leg_changes_the_opening_number_of_its_lot_alone()
         → opening_number (legs ++ leg ∷ []) leg.position ≡ None }
 {}
 
-/// The number of a leg's posting in a book: the place of the posting, from 1, behind as many numbers for each entry before
-/// its own as a transaction may have postings.
+/// The number of a leg's posting in a book of either edition: the place of the posting, from 1, behind as many numbers for
+/// each entry before its own as a transaction may have postings.
 pub fn a_posting_is_numbered_by_its_place_in_the_book()
-    ensures number { (before more : List Entry) (entry : Entry) (leg : Leg)
-        → IsBook (before ++ entry ∷ more) → Contains entry.legs leg
+    ensures number { (migration : Migration) (before more : List Entry) (entry : Entry) (leg : Leg)
+        → IsBookIn migration (before ++ entry ∷ more) → Contains entry.legs leg
         → posting_number leg ≡ most_postings * length before + leg.posting }
-    ensures least { (before more : List Entry) (entry : Entry) (leg : Leg)
-        → IsBook (before ++ entry ∷ more) → Contains entry.legs leg → 1 ≤ leg.posting }
-    ensures most { (before more : List Entry) (entry : Entry) (leg : Leg)
-        → IsBook (before ++ entry ∷ more) → Contains entry.legs leg
+    ensures least { (migration : Migration) (before more : List Entry) (entry : Entry) (leg : Leg)
+        → IsBookIn migration (before ++ entry ∷ more) → Contains entry.legs leg
+        → 1 ≤ leg.posting }
+    ensures most { (migration : Migration) (before more : List Entry) (entry : Entry) (leg : Leg)
+        → IsBookIn migration (before ++ entry ∷ more) → Contains entry.legs leg
         → leg.posting ≤ most_postings }
 {}
 
-/// No two lots of a book have one opening number, whatever their accounts and commodities.
+/// The legs of a book of either edition are numbered within the limits of entries and of postings, and however many of them
+/// are booked so far, what they leave at a position is in the range of units. Computing opening numbers from legs asks both.
+pub fn the_legs_of_a_book_are_numbered()
+    ensures numbered { (migration : Migration) (entries : List Entry)
+        → IsBookIn migration entries → All IsNumbered (legs_of entries) }
+    ensures in_range { (migration : Migration) (entries : List Entry)
+        → IsBookIn migration entries → StayInRange (legs_of entries) }
+{}
+
+/// No two lots of a book of either edition have one opening number, whatever their accounts and commodities.
 pub fn no_two_lots_of_a_book_share_an_opening_number()
-    ensures distinct { (entries : List Entry) (account commodity other name : List ℕ)
-        (lot key : LotKey) (number : ℕ) → IsBook entries
+    ensures distinct { (migration : Migration) (entries : List Entry)
+        (account commodity other name : List ℕ) (lot key : LotKey) (number : ℕ)
+        → IsBookIn migration entries
         → HasOpeningNumber (legs_of entries) (lot_at account commodity lot) number
         → HasOpeningNumber (legs_of entries) (lot_at other name key) number
         → lot_at account commodity lot ≡ lot_at other name key }
 {}
 
-/// Of two lots of a book the one that was opened first has the smaller opening number: the leg that opened it stands before
-/// the one that opened the other.
+/// Of two lots of a book of either edition the one that was opened first has the smaller opening number: the leg that opened
+/// it stands before the one that opened the other.
 pub fn the_lot_opened_first_has_the_smaller_number()
-    ensures ascending { (entries : List Entry) (account commodity other name : List ℕ)
-        (lot key : LotKey) (a b : Leg) → IsBook entries
+    ensures ascending { (migration : Migration) (entries : List Entry)
+        (account commodity other name : List ℕ) (lot key : LotKey) (a b : Leg)
+        → IsBookIn migration entries
         → (first : IsLastToOpen (legs_of entries) (lot_at account commodity lot) a)
         → (second : IsLastToOpen (legs_of entries) (lot_at other name key) b)
         → length first.before < length second.before → posting_number a < posting_number b }
 {}
 
-/// In a book an opening number is at least 1, and at most that of the last posting that there could be.
+/// In a book of either edition an opening number is at least 1, and at most that of the last posting that there could be.
 pub fn opening_numbers_count_from_one()
-    ensures least { (entries : List Entry) (account commodity : List ℕ) (lot : LotKey) (number : ℕ)
-        → IsBook entries
+    ensures least { (migration : Migration) (entries : List Entry)
+        (account commodity : List ℕ) (lot : LotKey) (number : ℕ) → IsBookIn migration entries
         → HasOpeningNumber (legs_of entries) (lot_at account commodity lot) number → 1 ≤ number }
-    ensures most { (entries : List Entry) (account commodity : List ℕ) (lot : LotKey) (number : ℕ)
-        → IsBook entries
+    ensures most { (migration : Migration) (entries : List Entry)
+        (account commodity : List ℕ) (lot : LotKey) (number : ℕ) → IsBookIn migration entries
         → HasOpeningNumber (legs_of entries) (lot_at account commodity lot) number
         → number ≤ most_postings * length entries }
 {}

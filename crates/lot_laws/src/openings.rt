@@ -1,18 +1,19 @@
-//! Laws of opening numbers as facts, on which the step of edition 2 rests. No code uses them yet.
+//! Laws of opening numbers as facts, on which the step of edition 2 rests. The program judges by edition 1 so far.
 ghost use Rattle.std.specs.Prelude.{◌≡◌, ◌↔◌, ℕ, List, [], ◌∷◌, ◌++◌};
+ghost use Rattle.lot_cost.specs.declared.lot_key.LotKey.{LotKey};
 ghost use Rattle.lot_command.specs.declared.command.Command.{Command};
 ghost use Rattle.lot_command.specs.declared.key.Key.{Key};
 ghost use Rattle.lot_book.specs.declared.change.Change.{Change};
 ghost use Rattle.lot_book.specs.declared.leg.Leg.{Leg};
 ghost use Rattle.lot_book.specs.Book.{IsBookIn, entry_of};
-ghost use Rattle.lot_book.specs.Change.{IsChange};
+ghost use Rattle.lot_book.specs.Change.{IsChange, ListsOpened};
 ghost use Rattle.lot_book.specs.Edition.{Migration, Second, edition_on};
 ghost use Rattle.lot_book.specs.Facts.{Entry, facts_of, legs_of};
 ghost use Rattle.lot_book.specs.Leg.{inventory_of};
 ghost use Rattle.lot_book.specs.OpeningNumber.{opening_in};
 ghost use Rattle.lot_book.specs.Openings.{AgreesWithOpenings, AreOpeningsOf, DecidesByOpening};
 ghost use Rattle.lot_book.specs.Openings.{FactsWithOpenings, HaveSameOpenings, facts_with_openings};
-ghost use Rattle.lot_book.specs.Openings.{opening_after, recorded_with_openings};
+ghost use Rattle.lot_book.specs.Openings.{opening_after, recorded_with_openings, with_listed};
 ghost use Rattle.lot_book.specs.Recorded.{facts_in};
 ghost use Rattle.lot_book.specs.Step.{Accept, Outcome, StepIn};
 
@@ -47,8 +48,9 @@ pub fn a_step_by_opening_looks_at_what_a_command_touches()
         → DecidesByOpening a command outcome → DecidesByOpening b command outcome }
 {}
 
-/// The facts of a book of either edition, once an accepted command is recorded, are those of the book with its entry; and so
-/// are its opening numbers, of each lot that is held.
+/// The facts of a book of either edition, once an accepted command is recorded, are those of the book with its entry. So are
+/// the opening numbers, of each lot that is held, once those that the change lists are put in; and putting them in makes of
+/// any numbers what the change's legs make of them.
 pub fn what_is_recorded_is_what_the_book_says()
     ensures facts { (known : FactsWithOpenings) (migration : Migration) (book : List Entry)
         (key : Key) (command : Command) (legs : List Leg) (change : Change)
@@ -57,10 +59,15 @@ pub fn what_is_recorded_is_what_the_book_says()
         → IsChange known.facts command legs change
         → (recorded_with_openings known command change).facts
         ≡ facts_in (book ++ entry_of key command legs ∷ []) }
+    ensures listed { (known : FactsWithOpenings) (change : Change)
+        (account commodity : List ℕ) (lot : LotKey)
+        → ListsOpened known.facts change.legs change.openings
+        → with_listed change.openings known.opening account commodity lot
+        ≡ opening_after known change.legs account commodity lot }
     ensures numbers { (known : FactsWithOpenings) (book : List Entry) (key : Key)
         (command : Command) (legs : List Leg) (change : Change)
         → known.facts ≡ facts_of book key → AreOpeningsOf book known.opening
         → IsChange known.facts command legs change
         → AreOpeningsOf (book ++ entry_of key command legs ∷ [])
-        (recorded_with_openings known command change).opening }
+        (with_listed change.openings known.opening) }
 {}

@@ -1,0 +1,6 @@
+-- The edition behind the place is the second.
+use Rattle.lot_laws.proofs.MigrationLaws.{behind_place}
+use Rattle.lot_laws.proofs.editions.a_book_behind_its_place_of_migration_is_of_edition_2.Goals as goal
+
+pub returns : goal.returns
+returns c = behind_place
