@@ -1,8 +1,8 @@
--- What holds of each element of a list, and sums that are compared term by term.
-use Rattle.std.specs.Prelude.{◌≡◌, ℕ, ◌≤◌, List, [], ◌∷◌, sum_by, IsPermutation}
+-- What holds of each element of a list, sums that are compared term by term, and mapped lists.
+use Rattle.std.specs.Prelude.{◌≡◌, ℕ, ◌+◌, ◌≤◌, Bool, true, false, cond, List, [], ◌∷◌, filter, map, sum_by, IsPermutation}
 use Rattle.std.specs.List.{AllByRecursion, Contains}
-use Rattle.std.proofs.Common.{arith}
-use Rattle.std.proofs.lemmas.List.Elements.{All-contains, All-contains_itself, All-from_recursion, All-weaker, recursion_from_All}
+use Rattle.std.proofs.Common.{arith, refl, sym, ap, ◌∙◌}
+use Rattle.std.proofs.lemmas.List.Elements.{All-contains, All-contains_itself, All-filter, All-from_recursion, All-weaker, recursion_from_All}
 use Rattle.std.proofs.lemmas.List.Sorted.{All-permutation}
 use Rattle.std.proofs.lemmas.List.Sums.{sum_by-cons}
 
@@ -37,3 +37,28 @@ module _ {X : Type 0} (f g : X → ℕ) where
       let rest = smaller_terms xs all.1 in
       let first : f x ≡ g x = omega (arith, sum_by-cons f x xs, sum_by-cons g x xs, all.0, rest, same) in
       (first, same_terms xs all.1 (omega (arith, sum_by-cons f x xs, sum_by-cons g x xs, all.0, rest, same)))
+
+-- ---- mapped lists
+
+module _ {X Y : Type 0} (f : X → Y) where
+  pub all_mapped : (P : Y → Type 0) (xs : List X) → AllByRecursion (λ x. P (f x)) xs → AllByRecursion P (map f xs)
+  all_mapped P [] all = tt
+  all_mapped P (x ∷ xs) all = (all.0, all_mapped P xs all.1)
+
+  -- what passes a test of the mapped elements
+  pub map-filter : (test : Y → Bool) (xs : List X) → map f (filter (λ x. test (f x)) xs) ≡ filter test (map f xs)
+  map-filter test [] = refl
+  map-filter test (x ∷ xs) =
+      let kept = filter (λ x. test (f x)) xs in
+      elim (test (f x)) as (λ b. map f (cond b (x ∷ kept) kept) ≡ cond b (f x ∷ filter test (map f xs)) (filter test (map f xs))) [
+        | true ↦ ap (λ ys. f x ∷ ys) (map-filter test xs)
+        | false ↦ map-filter test xs
+      ]
+
+  pub sum_by-map : (g : Y → ℕ) (xs : List X) → sum_by g (map f xs) ≡ sum_by (λ x. g (f x)) xs
+  sum_by-map g [] = refl
+  sum_by-map g (x ∷ xs) =
+      sum_by-cons g (f x) (map f xs) ∙ ap (λ n. g (f x) + n) (sum_by-map g xs) ∙ sym (sum_by-cons (λ x. g (f x)) x xs)
+
+pub all_filtered : {X : Type 0} (P : X → Type 0) (test : X → Bool) (xs : List X) → AllByRecursion P xs → AllByRecursion P (filter test xs)
+all_filtered P test xs all = recursion_from_All P (filter test xs) (All-filter test P xs (All-from_recursion P xs all))

@@ -1,28 +1,30 @@
 -- A walk along lots takes each whole before the next one.
-use Rattle.std.specs.Prelude.{◌≡◌, ◌≢◌, ℕ, ◌+◌, ◌-◌, ◌≤◌, min, nat_eq, Bool, true, false, ◌||◌, cond, if◌then◌else◌, List, [], ◌∷◌, ◌++◌, ℤ, unsigned_abs, IsPermutation, ⊤}
+use Rattle.std.specs.Prelude.{◌≡◌, ◌≢◌, ℕ, ◌+◌, ◌-◌, ◌≤◌, min, nat_eq, Bool, true, false, ◌||◌, cond, if◌then◌else◌, List, [], ◌∷◌, ◌++◌, map, ℤ, unsigned_abs, IsPermutation, ⊤}
 use Rattle.std.specs.Cmp.{IsStrictWeakOrder}
 use Rattle.std.specs.List.{AllByRecursion}
 use Rattle.std.specs.List.Sorted.{IsSortedBy}
 use Rattle.std.specs.Map.{keys_of}
 use Rattle.std.specs.Ordering.{is_eq}
 use Rattle.std.proofs.Common.{arith, refl, sym, ap, ◌∙◌, add-one, append_assoc, get_or, subst}
-use Rattle.std.proofs.lemmas.Bool.{false_from_ne_true}
 use Rattle.std.proofs.lemmas.Bool.Decides.{nat_tests}
 use Rattle.std.proofs.lemmas.Cmp.{tied_itself}
 use Rattle.std.proofs.lemmas.List.Elements.{recursion_from_All}
-use Rattle.std.proofs.lemmas.List.Sorted.{IsPermutation-sym, sorted_far}
+use Rattle.std.proofs.lemmas.List.Sorted.{IsPermutation-map, IsPermutation-sym, sorted_far}
 use Rattle.std.proofs.lemmas.Map.Keys.{IsDistinct-head, IsDistinct-tail}
 use Rattle.lot_cost.specs.declared.lot_key.LotKey.{LotKey}
 use Rattle.lot_cost.specs.LotKey.{lot_cmp}
 use Rattle.lot_cost.proofs.OrderLemmas.{lots_total}
+use Rattle.lot_inv.specs.declared.lot.Lot.{Lot}
 use Rattle.lot_inv.specs.Inventory.{held_in}
+use Rattle.lot_inv.specs.Lot.{AreNumberedBy, key_and_units}
 use Rattle.lot_inv.proofs.AvailableLemmas.{held_in-cons}
 use Rattle.lot_booking.specs.Choice.{AreInOrder, Choice, HaveDistinctKeys, InTurn, IsWhole, Takes, chosen_legs, given, with_sign_of}
+use Rattle.lot_booking.specs.OpeningOrder.{OpenedLot, by_numbers}
 use Rattle.lot_booking.specs.Order.{IsOrder}
 use Rattle.lot_booking.specs.Way.{walked}
 use Rattle.lot_booking.proofs.ChoiceLemmas.{all_keys, distinct-permuted, given-cons, given-permuted, in_turn-permuted}
 use Rattle.lot_cost.proofs.ListLemmas.{all_weaker}
-use Rattle.lot_booking.proofs.ListLemmas.{all_both, all_permuted}
+use Rattle.lot_booking.proofs.ListLemmas.{all_both, all_mapped, all_permuted}
 
 -- ---- a step of a walk
 
@@ -159,38 +161,45 @@ walk-legs units choice left (lot ∷ lots) walk =
 pub other_first : (one other : Bool) → one ≡ false → (one || other) ≡ true → other ≡ true
 other_first one other not_one either = rw not_one at either
 
-pub orders_lots : (before : LotKey → LotKey → Bool) → IsOrder before → IsStrictWeakOrder (λ (a b : LotKey × ℤ). before a.0 b.0)
-orders_lots before order = record {
-  one_way = λ a b first. false_from_ne_true (before b.0 a.0)
-      (λ back. let itself = order.transitive a.0 b.0 a.0 first back in let never = order.never_itself a.0 in cc);
-  chain = λ a b c not_first not_second. false_from_ne_true (before a.0 c.0) (λ first.
-      let apart : a.0 ≢ b.0 = λ same. let second = subst (λ (key : LotKey). before key c.0 ≡ true) same first in cc in
-      let back = other_first (before a.0 b.0) (before b.0 a.0) not_first (order.total a.0 b.0 apart) in
-      let second = order.transitive b.0 a.0 c.0 back first in
-      cc);
-}
-
 next_place : {X : Type 0} (x : X) (xs : List X) (k : ℕ) (d : X) → get_or (x ∷ xs) (k + 1) d ≡ get_or xs k d
 next_place x xs k d = rw add-one refl
 
--- lots with distinct keys that are sorted by an order are in that order
-pub in_order-from_sorted : (before : LotKey → LotKey → Bool) → IsOrder before → (lots : List (LotKey × ℤ)) → HaveDistinctKeys lots
-    → IsSortedBy (λ (a b : LotKey × ℤ). before a.0 b.0) lots → AreInOrder before lots
-in_order-from_sorted before order [] distinct sorted = tt
-in_order-from_sorted before order (lot ∷ lots) distinct sorted =
-    let less = λ (a b : LotKey × ℤ). before a.0 b.0 in
-    let same = λ (a b : LotKey). is_eq (lot_cmp a b) in
-    let others = all_keys (λ (key : LotKey). same lot.0 key ≡ false) lots (IsDistinct-head same lot.0 (keys_of lots) distinct) in
-    let none_below = recursion_from_All (λ (later : LotKey × ℤ). before later.0 lot.0 ≡ false) lots (λ k d short.
-    rw (next_place lot lots k d) at (sorted_far less (orders_lots before order) (lot ∷ lots) sorted 0 (k + 1) d (omega arith) (omega arith))) in
-    let tail : IsSortedBy less lots = λ k d low high.
-    rw (next_place lot lots (k + 1) d, next_place lot lots k d) at (sorted (k + 1) d (omega arith) (omega arith)) in (
-      all_both (λ (later : LotKey × ℤ). before later.0 lot.0 ≡ false) (λ (later : LotKey × ℤ). same lot.0 later.0 ≡ false)
-          (λ (later : LotKey × ℤ). before lot.0 later.0 ≡ true) (λ later not_below other.
-          let apart : later.0 ≢ lot.0 = λ e. let itself = tied_itself lots_total lot.0 in let tied = subst (λ (key : LotKey). same lot.0 key ≡ false) e other in cc in
-          other_first (before later.0 lot.0) (before lot.0 later.0) not_below (order.total later.0 lot.0 apart)) lots none_below others,
-      in_order-from_sorted before order lots (IsDistinct-tail same lot.0 (keys_of lots) distinct) tail,
-    )
+-- an order of lots as a sort asks it
+abbrev pub is_earlier : (OpenedLot → OpenedLot → Bool) → Lot → Lot → Bool
+is_earlier before a b = before (a.key, a.opening) (b.key, b.opening)
+
+module _ (before : OpenedLot → OpenedLot → Bool) (weak : IsStrictWeakOrder before) where
+  pub orders_lots : IsStrictWeakOrder (is_earlier before)
+  orders_lots = record {
+    one_way = λ a b. weak.one_way (a.key, a.opening) (b.key, b.opening);
+    chain = λ a b c. weak.chain (a.key, a.opening) (b.key, b.opening) (c.key, c.opening);
+  }
+
+  module _ (opening : LotKey → ℕ) (order : IsOrder (by_numbers before opening)) where
+    -- numbered lots with distinct keys that are sorted by an order are in that order
+    in_order-from_sorted : (lots : List Lot) → HaveDistinctKeys (map key_and_units lots) → AreNumberedBy opening lots → IsSortedBy (is_earlier before) lots
+        → AreInOrder (by_numbers before opening) (map key_and_units lots)
+    in_order-from_sorted [] distinct numbered sorted = tt
+    in_order-from_sorted (lot ∷ lots) distinct numbered sorted =
+        let same = λ (a b : LotKey). is_eq (lot_cmp a b) in
+        let first = by_numbers before opening in
+        let rest = map key_and_units lots in
+        let others = all_keys (λ (key : LotKey). same lot.key key ≡ false) rest (IsDistinct-head same lot.key (keys_of rest) distinct) in
+        let none_below = recursion_from_All (λ (later : Lot). is_earlier before later lot ≡ false) lots (λ k d short.
+        rw (next_place lot lots k d) at (sorted_far (is_earlier before) orders_lots (lot ∷ lots) sorted 0 (k + 1) d (omega arith) (omega arith))) in
+        let none_first = all_mapped key_and_units (λ (later : LotKey × ℤ). first later.0 lot.key ≡ false) lots
+        (all_both (λ (later : Lot). is_earlier before later lot ≡ false) (λ (later : Lot). later.opening ≡ opening later.key)
+        (λ (later : Lot). first later.key lot.key ≡ false)
+        (λ later not_below number. (λ i. before (later.key, sym number i) (lot.key, sym numbered.0 i)) ∙ not_below)
+        lots none_below numbered.1) in
+        let tail : IsSortedBy (is_earlier before) lots = λ k d low high.
+        rw (next_place lot lots (k + 1) d, next_place lot lots k d) at (sorted (k + 1) d (omega arith) (omega arith)) in (
+          all_both (λ (later : LotKey × ℤ). first later.0 lot.key ≡ false) (λ (later : LotKey × ℤ). same lot.key later.0 ≡ false)
+              (λ (later : LotKey × ℤ). first lot.key later.0 ≡ true) (λ later not_first other.
+              let apart : later.0 ≢ lot.key = λ e. let itself = tied_itself lots_total lot.key in let tied = subst (λ (key : LotKey). same lot.key key ≡ false) e other in cc in
+              other_first (first later.0 lot.key) (first lot.key later.0) not_first (order.total later.0 lot.key apart)) rest none_first others,
+          in_order-from_sorted lots (IsDistinct-tail same lot.key (keys_of rest) distinct) numbered.1 tail,
+        )
 
 -- ---- what is taken
 
@@ -217,9 +226,14 @@ takes-in_order before order lots listed units legs distinct same ordered enough 
     }
 
 -- the same of lots that a sort put in their order
-pub takes-walked : (before : LotKey → LotKey → Bool) → IsOrder before → (lots listed : List (LotKey × ℤ)) (units : ℤ) (legs : List (LotKey × ℤ))
-    → HaveDistinctKeys lots → IsPermutation lots listed → IsSortedBy (λ (a b : LotKey × ℤ). before a.0 b.0) listed
-    → unsigned_abs units ≤ held_in listed → legs ≡ walked units (unsigned_abs units) listed → Takes (InTurn before) before lots units legs
-takes-walked before order lots listed units legs distinct same sorted enough walked_legs =
-    takes-in_order before order lots listed units legs distinct same
-    (in_order-from_sorted before order listed (distinct-permuted lots listed same distinct) sorted) enough walked_legs
+pub takes-walked : (before : OpenedLot → OpenedLot → Bool) → IsStrictWeakOrder before → (opening : LotKey → ℕ) → IsOrder (by_numbers before opening)
+    → (lots listed : List Lot) (units : ℤ) (legs : List (LotKey × ℤ))
+    → HaveDistinctKeys (map key_and_units lots) → AreNumberedBy opening lots → IsPermutation lots listed → IsSortedBy (is_earlier before) listed
+    → unsigned_abs units ≤ held_in (map key_and_units listed) → legs ≡ walked units (unsigned_abs units) (map key_and_units listed)
+    → Takes (InTurn (by_numbers before opening)) (by_numbers before opening) (map key_and_units lots) units legs
+takes-walked before weak opening order lots listed units legs distinct numbered moved sorted enough walked_legs =
+    let same = IsPermutation-map key_and_units lots listed moved in
+    let numbered_listed = all_permuted (λ (lot : Lot). lot.opening ≡ opening lot.key) lots listed moved numbered in
+    takes-in_order (by_numbers before opening) order (map key_and_units lots) (map key_and_units listed) units legs distinct same
+    (in_order-from_sorted before weak opening order listed (distinct-permuted (map key_and_units lots) (map key_and_units listed) same distinct) numbered_listed sorted)
+    enough walked_legs

@@ -7,15 +7,16 @@ use Rattle.lot_num.specs.Amount.{per_unit}
 use Rattle.lot_num.specs.Sum.{sum_of}
 use Rattle.lot_cost.specs.declared.cost_spec.CostSpec.{CostSpec}
 use Rattle.lot_cost.specs.declared.lot_key.LotKey.{LotKey}
-use Rattle.lot_inv.specs.Inventory.{Held, fitting, other_sign, reduces, with_number}
+use Rattle.lot_inv.specs.Inventory.{Held, Stock, fitting, opening_at, other_sign, reduces, with_number}
 use Rattle.lot_cost.specs.LotKey.{lot_cmp}
 use Rattle.lot_cost.specs.declared.cost.Cost.{Cost}
 use Rattle.lot_cost.specs.declared.cost.Cost.TheVariants.{Each, Whole}
 use Rattle.lot_booking.specs.declared.fault.BookingFault.{BookingFault}
 use Rattle.lot_booking.specs.declared.fault.BookingFault.TheVariants.{ZeroUnits, InexactCost, IncompleteCost, NoMatch, Ambiguous, NotEnough, Memory}
 use Rattle.lot_cost.specs.declared.method.Method.{Method}
+use Rattle.lot_booking.specs.declared.selection.Selection.{Selection}
 use Rattle.lot_booking.specs.Choice.{HasNoChoice, Takes}
-use Rattle.lot_booking.specs.Method.{Ties, ByKey, is_strict, may_reduce, order_by, rule_by}
+use Rattle.lot_booking.specs.Method.{Ties, ByKey, is_strict, may_reduce, order_by, rule_by, ties_by}
 
 -- a posting with braces, beside the method of its account and how its ties are decided, the inventory of its account, and
 -- the day of its transaction
@@ -35,6 +36,11 @@ posting_by ties method held commodity units cost day =
 -- the same where ties are decided by key
 abbrev pub posting_of : Method → Held → List ℕ → ℤ → Cost → ℤ → Braced
 posting_of = posting_by ByKey
+
+-- the same on the inventory of an account, by the method and the edition of a selection
+abbrev pub posting_on : Selection → Stock → List ℕ → ℤ → Cost → ℤ → Braced
+posting_on selection stock commodity units cost day =
+    posting_by (ties_by selection.edition (opening_at stock commodity)) selection.method stock.held commodity units cost day
 
 -- ---- what a cost gives of a lot
 

@@ -4,6 +4,8 @@ use Rattle.lot_cost.specs.declared.lot_key.LotKey.{LotKey}
 use Rattle.lot_cost.specs.declared.method.Method.{Method}
 use Rattle.lot_cost.specs.declared.method.Method.TheVariants.{Strict, Fifo, Lifo, Hifo, Unmatched}
 use Rattle.lot_booking.specs.Choice.{Rule, OneOrWhole, InTurn}
+use Rattle.lot_booking.specs.declared.edition.Edition.{Edition}
+use Rattle.lot_booking.specs.declared.edition.Edition.TheVariants.{First, Second}
 use Rattle.lot_booking.specs.OpeningOrder.{by_opening, oldest_opened_cmp, newest_opened_cmp, highest_opened_cmp}
 use Rattle.lot_booking.specs.Order.{oldest_first, newest_first, highest_first}
 
@@ -28,6 +30,11 @@ is_strict Unmatched = false
 pub data Ties : Type 0 where
   ByKey : Ties
   ByOpening : (LotKey → ℕ) → Ties
+
+-- how an edition decides ties between lots that have these opening numbers
+abbrev pub ties_by : Edition → (LotKey → ℕ) → Ties
+ties_by First opening = ByKey
+ties_by Second opening = ByOpening opening
 
 -- the orders of the methods, by how ties are decided
 abbrev pub oldest_by : Ties → LotKey → LotKey → Bool
@@ -57,10 +64,3 @@ rule_by ties Fifo = InTurn (oldest_by ties)
 rule_by ties Lifo = InTurn (newest_by ties)
 rule_by ties Hifo = InTurn (highest_by ties)
 rule_by ties Unmatched = λ lots choice. ⊥
-
--- the same where ties are decided by key, as they are in edition 1
-abbrev pub order_of : Method → LotKey → LotKey → Bool
-order_of = order_by ByKey
-
-abbrev pub rule_of : Method → Rule
-rule_of = rule_by ByKey

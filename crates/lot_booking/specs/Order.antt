@@ -1,4 +1,4 @@
--- In which order lots are taken (docs/RULES.md, Method orders), and what an order of lots has to be.
+-- In which order lots are taken where ties go by key (docs/RULES.md, Method orders), and what an order of lots has to be.
 use Rattle.std.specs.Prelude.{◌≡◌, ◌≢◌, ℕ, Bool, true, false, ◌||◌, List, Option}
 use Rattle.std.specs.declared.cmp.Ordering.{Ordering}
 use Rattle.std.specs.Option.{option_cmp}

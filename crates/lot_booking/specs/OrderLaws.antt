@@ -1,18 +1,20 @@
--- The three orders of lots are orders: each comparison is total, and only one key ties with a key. What implements an order
+-- The three orders by key are orders: each comparison is total, and only one key ties with a key. What implements an order
 -- names its law here, beside the definitions.
 use Rattle.std.specs.Prelude.{◌≡◌, ◌≢◌, true, ◌||◌}
 use Rattle.std.specs.declared.cmp.Ordering.{Ordering}
 use Rattle.std.specs.declared.cmp.Ordering.TheVariants.{Less, Equal, Greater}
-use Rattle.std.specs.Cmp.{IsTotalOrder}
+use Rattle.std.specs.Cmp.{IsStrictWeakOrder, IsTotalOrder}
 use Rattle.std.specs.Cmp.Lexicographic.{options_total}
 use Rattle.std.specs.Ordering.{nat_cmp, int_cmp, is_lt, ordering_reverse, ordering_then}
 use Rattle.std.proofs.Common.{refl, ap, ◌∙◌}
 use Rattle.std.proofs.lemmas.Cmp.{back_total, then_total, on_total, nat_cmp_total, int_cmp_total, nat_list_cmp_total, tied_itself, tied_back}
+use Rattle.std.proofs.lemmas.List.Sorted.{ranks_by}
 use Rattle.std.proofs.lemmas.Map.Lookups.{CmpEqualImpliesEq}
 use Rattle.lot_cost.specs.declared.lot_key.LotKey.{LotKey}
 use Rattle.lot_base.proofs.OrderLemmas.{equal_parts}
 use Rattle.lot_base.specs.Text.{text_cmp}
 use Rattle.lot_cost.proofs.OrderLemmas.{lots_total, exact_lots}
+use Rattle.lot_booking.specs.OpeningOrder.{OpenedLot, by_key}
 use Rattle.lot_booking.specs.Order.{IsOrder, label_cmp, oldest_cmp, oldest_first, newest_cmp, newest_first, highest_cmp, highest_first}
 
 -- ---- an order from a comparison
@@ -87,11 +89,24 @@ exact_highest a b e =
 
 -- ---- the three orders
 
+-- a comparison of keys sorts lots, whatever their opening numbers are
+weak_by_key : {compare : LotKey → LotKey → Ordering} → IsTotalOrder compare → IsStrictWeakOrder (by_key (λ a b. is_lt (compare a b)))
+weak_by_key total = ranks_by total (λ (lot : OpenedLot). lot.0)
+
 pub oldest_is_order : IsOrder oldest_first
 oldest_is_order = is_order oldest_total exact_oldest
+
+pub oldest_is_weak_order : IsStrictWeakOrder (by_key oldest_first)
+oldest_is_weak_order = weak_by_key oldest_total
 
 pub newest_is_order : IsOrder newest_first
 newest_is_order = is_order newest_total exact_newest
 
+pub newest_is_weak_order : IsStrictWeakOrder (by_key newest_first)
+newest_is_weak_order = weak_by_key newest_total
+
 pub highest_is_order : IsOrder highest_first
 highest_is_order = is_order highest_total exact_highest
+
+pub highest_is_weak_order : IsStrictWeakOrder (by_key highest_first)
+highest_is_weak_order = weak_by_key highest_total

@@ -1,21 +1,24 @@
-ghost use Rattle.std.specs.Prelude.{◌≡◌, ◌≢◌, ◌⊎◌, None, length, IfOk, IfErr, IsOk, OnErr, ℤ, [], true, unsigned_abs};
+ghost use Rattle.std.specs.Prelude.{◌≡◌, ◌≢◌, ◌⊎◌, None, length, map, IfOk, IfErr, IsOk, OnErr, ℕ, ℤ, [], true, unsigned_abs};
 ghost use Rattle.std.specs.List.{AllByRecursion};
 ghost use Rattle.lot_cost.specs.declared.lot_key.LotKey.{LotKey};
-ghost use Rattle.lot_inv.specs.Inventory.{fitting, held_in, matching, other_sign, with_number};
+ghost use Rattle.lot_inv.specs.Inventory.{fitting, held_in, matching, opening_at, other_sign, with_number};
+ghost use Rattle.lot_inv.specs.Lot.{AreNumberedBy, key_and_units};
 ghost use Rattle.lot_cost.specs.declared.method.Method.{Method};
 ghost use Rattle.lot_cost.specs.declared.cost.Cost.{Cost};
-ghost use Rattle.lot_booking.specs.Booking.{ComesTo, IsOneLeg, Legs, Stops, posting_of};
+ghost use Rattle.lot_booking.specs.Booking.{ComesTo, IsOneLeg, Legs, Stops, posting_on};
 ghost use Rattle.lot_booking.specs.Choice.{HaveDistinctKeys, Takes};
-ghost use Rattle.lot_booking.specs.Method.{may_reduce, order_of, rule_of};
+ghost use Rattle.lot_booking.specs.Method.{may_reduce, order_by, rule_by, ties_by};
 ghost use Rattle.lot_booking.specs.Way.{FallShort, StopsOpening, Suffice};
 
 use crate::choice::take_enough;
 use crate::cost::{given, number};
+use crate::edition::Edition;
 use crate::fault::BookingFault;
-use crate::order::{Highest, Newest, Oldest};
+use crate::order::{Highest, HighestOpened, Newest, NewestOpened, Oldest, OldestOpened};
+use crate::selection::Selection;
 use lot_base::{Commodity, Day};
 use lot_cost::{Cost, CostSpec, LotKey, Method};
-use lot_inv::{Available, Inventory, is_other_sign};
+use lot_inv::{Available, Inventory, Lot, is_other_sign};
 use lot_num::{Rate, Units};
 use std::alloc::{AllocError, Global};
 
@@ -28,7 +31,7 @@ pub struct Booked {
     pub legs: Vec<(LotKey, Units)>,
 }
 
-/// Returns the legs of a posting with braces on the inventory of its account, by the account's method.
+/// Returns the legs of a posting with braces on the inventory of its account, by a selection.
 ///
 /// Where some lot of the commodity has the other sign the posting takes lots away, else it opens a lot or adds to one, on
 /// the given day or else on that of the transaction. Under NONE it never takes lots away.
@@ -39,30 +42,33 @@ pub struct Booked {
 /// they hold less. Each of these is told without memory: `Memory` comes only where the posting has legs.
 pub fn book(
     alloc: Global,
-    method: Method,
+    selection: Selection,
     inventory: &Inventory,
     commodity: &Commodity,
     units: Units,
     cost: &Cost,
     day: Day,
 ) -> Result<Booked, BookingFault>
-    ensures booked { IfOk result (λ b. ComesTo (posting_of method inventory.now commodity.now units cost.now day) (Legs b.reduces b.legs.items)) }
-    ensures stops { IfErr result (λ fault. Stops (posting_of method inventory.now commodity.now units cost.now day) fault) }
+    ensures booked { IfOk result (λ b. ComesTo
+        (posting_on selection inventory.now commodity.now units cost.now day)
+        (Legs b.reduces b.legs.items)) }
+    ensures stops { IfErr result (λ fault. Stops
+        (posting_on selection inventory.now commodity.now units cost.now day) fault) }
 {
     if units == Units::ZERO {
         return Err(BookingFault::ZeroUnits);
     }
     let number = number(cost, units)?;
     let spec = given(cost);
-    let reduces = method != Method::Unmatched && inventory.reduces(commodity, units);
+    let reduces = selection.method != Method::Unmatched && inventory.reduces(commodity, units);
     if !reduces {
         let legs = open(alloc, number, spec, units, day)?;
         return Ok(Booked { reduces, legs });
     }
     let available = inventory.available(commodity, units, &number, spec);
-    ensure_enough(method, &available, units)?;
+    ensure_enough(selection.method, &available, units)?;
     let lots = fitting_at(inventory, commodity, units, &number, spec)?;
-    let legs = take_by(alloc, method, lots, units)?;
+    let legs = take_by(alloc, selection, lots, units)?;
     Ok(Booked { reduces, legs })
 }
 
@@ -120,14 +126,18 @@ pub fn fitting(
     commodity: &Commodity,
     units: Units,
     spec: &CostSpec,
-) -> Result<Vec<(LotKey, Units)>, AllocError>
-    ensures all { IfOk result (λ lots. lots.items ≡ fitting inventory.now commodity.now units spec.now) }
-    ensures distinct { IfOk result (λ lots. HaveDistinctKeys lots.items) }
-    ensures signs { IfOk result (λ lots. AllByRecursion (λ (lot : LotKey × ℤ). other_sign lot.1 units ≡ true) lots.items) }
-    ensures memory { OnErr result (matching inventory.now commodity.now spec.now ≢ []) }
+) -> Result<Vec<Lot>, AllocError>
+    ensures all { IfOk result (λ lots. map key_and_units lots.items
+        ≡ fitting inventory.now.held commodity.now units spec.now) }
+    ensures numbers { IfOk result (λ lots.
+        AreNumberedBy (opening_at inventory.now commodity.now) lots.items) }
+    ensures distinct { IfOk result (λ lots. HaveDistinctKeys (map key_and_units lots.items)) }
+    ensures signs { IfOk result (λ lots. AllByRecursion
+        (λ (lot : LotKey × ℤ). other_sign lot.1 units ≡ true) (map key_and_units lots.items)) }
+    ensures memory { OnErr result (matching inventory.now.held commodity.now spec.now ≢ []) }
 {
     let mut lots = inventory.matching(commodity, spec)?;
-    lots.retain(|lot| is_other_sign(lot.1, units));
+    lots.retain(|lot| is_other_sign(lot.units, units));
     Ok(lots)
 }
 
@@ -139,38 +149,47 @@ fn fitting_at(
     units: Units,
     number: &Option<Rate>,
     spec: &CostSpec,
-) -> Result<Vec<(LotKey, Units)>, AllocError>
+) -> Result<Vec<Lot>, AllocError>
     requires { (spec.now.number ≡ None) ⊎ (spec.now.number ≡ number.now) }
-    ensures all { IfOk result (λ lots. lots.items
-        ≡ fitting inventory.now commodity.now units (with_number number.now spec.now)) }
-    ensures distinct { IfOk result (λ lots. HaveDistinctKeys lots.items) }
+    ensures all { IfOk result (λ lots. map key_and_units lots.items
+        ≡ fitting inventory.now.held commodity.now units (with_number number.now spec.now)) }
+    ensures numbers { IfOk result (λ lots.
+        AreNumberedBy (opening_at inventory.now commodity.now) lots.items) }
+    ensures distinct { IfOk result (λ lots. HaveDistinctKeys (map key_and_units lots.items)) }
 {
     let mut lots = fitting(inventory, commodity, units, spec)?;
     if let Some(number) = number {
-        lots.retain(|lot| lot.0.number == *number);
+        lots.retain(|lot| lot.key.number == *number);
     }
     Ok(lots)
 }
 
-/// Returns the legs that units take by a method of lots that suffice for them. The only error is out of memory.
+/// Returns the legs that units take by a selection of lots that suffice for them. The only error is out of memory.
 fn take_by(
     alloc: Global,
-    method: Method,
-    lots: Vec<(LotKey, Units)>,
+    selection: Selection,
+    lots: Vec<Lot>,
     units: Units,
 ) -> Result<Vec<(LotKey, Units)>, AllocError>
-    requires reduces { may_reduce method ≡ true }
-    requires distinct { HaveDistinctKeys lots.items }
-    requires suffice { Suffice method (length lots.items) (held_in lots.items) (unsigned_abs units) }
-    ensures taken { IfOk result (λ legs.
-        Takes (rule_of method) (order_of method) lots.items units legs.items) }
+    requires reduces { may_reduce selection.method ≡ true }
+    requires distinct { HaveDistinctKeys (map key_and_units lots.items) }
+    requires suffice { Suffice selection.method (length (map key_and_units lots.items))
+        (held_in (map key_and_units lots.items)) (unsigned_abs units) }
+    ensures taken { IfOk result (λ legs. (opening : LotKey → ℕ) → AreNumberedBy opening lots.items
+        → Takes (rule_by (ties_by selection.edition opening) selection.method)
+        (order_by (ties_by selection.edition opening) selection.method)
+        (map key_and_units lots.items) units legs.items) }
 {
-    match method {
-        // The oldest lots first is the order of the keys.
-        Method::Strict | Method::Fifo => take_enough::<Oldest>(alloc, lots, units),
-        Method::Lifo => take_enough::<Newest>(alloc, lots, units),
-        Method::Hifo => take_enough::<Highest>(alloc, lots, units),
+    match (selection.method, selection.edition) {
+        // It lists its legs in the order of the keys in both editions.
+        (Method::Strict, _) => take_enough::<Oldest>(alloc, lots, units),
+        (Method::Fifo, Edition::First) => take_enough::<Oldest>(alloc, lots, units),
+        (Method::Fifo, Edition::Second) => take_enough::<OldestOpened>(alloc, lots, units),
+        (Method::Lifo, Edition::First) => take_enough::<Newest>(alloc, lots, units),
+        (Method::Lifo, Edition::Second) => take_enough::<NewestOpened>(alloc, lots, units),
+        (Method::Hifo, Edition::First) => take_enough::<Highest>(alloc, lots, units),
+        (Method::Hifo, Edition::Second) => take_enough::<HighestOpened>(alloc, lots, units),
         // It never reduces.
-        Method::Unmatched => unreachable!(),
+        (Method::Unmatched, _) => unreachable!(),
     }
 }

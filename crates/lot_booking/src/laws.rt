@@ -5,10 +5,11 @@ ghost use Rattle.std.specs.List.{AllByRecursion};
 ghost use Rattle.lot_cost.specs.declared.lot_key.LotKey.{LotKey};
 ghost use Rattle.lot_booking.specs.Booking.{ComesTo, Braced, Legs, Outcome, TakesFrom, candidates, units_in};
 ghost use Rattle.lot_booking.specs.Choice.{Choice, HaveDistinctKeys, InTurn, IsChoice, OneOrWhole};
+ghost use Rattle.lot_booking.specs.OpeningOrder.{oldest_opened_first, newest_opened_first, highest_opened_first};
 ghost use Rattle.lot_booking.specs.Order.{IsOrder, oldest_first, newest_first, highest_first};
 
-use crate::{Highest, LotOrder, Newest, Oldest};
-use lot_cost::LotKey;
+use crate::{Highest, HighestOpened, LotOrder, Newest, NewestOpened, Oldest, OldestOpened};
+use lot_inv::Lot;
 use lot_inv::laws::matching_lots_are_distinct;
 
 /// Among lots there is at most one choice of an amount: under STRICT, and in each order.
@@ -22,14 +23,31 @@ pub fn there_is_at_most_one_choice()
         → AllByRecursion (λ (lot : LotKey × ℤ). one lot.0 ≡ other lot.0) lots }
 {}
 
-/// Returns whether one key is before another in each of the orders: the oldest, the newest and the highest first.
-pub fn orders_are_those_of_their_names(a: &LotKey, b: &LotKey) -> (bool, bool, bool)
-    ensures { result ≡ (oldest_first a.now b.now, newest_first a.now b.now, highest_first a.now b.now) }
+/// Returns whether one lot is before another in each of the orders: the oldest, the newest and the highest first, by the
+/// orders of edition 1, and by those of edition 2.
+pub fn orders_are_those_of_their_names(a: &Lot, b: &Lot) -> ((bool, bool, bool), (bool, bool, bool))
+    ensures by_key { result.0 ≡ (
+      oldest_first a.now.key b.now.key,
+      newest_first a.now.key b.now.key,
+      highest_first a.now.key b.now.key,
+    ) }
+    ensures by_opening { result.1 ≡ (
+      oldest_opened_first (a.now.key, a.now.opening) (b.now.key, b.now.opening),
+      newest_opened_first (a.now.key, a.now.opening) (b.now.key, b.now.opening),
+      highest_opened_first (a.now.key, a.now.opening) (b.now.key, b.now.opening),
+    ) }
 {
     (
-        Oldest::before(a, b),
-        Newest::before(a, b),
-        Highest::before(a, b),
+        (
+            Oldest::before(a, b),
+            Newest::before(a, b),
+            Highest::before(a, b),
+        ),
+        (
+            OldestOpened::before(a, b),
+            NewestOpened::before(a, b),
+            HighestOpened::before(a, b),
+        ),
     )
 }
 

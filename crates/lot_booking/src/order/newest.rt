@@ -1,22 +1,26 @@
+ghost use Rattle.lot_booking.specs.OpeningOrder.{by_key};
 ghost use Rattle.lot_booking.specs.Order.{newest_first};
-ghost use Rattle.lot_booking.specs.OrderLaws.{newest_is_order};
+ghost use Rattle.lot_booking.specs.OrderLaws.{newest_is_order, newest_is_weak_order};
 
 use crate::order::LotOrder;
-use lot_cost::LotKey;
+use lot_inv::Lot;
 use std::cmp::Ordering;
 
 /// The newest lot first: by day descending, then by currency, number and label, each ascending, no label before every
 /// label.
 ///
-/// Beancount's LIFO, with this project's ties.
+/// Beancount's LIFO, with this project's ties: that of edition 1.
 pub struct Newest;
 
 impl LotOrder for Newest {
-    ghost before = { newest_first };
+    ghost before = { by_key newest_first };
 
-    ghost is_order = { newest_is_order };
+    ghost is_order = { λ _. newest_is_order };
 
-    fn before(a: &LotKey, b: &LotKey) -> bool {
+    ghost is_weak_order = { newest_is_weak_order };
+
+    fn before(a: &Lot, b: &Lot) -> bool {
+        let (a, b) = (&a.key, &b.key);
         b.day
             .cmp(&a.day)
             .then_with(|| a.currency.cmp(&b.currency))
