@@ -7,5 +7,5 @@ pub mod ListLemmas
 pub mod TakeLemmas
 pub mod NumberLemmas
 pub mod OpeningOrders
-pub mod SameLots
+pub mod SameTies
 pub mod SomeOutcome

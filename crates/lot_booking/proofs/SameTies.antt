@@ -1,22 +1,63 @@
 -- What a posting comes to depends on the lots of its commodity, and on how ties between them are decided, alone. Crates above
 -- cite these lemmas.
-use Rattle.std.specs.Prelude.{◌≡◌, ℕ, ◌≤◌, nat_le, Bool, true, false, ◌&&◌, List, [], ◌∷◌, length, filter, ℤ, unsigned_abs, ⊤}
-use Rattle.std.specs.List.{AllByRecursion, list_any}
-use Rattle.std.specs.Map.{values_of}
+use Rattle.std.specs.Prelude.{◌≡◌, ◌≢◌, ℕ, ◌≤◌, nat_le, Bool, true, false, ◌&&◌, List, [], ◌∷◌, length, filter, Option, Some, ℤ, pos, unsigned_abs}
+use Rattle.std.specs.Cmp.{eq_by_cmp_equiv}
+use Rattle.std.specs.List.{All as AllOf, AllByRecursion, Contains, list_any}
+use Rattle.std.specs.Map.{keys_of, values_of}
+use Rattle.std.specs.Option.{unwrap_or}
 use Rattle.std.specs.Ordering.{is_lt}
-use Rattle.std.proofs.Common.{refl, sym, ap, ap₂, subst, ◌∙◌}
+use Rattle.std.proofs.Common.{refl, sym, ap, ap₂, subst, ◌∙◌, arith}
+use Rattle.std.proofs.lemmas.Bool.{true≢false}
+use Rattle.std.proofs.lemmas.Int.{ints}
+use Rattle.std.proofs.lemmas.List.Elements.{All-contains, All-filter, All-from_recursion, filter_passes}
+use Rattle.std.proofs.lemmas.Map.Keys.{IsDistinct-from_sorted}
+use Rattle.std.proofs.lemmas.Map.Views.{lookup-from_Contains}
 use Rattle.lot_cost.specs.declared.cost.Cost.{Cost}
 use Rattle.lot_cost.specs.declared.lot_key.LotKey.{LotKey}
 use Rattle.lot_cost.specs.declared.method.Method.{Method}
 use Rattle.lot_cost.specs.declared.method.Method.TheVariants.{Strict, Fifo, Lifo, Hifo, Unmatched}
 use Rattle.lot_cost.specs.CostSpec.{fits}
-use Rattle.lot_inv.specs.Inventory.{Held, lots_of, other_sign}
+use Rattle.lot_cost.specs.LotKey.{lot_cmp}
+use Rattle.lot_cost.proofs.OrderLemmas.{lots_total}
+use Rattle.lot_inv.specs.Inventory.{Held, lots_of, matching, other_sign, units_at}
+use Rattle.lot_inv.proofs.LawLemmas.{lots_of-get, sorted_lots_of}
 use Rattle.lot_booking.specs.declared.fault.BookingFault.TheVariants.{ZeroUnits, InexactCost, IncompleteCost, NoMatch, Ambiguous, NotEnough, Memory}
-use Rattle.lot_booking.specs.Booking.{Augments, Braced, ComesTo, FindsNone, Legs, Outcome, Reduces, Refused, candidates, is_ambiguous, is_reducing, posting_by, posting_of, spec_of}
+use Rattle.lot_booking.specs.Booking.{Augments, Braced, ComesTo, FindsNone, Legs, Outcome, Reduces, Refused, candidates, is_ambiguous, is_reducing, posting_by, spec_of}
 use Rattle.lot_booking.specs.Choice.{AreInOrder, Choice, HasNoChoice, InTurn, IsChoice, IsWhole, Takes}
-use Rattle.lot_booking.specs.Method.{ByKey, ByOpening, Ties, highest_by, is_strict, may_reduce, newest_by, oldest_by, order_by, rule_by}
+use Rattle.lot_booking.specs.Method.{ByOpening, Ties, highest_by, is_strict, may_reduce, newest_by, oldest_by, order_by, rule_by}
 use Rattle.lot_booking.specs.OpeningOrder.{highest_opened_cmp, newest_opened_cmp, oldest_opened_cmp}
 use Rattle.lot_booking.proofs.ListLemmas.{all_both, all_permuted, each_member}
+
+-- ---- lots that a posting may take
+
+-- a lot that is listed is held
+pub held_lot : (held : Held) (name : List ℕ) (lot : LotKey × ℤ) → Contains (lots_of held name) lot → units_at held (name, Some lot.0) ≡ lot.1
+held_lot held name lot member =
+    ap (λ (found : Option ℤ). unwrap_or found (pos 0))
+    (sym (lots_of-get held name lot.0)
+    ∙ lookup-from_Contains (eq_by_cmp_equiv lots_total) lot.0 lot.1 (lots_of held name)
+    (IsDistinct-from_sorted lot_cmp (keys_of (lots_of held name)) (sorted_lots_of held name)) member)
+
+pub sign_none : (units : ℤ) → other_sign (pos 0) units ≡ false
+sign_none units = grind (arith, ints)
+
+-- a lot that a posting may take is held
+pub candidate_held : (posting : Braced) (lot : LotKey × ℤ) → Contains (candidates posting) lot
+    → units_at posting.held (posting.commodity, Some lot.0) ≢ pos 0
+candidate_held posting lot among zero =
+    let held = posting.held in
+    let name = posting.commodity in
+    let IsHeld : LotKey × ℤ → Type 0 = λ lot. units_at held (name, Some lot.0) ≡ lot.1 in
+    let HasOtherSign : LotKey × ℤ → Type 0 = λ lot. other_sign lot.1 posting.units ≡ true in
+    let all : AllOf IsHeld (candidates posting) =
+    All-filter (λ (lot : LotKey × ℤ). other_sign lot.1 posting.units) IsHeld (matching held name (spec_of posting.units posting.cost))
+    (All-filter (λ (lot : LotKey × ℤ). fits (spec_of posting.units posting.cost) lot.0) IsHeld (lots_of held name)
+    (All-from_recursion IsHeld (lots_of held name) (each_member IsHeld (lots_of held name) (λ lot among. held_lot held name lot among)))) in
+    let is : units_at held (name, Some lot.0) ≡ lot.1 = All-contains IsHeld (candidates posting) lot all among in
+    let sign : other_sign lot.1 posting.units ≡ true =
+    All-contains HasOtherSign (candidates posting) lot
+    (filter_passes (λ (lot : LotKey × ℤ). other_sign lot.1 posting.units) (matching held name (spec_of posting.units posting.cost))) among in
+    true≢false (sym sign ∙ ap (λ z. other_sign z posting.units) (sym is ∙ zero) ∙ sign_none posting.units)
 
 -- ---- ties that are decided alike among some lots
 
@@ -96,11 +137,14 @@ module _ (Is : LotKey → Type 0) where
       chosen = h.chosen;
     }
 
--- ---- a posting, on inventories with the same lots of its commodity, and with ties that are decided alike among those it may take
+-- ---- a posting, on inventories with the same lots of its commodity
 
-module _ (Is : LotKey → Type 0) (s t : Ties) (orders : SameOrders Is s t) (method : Method) (a b : Held) (commodity : List ℕ) (units : ℤ) (cost : Cost)
-    (day : ℤ) (same : lots_of a commodity ≡ lots_of b commodity)
-    (are : AllByRecursion (λ (lot : LotKey × ℤ). Is lot.0) (candidates (posting_by s method a commodity units cost day))) where
+-- a lot that holds something
+abbrev pub IsHeldLot : Held → List ℕ → LotKey → Type 0
+IsHeldLot held commodity lot = units_at held (commodity, Some lot) ≢ pos 0
+
+module _ (s t : Ties) (method : Method) (a b : Held) (commodity : List ℕ) (units : ℤ) (cost : Cost) (day : ℤ)
+    (same : lots_of a commodity ≡ lots_of b commodity) (orders : SameOrders (IsHeldLot a commodity) s t) where
   abbrev there : Braced
   there = posting_by s method a commodity units cost day
 
@@ -111,6 +155,9 @@ module _ (Is : LotKey → Type 0) (s t : Ties) (orders : SameOrders Is s t) (met
   same_candidates =
       ap (λ lots. filter (λ (lot : LotKey × ℤ). other_sign lot.1 units)
       (filter (λ (lot : LotKey × ℤ). fits (spec_of units cost) lot.0) lots)) same
+
+  are_held : AllByRecursion (λ (lot : LotKey × ℤ). IsHeldLot a commodity lot.0) (candidates there)
+  are_held = each_member (λ (lot : LotKey × ℤ). IsHeldLot a commodity lot.0) (candidates there) (candidate_held there)
 
   same_reducing : is_reducing there ≡ is_reducing here
   same_reducing = ap (λ lots. may_reduce method && list_any (λ lot. other_sign lot units) (values_of lots)) same
@@ -128,7 +175,8 @@ module _ (Is : LotKey → Type 0) (s t : Ties) (orders : SameOrders Is s t) (met
   still_none none =
       subst (λ (lots : List (LotKey × ℤ)). HasNoChoice (rule_by t method) lots (unsigned_abs units)) same_candidates
       (λ choice is.
-      none choice (still_choice Is t s (orders_turned Is s t orders) (candidates there) are method (unsigned_abs units) choice is))
+      none choice (still_choice (IsHeldLot a commodity) t s (orders_turned (IsHeldLot a commodity) s t orders)
+      (candidates there) are_held method (unsigned_abs units) choice is))
 
   -- it comes to the same
   pub comes_alike : (outcome : Outcome) → ComesTo there outcome → ComesTo here outcome
@@ -136,7 +184,7 @@ module _ (Is : LotKey → Type 0) (s t : Ties) (orders : SameOrders Is s t) (met
   comes_alike (Legs true legs) h = (
     still_reduces h.0,
     subst (λ (lots : List (LotKey × ℤ)). Takes (rule_by t method) (order_by t method) lots units legs) same_candidates
-        (still_takes Is s t orders (candidates there) are method units legs h.1),
+        (still_takes (IsHeldLot a commodity) s t orders (candidates there) are_held method units legs h.1),
   )
   comes_alike (Refused ZeroUnits) h = h
   comes_alike (Refused InexactCost) h = h
@@ -146,16 +194,3 @@ module _ (Is : LotKey → Type 0) (s t : Ties) (orders : SameOrders Is s t) (met
   comes_alike (Refused NotEnough) h =
       (still_reduces h.0, (λ none. h.1 (same_candidates ∙ none)), sym same_ambiguous ∙ h.2, still_none h.3)
   comes_alike (Refused Memory) h = h
-
--- the same where ties are decided by the same
-pub same_outcome_by : (ties : Ties) (method : Method) (a b : Held) (commodity : List ℕ) (units : ℤ) (cost : Cost) (day : ℤ)
-    → lots_of a commodity ≡ lots_of b commodity → (outcome : Outcome)
-    → ComesTo (posting_by ties method a commodity units cost day) outcome → ComesTo (posting_by ties method b commodity units cost day) outcome
-same_outcome_by ties method a b commodity units cost day same =
-    comes_alike (λ _. ⊤) ties ties (λ m x y is other. refl) method a b commodity units cost day same
-    (each_member (λ _. ⊤) (candidates (posting_by ties method a commodity units cost day)) (λ lot member. tt))
-
-pub same_outcome : (method : Method) (a b : Held) (commodity : List ℕ) (units : ℤ) (cost : Cost) (day : ℤ)
-    → lots_of a commodity ≡ lots_of b commodity → (outcome : Outcome)
-    → ComesTo (posting_of method a commodity units cost day) outcome → ComesTo (posting_of method b commodity units cost day) outcome
-same_outcome = same_outcome_by ByKey
