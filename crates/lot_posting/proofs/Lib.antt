@@ -3,3 +3,5 @@ pub mod BalanceLemmas
 pub mod BalanceResiduals
 pub mod TallyLemmas
 pub mod TallyCount
+pub mod TallyOpenings
+pub mod TallyLots

@@ -21,15 +21,16 @@ use Rattle.lot_book.specs.declared.refusal.Refusal.TheVariants.{Range}
 use Rattle.lot_book.specs.declared.refusal.Stop.{Stop}
 use Rattle.lot_book.specs.declared.refusal.Stop.TheVariants.{Refused, Memory}
 use Rattle.lot_book.specs.Balance.{AreWithin, residuals, weights_by}
-use Rattle.lot_book.specs.Booking.{Booked, HasLegs, Line, braced, line_of, plain_leg}
-use Rattle.lot_book.specs.Change.{ListsSums, units_after}
+use Rattle.lot_book.specs.Booking.{Booked, HasLegs, Line, TieRule, braced, line_under, plain_leg}
+use Rattle.lot_book.specs.Change.{units_after}
 use Rattle.lot_book.specs.Facts.{Facts}
 use Rattle.lot_book.specs.Leg.{leave_range, leg_at, legs_at_lots, units_moved, with_legs}
+use Rattle.lot_book.specs.OpeningNumber.{HasNumber}
 use Rattle.lot_book.specs.Sale.{lots_in_legs, sales_of, AreLegsOf, SaleParts, same_sign}
 use Rattle.lot_book.proofs.LegLemmas.{leave_range-passes, leave_range-stops}
 use Rattle.lot_num.specs.Amount.{IsUnits}
 use Rattle.lot_posting.specs.Posting.{Books, MayLackMemory, StopsPosting, StoresFor}
-use Rattle.lot_posting.specs.Tally.{AreOf, StopsAt, plain}
+use Rattle.lot_posting.specs.Tally.{AreOf, HaveNumbers, ListsTally, StopsAt, plain}
 
 -- ---- legs at lots
 
@@ -37,6 +38,12 @@ pub AreOf-lots : (entry posting : ℕ) (account commodity : List ℕ) (place : �
     → AreOf account posting (legs_at_lots entry posting account commodity place lots)
 AreOf-lots entry posting account commodity place [] = tt
 AreOf-lots entry posting account commodity place (lot ∷ lots) = ((refl, refl), AreOf-lots entry posting account commodity (suc place) lots)
+
+pub HaveNumbers-lots : (entry posting : ℕ) (account commodity : List ℕ) (place : ℕ) (lots : List (LotKey × ℤ)) → HasNumber entry posting
+    → HaveNumbers (legs_at_lots entry posting account commodity place lots)
+HaveNumbers-lots entry posting account commodity place [] has = tt
+HaveNumbers-lots entry posting account commodity place (lot ∷ lots) has =
+    (has, HaveNumbers-lots entry posting account commodity (suc place) lots has)
 
 abbrev size : LotKey × ℤ → ℕ
 size lot = unsigned_abs lot.1
@@ -126,7 +133,7 @@ has_lots line cost entry reduces lots passed legs is number comes same are =
 -- what a draft has once the legs of a posting are added to it
 pub record Adds (facts : Facts) (amount : Amount) (added : List Leg) (old new : Draft) : Type 0 where
   pub legs : new.tally.legs ≡ old.tally.legs ++ added
-  pub lists : ListsSums facts new.tally.legs new.tally.positions.entries
+  pub lists : ListsTally facts new.tally
   pub sum : (weights : List (List ℕ × ℤ)) → old.residuals ≡ residuals weights
       → new.residuals ≡ residuals (weights ++ weights_by amount.cost amount added)
   pub within : (count : ℕ) → AreWithin count old.residuals → AreWithin (suc count) new.residuals
@@ -136,7 +143,7 @@ pub record Adds (facts : Facts) (amount : Amount) (added : List Leg) (old new : 
 -- the same, of what an addition ensures, which leaves the sales
 pub adds_at : {T E : Type 0} (facts : Facts) (amount : Amount) (added : List Leg) (old new : Draft) (r : Result T E)
     → OnOk r (new.tally.legs ≡ old.tally.legs ++ added)
-    → OnOk r (ListsSums facts new.tally.legs new.tally.positions.entries)
+    → OnOk r (ListsTally facts new.tally)
     → OnOk r ((weights : List (List ℕ × ℤ)) → old.residuals ≡ residuals weights
     → new.residuals ≡ residuals (weights ++ weights_by amount.cost amount added))
     → OnOk r ((count : ℕ) → AreWithin count old.residuals → AreWithin (suc count) new.residuals)
@@ -180,14 +187,14 @@ one_sale day booked before new lots takes are adds =
 -- ---- a posting is booked, or stops
 
 -- a draft with the legs of a posting, and its sale if it takes lots away
-pub books : (facts : Facts) (day : ℤ) (place : ℕ) (account : List ℕ) (amount : Amount) (old new : Draft)
+pub books : (ties : TieRule) (facts : Facts) (day : ℤ) (place : ℕ) (account : List ℕ) (amount : Amount) (old new : Draft)
     (reduces : Bool) (legs : List Leg)
-    → HasLegs (line_of facts day old.tally.legs place account amount) amount.cost reduces legs
+    → HasLegs (line_under ties facts day old.tally.legs place account amount) amount.cost reduces legs
     → Adds facts amount legs old new
     → new.sales ≡ old.sales ++ sales_of day (record { place = place; account = account; amount = amount; reduces = reduces; legs = legs })
-    → Books facts day place account amount old new
-books facts day place account amount old new reduces legs has adds sales =
-    let line = line_of facts day old.tally.legs place account amount in
+    → Books ties facts day place account amount old new
+books ties facts day place account amount old new reduces legs has adds sales =
+    let line = line_under ties facts day old.tally.legs place account amount in
     record {
       booked = record { place = place; account = account; amount = amount; reduces = reduces; legs = legs };
       is = record {
@@ -212,25 +219,25 @@ stops_at_legs line reduces legs (Refused refusal) has out =
 stops_at_legs line reduces legs Memory has out = tt
 
 -- the same, of what an addition that stops ensures
-pub stops_with : (facts : Facts) (day : ℤ) (before : List Leg) (place : ℕ) (account : List ℕ) (amount : Amount)
+pub stops_with : (ties : TieRule) (facts : Facts) (day : ℤ) (before : List Leg) (place : ℕ) (account : List ℕ) (amount : Amount)
     (reduces : Bool) (legs : List Leg) (stop : Stop)
-    → HasLegs (line_of facts day before place account amount) amount.cost reduces legs
+    → HasLegs (line_under ties facts day before place account amount) amount.cost reduces legs
     → ((other : List ℕ) (posting : ℕ) → AreOf other posting legs
     → StopsAt (with_legs other (facts.held other) before) posting legs stop)
-    → StopsPosting (line_of facts day before place account amount) stop
-stops_with facts day before place account amount reduces legs stop has stops =
-    let line = line_of facts day before place account amount in
+    → StopsPosting (line_under ties facts day before place account amount) stop
+stops_with ties facts day before place account amount reduces legs stop has stops =
+    let line = line_under ties facts day before place account amount in
     stops_at_legs line reduces legs stop has (stops account place (AreOf-legs line amount.cost reduces legs has))
 
-pub stops_of : {T : Type 0} (facts : Facts) (day : ℤ) (before : List Leg) (place : ℕ) (account : List ℕ) (amount : Amount)
+pub stops_of : {T : Type 0} (ties : TieRule) (facts : Facts) (day : ℤ) (before : List Leg) (place : ℕ) (account : List ℕ) (amount : Amount)
     (reduces : Bool) (legs : List Leg) (r : Result T Stop)
-    → HasLegs (line_of facts day before place account amount) amount.cost reduces legs
+    → HasLegs (line_under ties facts day before place account amount) amount.cost reduces legs
     → IfErr r (λ stop. (other : List ℕ) (posting : ℕ) → AreOf other posting legs
     → StopsAt (with_legs other (facts.held other) before) posting legs stop)
-    → IfErr r (λ stop. StopsPosting (line_of facts day before place account amount) stop)
-stops_of facts day before place account amount reduces legs (Ok x) has stops = tt
-stops_of facts day before place account amount reduces legs (Err stop) has stops =
-    stops_with facts day before place account amount reduces legs stop has stops
+    → IfErr r (λ stop. StopsPosting (line_under ties facts day before place account amount) stop)
+stops_of ties facts day before place account amount reduces legs (Ok x) has stops = tt
+stops_of ties facts day before place account amount reduces legs (Err stop) has stops =
+    stops_with ties facts day before place account amount reduces legs stop has stops
 
 -- ---- a posting without braces
 
@@ -239,11 +246,11 @@ abbrev plain_after : Facts → List Leg → List ℕ → Amount → ℤ
 plain_after facts before account amount = units_after facts before (plain account amount.commodity) +ℤ amount.units
 
 -- it is refused where that is out of range
-pub plain_out : (facts : Facts) (day : ℤ) (before : List Leg) (place : ℕ) (account : List ℕ) (amount : Amount) → amount.cost ≡ None
+pub plain_out : (ties : TieRule) (facts : Facts) (day : ℤ) (before : List Leg) (place : ℕ) (account : List ℕ) (amount : Amount) → amount.cost ≡ None
     → (IsUnits (plain_after facts before account amount) → ⊥)
-    → StopsPosting (line_of facts day before place account amount) (Refused (Range place))
-plain_out facts day before place account amount is out =
-    let line = line_of facts day before place account amount in
+    → StopsPosting (line_under ties facts day before place account amount) (Refused (Range place))
+plain_out ties facts day before place account amount is out =
+    let line = line_under ties facts day before place account amount in
     let leg = plain_leg line in
     inr
     (record {
@@ -255,8 +262,8 @@ plain_out facts day before place account amount is out =
     })
 
 -- else its leg is stored
-pub plain_in : (facts : Facts) (day : ℤ) (before : List Leg) (place : ℕ) (account : List ℕ) (amount : Amount) → amount.cost ≡ None
-    → IsUnits (plain_after facts before account amount) → MayLackMemory before (line_of facts day before place account amount)
-plain_in facts day before place account amount is within =
-    let line = line_of facts day before place account amount in
+pub plain_in : (ties : TieRule) (facts : Facts) (day : ℤ) (before : List Leg) (place : ℕ) (account : List ℕ) (amount : Amount) → amount.cost ≡ None
+    → IsUnits (plain_after facts before account amount) → MayLackMemory before (line_under ties facts day before place account amount)
+plain_in ties facts day before place account amount is within =
+    let line = line_under ties facts day before place account amount in
     inl (subst (StoresFor line) (sym is) (leave_range-passes line.held (plain_leg line) [] within))

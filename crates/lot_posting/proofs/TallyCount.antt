@@ -1,11 +1,10 @@
 -- Rows that set the lots of a commodity one after another, and how many lots they leave.
 use Rattle.std.specs.Prelude.{◌≡◌, ℕ, ◌+◌, ◌≤◌, Bool, true, false, cond, not, List, [], ◌∷◌, length, Option, None, Some, is_some, ℤ, pos}
 use Rattle.std.specs.declared.cmp.Ordering.TheVariants.{Less}
-use Rattle.std.specs.BTreeMap.{is_at}
 use Rattle.std.specs.FinMap.{get}
 use Rattle.std.specs.List.{AllByRecursion}
 use Rattle.std.specs.List.Sorted.{IsStrictlySortedBy}
-use Rattle.std.specs.Map.{keys_of, lookup}
+use Rattle.std.specs.Map.{keys_of}
 use Rattle.std.specs.Option.{unwrap_or}
 use Rattle.std.specs.Ordering.{int_eq, is_eq}
 use Rattle.std.proofs.Common.{refl, sym, ap, ◌∙◌, arith}
@@ -14,9 +13,7 @@ use Rattle.lot_base.specs.Text.{same_text}
 use Rattle.lot_base.proofs.TextLemmas.{same_text-itself}
 use Rattle.lot_cost.specs.declared.lot_key.LotKey.{LotKey}
 use Rattle.lot_inv.specs.Inventory.{Held, lots_of, non_zero, units_at, with_units}
-use Rattle.lot_cost.specs.LotKey.{lot_cmp}
 use Rattle.lot_inv.specs.Zeros.{HasNoZeros}
-use Rattle.lot_inv.proofs.LawLemmas.{lots_of-get}
 use Rattle.lot_inv.proofs.LotLemmas.{length-set, one_if, same_lots}
 use Rattle.lot_book.specs.declared.leg.Position.{Position}
 use Rattle.lot_book.specs.declared.leg.Leg.{Leg}
@@ -31,25 +28,8 @@ use Rattle.lot_book.proofs.HeldLemmas.{at, get-with_row}
 
 -- ---- rows of lots, and others
 
--- inventories with the same lots of a commodity have the same ones with a row set in both
-same-row : (account commodity : List ℕ) (a b : Held) (row : Position × ℤ) → lots_of a commodity ≡ lots_of b commodity
-    → lots_of (with_row account a row) commodity ≡ lots_of (with_row account b row) commodity
-same-row account commodity a b row alike =
-    same_lots (with_row account a row) (with_row account b row) commodity (λ key.
-    get-with_row account a row (commodity, Some key)
-    ∙ ap (cond (same_position (at account (commodity, Some key)) row.0) (non_zero row.1))
-    (sym (lots_of-get a commodity key) ∙ ap (lookup (is_at (lot_cmp key))) alike ∙ lots_of-get b commodity key)
-    ∙ sym (get-with_row account b row (commodity, Some key)))
-
--- and with rows set in both
-pub same-rows : (account commodity : List ℕ) (a b : Held) (rows : List (Position × ℤ)) → lots_of a commodity ≡ lots_of b commodity
-    → lots_of (set_rows account a rows) commodity ≡ lots_of (set_rows account b rows) commodity
-same-rows account commodity a b [] alike = alike
-same-rows account commodity a b (row ∷ rows) alike =
-    same-rows account commodity (with_row account a row) (with_row account b row) rows (same-row account commodity a b row alike)
-
 -- a row that is no lot of the pair leaves the lots as they are
-pub lots-other_row : (account commodity : List ℕ) (held : Held) (row : Position × ℤ) → is_lot_of account commodity row.0 ≡ false
+lots-other_row : (account commodity : List ℕ) (held : Held) (row : Position × ℤ) → is_lot_of account commodity row.0 ≡ false
     → lots_of (with_row account held row) commodity ≡ lots_of held commodity
 lots-other_row account commodity held row other =
     same_lots (with_row account held row) held commodity (λ key.
@@ -57,25 +37,13 @@ lots-other_row account commodity held row other =
     ∙ ap (λ b. cond b (non_zero row.1) (get held (commodity, Some key))) (not_at account commodity row.0 key other))
 
 -- a row that is one sets it
-pub lot_row : (account commodity : List ℕ) (held : Held) (row : Position × ℤ) → is_lot_of account commodity row.0 ≡ true
+lot_row : (account commodity : List ℕ) (held : Held) (row : Position × ℤ) → is_lot_of account commodity row.0 ≡ true
     → with_row account held row ≡ with_units held (commodity, row.0.lot) row.1
 lot_row account commodity held row is =
     let parts = lot-parts account commodity row.0 is in
     ap (λ a. cond (same_text account a) (with_units held (row.0.commodity, row.0.lot) row.1) held) parts.1
     ∙ ap (λ b. cond b (with_units held (row.0.commodity, row.0.lot) row.1) held) (same_text-itself account)
     ∙ ap (λ c. with_units held (c, row.0.lot) row.1) parts.2
-
--- once a row is set, those that are left are still to be
-pub lots-set : (account commodity : List ℕ) (held now : Held) (row : Position × ℤ) (rows : List (Position × ℤ)) → is_lot_of account commodity row.0 ≡ true
-    → now ≡ with_units held (commodity, row.0.lot) row.1
-    → lots_of (set_rows account now rows) commodity ≡ lots_of (set_rows account held (row ∷ rows)) commodity
-lots-set account commodity held now row rows is set =
-    ap (λ (h : Held). lots_of (set_rows account h rows) commodity) (set ∙ sym (lot_row account commodity held row is))
-
-pub lots-left : (account commodity : List ℕ) (held : Held) (row : Position × ℤ) (rows : List (Position × ℤ)) → is_lot_of account commodity row.0 ≡ false
-    → lots_of (set_rows account held rows) commodity ≡ lots_of (set_rows account held (row ∷ rows)) commodity
-lots-left account commodity held row rows other =
-    same-rows account commodity held (with_row account held row) rows (sym (lots-other_row account commodity held row other))
 
 -- ---- how many lots
 

@@ -1,7 +1,6 @@
 -- What an account holds after legs, told by the rows that list it: the lots of a commodity, and their number.
-use Rattle.std.specs.Prelude.{◌≡◌, ℕ, Bool, true, false, cond, ◌&&◌, ◌||◌, List, [], ◌∷◌, Option, None, Some, is_none, is_some, ℤ}
+use Rattle.std.specs.Prelude.{◌≡◌, ℕ, Bool, true, false, cond, ◌&&◌, List, [], ◌∷◌, Option, None, Some, is_none, is_some, ℤ}
 use Rattle.std.specs.FinMap.{get}
-use Rattle.std.specs.List.{AllByRecursion, list_any}
 use Rattle.std.specs.List.Sorted.{IsStrictlySortedBy}
 use Rattle.std.specs.Map.{keys_of, lookup}
 use Rattle.std.proofs.Common.{refl, sym, ap, ◌∙◌}
@@ -102,36 +101,6 @@ not_at account commodity p key other = by (same_position (at account (commodity,
         let is : is_lot_of account commodity p ≡ true = ap (is_lot_of account commodity) (sym (one_position (at account (commodity, Some key)) p e)) ∙ lot-itself account commodity key in
         sym is ∙ other
     by false e = refl
-
--- where no row is a lot of the pair, none is listed at a key of it
-pub none_listed : (account commodity : List ℕ) (rows : List (Position × ℤ)) (key : LotKey) → AllByRecursion (λ (p : Position). is_lot_of account commodity p ≡ false) (keys_of rows)
-    → lookup (same_position (at account (commodity, Some key))) rows ≡ None
-none_listed account commodity [] key none = refl
-none_listed account commodity (row ∷ rows) key none =
-    ap (λ b. cond b (Some row.1) (lookup (same_position (at account (commodity, Some key))) rows)) (not_at account commodity row.0 key none.0)
-    ∙ none_listed account commodity rows key none.1
-
--- then the legs leave the lots of the pair as they were
-pub lots-unchanged : (facts : Facts) (legs : List Leg) (rows : List (Position × ℤ)) (account commodity : List ℕ) → HasNoZeros (facts.held account) → ListsSums facts legs rows
-    → AllByRecursion (λ (p : Position). is_lot_of account commodity p ≡ false) (keys_of rows)
-    → lots_of (with_legs account (facts.held account) legs) commodity ≡ lots_of (facts.held account) commodity
-lots-unchanged facts legs rows account commodity kept lists none =
-    same_lots (with_legs account (facts.held account) legs) (facts.held account) commodity (λ key.
-    get-with_legs facts legs rows account kept lists (commodity, Some key)
-    ∙ ap (λ listed. settled listed (get (facts.held account) (commodity, Some key))) (none_listed account commodity rows key none))
-
-either_false : (a b : Bool) → (a || b) ≡ false → (a ≡ false) × (b ≡ false)
-either_false true b e = cc
-either_false false b e = (refl, e)
-
-pub none_of : (account commodity : List ℕ) (positions : List Position) → list_any (λ p. is_lot_of account commodity p) positions ≡ false
-    → AllByRecursion (λ (p : Position). is_lot_of account commodity p ≡ false) positions
-none_of account commodity [] none = tt
-none_of account commodity (p ∷ positions) none =
-    let both = either_false (is_lot_of account commodity p) (list_any (λ p. is_lot_of account commodity p) positions) none in (
-      both.0,
-      none_of account commodity positions both.1,
-    )
 
 -- ---- the plain units of a pair
 

@@ -10,9 +10,21 @@ use Rattle.lot_book.specs.declared.leg.Leg.{Leg}
 use Rattle.lot_book.specs.declared.refusal.Refusal.TheVariants.{Range}
 use Rattle.lot_book.specs.declared.refusal.Stop.{Stop}
 use Rattle.lot_book.specs.declared.refusal.Stop.TheVariants.{Refused, Memory}
-use Rattle.lot_book.specs.Change.{units_after}
+use Rattle.lot_posting.specs.declared.tally.Tally.{Tally}
+use Rattle.lot_book.specs.Change.{ListsOpened, ListsSums, units_after}
+use Rattle.lot_book.specs.OpeningNumber.{HasNumber}
 use Rattle.lot_book.specs.Facts.{Facts}
 use Rattle.lot_book.specs.Leg.{leave_range}
+
+-- a tally lists what its legs change: the units that each position holds after them, and the opening number of each lot that
+-- they open
+pub record ListsTally (facts : Facts) (tally : Tally) : Type 0 where
+  pub sums : ListsSums facts tally.legs tally.positions.entries
+  pub openings : ListsOpened facts tally.legs tally.openings
+
+-- each leg has a number
+abbrev pub HaveNumbers : List Leg → Type 0
+HaveNumbers legs = AllByRecursion (λ (leg : Leg). HasNumber leg.entry leg.posting) legs
 
 -- the legs are those of one posting to one account
 abbrev pub AreOf : List ℕ → ℕ → List Leg → Type 0

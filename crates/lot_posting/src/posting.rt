@@ -1,22 +1,21 @@
-ghost use Rattle.std.specs.Prelude.{◌≡◌, ◌≤◌, ◌-◌, ◌∷◌, [], suc, true, false, IfErr, IfOk, IsErrOf, OnOk, Some, None, ℤ};
-ghost use Rattle.std.specs.FinMap as finite;
-ghost use Rattle.lot_inv.specs.Inventory.{Held, lots_of};
-ghost use Rattle.lot_booking.specs.Booking.{ComesTo, ComesToLegs, Legs, posting_of};
+ghost use Rattle.std.specs.Prelude.{◌≡◌, ◌-◌, suc, IfErr, IfOk, IsErrOf, OnOk, Some, None};
+ghost use Rattle.lot_booking.specs.Booking.{ComesTo, ComesToLegs, Legs, posting_on};
 ghost use Rattle.lot_book.specs.declared.refusal.Stop.TheVariants.{Memory};
 ghost use Rattle.lot_book.specs.Balance.{AreWithin};
-ghost use Rattle.lot_book.specs.Booking.{braced, line_of, method_of, plain_leg};
-ghost use Rattle.lot_book.specs.Change.{ListsSums};
-ghost use Rattle.lot_book.specs.Leg.{leg_at, legs_at_lots, with_legs};
-ghost use Rattle.lot_posting.specs.Posting.{Books, IsStopOf, MayLackMemory, StopsOn, StopsPosting, StopsWithoutLegs};
+ghost use Rattle.lot_book.specs.Booking.{braced, method_of};
+ghost use Rattle.lot_book.specs.Leg.{leg_at, legs_at_lots};
+ghost use Rattle.lot_posting.specs.Posting.{BooksAt, IsStopOf, MayLackMemory, StopsOn, StopsPosting, StopsWithoutLegs, line_at};
 ghost use Rattle.lot_book.specs.Refusals.{most_postings};
 ghost use Rattle.lot_book.specs.Sale.{AreLegsOf};
-ghost use Rattle.lot_view.specs.View.{known};
+ghost use Rattle.lot_book.specs.OpeningNumber.{HasNumber};
+ghost use Rattle.lot_posting.specs.Tally.{ListsTally};
+ghost use Rattle.lot_view.specs.View.{known, known_with_openings};
 
 use crate::draft::Draft;
 use crate::tally::Tally;
 use lot_base::{Account, Day};
-use lot_book::{Leg, Position, Refusal, Sale, Stop};
-use lot_booking::{Booked, BookingFault, book};
+use lot_book::{Edition, Leg, Position, Refusal, Sale, Stop};
+use lot_booking::{Booked, BookingFault, Selection, book};
 use lot_command::{Amount, Cost, Method};
 use lot_cost::LotKey;
 use lot_inv::Inventory;
@@ -27,6 +26,8 @@ use std::alloc::{AllocError, Global};
 /// A posting with an amount, and where it stands.
 #[derive(Drop)]
 pub struct Site<'a> {
+    /// By which edition it is booked.
+    pub edition: Edition,
     /// The number of its entry, from 1.
     pub entry: u64,
     pub day: Day,
@@ -48,13 +49,13 @@ pub fn book_posting(
     draft: &mut Draft,
 ) -> Result<(), Stop>
     requires entry { site.now.entry ≡ suc (known view.now).entries }
-    requires lists { ListsSums (known view.now) draft.old.tally.legs draft.old.tally.positions.entries }
+    requires number { HasNumber site.now.entry site.now.posting }
+    requires lists { ListsTally (known view.now) draft.old.tally }
     requires room { AreWithin (most_postings - 1) draft.old.residuals }
-    ensures books { OnOk result (Books (known view.now) site.now.day site.now.posting site.now.account.now site.now.amount.now draft.old draft.new) }
-    ensures stops { IfErr result (λ stop. StopsPosting (line_of (known view.now) site.now.day draft.old.tally.legs site.now.posting site.now.account.now site.now.amount.now) stop) }
+    ensures books { OnOk result (BooksAt (known_with_openings view.now) site.now draft.old draft.new) }
+    ensures stops { IfErr result (λ stop. StopsPosting (line_at (known_with_openings view.now) site.now draft.old.tally.legs) stop) }
     ensures memory { IsErrOf result Memory → MayLackMemory draft.old.tally.legs
-        (line_of (known view.now) site.now.day draft.old.tally.legs site.now.posting
-        site.now.account.now site.now.amount.now) }
+        (line_at (known_with_openings view.now) site.now draft.old.tally.legs) }
 {
     match &site.amount.cost {
         Some(cost) => book_at_cost(alloc, view, site, cost, draft),
@@ -66,13 +67,13 @@ pub fn book_posting(
 fn book_plain(alloc: Global, view: &View, site: &Site<'_>, draft: &mut Draft) -> Result<(), Stop>
     requires plain { site.now.amount.now.cost ≡ None }
     requires entry { site.now.entry ≡ suc (known view.now).entries }
-    requires lists { ListsSums (known view.now) draft.old.tally.legs draft.old.tally.positions.entries }
+    requires number { HasNumber site.now.entry site.now.posting }
+    requires lists { ListsTally (known view.now) draft.old.tally }
     requires room { AreWithin (most_postings - 1) draft.old.residuals }
-    ensures books { OnOk result (Books (known view.now) site.now.day site.now.posting site.now.account.now site.now.amount.now draft.old draft.new) }
-    ensures stops { IfErr result (λ stop. StopsPosting (line_of (known view.now) site.now.day draft.old.tally.legs site.now.posting site.now.account.now site.now.amount.now) stop) }
+    ensures books { OnOk result (BooksAt (known_with_openings view.now) site.now draft.old draft.new) }
+    ensures stops { IfErr result (λ stop. StopsPosting (line_at (known_with_openings view.now) site.now draft.old.tally.legs) stop) }
     ensures memory { IsErrOf result Memory → MayLackMemory draft.old.tally.legs
-        (line_of (known view.now) site.now.day draft.old.tally.legs site.now.posting
-        site.now.account.now site.now.amount.now) }
+        (line_at (known_with_openings view.now) site.now draft.old.tally.legs) }
 {
     let amount = site.amount;
     let _in_range = amount.units.mantissa(); // says to the prover that they are below the limit of units
@@ -97,13 +98,13 @@ fn book_at_cost(
 ) -> Result<(), Stop>
     requires cost { site.now.amount.now.cost ≡ Some cost.now }
     requires entry { site.now.entry ≡ suc (known view.now).entries }
-    requires lists { ListsSums (known view.now) draft.old.tally.legs draft.old.tally.positions.entries }
+    requires number { HasNumber site.now.entry site.now.posting }
+    requires lists { ListsTally (known view.now) draft.old.tally }
     requires room { AreWithin (most_postings - 1) draft.old.residuals }
-    ensures books { OnOk result (Books (known view.now) site.now.day site.now.posting site.now.account.now site.now.amount.now draft.old draft.new) }
-    ensures stops { IfErr result (λ stop. StopsPosting (line_of (known view.now) site.now.day draft.old.tally.legs site.now.posting site.now.account.now site.now.amount.now) stop) }
+    ensures books { OnOk result (BooksAt (known_with_openings view.now) site.now draft.old draft.new) }
+    ensures stops { IfErr result (λ stop. StopsPosting (line_at (known_with_openings view.now) site.now draft.old.tally.legs) stop) }
     ensures memory { IsErrOf result Memory → MayLackMemory draft.old.tally.legs
-        (line_of (known view.now) site.now.day draft.old.tally.legs site.now.posting
-        site.now.account.now site.now.amount.now) }
+        (line_at (known_with_openings view.now) site.now draft.old.tally.legs) }
 {
     let _in_range = site.amount.units.mantissa(); // says to the prover that they are below the limit of units
     let Booked {
@@ -128,24 +129,26 @@ fn book_lots(
     cost: &Cost,
 ) -> Result<Booked, Stop>
     requires cost { site.now.amount.now.cost ≡ Some cost.now }
-    requires lists { ListsSums (known view.now) tally.now.legs tally.now.positions.entries }
+    requires lists { ListsTally (known view.now) tally.now }
     ensures booked { IfOk result (λ booked. ComesTo
-        (braced (line_of (known view.now) site.now.day tally.now.legs site.now.posting site.now.account.now site.now.amount.now) cost.now)
+        (braced (line_at (known_with_openings view.now) site.now tally.now.legs) cost.now)
         (Legs booked.reduces booked.legs.items)) }
     ensures stops { IfErr result (λ stop. StopsWithoutLegs
-        (line_of (known view.now) site.now.day tally.now.legs site.now.posting site.now.account.now site.now.amount.now) stop) }
+        (line_at (known_with_openings view.now) site.now tally.now.legs) stop) }
     ensures memory { IsErrOf result Memory → MayLackMemory tally.now.legs
-        (line_of (known view.now) site.now.day tally.now.legs site.now.posting
-        site.now.account.now site.now.amount.now) }
+        (line_at (known_with_openings view.now) site.now tally.now.legs) }
 {
-    let method = method_of(view, site.account);
+    let selection = Selection {
+        edition: site.edition,
+        method: method_of(view, site.account),
+    };
     if tally.has_changed(site.account, &site.amount.commodity) {
         let lots = tally.lots_of(alloc, view, site.account, &site.amount.commodity)?;
-        return book_on(alloc, method, &lots, site, cost);
+        return book_on(alloc, selection, &lots, site, cost);
     }
     match view.held(site.account) {
-        Some(held) => book_on(alloc, method, held, site, cost),
-        None => book_on(alloc, method, &Inventory::new(alloc), site, cost),
+        Some(held) => book_on(alloc, selection, held, site, cost),
+        None => book_on(alloc, selection, &Inventory::new(alloc), site, cost),
     }
 }
 
@@ -162,25 +165,25 @@ fn method_of(view: &View, account: &Account) -> Method
 /// Returns the lots that a posting with braces takes of an inventory, or opens in it.
 fn book_on(
     alloc: Global,
-    method: Method,
+    selection: Selection,
     held: &Inventory,
     site: &Site<'_>,
     cost: &Cost,
 ) -> Result<Booked, Stop>
     ensures booked { IfOk result (λ booked. ComesTo
-        (posting_of method held.now site.now.amount.now.commodity site.now.amount.now.units cost.now site.now.day)
+        (posting_on selection held.now site.now.amount.now.commodity site.now.amount.now.units cost.now site.now.day)
         (Legs booked.reduces booked.legs.items)) }
     ensures stops { IfErr result (λ stop. StopsOn
-        (posting_of method held.now site.now.amount.now.commodity site.now.amount.now.units cost.now site.now.day)
+        (posting_on selection held.now site.now.amount.now.commodity site.now.amount.now.units cost.now site.now.day)
         site.now.posting stop) }
     ensures memory { IsErrOf result Memory → ComesToLegs
-        (posting_of method held.now site.now.amount.now.commodity site.now.amount.now.units
+        (posting_on selection held.now site.now.amount.now.commodity site.now.amount.now.units
         cost.now site.now.day) }
 {
     let amount = site.amount;
     match book(
         alloc,
-        method,
+        selection,
         held,
         &amount.commodity,
         amount.units,

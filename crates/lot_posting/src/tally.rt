@@ -1,13 +1,15 @@
-ghost use Rattle.std.specs.Prelude.{◌≡◌, ◌≢◌, [], ◌∷◌, ◌++◌, ◌+ℤ◌, IfErr, IfOk, IsErrOf, OnOk, SomeIff, IsFalse, IsTrue, true, false, length, ℕ, List};
+ghost use Rattle.std.specs.Prelude.{◌≡◌, ◌≢◌, [], ◌∷◌, ◌++◌, ◌+ℤ◌, IfErr, IfOk, IsErrOf, OnOk, Some, IsFalse, IsTrue, true, false, length, ℕ, List};
 ghost use Rattle.lot_book.specs.declared.refusal.Stop.TheVariants.{Memory};
-ghost use Rattle.lot_inv.specs.Inventory.{lots_of};
-ghost use Rattle.lot_inv.specs.Zeros.{HasNoZeros};
+ghost use Rattle.lot_cost.specs.declared.lot_key.LotKey.{LotKey};
+ghost use Rattle.lot_inv.specs.Inventory.{Held, lots_of, opening_at};
 ghost use Rattle.lot_num.specs.Amount.{IsUnits};
-ghost use Rattle.lot_book.specs.Change.{ListsSums, units_after};
+ghost use Rattle.lot_book.specs.Change.{listed_or, units_after};
 ghost use Rattle.lot_book.specs.Facts.{Facts};
 ghost use Rattle.lot_book.specs.Leg.{leave_range, with_legs};
-ghost use Rattle.lot_posting.specs.Tally.{AreOf, BeginInRange, StopsAt, StopsAtLeg, is_lot_of, is_plain_of, lot_count, plain};
-ghost use Rattle.lot_view.specs.View.{known};
+ghost use Rattle.lot_book.specs.OpeningNumber.{HasNumber, opening_with_legs};
+ghost use Rattle.lot_book.specs.Openings.{HaveSameOpenings, opening_after};
+ghost use Rattle.lot_posting.specs.Tally.{AreOf, BeginInRange, HaveNumbers, ListsTally, StopsAt, StopsAtLeg, is_lot_of, is_plain_of, lot_count, plain};
+ghost use Rattle.lot_view.specs.View.{known, known_with_openings};
 
 use lot_base::{Account, Commodity};
 use lot_book::{Leg, Position, Refusal, Stop};
@@ -18,28 +20,31 @@ use lot_view::View;
 use std::alloc::{AllocError, Global};
 use std::collections::BTreeMap;
 
-/// The legs of a transaction so far, and what each position that they touch holds after them.
+/// The legs of a transaction so far, what each position that they touch holds after them, and the opening number of each
+/// lot that they open.
 #[derive(Drop)]
 pub struct Tally {
     pub legs: Items<Leg>,
     pub positions: BTreeMap<Position, Units>,
+    pub openings: BTreeMap<Position, u64>,
 }
 
 impl Tally {
     /// Returns a tally without legs.
     pub(crate) fn new(alloc: Global) -> Tally
         ensures legs { result.legs ≡ [] }
-        ensures lists { (facts : Facts) → ListsSums facts [] result.positions.entries }
+        ensures lists { (facts : Facts) → ListsTally facts result }
     {
         Tally {
             legs: Items::new(alloc),
             positions: BTreeMap::new(alloc),
+            openings: BTreeMap::new(alloc),
         }
     }
 
     /// Returns what a position holds after the legs so far.
     fn units(&self, view: &View, position: &Position) -> Units
-        requires { ListsSums (known view.now) self.now.legs self.now.positions.entries }
+        requires { ListsTally (known view.now) self.now }
         ensures { result ≡ units_after (known view.now) self.now.legs position.now }
     {
         match self.positions.get(position) {
@@ -54,7 +59,7 @@ impl Tally {
 
     /// Returns what an account holds of a commodity beside its lots after the legs so far.
     pub fn plain_units(&self, view: &View, account: &Account, commodity: &Commodity) -> Units
-        requires { ListsSums (known view.now) self.now.legs self.now.positions.entries }
+        requires { ListsTally (known view.now) self.now }
         ensures { result ≡ units_after (known view.now) self.now.legs
             (plain account.now commodity.now) }
     {
@@ -69,18 +74,23 @@ impl Tally {
     /// Adds one more leg. The refusal is `Range` where its position is out of the range of units after it, and needs no
     /// memory.
     fn post(&mut self, view: &View, leg: Leg) -> Result<(), Stop>
-        requires lists { ListsSums (known view.now) self.old.legs self.old.positions.entries }
+        requires number { HasNumber leg.entry leg.posting }
+        requires lists { ListsTally (known view.now) self.old }
         ensures legs { OnOk result (self.new.legs ≡ self.old.legs ++ leg ∷ []) }
-        ensures lists { OnOk result (ListsSums (known view.now) self.new.legs self.new.positions.entries) }
+        ensures lists { OnOk result (ListsTally (known view.now) self.new) }
         ensures in_range { OnOk result (IsUnits (units_after (known view.now) self.old.legs leg.position +ℤ leg.units)) }
         ensures stops { IfErr result (λ stop. StopsAtLeg (known view.now) self.old.legs leg stop) }
         ensures memory { IsErrOf result Memory
             → IsUnits (units_after (known view.now) self.old.legs leg.position +ℤ leg.units) }
     {
-        let Some(units) = self.units(view, &leg.position).checked_add(leg.units) else {
+        let before = self.units(view, &leg.position);
+        let Some(units) = before.checked_add(leg.units) else {
             let posting = leg.posting;
             return Err(Refusal::Range { posting }.into());
         };
+        if before == Units::ZERO && leg.position.lot.is_some() {
+            self.openings.insert(leg.position.copy()?, leg.number())?;
+        }
         self.positions.insert(leg.position.copy()?, units)?;
         self.legs.push(leg)?;
         Ok(())
@@ -89,9 +99,10 @@ impl Tally {
     /// Adds the legs of a posting. The refusal is `Range` where a position is out of the range of units after one of them, and
     /// needs no memory where that is the first leg.
     pub fn post_all(&mut self, view: &View, legs: Vec<Leg>) -> Result<(), Stop>
-        requires lists { ListsSums (known view.now) self.old.legs self.old.positions.entries }
+        requires numbers { HaveNumbers legs.items }
+        requires lists { ListsTally (known view.now) self.old }
         ensures legs { OnOk result (self.new.legs ≡ self.old.legs ++ legs.items) }
-        ensures lists { OnOk result (ListsSums (known view.now) self.new.legs self.new.positions.entries) }
+        ensures lists { OnOk result (ListsTally (known view.now) self.new) }
         ensures in_range { OnOk result ((account : List ℕ) (posting : ℕ) → AreOf account posting legs.items
             → leave_range (with_legs account ((known view.now).held account) self.old.legs) legs.items ≡ false) }
         ensures stops { IfErr result (λ stop. (account : List ℕ) (posting : ℕ) → AreOf account posting legs.items
@@ -109,16 +120,16 @@ impl Tally {
 
     /// Returns whether a leg so far is in a lot of that account and commodity.
     pub(crate) fn has_changed(&self, account: &Account, commodity: &Commodity) -> bool
-        ensures unchanged { IsFalse result → (facts : Facts) → HasNoZeros (facts.held account.now)
-            → ListsSums facts self.now.legs self.now.positions.entries
-            → lots_of (with_legs account.now (facts.held account.now) self.now.legs) commodity.now ≡ lots_of (facts.held account.now) commodity.now }
+        ensures lots { IsFalse result → (held : Held)
+            → lots_of (with_legs account.now held self.now.legs) commodity.now
+            ≡ lots_of held commodity.now }
+        ensures openings { IsFalse result → (held : Held) (opening : LotKey → ℕ) (lot : LotKey)
+            → opening_with_legs account.now commodity.now held opening self.now.legs lot
+            ≡ opening lot }
         ensures begun { IsTrue result → self.now.legs ≢ [] }
     {
-        if self.legs.as_slice().is_empty() {
-            return false;
-        }
-        for position in self.positions.keys() {
-            if is_lot_of(position, account, commodity) {
+        for leg in self.legs.as_slice() {
+            if is_lot_of(&leg.position, account, commodity) {
                 return true;
             }
         }
@@ -134,25 +145,46 @@ impl Tally {
         account: &Account,
         commodity: &Commodity,
     ) -> Result<Inventory, AllocError>
-        requires { ListsSums (known view.now) self.now.legs self.now.positions.entries }
-        ensures { IfOk result (λ lots. lots_of lots commodity.now
+        requires { ListsTally (known view.now) self.now }
+        ensures lots { IfOk result (λ lots. lots_of lots.held commodity.now
             ≡ lots_of (with_legs account.now ((known view.now).held account.now) self.now.legs) commodity.now) }
+        ensures openings { IfOk result (λ lots. HaveSameOpenings commodity.now lots.held
+            (opening_at lots commodity.now)
+            (opening_after (known_with_openings view.now) self.now.legs
+            account.now commodity.now)) }
     {
         let mut lots = match view.held(account) {
             Some(held) => held.only_lots(commodity)?,
             None => Inventory::new(alloc),
         };
-        for (position, units) in &self.positions {
+        for leg in self.legs.as_slice() {
+            let position = &leg.position;
             if is_lot_of(position, account, commodity) {
-                lots.set(commodity, position.lot.as_ref(), *units)?;
+                let units = self.units(view, position);
+                let opening = self.opening(&lots, position);
+                lots.set(commodity, position.lot.as_ref(), units, opening)?;
             }
         }
         Ok(lots)
     }
 
+    /// Returns the opening number of a lot after the legs so far: the one that is listed, or else its own among lots of its
+    /// commodity, 0 where it isn't held there.
+    fn opening(&self, lots: &Inventory, position: &Position) -> u64
+        ensures { (lot : LotKey) → position.now.lot ≡ Some lot
+            → result ≡ listed_or self.now.openings position.now.account position.now.commodity lot
+            (opening_at lots.now position.now.commodity lot) }
+    {
+        match (self.openings.get(position), &position.lot) {
+            (Some(number), _) => *number,
+            (None, Some(lot)) => lots.opening(&position.commodity, lot).unwrap_or(0),
+            (None, None) => 0,
+        }
+    }
+
     /// Returns how many lots of a commodity an account holds after the legs so far.
     pub fn count_lots(&self, view: &View, account: &Account, commodity: &Commodity) -> u128
-        requires { ListsSums (known view.now) self.now.legs self.now.positions.entries }
+        requires { ListsTally (known view.now) self.now }
         ensures { result ≡ length (lots_of (with_legs account.now ((known view.now).held account.now) self.now.legs) commodity.now) }
     {
         let before = match view.held(account) {

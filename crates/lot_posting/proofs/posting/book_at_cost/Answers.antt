@@ -9,20 +9,28 @@ use Rattle.lot_posting.specs.declared.draft.Draft.{Draft}
 use Rattle.lot_book.specs.declared.leg.Leg.{Leg}
 use Rattle.lot_book.specs.declared.refusal.Stop.{Stop}
 use Rattle.lot_book.specs.declared.refusal.Stop.TheVariants.{Memory}
-use Rattle.lot_book.specs.Booking.{Booked, braced, line_of}
+use Rattle.lot_book.specs.Booking.{Booked, TieRule, braced}
 use Rattle.lot_book.specs.Leg.{legs_at_lots, units_moved}
 use Rattle.lot_book.specs.Sale.{lots_in_legs}
-use Rattle.lot_posting.specs.Posting.{Books}
-use Rattle.lot_view.specs.View.{known}
+use Rattle.lot_posting.specs.Posting.{Books, line_at}
+use Rattle.lot_book.specs.Openings.{ties_for}
+use Rattle.lot_view.specs.View.{known, known_with_openings}
+use Rattle.lot_posting.specs.Tally.{HaveNumbers}
 use Rattle.lot_book.proofs.SaleLemmas.{lots_in_legs-lots}
-use Rattle.lot_posting.proofs.PostingLemmas.{AreLegsOf-taken, books, has_lots, held_in-legs, no_sale, one_sale, stops_with, units_moved-lots}
+use Rattle.lot_posting.proofs.PostingLemmas.{AreLegsOf-taken, HaveNumbers-lots, books, has_lots, held_in-legs, no_sale, one_sale, stops_with, units_moved-lots}
 use Rattle.lot_posting.proofs.posting.book_at_cost.Goals as goal
 use Rattle.lot_posting.proofs.posting.book_at_cost.Goals.{then-reduces+in_ok-sale+in_ok-push, else-reduces}
+
+pub add-requires-clause-numbers : goal.add-requires-clause-numbers
+add-requires-clause-numbers c =
+    let site = c.args.site.now in
+    subst HaveNumbers (sym c.in_ok-legs.ensures)
+    (HaveNumbers-lots site.entry site.posting site.account.now site.amount.now.commodity 0 c.deref.result.now c.requires.number)
 
 pub add-requires-clause-moved : goal.add-requires-clause-moved
 add-requires-clause-moved c =
     let site = c.args.site.now in
-    let line = line_of (known c.args.view.now) site.day c.args.draft.now.tally.legs site.posting site.account.now site.amount.now in
+    let line = line_at (known_with_openings c.args.view.now) site c.args.draft.now.tally.legs in
     let lots : List (LotKey × ℤ) = c.in_ok-reduces.field-0.legs.items in
     let moved : units_moved c.in_ok-legs.legs.items ≡ held_in lots =
     ap units_moved (c.in_ok-legs.ensures ∙ ap (legs_at_lots site.entry site.posting site.account.now site.amount.now.commodity 0) c.deref.ensures.value)
@@ -33,7 +41,7 @@ add-requires-clause-moved c =
 pub sale_of-requires : goal.sale_of-requires
 sale_of-requires c =
     let site = c.args.site.now in
-    let line = line_of (known c.args.view.now) site.day c.args.draft.now.tally.legs site.posting site.account.now site.amount.now in
+    let line = line_at (known_with_openings c.args.view.now) site c.args.draft.now.tally.legs in
     let lots : List (LotKey × ℤ) = c.in_ok-reduces.field-0.legs.items in
     AreLegsOf-taken (braced line c.args.cost.now) lots
     (subst (λ (reduces : Bool). ComesTo (braced line c.args.cost.now) (Legs reduces lots)) c.if-reduces.true c.in_ok-reduces.ensures.booked)
@@ -44,13 +52,13 @@ returns-in_err-add-clause-stops c =
     let site = c.args.site.now in
     let amount = site.amount.now in
     let before = c.args.draft.now.tally.legs in
-    let line = line_of facts site.day before site.posting site.account.now amount in
+    let line = line_at (known_with_openings c.args.view.now) site before in
     let reduces = c.in_ok-reduces.field-0.reduces in
     let has = has_lots line c.args.cost.now site.entry reduces c.in_ok-reduces.field-0.legs.items c.deref.result.now c.in_ok-legs.legs.items
     c.requires.cost c.requires.entry c.in_ok-reduces.ensures.booked c.deref.ensures.value c.in_ok-legs.ensures in
     let p = err_from_is_err_and c.from_residual-in_err-add.result c.from_residual-in_err-add.ensures.1 in
     rw (p.1, p.2)
-    (stops_with facts site.day before site.posting site.account.now amount reduces c.in_ok-legs.legs.items c.in_err-add.field-0.0 has
+    (stops_with (ties_for site.edition (known_with_openings c.args.view.now)) facts site.day before site.posting site.account.now amount reduces c.in_ok-legs.legs.items c.in_err-add.field-0.0 has
     c.in_err-add.ensures.stops)
 
 pub returns-clause-books : goal.returns-clause-books
@@ -60,7 +68,8 @@ returns-clause-books c =
     let account = site.account.now in
     let amount = site.amount.now in
     let old = c.args.draft.now in
-    let line = line_of facts site.day old.tally.legs site.posting account amount in
+    let ties : TieRule = ties_for site.edition (known_with_openings c.args.view.now) in
+    let line = line_at (known_with_openings c.args.view.now) site old.tally.legs in
     let reduces = c.in_ok-reduces.field-0.reduces in
     let lots : List (LotKey × ℤ) = c.in_ok-reduces.field-0.legs.items in
     let legs : List Leg = c.in_ok-legs.legs.items in
@@ -73,14 +82,14 @@ returns-clause-books c =
     let added = c.in_ok-add.ensures in
     elim c.if-reduces.branch [
       | then-reduces+in_ok-sale+in_ok-push w ↦
-          subst (λ (new : Draft). Books facts site.day site.posting account amount old new) (sym w.draft-is)
-          (books facts site.day site.posting account amount old _ reduces legs has
+          subst (λ (new : Draft). Books ties facts site.day site.posting account amount old new) (sym w.draft-is)
+          (books ties facts site.day site.posting account amount old _ reduces legs has
           (record { legs = added.legs; lists = added.lists; sum = added.sum; within = added.within; in_range = added.in_range })
           (one_sale site.day booked old.sales w.push.new.self lots w.if-reduces.true taken
           (w.in_ok-push.ensures.ok ∙ (λ i. added.sales i ++ (site.posting, w.in_ok-sale.ensures i) ∷ []))))
       | else-reduces w ↦
-          subst (λ (new : Draft). Books facts site.day site.posting account amount old new) (sym w.draft-is)
-          (books facts site.day site.posting account amount old c.add.new.self reduces legs has
+          subst (λ (new : Draft). Books ties facts site.day site.posting account amount old new) (sym w.draft-is)
+          (books ties facts site.day site.posting account amount old c.add.new.self reduces legs has
           (record { legs = added.legs; lists = added.lists; sum = added.sum; within = added.within; in_range = added.in_range })
           (no_sale site.day booked old.sales c.add.new.self.sales w.if-reduces.false added.sales))
     ]

@@ -98,7 +98,7 @@ overflow_sub-result c =
       | in-None w ↦ w.before-is ∙ no_lots held commodity w.in-None.ensures.value
     ] in
     less (length (lots_of (with_legs account held c.args.self.now.legs) commodity)) c.loop-position.had c.match-held.before c.loop-position.listed
-    (lots_after facts c.args.self.now.legs rows account commodity c.held.ensures.no_zeros c.requires sorted c.match-held.before c.loop-position.had c.loop-position.listed
+    (lots_after facts c.args.self.now.legs rows account commodity c.held.ensures.no_zeros c.requires.sums sorted c.match-held.before c.loop-position.had c.loop-position.listed
     c.loop-position.position-iterator none before c.loop-position.invariant.had c.loop-position.invariant.listed)
 
 pub returns : goal.returns
@@ -115,5 +115,5 @@ returns c =
       | in-None w ↦ w.before-is ∙ no_lots held commodity w.in-None.ensures.value
     ] in
     left_over (length (lots_of (with_legs account held c.args.self.now.legs) commodity)) c.loop-position.had c.match-held.before c.loop-position.listed
-    (lots_after facts c.args.self.now.legs rows account commodity c.held.ensures.no_zeros c.requires sorted c.match-held.before c.loop-position.had c.loop-position.listed
+    (lots_after facts c.args.self.now.legs rows account commodity c.held.ensures.no_zeros c.requires.sums sorted c.match-held.before c.loop-position.had c.loop-position.listed
     c.loop-position.position-iterator none before c.loop-position.invariant.had c.loop-position.invariant.listed)

@@ -1,15 +1,29 @@
--- Where no listed position is a lot of the commodity in the account, the legs leave its lots as they were.
-use Rattle.std.proofs.Common.{◌≡◌, false, rules}
+-- Where no leg is at a lot of the commodity in the account, the legs leave its lots and their numbers as they were.
+use Rattle.std.proofs.Common.{◌≡◌, false, sym, ap, ◌∙◌}
 use Rattle.std.specs.List.{list_any}
-use Rattle.std.specs.Map.{keys_of}
+use Rattle.std.proofs.lemmas.List.{take_all}
+use Rattle.lot_book.specs.declared.leg.Leg.{Leg}
 use Rattle.lot_posting.specs.Tally.{is_lot_of}
-use Rattle.lot_posting.proofs.TallyLemmas.{lots-unchanged, none_of}
+use Rattle.lot_posting.proofs.TallyOpenings.{elsewhere, lots-elsewhere, opening-elsewhere}
 use Rattle.lot_posting.proofs.tally.Tally.has_changed.Goals as goal
 
-pub returns-clause-unchanged : goal.returns-clause-unchanged
-returns-clause-unchanged c = λ never facts kept lists.
+none_is : (c : goal.After-loop-leg)
+    → list_any (λ (leg : Leg). is_lot_of c.args.account.now c.args.commodity.now leg.position) c.args.self.now.legs ≡ false
+none_is c =
+    let any = list_any (λ (leg : Leg). is_lot_of c.args.account.now c.args.commodity.now leg.position) in
+    ap any (sym c.as_slice-leg-items.ensures ∙ sym (take_all c.loop-leg.leg-index c.as_slice-leg-items.result.now c.loop-leg-test.false))
+    ∙ c.loop-leg.invariant
+
+pub returns-clause-lots : goal.returns-clause-lots
+returns-clause-lots c = λ never held.
     let account = c.args.account.now in
     let commodity = c.args.commodity.now in
-    let rows = c.args.self.now.positions.entries in
-    let none : list_any (λ p. is_lot_of account commodity p) (keys_of rows) ≡ false = search rules in
-    lots-unchanged facts c.args.self.now.legs rows account commodity kept lists (none_of account commodity (keys_of rows) none)
+    let legs = c.args.self.now.legs in
+    lots-elsewhere account commodity held legs (λ key. elsewhere account commodity key legs (none_is c))
+
+pub returns-clause-openings : goal.returns-clause-openings
+returns-clause-openings c = λ never held opening lot.
+    let account = c.args.account.now in
+    let commodity = c.args.commodity.now in
+    let legs = c.args.self.now.legs in
+    opening-elsewhere account commodity lot held opening legs (elsewhere account commodity lot legs (none_is c))

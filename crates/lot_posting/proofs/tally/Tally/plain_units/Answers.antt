@@ -35,7 +35,7 @@ returns-then-is_plain_of c =
     let here = sym (same_plain account commodity row.0) ∙ sym c.is_plain_of.ensures ∙ c.if-is_plain_of.true in
     let listed = first_listed at c.args.self.now.positions.entries c.loop-position.position-iterator c.next.new.self row _
     c.in-Some.ensures.steps c.loop-position.invariant here in
-    sym (ap (λ (o : Option ℤ). unwrap_or o (units_before (known c.args.view.now) at)) listed) ∙ c.requires at
+    sym (ap (λ (o : Option ℤ). unwrap_or o (units_before (known c.args.view.now) at)) listed) ∙ c.requires.sums at
 
 pub returns : goal.returns
 returns c =
@@ -43,4 +43,4 @@ returns c =
     let none : c.loop-position.position-iterator ≡ [] = search rules in
     let unlisted : lookup (same_position at) c.args.self.now.positions.entries ≡ None =
     sym c.loop-position.invariant ∙ ap (lookup (same_position at)) none in
-    c.units.ensures ∙ sym (ap (λ (o : Option ℤ). unwrap_or o (units_before (known c.args.view.now) at)) unlisted) ∙ c.requires at
+    c.units.ensures ∙ sym (ap (λ (o : Option ℤ). unwrap_or o (units_before (known c.args.view.now) at)) unlisted) ∙ c.requires.sums at

@@ -1,20 +1,78 @@
--- The leg's position is listed anew, and no other.
-use Rattle.std.proofs.Common.{◌≡◌, Some, cond, ap, ◌∙◌, ◌+ℤ◌}
+-- The leg's position is listed anew, and the number of the lot that it opens, and no other.
+use Rattle.std.proofs.Common.{◌≡◌, ℕ, Bool, Some, cond, true, false, refl, ap, ap₂, sym, subst, ◌∙◌, ◌+ℤ◌, ◌∷◌, [], ◌++◌, List, ℤ, pos}
 use Rattle.std.specs.Map.{lookup}
+use Rattle.std.specs.Ordering.{int_eq}
+use Rattle.lot_book.specs.declared.leg.Leg.{Leg}
 use Rattle.lot_book.specs.declared.leg.Position.{Position}
-use Rattle.lot_book.specs.Change.{units_after}
+use Rattle.lot_book.specs.Change.{ListsOpened, ListsSums, units_after}
+use Rattle.lot_book.specs.Facts.{Facts}
 use Rattle.lot_book.specs.Leg.{same_position}
+use Rattle.lot_book.specs.OpeningNumber.{posting_number}
 use Rattle.lot_view.specs.View.{known}
+use Rattle.lot_posting.specs.declared.tally.Tally.{Tally}
 use Rattle.lot_book.proofs.LegLemmas.{ListsSums-push}
+use Rattle.lot_posting.proofs.TallyOpenings.{lists-held, lists-new, lists-plain}
 use Rattle.lot_posting.proofs.tally.Tally.post.Goals as goal
+use Rattle.lot_posting.proofs.tally.Tally.post.Goals.{then-eq+then-is_some+in_ok-copy+in_ok-insert, else-eq, else-eq-via-then-eq+else-is_some, else-eq-via-else-eq}
+
+-- a tally once the lot of the leg is opened, if it is
+record IsOpened (facts : Facts) (leg : Leg) (old new : Tally) : Type 0 where
+  legs : new.legs ≡ old.legs
+  positions : new.positions ≡ old.positions
+  openings : ListsOpened facts (old.legs ++ leg ∷ []) new.openings
+
+is_opened : (c : goal.In_ok-push) → IsOpened (known c.args.view.now) c.args.leg c.args.self.now c.if-eq.self
+is_opened c =
+    let facts = known c.args.view.now in
+    let leg : Leg = c.args.leg in
+    let tally : Tally = c.args.self.now in
+    let lists = c.requires.lists.openings in
+    let number = posting_number leg in
+    let had : (b : Bool) → c.eq.result ≡ b → int_eq (units_after facts tally.legs leg.position) (pos 0) ≡ b =
+    λ b e. ap (λ z. int_eq z (pos 0)) (sym c.units-before.ensures) ∙ sym c.eq.ensures ∙ e in
+    let left : ListsOpened facts (tally.legs ++ leg ∷ []) tally.openings → c.if-eq.self ≡ tally → IsOpened facts leg tally c.if-eq.self =
+    λ openings same. subst (λ (now : Tally). IsOpened facts leg tally now) (sym same)
+    (record { legs = refl; positions = refl; openings = openings }) in
+    elim c.if-eq.branch [
+      | then-eq+then-is_some+in_ok-copy+in_ok-insert w ↦
+          let copied : w.in_ok-copy.field-0 ≡ leg.position = w.in_ok-copy.ensures in
+          let updates : (q : Position) → lookup (same_position q) w.insert.new.self.entries
+          ≡ cond (same_position w.in_ok-copy.field-0 q) (Some w.number.result) (lookup (same_position q) tally.openings.entries) =
+          w.in_ok-insert.ensures.updates.0 in
+          let listed : (q : Position) → lookup (same_position q) w.insert.new.self.entries
+          ≡ cond (same_position leg.position q) (Some number) (lookup (same_position q) tally.openings.entries) =
+          λ q. updates q
+          ∙ ap₂ (λ (p : Position) (n : ℕ). cond (same_position p q) (Some n) (lookup (same_position q) tally.openings.entries))
+          copied w.number.ensures in
+          subst (λ (now : Tally). IsOpened facts leg tally now) (sym w.self-is)
+          (record {
+            legs = refl;
+            positions = refl;
+            openings = lists-new facts tally.legs leg tally.openings w.insert.new.self lists (had true w.if-eq.true) listed;
+          })
+      | else-eq w ↦ elim w.else-eq.branch [
+        | else-eq-via-then-eq+else-is_some v ↦
+            left (lists-plain facts tally.legs leg tally.openings lists (sym v.is_some.ensures ∙ v.if-is_some.false)) w.self-is
+        | else-eq-via-else-eq v ↦
+            left (lists-held facts tally.legs leg tally.openings lists (had false v.if-eq.false)) w.self-is
+      ]
+    ]
 
 pub returns-clause-lists : goal.returns-clause-lists
 returns-clause-lists c =
     let facts = known c.args.view.now in
     let leg = c.args.leg in
     let tally = c.args.self.now in
-    let copied : c.in_ok-copy.field-0 ≡ leg.position = c.in_ok-copy.ensures in
-    let updates : (q : Position) → lookup (same_position q) c.insert.new.self.entries ≡ cond (same_position c.in_ok-copy.field-0 q) (Some c.in-Some.units) (lookup (same_position q) tally.positions.entries) = c.in_ok-insert.ensures.updates.0 in
-    let same = rw copied at updates in
-    let after : c.in-Some.units ≡ units_after facts tally.legs leg.position +ℤ leg.units = c.in-Some.ensures.1 ∙ ap (λ z. z +ℤ leg.units) c.units.ensures in
-    rw c.in_ok-push.ensures.ok (ListsSums-push facts tally.legs leg tally.positions.entries c.insert.new.self.entries c.in-Some.units c.requires.lists after same)
+    let opened = is_opened c in
+    let rows : List (Position × ℤ) = c.insert-2.new.self.entries in
+    let copied : c.in_ok-copy-2.field-0 ≡ leg.position = c.in_ok-copy-2.ensures in
+    let updates : (q : Position) → lookup (same_position q) rows
+    ≡ cond (same_position c.in_ok-copy-2.field-0 q) (Some c.in-Some.units) (lookup (same_position q) c.if-eq.self.positions.entries) = c.in_ok-insert-2.ensures.updates.0 in
+    let same = rw (copied, opened.positions) at updates in
+    let after : c.in-Some.units ≡ units_after facts tally.legs leg.position +ℤ leg.units = c.in-Some.ensures.1 ∙ ap (λ z. z +ℤ leg.units) c.units-before.ensures in
+    let pushed : c.push.new.self ≡ tally.legs ++ leg ∷ [] = c.in_ok-push.ensures.ok ∙ ap (λ (legs : List Leg). legs ++ leg ∷ []) opened.legs in
+    record {
+      sums = subst (λ (legs : List Leg). ListsSums facts legs rows) (sym pushed)
+          (ListsSums-push facts tally.legs leg tally.positions.entries rows c.in-Some.units c.requires.lists.sums after same);
+      openings = subst (λ (legs : List Leg). ListsOpened facts legs c.if-eq.self.openings) (sym pushed) opened.openings;
+    }

@@ -10,7 +10,7 @@ use Rattle.lot_book.specs.declared.refusal.Refusal.TheVariants.{Range}
 use Rattle.lot_book.specs.declared.refusal.Stop.{Stop}
 use Rattle.lot_book.specs.declared.refusal.Stop.TheVariants.{Refused, Memory}
 use Rattle.lot_book.specs.Leg.{leave_range, with_legs}
-use Rattle.lot_posting.specs.Tally.{AreOf, BeginInRange, StopsAt, StopsAtLeg}
+use Rattle.lot_posting.specs.Tally.{AreOf, BeginInRange, HaveNumbers, StopsAt, StopsAtLeg}
 use Rattle.lot_view.specs.View.{known}
 use Rattle.lot_book.specs.Facts.{Facts}
 use Rattle.lot_book.proofs.StopLemmas.{passed_on}
@@ -33,6 +33,9 @@ begins facts start before left all rest leg a is within steps (inl first) =
     (subst (λ legs. IsSumOf facts legs leg a) first.1 (subst (IsSumOf facts before leg) is within)))
 begins facts start before left all rest leg a is within steps (inr begun) = begun
 
+pub post-requires-clause-number : goal.post-requires-clause-number
+post-requires-clause-number c = (subst HaveNumbers c.in-Some.ensures.steps.0 c.loop-leg.invariant.numbers).0
+
 pub loop-leg-preserved : goal.loop-leg-preserved
 loop-leg-preserved c =
     let facts = known c.args.view.now in
@@ -43,6 +46,7 @@ loop-leg-preserved c =
     let steps : left ≡ leg ∷ rest = c.in-Some.ensures.steps.0 in
     let before = c.loop-leg.self.legs in
     let pushed : c.post.new.self.legs ≡ before ++ leg ∷ [] = c.in_ok-post.ensures.legs in
+    let numbers : HaveNumbers (leg ∷ rest) = subst HaveNumbers steps c.loop-leg.invariant.numbers in
     let own_now : (a : List ℕ) (p : ℕ) → AreOf a p all → AreOf a p (leg ∷ rest) = λ a p of. subst (AreOf a p) steps (c.loop-leg.invariant.own a p of) in
     record {
       begun = λ a p of.
@@ -50,6 +54,7 @@ loop-leg-preserved c =
           (begins facts c.args.self.now.legs before left all rest leg a (own_now a p of).0.0 c.in_ok-post.ensures.in_range steps
           (c.loop-leg.invariant.begun a p of));
       lists = c.in_ok-post.ensures.lists;
+      numbers = numbers.1;
       legs = ap (λ ls. ls ++ rest) pushed ∙ append_assoc before (leg ∷ []) rest ∙ ap (λ ls. before ++ ls) (sym steps) ∙ c.loop-leg.invariant.legs;
       own = λ a p of. (own_now a p of).1;
       range = λ a p of.

@@ -1,7 +1,6 @@
 use Rattle.std.proofs.Common.{◌≡◌, ◌⊎◌, ℕ, List, ◌++◌}
-use Rattle.lot_book.specs.Change.{ListsSums}
 use Rattle.lot_book.specs.Leg.{leave_range, with_legs}
-use Rattle.lot_posting.specs.Tally.{AreOf, BeginInRange}
+use Rattle.lot_posting.specs.Tally.{AreOf, BeginInRange, HaveNumbers, ListsTally}
 use Rattle.lot_view.specs.View.{known}
 use Rattle.lot_posting.proofs.tally.Tally.post_all.Given as goal
 
@@ -16,7 +15,8 @@ invariant-loop-leg l =
       begun : (account : List ℕ) (posting : ℕ) → AreOf account posting all
           → ((left ≡ all) × (l.self.legs ≡ l.fn.self.legs))
           ⊎ BeginInRange (with_legs account (facts.held account) l.fn.self.legs) all;
-      lists : ListsSums facts l.self.legs l.self.positions.entries;
+      lists : ListsTally facts l.self;
+      numbers : HaveNumbers left;
       legs : l.self.legs ++ left ≡ l.fn.self.legs ++ all;
       own : (account : List ℕ) (posting : ℕ) → AreOf account posting all → AreOf account posting left;
       range : (account : List ℕ) (posting : ℕ) → AreOf account posting all
