@@ -101,7 +101,7 @@ judged_as facts after book number command verdict small (is_book, is, keys) judg
           (
             book-grows book key command change.legs is_book accepted,
             records ∙ recorded-known facts book key command change.legs change is_book same decides
-                (record { same_legs = refl; positions = lists.positions; heads = lists.heads }),
+                (record { same_legs = refl; positions = lists.positions; openings = lists.openings; heads = lists.heads }),
             keys_more number book entry refl keys,
           ),
         )

@@ -8,6 +8,7 @@ use Rattle.lot_book.specs.declared.verdict.Verdict.{Verdict}
 use Rattle.lot_read.specs.Text.{Reads, IsFaultAt, RunsOutAt}
 use Rattle.lot_read.specs.declared.fault.LineFault.{LineFault}
 use Rattle.lot_book.specs.declared.change.Change.{Change}
+use Rattle.lot_book.specs.Booking.{all_by_key}
 use Rattle.lot_book.specs.Facts.{Entry, Facts}
 use Rattle.lot_book.specs.Holding.{ListsHoldings}
 use Rattle.lot_book.specs.Judged.{JudgesAll, numbered}
@@ -102,7 +103,7 @@ RunsOutInText input kept last =
 -- judging a command may lack memory: to decide it, or to record it where it is accepted
 abbrev pub JudgingMayLackMemory : Facts → Command → Type 0
 JudgingMayLackMemory before command =
-    MayLackMemory before command ⊎ ((change : Change) × Decides before command (Accept change.legs))
+    MayLackMemory all_by_key before command ⊎ ((change : Change) × Decides before command (Accept change.legs))
 
 -- the commands before the one of that number come to these verdicts, each on the book after those before it, and judging that one
 -- may lack memory

@@ -14,14 +14,14 @@ ghost use Rattle.lot_view.specs.View.{known};
 mod report;
 
 use lot_command::Command;
-use lot_ledger::{Outcome, Stop, Verdict, View, decide};
+use lot_ledger::{Edition, Outcome, Stop, Verdict, View, decide};
 use lot_report::{CountedWrite, PrintFault, print_reply};
 use lot_stream::{CountedRead, Fault, Status, finish, print_fault, slurp};
 use lot_text::read;
 use report::print_holdings;
 use std::alloc::{AllocError, Global};
 
-/// Judges a ledger text on a fresh book: writes a reply to each of its commands, and then what the book holds.
+/// Judges a ledger text on a fresh book, by edition 1: writes a reply to each of its commands, and then what the book holds.
 ///
 /// The text is read to its end before the first command is judged, and where it can't be read or isn't ledger text, one
 /// line says so (docs/FORMATS.md, Printed texts). Returns the status of the program:
@@ -125,14 +125,14 @@ fn status_of_verdict(verdict: &Verdict) -> Status
     }
 }
 
-/// Judges a command on what is known of the book, and returns the verdict with what is known then: of an accepted command
+/// Judges a command by edition 1 on what is known of the book, and returns the verdict with what is known then: of an accepted command
 /// its entry is recorded. The error is out of memory; the view is then lost. It comes only where deciding the command may lack
 /// memory, or the command is accepted: never for a refusal that stores nothing.
 fn judge(alloc: Global, view: View, command: &Command) -> Result<(View, Verdict), AllocError>
     ensures judged { IfOk result (λ judged. JudgesKnown (known view) command.now judged.1 (known judged.0)) }
     ensures memory { OnErr result (JudgingMayLackMemory (known view) command.now) }
 {
-    match decide(alloc, &view, command) {
+    match decide(alloc, Edition::First, &view, command) {
         Ok(Outcome::Accept(change)) => Ok((view.record(command, &change)?, Verdict::Accepted)),
         Ok(Outcome::Repeat) => Ok((view, Verdict::Repeated)),
         Err(Stop::Refused(refusal)) => Ok((view, Verdict::Refused(refusal))),

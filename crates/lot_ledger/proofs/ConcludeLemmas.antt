@@ -11,12 +11,13 @@ use Rattle.lot_book.specs.declared.change.Change.{Change}
 use Rattle.lot_posting.specs.declared.draft.Draft.{Draft}
 use Rattle.lot_book.specs.declared.refusal.Stop.{Stop}
 use Rattle.lot_book.specs.declared.refusal.Stop.TheVariants.{Refused, Memory}
-use Rattle.lot_book.specs.Booking.{All}
-use Rattle.lot_book.specs.Change.{Lists}
-use Rattle.lot_ledger.specs.Decide.{Accepts, DraftsAll, StopsJudging, conditions_on, legs_with_fill, residual_conditions}
+use Rattle.lot_book.specs.Booking.{All, TieRule, all_by_key}
+use Rattle.lot_book.specs.Change.{IsAcceptedWith}
+use Rattle.lot_ledger.specs.declared.decision.Outcome.TheVariants as decided
+use Rattle.lot_ledger.specs.Decide.{Accepts, Comes, DraftsAll, StopsJudging, conditions_on, legs_with_fill, residual_conditions}
 use Rattle.lot_book.specs.Facts.{Facts}
 use Rattle.lot_book.specs.Refusals.{Stops, book_full, too_many_lots}
-use Rattle.lot_book.specs.Step.{Accept, Decides, DecidesBy, Judges, JudgesTransaction, Refuse, accept_unless, all_legs, first_conditions, first_of, last_conditions}
+use Rattle.lot_book.specs.Step.{Accept, DecidesByUnder, DecidesUnder, JudgesTransactionUnder, JudgesUnder, Refuse, accept_unless, all_legs, first_conditions, first_of, last_conditions}
 
 option_or-assoc : {X : Type 0} (a b c : Option X) → option_or (option_or a b) c ≡ option_or a (option_or b c)
 option_or-assoc None b c = refl
@@ -53,25 +54,35 @@ none_holds facts t legs now rs items none is same few room =
     ∙ ap (λ found. option_or found None) room
 
 -- what the last conditions come to is what becomes of a transaction whose postings with amounts are booked
-pub judged_last : (facts : Facts) (t : TransactionOf) (draft : Draft) (found : Stop) → first_of (first_conditions facts t) ≡ None → DraftsAll facts t draft
-    → Stops (first_of (conditions_on facts t draft.tally.legs draft.residuals)) found → StopsJudging facts (Transaction t) found
-judged_last facts t draft (Refused refusal) none drafts is =
+pub judged_last : (ties : TieRule) (facts : Facts) (t : TransactionOf) (draft : Draft) (found : Stop) → first_of (first_conditions facts t) ≡ None → DraftsAll ties facts t draft
+    → Stops (first_of (conditions_on facts t draft.tally.legs draft.residuals)) found → StopsJudging ties facts (Transaction t) found
+judged_last ties facts t draft (Refused refusal) none drafts is =
     let same : first_of (conditions_on facts t draft.tally.legs draft.residuals) ≡ first_of (last_conditions facts t drafts.booked) =
     λ i. first_of (conditions_on facts t (drafts.is.legs i) (drafts.is.residuals i)) in
-    subst (λ (first : Option Refusal). JudgesTransaction facts t first (Refuse refusal)) (sym none)
+    subst (λ (first : Option Refusal). JudgesTransactionUnder ties facts t first (Refuse refusal)) (sym none)
     (All drafts.booked, drafts.all, ap (λ found. accept_unless found (all_legs facts t drafts.booked)) (sym is ∙ same))
-judged_last facts t draft Memory none drafts is = tt
+judged_last ties facts t draft Memory none drafts is = tt
 
 -- ---- a command whose key is new
 
-pub refused_new : (facts : Facts) (command kind : Command) (refusal : Refusal) → facts.text ≡ None → command ≡ kind
-    → Judges facts kind (Refuse refusal) → Decides facts command (Refuse refusal)
-refused_new facts command kind refusal none is judged =
-    subst (λ (text : Option (List ℕ)). DecidesBy text facts command (Refuse refusal)) (sym none)
-    (subst (λ (c : Command). Judges facts c (Refuse refusal)) (sym is) judged)
+pub refused_new : (ties : TieRule) (facts : Facts) (command kind : Command) (refusal : Refusal) → facts.text ≡ None → command ≡ kind
+    → JudgesUnder ties facts kind (Refuse refusal) → DecidesUnder ties facts command (Refuse refusal)
+refused_new ties facts command kind refusal none is judged =
+    subst (λ (text : Option (List ℕ)). DecidesByUnder ties text facts command (Refuse refusal)) (sym none)
+    (subst (λ (c : Command). JudgesUnder ties facts c (Refuse refusal)) (sym is) judged)
 
-pub accepted_new : (facts : Facts) (command kind : Command) (change given : Change) → facts.text ≡ None → command ≡ kind → change ≡ given
-    → Accepts facts kind given → Decides facts command (Accept change.legs) × Lists facts command change
-accepted_new facts command kind change given none is same accepts =
-    let now : Accepts facts command change = subst (λ (c : Command). Accepts facts c change) (sym is) (subst (Accepts facts kind) (sym same) accepts) in
-    (subst (λ (text : Option (List ℕ)). DecidesBy text facts command (Accept change.legs)) (sym none) now.judged, now.lists)
+pub accepted_new : (ties : TieRule) (facts : Facts) (command kind : Command) (change given : Change) → facts.text ≡ None → command ≡ kind → change ≡ given
+    → Accepts ties facts kind given → Comes ties facts command (decided.Accept change)
+accepted_new ties facts command kind change given none is same accepts =
+    let now : Accepts ties facts command change = subst (λ (c : Command). Accepts ties facts c change) (sym is) (subst (Accepts ties facts kind) (sym same) accepts) in
+    (subst (λ (text : Option (List ℕ)). DecidesByUnder ties text facts command (Accept change.legs)) (sym none) now.judged, now.lists)
+
+-- ---- edition 1
+
+-- what comes where all ties are decided by key is what is accepted by edition 1
+pub accepted_by_key : (facts : Facts) (command : Command) (change : Change) → Comes all_by_key facts command (decided.Accept change)
+    → IsAcceptedWith facts command change
+accepted_by_key facts command change comes = (
+  comes.0,
+  record { positions = comes.1.positions; openings = comes.1.openings; heads = comes.1.heads; sales = comes.1.sales },
+)

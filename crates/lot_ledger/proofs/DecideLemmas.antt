@@ -12,7 +12,7 @@ use Rattle.lot_book.specs.declared.leg.Leg.{Leg}
 use Rattle.lot_book.specs.declared.refusal.Refusal.{Refusal}
 use Rattle.lot_book.specs.declared.refusal.Stop.TheVariants as stop
 use Rattle.lot_book.specs.Balance.{AreWithin, elided_postings, residuals, weights_in}
-use Rattle.lot_book.specs.Booking.{All, Booked, Bookings, Books as BooksOne, BooksAll, BooksWith, Fails, HasLegs, Line, Stopped, follow, legs_in, line_of}
+use Rattle.lot_book.specs.Booking.{All, Booked, Bookings, Books as BooksOne, BooksAllUnder, BooksWithUnder, Fails, HasLegs, Line, Stopped, TieRule, follow, legs_in, line_under}
 use Rattle.lot_ledger.specs.Decide.{BooksNext, DraftsAll, EndMayLackMemory, FillMayLackMemory, IsDraft, NextMayLackMemory, StopsNext, StoresAt, StoresFirst, amount_at_cost, has_braces}
 use Rattle.lot_book.specs.Facts.{Facts}
 use Rattle.lot_book.specs.Leg.{leave_range}
@@ -61,123 +61,123 @@ none_copied before None copies none = copies
 none_copied before (Some cost) copies none = copies none
 
 -- so it is for the first posting with an amount, where all of them are booked; else there is none
-stores_with : (facts : Facts) (day : ℤ) (place : ℕ) (account : List ℕ) (amount : Option Amount) (left : List Posting) (booked : List Booked)
-    → BooksWith (λ legs others. BooksAll facts day legs (suc place) left others) facts day [] place account amount (All booked)
-    → (BooksAll facts day [] (suc place) left (All booked) → StoresFirst facts day (suc place) left ⊎ ((booked ≡ []) × (has_braces left ≡ false)))
-    → StoresAt facts day place account amount (StoresFirst facts day (suc place) left)
+stores_with : (ties : TieRule) (facts : Facts) (day : ℤ) (place : ℕ) (account : List ℕ) (amount : Option Amount) (left : List Posting) (booked : List Booked)
+    → BooksWithUnder ties (λ legs others. BooksAllUnder ties facts day legs (suc place) left others) facts day [] place account amount (All booked)
+    → (BooksAllUnder ties facts day [] (suc place) left (All booked) → StoresFirst ties facts day (suc place) left ⊎ ((booked ≡ []) × (has_braces left ≡ false)))
+    → StoresAt ties facts day place account amount (StoresFirst ties facts day (suc place) left)
     ⊎ ((booked ≡ []) × ((is_some (amount_at_cost amount) || has_braces left) ≡ false))
-stores_with facts day place account None left booked h rest = rest h
-stores_with facts day place account (Some amount) left booked (BooksOne one, is, others) rest =
-    inl (stores_legs (line_of facts day [] place account amount) amount.cost one.reduces one.legs is.legs is.range)
-stores_with facts day place account (Some amount) left booked (Fails refusal, is, stopped) rest = cc
+stores_with ties facts day place account None left booked h rest = rest h
+stores_with ties facts day place account (Some amount) left booked (BooksOne one, is, others) rest =
+    inl (stores_legs (line_under ties facts day [] place account amount) amount.cost one.reduces one.legs is.legs is.range)
+stores_with ties facts day place account (Some amount) left booked (Fails refusal, is, stopped) rest = cc
 
-pub stores_first : (facts : Facts) (day : ℤ) (place : ℕ) (postings : List Posting) (booked : List Booked)
-    → BooksAll facts day [] place postings (All booked)
-    → StoresFirst facts day place postings ⊎ ((booked ≡ []) × (has_braces postings ≡ false))
-stores_first facts day place [] booked h = inr (cc, refl)
-stores_first facts day place (posting ∷ postings) booked h =
-    stores_with facts day place posting.account posting.amount postings booked h (stores_first facts day (suc place) postings booked)
+pub stores_first : (ties : TieRule) (facts : Facts) (day : ℤ) (place : ℕ) (postings : List Posting) (booked : List Booked)
+    → BooksAllUnder ties facts day [] place postings (All booked)
+    → StoresFirst ties facts day place postings ⊎ ((booked ≡ []) × (has_braces postings ≡ false))
+stores_first ties facts day place [] booked h = inr (cc, refl)
+stores_first ties facts day place (posting ∷ postings) booked h =
+    stores_with ties facts day place posting.account posting.amount postings booked h (stores_first ties facts day (suc place) postings booked)
 
 -- Legs are stored for the first posting with an amount of all: it stands among those before, or it does so where it is so
 -- of those that are left, and then there are no legs so far.
-abbrev pub FirstOf : Facts → ℤ → List Posting → Draft → ℕ → List Posting → Type 0
-FirstOf facts day all draft place left =
-    ((draft.tally.legs ≡ []) × (StoresFirst facts day place left → StoresFirst facts day 1 all)) ⊎ StoresFirst facts day 1 all
+abbrev pub FirstOf : TieRule → Facts → ℤ → List Posting → Draft → ℕ → List Posting → Type 0
+FirstOf ties facts day all draft place left =
+    ((draft.tally.legs ≡ []) × (StoresFirst ties facts day place left → StoresFirst ties facts day 1 all)) ⊎ StoresFirst ties facts day 1 all
 
 -- legs are stored for a posting with an amount
-first_stored : (facts : Facts) (day : ℤ) (all : List Posting) (old : Draft) (place : ℕ) (account : List ℕ) (amount : Amount) (left : List Posting)
-    → FirstOf facts day all old place (record { account = account; amount = Some amount } ∷ left)
-    → StoresFor (line_of facts day old.tally.legs place account amount) amount.cost → StoresFirst facts day 1 all
-first_stored facts day all old place account amount left (inl first) stored =
-    first.1 (subst (λ (legs : List Leg). StoresFor (line_of facts day legs place account amount) amount.cost) first.0 stored)
-first_stored facts day all old place account amount left (inr first) stored = first
+first_stored : (ties : TieRule) (facts : Facts) (day : ℤ) (all : List Posting) (old : Draft) (place : ℕ) (account : List ℕ) (amount : Amount) (left : List Posting)
+    → FirstOf ties facts day all old place (record { account = account; amount = Some amount } ∷ left)
+    → StoresFor (line_under ties facts day old.tally.legs place account amount) amount.cost → StoresFirst ties facts day 1 all
+first_stored ties facts day all old place account amount left (inl first) stored =
+    first.1 (subst (λ (legs : List Leg). StoresFor (line_under ties facts day legs place account amount) amount.cost) first.0 stored)
+first_stored ties facts day all old place account amount left (inr first) stored = first
 
 -- where booking a posting may lack memory
-pub first_lacks : (facts : Facts) (day : ℤ) (all : List Posting) (old : Draft) (place : ℕ) (account : List ℕ) (amount : Option Amount) (left : List Posting)
-    → FirstOf facts day all old place (record { account = account; amount = amount } ∷ left)
-    → NextMayLackMemory facts day place account amount old → StoresFirst facts day 1 all
-first_lacks facts day all old place account None left first lacks = absurd lacks
-first_lacks facts day all old place account (Some amount) left first (inl stored) = first_stored facts day all old place account amount left first stored
-first_lacks facts day all old place account (Some amount) left (inl first) (inr copies) =
+pub first_lacks : (ties : TieRule) (facts : Facts) (day : ℤ) (all : List Posting) (old : Draft) (place : ℕ) (account : List ℕ) (amount : Option Amount) (left : List Posting)
+    → FirstOf ties facts day all old place (record { account = account; amount = amount } ∷ left)
+    → NextMayLackMemory ties facts day place account amount old → StoresFirst ties facts day 1 all
+first_lacks ties facts day all old place account None left first lacks = absurd lacks
+first_lacks ties facts day all old place account (Some amount) left first (inl stored) = first_stored ties facts day all old place account amount left first stored
+first_lacks ties facts day all old place account (Some amount) left (inl first) (inr copies) =
     absurd (none_copied old.tally.legs amount.cost copies first.0)
-first_lacks facts day all old place account (Some amount) left (inr first) (inr copies) = first
+first_lacks ties facts day all old place account (Some amount) left (inr first) (inr copies) = first
 
 -- where what follows may lack memory
 no_fill : (facts : Facts) (elided : List (ℕ × List ℕ)) → FillMayLackMemory facts elided [] → ⊥
 no_fill facts [] lacks = lacks
 no_fill facts (one ∷ more) lacks = lacks.2 refl
 
-end_stores : (facts : Facts) (t : TransactionOf) (draft : Draft) (drafts : DraftsAll facts t draft)
+end_stores : (ties : TieRule) (facts : Facts) (t : TransactionOf) (draft : Draft) (drafts : DraftsAll ties facts t draft)
     → EndMayLackMemory facts t draft.tally.legs draft.residuals
-    → StoresFirst facts t.day 1 t.postings ⊎ ((drafts.booked ≡ []) × (has_braces t.postings ≡ false))
-    → StoresFirst facts t.day 1 t.postings
-end_stores facts t draft drafts lacks (inl stores) = stores
-end_stores facts t draft drafts (inl fill) (inr none) =
+    → StoresFirst ties facts t.day 1 t.postings ⊎ ((drafts.booked ≡ []) × (has_braces t.postings ≡ false))
+    → StoresFirst ties facts t.day 1 t.postings
+end_stores ties facts t draft drafts lacks (inl stores) = stores
+end_stores ties facts t draft drafts (inl fill) (inr none) =
     let nothing : draft.residuals ≡ [] = drafts.is.residuals ∙ ap (λ (booked : List Booked). residuals (weights_in booked)) none.0 in
     let elided = elided_postings 1 t.postings in
     absurd (no_fill facts elided (subst (FillMayLackMemory facts elided) nothing fill))
-end_stores facts t draft drafts (inr heads) (inr none) = absurd (true≢false (sym heads.1 ∙ none.1))
+end_stores ties facts t draft drafts (inr heads) (inr none) = absurd (true≢false (sym heads.1 ∙ none.1))
 
-pub end_lacks : (facts : Facts) (t : TransactionOf) (draft : Draft) → DraftsAll facts t draft
-    → EndMayLackMemory facts t draft.tally.legs draft.residuals → StoresFirst facts t.day 1 t.postings
-end_lacks facts t draft drafts lacks =
-    end_stores facts t draft drafts lacks (stores_first facts t.day 1 t.postings drafts.booked drafts.all)
+pub end_lacks : (ties : TieRule) (facts : Facts) (t : TransactionOf) (draft : Draft) → DraftsAll ties facts t draft
+    → EndMayLackMemory facts t draft.tally.legs draft.residuals → StoresFirst ties facts t.day 1 t.postings
+end_lacks ties facts t draft drafts lacks =
+    end_stores ties facts t draft drafts lacks (stores_first ties facts t.day 1 t.postings drafts.booked drafts.all)
 
 -- ---- one posting after another
 
 -- What is so after some postings: those with amounts are booked as the draft has it, its residuals are within their count,
 -- and what the others come to decides what all come to.
-pub record Booking (facts : Facts) (day : ℤ) (all : List Posting) (draft : Draft) (count place : ℕ) (left : List Posting) : Type 0 where
+pub record Booking (ties : TieRule) (facts : Facts) (day : ℤ) (all : List Posting) (draft : Draft) (count place : ℕ) (left : List Posting) : Type 0 where
   pub booked : List Booked
   pub is : IsDraft facts day draft booked
   pub within : AreWithin count draft.residuals
-  pub others : (more : Bookings) → BooksAll facts day draft.tally.legs place left more → BooksAll facts day [] 1 all (follow_all booked more)
-  pub first : FirstOf facts day all draft place left
+  pub others : (more : Bookings) → BooksAllUnder ties facts day draft.tally.legs place left more → BooksAllUnder ties facts day [] 1 all (follow_all booked more)
+  pub first : FirstOf ties facts day all draft place left
 
 -- a draft with one posting more
-pub drafts-more : (facts : Facts) (day : ℤ) (place : ℕ) (account : List ℕ) (amount : Amount) (old new : Draft) (booked : List Booked)
-    → IsDraft facts day old booked → (books : Books facts day place account amount old new) → IsDraft facts day new (booked ++ books.booked ∷ [])
-drafts-more facts day place account amount old new booked is books = record {
+pub drafts-more : (ties : TieRule) (facts : Facts) (day : ℤ) (place : ℕ) (account : List ℕ) (amount : Amount) (old new : Draft) (booked : List Booked)
+    → IsDraft facts day old booked → (books : Books ties facts day place account amount old new) → IsDraft facts day new (booked ++ books.booked ∷ [])
+drafts-more ties facts day place account amount old new booked is books = record {
   legs = books.legs ∙ ap (λ legs. legs ++ books.booked.legs) is.legs ∙ sym (legs_in-push booked books.booked);
   lists = books.lists;
   residuals = books.sum (weights_in booked) is.residuals ∙ ap residuals (sym (weights_in-push booked books.booked));
   sales = books.sales ∙ ap (λ sales. sales ++ sales_of day books.booked) is.sales ∙ sym (sales_in-push day booked books.booked);
 }
 
-pub booking-more : (facts : Facts) (day : ℤ) (all : List Posting) (old new : Draft) (count place : ℕ) (account : List ℕ) (amount : Option Amount) (left : List Posting)
-    → Booking facts day all old count place (record { account = account; amount = amount } ∷ left)
-    → BooksNext facts day place account amount old new
-    → Booking facts day all new (suc count) (suc place) left
-booking-more facts day all old new count place account None left so same = record {
+pub booking-more : (ties : TieRule) (facts : Facts) (day : ℤ) (all : List Posting) (old new : Draft) (count place : ℕ) (account : List ℕ) (amount : Option Amount) (left : List Posting)
+    → Booking ties facts day all old count place (record { account = account; amount = amount } ∷ left)
+    → BooksNext ties facts day place account amount old new
+    → Booking ties facts day all new (suc count) (suc place) left
+booking-more ties facts day all old new count place account None left so same = record {
   booked = so.booked;
   is = subst (λ (draft : Draft). IsDraft facts day draft so.booked) (sym same) so.is;
   within = subst (λ (draft : Draft). AreWithin (suc count) draft.residuals) (sym same) (AreWithin-more count (suc count) old.residuals (grind arith) so.within);
-  others = λ more h. so.others more (subst (λ (draft : Draft). BooksAll facts day draft.tally.legs (suc place) left more) same h);
-  first = subst (λ (draft : Draft). FirstOf facts day all draft (suc place) left) (sym same) so.first;
+  others = λ more h. so.others more (subst (λ (draft : Draft). BooksAllUnder ties facts day draft.tally.legs (suc place) left more) same h);
+  first = subst (λ (draft : Draft). FirstOf ties facts day all draft (suc place) left) (sym same) so.first;
 }
-booking-more facts day all old new count place account (Some amount) left so books = record {
+booking-more ties facts day all old new count place account (Some amount) left so books = record {
   booked = so.booked ++ books.booked ∷ [];
-  is = drafts-more facts day place account amount old new so.booked so.is books;
+  is = drafts-more ties facts day place account amount old new so.booked so.is books;
   within = books.within count so.within;
   others = λ more h.
-      let h_old = subst (λ (legs : List Leg). BooksAll facts day legs (suc place) left more) books.legs h in
-      subst (BooksAll facts day [] 1 all) (sym (follow_all-push so.booked books.booked more))
+      let h_old = subst (λ (legs : List Leg). BooksAllUnder ties facts day legs (suc place) left more) books.legs h in
+      subst (BooksAllUnder ties facts day [] 1 all) (sym (follow_all-push so.booked books.booked more))
       (so.others (follow books.booked more) (BooksOne books.booked, books.is, (more, h_old, refl)));
   first =
-      let line = line_of facts day old.tally.legs place account amount in
+      let line = line_under ties facts day old.tally.legs place account amount in
       inr
-      (first_stored facts day all old place account amount left so.first
+      (first_stored ties facts day all old place account amount left so.first
       (stores_legs line amount.cost books.booked.reduces books.booked.legs books.is.legs books.is.range));
 }
 
 -- a posting that stops decides
-pub booking-stops : (facts : Facts) (day : ℤ) (all : List Posting) (old : Draft) (count place : ℕ) (account : List ℕ) (amount : Option Amount) (left : List Posting) (refusal : Refusal)
-    → Booking facts day all old count place (record { account = account; amount = amount } ∷ left)
-    → StopsNext facts day place account amount old (stop.Refused refusal)
-    → BooksAll facts day [] 1 all (Stopped refusal)
-booking-stops facts day all old count place account None left refusal so h = absurd h
-booking-stops facts day all old count place account (Some amount) left refusal so h =
-    subst (BooksAll facts day [] 1 all) (follow_all-stopped so.booked refusal)
+pub booking-stops : (ties : TieRule) (facts : Facts) (day : ℤ) (all : List Posting) (old : Draft) (count place : ℕ) (account : List ℕ) (amount : Option Amount) (left : List Posting) (refusal : Refusal)
+    → Booking ties facts day all old count place (record { account = account; amount = amount } ∷ left)
+    → StopsNext ties facts day place account amount old (stop.Refused refusal)
+    → BooksAllUnder ties facts day [] 1 all (Stopped refusal)
+booking-stops ties facts day all old count place account None left refusal so h = absurd h
+booking-stops ties facts day all old count place account (Some amount) left refusal so h =
+    subst (BooksAllUnder ties facts day [] 1 all) (follow_all-stopped so.booked refusal)
     (so.others (Stopped refusal) (Fails refusal, h, refl))
 
 -- ---- the postings that are left

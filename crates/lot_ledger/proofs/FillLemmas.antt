@@ -1,8 +1,8 @@
 -- What the elided posting takes.
-use Rattle.std.specs.Prelude.{◌≡◌, ℕ, suc, Bool, true, List, [], ◌∷◌, map, Option, None, Some, ℤ, Result, Ok, Err}
+use Rattle.std.specs.Prelude.{◌≡◌, ℕ, suc, ◌+◌, ◌<◌, Bool, true, false, if◌then◌else◌, List, [], ◌∷◌, ◌++◌, length, map, Option, None, Some, ℤ, Result, Ok, Err}
 use Rattle.std.specs.Option.{is_none, option_map, option_or}
 use Rattle.std.specs.Result.{IfErr, IsErrAnd}
-use Rattle.std.proofs.Common.{refl, sym, ap, subst, ◌∙◌}
+use Rattle.std.proofs.Common.{arith, refl, sym, ap, subst, ◌∙◌}
 use Rattle.std.proofs.lemmas.Bool.{true≢false}
 use Rattle.lot_inv.specs.Inventory.{Held}
 use Rattle.lot_book.specs.declared.leg.Leg.{Leg}
@@ -10,12 +10,34 @@ use Rattle.lot_book.specs.declared.refusal.Refusal.{Refusal}
 use Rattle.lot_book.specs.declared.refusal.Refusal.TheVariants.{FillNotAllowed, Range}
 use Rattle.lot_book.specs.declared.refusal.Stop.{Stop}
 use Rattle.lot_book.specs.declared.refusal.Stop.TheVariants.{Refused, Memory}
-use Rattle.lot_book.specs.Balance.{fill_from, left_over, opposite}
+use Rattle.lot_command.specs.declared.transaction.Posting.{Posting}
+use Rattle.lot_book.specs.Balance.{elided_postings, fill_from, left_over, opposite}
 use Rattle.lot_ledger.specs.Decide.{filled, first_barred}
 use Rattle.lot_book.specs.Leg.{leave_range, leg_at}
 use Rattle.lot_book.specs.Facts.{Facts}
+use Rattle.lot_book.specs.OpeningNumber.{HasNumber}
 use Rattle.lot_book.specs.Refusals.{Stops, fill_not_allowed, holds_as}
-use Rattle.lot_posting.specs.Tally.{AreOf, StopsAt}
+use Rattle.lot_posting.specs.Tally.{AreOf, HaveNumbers, StopsAt}
+
+-- ---- where the elided posting stands
+
+-- the first posting is the elided one, or it is among the others
+elided-within-step : (is_elided : Bool) (place : ℕ) (account : List ℕ) (others : List (ℕ × List ℕ)) (count : ℕ) (elided : ℕ × List ℕ)
+    → (if is_elided then (place, account) ∷ others else others) ≡ elided ∷ []
+    → (others ≡ elided ∷ [] → elided.0 < suc place + count) → elided.0 < place + suc count
+elided-within-step true place account others count elided is among =
+    let here : (place, account) ≡ elided = cc in
+    let same : place ≡ elided.0 = ap (λ (e : ℕ × List ℕ). e.0) here in
+    omega arith
+elided-within-step false place account others count elided is among = omega (arith, among is)
+
+-- it is one of so many postings
+pub elided-within : (place : ℕ) (postings : List Posting) (elided : ℕ × List ℕ) → elided_postings place postings ≡ elided ∷ []
+    → elided.0 < place + length postings
+elided-within place [] elided is = cc
+elided-within place (posting ∷ postings) elided is =
+    elided-within-step (is_none posting.amount) place posting.account (elided_postings (suc place) postings) (length postings) elided is
+    (elided-within (suc place) postings elided)
 
 -- ---- the currencies that an account bars
 
@@ -45,6 +67,18 @@ filled-fills entry posting account place [] = refl
 filled-fills entry posting account place (r ∷ rs) =
     ap (λ legs. leg_at entry posting place account r.0 None (opposite r.1) ∷ legs)
     (filled-fills entry posting account (suc place) rs)
+
+-- each has the number of its posting
+pub filled-numbered : (entry posting : ℕ) (account : List ℕ) (place : ℕ) (fills : List (List ℕ × ℤ)) → HasNumber entry posting
+    → HaveNumbers (filled entry posting account place fills)
+filled-numbered entry posting account place [] has = tt
+filled-numbered entry posting account place (fill ∷ fills) has =
+    (has, filled-numbered entry posting account (suc place) fills has)
+
+-- so have the first of them
+pub numbered-front : (legs more : List Leg) → HaveNumbers (legs ++ more) → HaveNumbers legs
+numbered-front [] more all = tt
+numbered-front (leg ∷ legs) more all = (all.0, numbered-front legs more all.1)
 
 -- they are those of one posting to one account
 pub filled-own : (entry posting : ℕ) (account : List ℕ) (place : ℕ) (rs : List (List ℕ × ℤ))

@@ -15,7 +15,8 @@ use Rattle.lot_book.proofs.CaseLemmas.{by_bool}
 use Rattle.lot_book.proofs.OrderLemmas.{one_position, same_position-itself, same_position-turned}
 use Rattle.lot_laws.proofs.OpeningLemmas.{number_elsewhere, number_has, number_is, number_kept, number_opened, some_units, sum_at-push, sum_at-push_apart, zero_is}
 use Rattle.lot_ledger.specs.declared.opening_numbers.OpenLot.{OpenLot}
-use Rattle.lot_ledger.specs.Openings.{IsKept, KeepsLots, StayInRange, units_kept}
+use Rattle.lot_book.specs.OpeningNumber.{StayInRange}
+use Rattle.lot_ledger.specs.LotOpenings.{IsKept, KeepsLots, units_kept}
 
 pub units_kept-sum : (legs : List Leg) (lot : Position) (kept : Option OpenLot) → IsKept legs lot kept
     → units_kept kept ≡ sum_at legs lot

@@ -21,7 +21,7 @@ use Rattle.lot_book.proofs.OrderLemmas.{one_position, positions_total}
 use Rattle.lot_laws.proofs.OpeningLemmas.{not_zero, some_units}
 use Rattle.lot_ledger.specs.declared.opening_numbers.LotOpening.{LotOpening}
 use Rattle.lot_ledger.specs.declared.opening_numbers.OpenLot.{OpenLot}
-use Rattle.lot_ledger.specs.Openings.{IsKept, KeepsLots, ListsOpenings, lot_of, row_of}
+use Rattle.lot_ledger.specs.LotOpenings.{IsKept, KeepsLots, ListsOpenings, lot_of, row_of}
 
 -- ---- One row.
 

@@ -1,4 +1,4 @@
--- What deciding a command gives beside its outcome.
+-- What deciding a command gives beside its outcome, however ties between lots are decided.
 use Rattle.std.specs.Prelude.{◌≡◌, ◌≢◌, ◌⊎◌, ℕ, suc, Bool, true, is_some, if◌then◌else◌, List, [], ◌∷◌, ◌++◌, Option, None, Some, ℤ, ⊤}
 use Rattle.std.specs.List.{list_any}
 use Rattle.lot_command.specs.declared.command.Command.{Command}
@@ -18,63 +18,73 @@ use Rattle.lot_posting.specs.declared.draft.Draft.{Draft}
 use Rattle.lot_book.specs.declared.refusal.Stop.{Stop}
 use Rattle.lot_book.specs.declared.refusal.Stop.TheVariants.{Refused, Memory}
 use Rattle.lot_book.specs.Balance.{elided_postings, fill_of, left_over, residuals, weights_in}
-use Rattle.lot_book.specs.Booking.{All, Booked, BooksAll, Stopped, legs_in, line_of}
-use Rattle.lot_book.specs.Change.{IsAcceptedWith, Lists, ListsSums}
+use Rattle.lot_book.specs.Booking.{All, Booked, BooksAllUnder, Stopped, TieRule, legs_in, line_under}
+use Rattle.lot_book.specs.Change.{ListsHeads, ListsOpened, ListsSums}
 use Rattle.lot_book.specs.Facts.{Facts}
 use Rattle.lot_posting.specs.Posting.{Books, MayLackMemory as PostingMayLackMemory, StopsPosting, StoresFor}
-use Rattle.lot_book.specs.Sale.{sales_in}
+use Rattle.lot_posting.specs.Tally.{ListsTally}
+use Rattle.lot_book.specs.Sale.{AreSalesUnder, sales_in}
 use Rattle.lot_book.specs.Step.{first_conditions, first_of}
-use Rattle.lot_book.specs.Step.{Accept, Decides, Judges, Refuse, Repeat}
+use Rattle.lot_book.specs.Step.{Accept, DecidesUnder, JudgesUnder, Refuse, Repeat}
+
+-- a change lists what an accepted command changes, where ties are decided so
+pub record ListsUnder (ties : TieRule) (facts : Facts) (command : Command) (change : Change) : Type 0 where
+  pub positions : ListsSums facts change.legs change.positions.entries
+  pub openings : ListsOpened facts change.legs change.openings
+  pub heads : ListsHeads command change.heads
+  pub sales : AreSalesUnder ties facts command change.sales
 
 -- a command whose key is new is accepted with the change
-pub record Accepts (facts : Facts) (command : Command) (change : Change) : Type 0 where
-  pub judged : Judges facts command (Accept change.legs)
-  pub lists : Lists facts command change
+pub record Accepts (ties : TieRule) (facts : Facts) (command : Command) (change : Change) : Type 0 where
+  pub judged : JudgesUnder ties facts command (Accept change.legs)
+  pub lists : ListsUnder ties facts command change
 
 -- the outcome that is decided is that of the step
-abbrev pub Comes : Facts → Command → Decided → Type 0
-Comes facts command (decided.Accept change) = IsAcceptedWith facts command change
-Comes facts command decided.Repeat = Decides facts command Repeat
+abbrev pub Comes : TieRule → Facts → Command → Decided → Type 0
+Comes ties facts command (decided.Accept change) =
+    DecidesUnder ties facts command (Accept change.legs) × ListsUnder ties facts command change
+Comes ties facts command decided.Repeat = DecidesUnder ties facts command Repeat
 
 -- deciding stops at the refusal of the step, or out of memory, of which the clause `memory` says where
-abbrev pub StopsStep : Facts → Command → Stop → Type 0
-StopsStep facts command (Refused refusal) = Decides facts command (Refuse refusal)
-StopsStep facts command Memory = ⊤
+abbrev pub StopsStep : TieRule → Facts → Command → Stop → Type 0
+StopsStep ties facts command (Refused refusal) = DecidesUnder ties facts command (Refuse refusal)
+StopsStep ties facts command Memory = ⊤
 
 -- the same of a command whose key is new
-abbrev pub StopsJudging : Facts → Command → Stop → Type 0
-StopsJudging facts command (Refused refusal) = Judges facts command (Refuse refusal)
-StopsJudging facts command Memory = ⊤
+abbrev pub StopsJudging : TieRule → Facts → Command → Stop → Type 0
+StopsJudging ties facts command (Refused refusal) = JudgesUnder ties facts command (Refuse refusal)
+StopsJudging ties facts command Memory = ⊤
 
 -- ---- the postings with amounts
 
 -- a draft is that of the postings that are booked
 pub record IsDraft (facts : Facts) (day : ℤ) (draft : Draft) (booked : List Booked) : Type 0 where
   pub legs : draft.tally.legs ≡ legs_in booked
-  pub lists : ListsSums facts draft.tally.legs draft.tally.positions.entries
+  pub lists : ListsTally facts draft.tally
   pub residuals : draft.residuals ≡ residuals (weights_in booked)
   pub sales : draft.sales ≡ sales_in day booked
 
 -- all postings with amounts of a transaction are booked, as the draft has it
-pub record DraftsAll (facts : Facts) (t : TransactionOf) (draft : Draft) : Type 0 where
+pub record DraftsAll (ties : TieRule) (facts : Facts) (t : TransactionOf) (draft : Draft) : Type 0 where
   pub booked : List Booked
-  pub all : BooksAll facts t.day [] 1 t.postings (All booked)
+  pub all : BooksAllUnder ties facts t.day [] 1 t.postings (All booked)
   pub is : IsDraft facts t.day draft booked
 
 -- booking them stops at the refusal of the first that isn't booked, or out of memory, of which the clause `memory` says where
-abbrev pub StopsBooking : Facts → TransactionOf → Stop → Type 0
-StopsBooking facts t (Refused refusal) = BooksAll facts t.day [] 1 t.postings (Stopped refusal)
-StopsBooking facts t Memory = ⊤
+abbrev pub StopsBooking : TieRule → Facts → TransactionOf → Stop → Type 0
+StopsBooking ties facts t (Refused refusal) = BooksAllUnder ties facts t.day [] 1 t.postings (Stopped refusal)
+StopsBooking ties facts t Memory = ⊤
 
 -- a posting is booked, or has no amount and leaves the draft
-abbrev pub BooksNext : Facts → ℤ → ℕ → List ℕ → Option Amount → Draft → Draft → Type 0
-BooksNext facts day place account None old new = new ≡ old
-BooksNext facts day place account (Some amount) old new = Books facts day place account amount old new
+abbrev pub BooksNext : TieRule → Facts → ℤ → ℕ → List ℕ → Option Amount → Draft → Draft → Type 0
+BooksNext ties facts day place account None old new = new ≡ old
+BooksNext ties facts day place account (Some amount) old new = Books ties facts day place account amount old new
 
 -- it stops at its refusal, or out of memory
-abbrev pub StopsNext : Facts → ℤ → ℕ → List ℕ → Option Amount → Draft → Stop → Type 0
-StopsNext facts day place account None old stop = ⊥
-StopsNext facts day place account (Some amount) old stop = StopsPosting (line_of facts day old.tally.legs place account amount) stop
+abbrev pub StopsNext : TieRule → Facts → ℤ → ℕ → List ℕ → Option Amount → Draft → Stop → Type 0
+StopsNext ties facts day place account None old stop = ⊥
+StopsNext ties facts day place account (Some amount) old stop =
+    StopsPosting (line_under ties facts day old.tally.legs place account amount) stop
 
 -- ---- the fill
 
@@ -124,35 +134,36 @@ conditions_on facts t legs rs =
 -- ---- where memory may lack
 
 -- legs are stored for a posting at that place on no legs so far, or, where it has no amount, the others decide
-abbrev pub StoresAt : Facts → ℤ → ℕ → List ℕ → Option Amount → Type 0 → Type 0
-StoresAt facts day place account None Others = Others
-StoresAt facts day place account (Some amount) Others = StoresFor (line_of facts day [] place account amount) amount.cost
+abbrev pub StoresAt : TieRule → Facts → ℤ → ℕ → List ℕ → Option Amount → Type 0 → Type 0
+StoresAt ties facts day place account None Others = Others
+StoresAt ties facts day place account (Some amount) Others =
+    StoresFor (line_under ties facts day [] place account amount) amount.cost
 
 -- legs are stored for the first posting with an amount, of those from that place on
-abbrev pub StoresFirst : Facts → ℤ → ℕ → List Posting → Type 0
-StoresFirst facts day place [] = ⊥
-StoresFirst facts day place (posting ∷ postings) =
-    StoresAt facts day place posting.account posting.amount (StoresFirst facts day (suc place) postings)
+abbrev pub StoresFirst : TieRule → Facts → ℤ → ℕ → List Posting → Type 0
+StoresFirst ties facts day place [] = ⊥
+StoresFirst ties facts day place (posting ∷ postings) =
+    StoresAt ties facts day place posting.account posting.amount (StoresFirst ties facts day (suc place) postings)
 
 -- judging a command whose key is new may lack memory: it is a transaction, none of the first conditions holds, and legs are
 -- stored for its first posting with an amount
-abbrev pub JudgingMayLackMemory : Facts → Command → Type 0
-JudgingMayLackMemory facts (Opening o) = ⊥
-JudgingMayLackMemory facts (Closing c) = ⊥
-JudgingMayLackMemory facts (Declaring d) = ⊥
-JudgingMayLackMemory facts (Quoting q) = ⊥
-JudgingMayLackMemory facts (Transaction t) =
-    (first_of (first_conditions facts t) ≡ None) × StoresFirst facts t.day 1 t.postings
+abbrev pub JudgingMayLackMemory : TieRule → Facts → Command → Type 0
+JudgingMayLackMemory ties facts (Opening o) = ⊥
+JudgingMayLackMemory ties facts (Closing c) = ⊥
+JudgingMayLackMemory ties facts (Declaring d) = ⊥
+JudgingMayLackMemory ties facts (Quoting q) = ⊥
+JudgingMayLackMemory ties facts (Transaction t) =
+    (first_of (first_conditions facts t) ≡ None) × StoresFirst ties facts t.day 1 t.postings
 
 -- so may deciding a command, also for its text where one stands under its key
-abbrev pub MayLackMemory : Facts → Command → Type 0
-MayLackMemory facts command = (facts.text ≢ None) ⊎ JudgingMayLackMemory facts command
+abbrev pub MayLackMemory : TieRule → Facts → Command → Type 0
+MayLackMemory ties facts command = (facts.text ≢ None) ⊎ JudgingMayLackMemory ties facts command
 
 -- booking a posting may lack memory, if it has an amount
-abbrev pub NextMayLackMemory : Facts → ℤ → ℕ → List ℕ → Option Amount → Draft → Type 0
-NextMayLackMemory facts day place account None old = ⊥
-NextMayLackMemory facts day place account (Some amount) old =
-    PostingMayLackMemory old.tally.legs (line_of facts day old.tally.legs place account amount)
+abbrev pub NextMayLackMemory : TieRule → Facts → ℤ → ℕ → List ℕ → Option Amount → Draft → Type 0
+NextMayLackMemory ties facts day place account None old = ⊥
+NextMayLackMemory ties facts day place account (Some amount) old =
+    PostingMayLackMemory old.tally.legs (line_under ties facts day old.tally.legs place account amount)
 
 -- taking up the residuals may lack memory: for the fill, where each residual is that of units, the account allows each that
 -- isn't zero, and there is one. Without an elided posting it never does.

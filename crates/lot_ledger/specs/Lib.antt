@@ -1,2 +1,2 @@
 pub mod Decide
-pub mod Openings
+pub mod LotOpenings

@@ -1,19 +1,16 @@
 ghost use Rattle.std.specs.Prelude.{◌≡◌, [], ◌∷◌, None, Some, MatchOption, MatchResult};
 ghost use Rattle.lot_book.specs.Balance.{elided_postings};
 ghost use Rattle.lot_book.specs.Refusals.{back_dated, bars_amount, book_full, closed, closed_before, currency_not_allowed, dates_back, holds_too_many, not_open_yet, opens_after, too_many_lots, too_many_postings, two_elided, unknown_account};
-ghost use Rattle.lot_book.specs.Change.{ListsSums};
 ghost use Rattle.lot_book.specs.Leg.{with_legs};
+ghost use Rattle.lot_posting.specs.Tally.{ListsTally};
 ghost use Rattle.lot_view.specs.View.{known};
 
 use lot_base::{Account, Day};
-use lot_book::Refusal;
+use lot_book::{MOST_POSTINGS, Refusal};
 use lot_command::Posting;
 use lot_posting::Draft;
 use lot_view::View;
 use std::marker::Model;
-
-/// The most postings that a transaction may have (`most_postings` of the definitions).
-pub(crate) const MOST_POSTINGS: usize = 64;
 
 /// The most lots that an account may hold of one commodity (`most_lots` of the definitions).
 const MOST_LOTS: u128 = 10_000;
@@ -188,7 +185,7 @@ fn dates_back(view: &View, day: Day, posting: &Posting) -> bool
 /// Returns `TooManyLots` with the first posting with braces whose account then holds too many lots of its commodity, if
 /// there is one.
 pub(crate) fn few_lots(view: &View, draft: &Draft, postings: &[Posting]) -> Result<(), Refusal>
-    requires { ListsSums (known view.now) draft.now.tally.legs draft.now.tally.positions.entries }
+    requires { ListsTally (known view.now) draft.now.tally }
     ensures { MatchResult result (λ _. too_many_lots (known view.now) draft.now.tally.legs postings.now ≡ None)
         (λ refusal. too_many_lots (known view.now) draft.now.tally.legs postings.now ≡ Some refusal) }
 {
@@ -203,7 +200,7 @@ pub(crate) fn few_lots(view: &View, draft: &Draft, postings: &[Posting]) -> Resu
 
 /// Returns whether a posting has braces, and its account holds too many lots of its commodity after all legs.
 fn holds_too_many(view: &View, draft: &Draft, posting: &Posting) -> bool
-    requires { ListsSums (known view.now) draft.now.tally.legs draft.now.tally.positions.entries }
+    requires { ListsTally (known view.now) draft.now.tally }
     ensures { result ≡ holds_too_many (with_legs posting.now.account ((known view.now).held posting.now.account) draft.now.tally.legs) posting.now.amount }
 {
     match &posting.amount {

@@ -5,13 +5,16 @@ ghost use Rattle.lot_ledger.specs.declared.decision.Outcome.TheVariants.{Repeat}
 ghost use Rattle.lot_book.specs.declared.refusal.Refusal.TheVariants.{KeyReused};
 ghost use Rattle.lot_book.specs.declared.refusal.Stop.TheVariants.{Memory};
 ghost use Rattle.lot_book.specs.Balance.{AreWithin, elided_postings};
-ghost use Rattle.lot_book.specs.Change.{ListsHeads, ListsSums};
+ghost use Rattle.lot_book.specs.Booking.{TieRule};
+ghost use Rattle.lot_book.specs.Change.{ListsHeads, ListsOpened, ListsSums};
 ghost use Rattle.lot_command.specs.declared.command.Command.TheVariants.{Opening as OpeningOf, Closing as ClosingOf, Declaring as DeclaringOf, Quoting as QuotingOf, Transaction as TransactionOf};
 ghost use Rattle.lot_command.specs.declared.command.Quoting.{Quoting as QuotingParts};
 ghost use Rattle.lot_ledger.specs.Decide.{Accepts, BooksNext, Comes, DraftsAll, EndMayLackMemory, FillMayLackMemory, IsElided, JudgingMayLackMemory, MayLackMemory, NextMayLackMemory, StopsBooking, StopsJudging, StopsNext, StopsStep, StoresFirst, conditions_on, legs_with_fill, residual_conditions};
 ghost use Rattle.lot_book.specs.Refusals.{Stops, most_postings};
-ghost use Rattle.lot_book.specs.Step.{Judges, Refuse, first_conditions, first_of};
-ghost use Rattle.lot_view.specs.View.{known};
+ghost use Rattle.lot_book.specs.Openings.{ties_for};
+ghost use Rattle.lot_book.specs.Step.{JudgesUnder, Refuse, first_conditions, first_of};
+ghost use Rattle.lot_posting.specs.Tally.{ListsTally};
+ghost use Rattle.lot_view.specs.View.{known, known_with_openings};
 
 use crate::checks::{
     Elided, every_account_known, every_account_open, every_currency_allowed, few_lots,
@@ -20,7 +23,7 @@ use crate::checks::{
 use crate::fill::fill;
 use crate::heads::heads_of;
 use lot_base::Day;
-use lot_book::{Change, Pair, Refusal, Stop};
+use lot_book::{Change, Edition, Pair, Refusal, Stop};
 use lot_command::{Closing, Command, Declaring, Items, Opening, Posting, Transaction, canonical};
 use lot_posting::{Draft, Residuals, Site, Tally, book_posting};
 use lot_view::View;
@@ -38,15 +41,23 @@ pub enum Outcome {
 }
 
 /// Returns what becomes of a command on what a view knows, or why it is refused, or out of memory. The view is that of the
-/// command's key: it has the text that stands under it, if there is one.
+/// command's key: it has the text that stands under it, if there is one. Ties between lots are decided as the edition says.
 ///
 /// Memory may lack where a text stands under the key, since it is compared with that of the command. Where the key is new it
 /// may lack for a transaction alone, and only where no check that comes before its booking refuses it and its first posting
 /// with an amount has legs, which without braces stay in range (`MayLackMemory`).
-pub fn decide(alloc: Global, view: &View, command: &Command) -> Result<Outcome, Stop>
-    ensures decided { IfOk result (λ outcome. Comes (known view.now) command.now outcome) }
-    ensures stops { IfErr result (λ stop. StopsStep (known view.now) command.now stop) }
-    ensures memory { IsErrOf result Memory → MayLackMemory (known view.now) command.now }
+pub fn decide(
+    alloc: Global,
+    edition: Edition,
+    view: &View,
+    command: &Command,
+) -> Result<Outcome, Stop>
+    ensures decided { IfOk result (λ outcome.
+        Comes (ties_for edition (known_with_openings view.now)) (known view.now) command.now outcome) }
+    ensures stops { IfErr result (λ stop.
+        StopsStep (ties_for edition (known_with_openings view.now)) (known view.now) command.now stop) }
+    ensures memory { IsErrOf result Memory
+        → MayLackMemory (ties_for edition (known_with_openings view.now)) (known view.now) command.now }
 {
     if let Some(text) = view.text() {
         let body = canonical::body(alloc, command)?;
@@ -57,7 +68,9 @@ pub fn decide(alloc: Global, view: &View, command: &Command) -> Result<Outcome, 
         Command::Closing(closing) => decide_closing(alloc, view, closing)?,
         Command::Declaring(declaring) => decide_declaring(alloc, view, declaring)?,
         Command::Quoting(_) => decide_quoting(alloc, view)?,
-        Command::Transaction(transaction) => decide_transaction(alloc, view, transaction)?,
+        Command::Transaction(transaction) => {
+            decide_transaction(alloc, edition, view, transaction)?
+        }
     };
     Ok(Outcome::Accept(change))
 }
@@ -76,10 +89,12 @@ fn repeated(standing: &str, text: &str) -> Result<Outcome, Refusal>
     }
 }
 
-/// Returns the change of an opening whose key is new, or why it is refused.
+/// Returns the change of an opening whose key is new, or why it is refused. It is the same by each edition.
 fn decide_opening(alloc: Global, view: &View, opening: &Opening) -> Result<Change, Refusal>
-    ensures accepted { IfOk result (λ change. Accepts (known view.now) (OpeningOf opening.now) change) }
-    ensures refused { IfErr result (λ refusal. Judges (known view.now) (OpeningOf opening.now) (Refuse refusal)) }
+    ensures accepted { IfOk result (λ change.
+        (ties : TieRule) → Accepts ties (known view.now) (OpeningOf opening.now) change) }
+    ensures refused { IfErr result (λ refusal.
+        (ties : TieRule) → JudgesUnder ties (known view.now) (OpeningOf opening.now) (Refuse refusal)) }
 {
     if view.standing(&opening.account).is_some() {
         return Err(Refusal::AlreadyOpen);
@@ -90,8 +105,10 @@ fn decide_opening(alloc: Global, view: &View, opening: &Opening) -> Result<Chang
 
 /// The same for a closing whose key is new.
 fn decide_closing(alloc: Global, view: &View, closing: &Closing) -> Result<Change, Refusal>
-    ensures accepted { IfOk result (λ change. Accepts (known view.now) (ClosingOf closing.now) change) }
-    ensures refused { IfErr result (λ refusal. Judges (known view.now) (ClosingOf closing.now) (Refuse refusal)) }
+    ensures accepted { IfOk result (λ change.
+        (ties : TieRule) → Accepts ties (known view.now) (ClosingOf closing.now) change) }
+    ensures refused { IfErr result (λ refusal.
+        (ties : TieRule) → JudgesUnder ties (known view.now) (ClosingOf closing.now) (Refuse refusal)) }
 {
     let Some(standing) = view.standing(&closing.account) else {
         return Err(Refusal::UnknownAccount { posting: None });
@@ -108,8 +125,10 @@ fn decide_closing(alloc: Global, view: &View, closing: &Closing) -> Result<Chang
 
 /// The same for a declaring whose key is new.
 fn decide_declaring(alloc: Global, view: &View, declaring: &Declaring) -> Result<Change, Refusal>
-    ensures accepted { IfOk result (λ change. Accepts (known view.now) (DeclaringOf declaring.now) change) }
-    ensures refused { IfErr result (λ refusal. Judges (known view.now) (DeclaringOf declaring.now) (Refuse refusal)) }
+    ensures accepted { IfOk result (λ change.
+        (ties : TieRule) → Accepts ties (known view.now) (DeclaringOf declaring.now) change) }
+    ensures refused { IfErr result (λ refusal.
+        (ties : TieRule) → JudgesUnder ties (known view.now) (DeclaringOf declaring.now) (Refuse refusal)) }
 {
     if view.is_declared(&declaring.commodity) {
         return Err(Refusal::AlreadyDeclared);
@@ -120,22 +139,32 @@ fn decide_declaring(alloc: Global, view: &View, declaring: &Declaring) -> Result
 
 /// The same for a quoting.
 fn decide_quoting(alloc: Global, view: &View) -> Result<Change, Refusal>
-    ensures accepted { IfOk result (λ change. (quoting : QuotingParts) → Accepts (known view.now) (QuotingOf quoting) change) }
-    ensures refused { IfErr result (λ refusal. (quoting : QuotingParts) → Judges (known view.now) (QuotingOf quoting) (Refuse refusal)) }
+    ensures accepted { IfOk result (λ change. (ties : TieRule) (quoting : QuotingParts)
+        → Accepts ties (known view.now) (QuotingOf quoting) change) }
+    ensures refused { IfErr result (λ refusal. (ties : TieRule) (quoting : QuotingParts)
+        → JudgesUnder ties (known view.now) (QuotingOf quoting) (Refuse refusal)) }
 {
     not_full(view)?;
     Ok(no_change(alloc))
 }
 
-/// The same for a transaction. Each step looks at all postings before the next one does.
-fn decide_transaction(alloc: Global, view: &View, transaction: &Transaction) -> Result<Change, Stop>
-    ensures accepted { IfOk result (λ change. Accepts (known view.now) (TransactionOf transaction.now) change) }
-    ensures stops { IfErr result (λ stop. StopsJudging (known view.now) (TransactionOf transaction.now) stop) }
+/// The same for a transaction, by an edition. Each step looks at all postings before the next one does.
+fn decide_transaction(
+    alloc: Global,
+    edition: Edition,
+    view: &View,
+    transaction: &Transaction,
+) -> Result<Change, Stop>
+    ensures accepted { IfOk result (λ change. Accepts (ties_for edition (known_with_openings view.now))
+        (known view.now) (TransactionOf transaction.now) change) }
+    ensures stops { IfErr result (λ stop. StopsJudging (ties_for edition (known_with_openings view.now))
+        (known view.now) (TransactionOf transaction.now) stop) }
     ensures memory { IsErrOf result Memory
-        → JudgingMayLackMemory (known view.now) (TransactionOf transaction.now) }
+        → JudgingMayLackMemory (ties_for edition (known_with_openings view.now))
+        (known view.now) (TransactionOf transaction.now) }
 {
     let elided = check_first(view, transaction)?;
-    let draft = book_amounts(alloc, view, transaction)?;
+    let draft = book_amounts(alloc, edition, view, transaction)?;
     conclude(alloc, view, transaction, elided, draft)
 }
 
@@ -165,12 +194,14 @@ fn conclude(
     elided: Option<Elided<'_>>,
     draft: Draft,
 ) -> Result<Change, Stop>
+    requires few { length transaction.now.postings ≤ most_postings }
     requires elided { IsElided elided transaction.now }
-    requires lists { ListsSums (known view.now) draft.tally.legs draft.tally.positions.entries }
+    requires lists { ListsTally (known view.now) draft.tally }
     ensures passed { IsOk result → first_of (conditions_on (known view.now) transaction.now draft.tally.legs draft.residuals) ≡ None }
     ensures legs { IfOk result (λ change. change.legs ≡ legs_with_fill (known view.now) transaction.now draft.tally.legs draft.residuals) }
     ensures sales { IfOk result (λ change. change.sales ≡ draft.sales) }
     ensures positions { IfOk result (λ change. ListsSums (known view.now) change.legs change.positions.entries) }
+    ensures openings { IfOk result (λ change. ListsOpened (known view.now) change.legs change.openings) }
     ensures heads { IfOk result (λ change. ListsHeads (TransactionOf transaction.now) change.heads) }
     ensures stops { IfErr result (λ stop. Stops (first_of (conditions_on (known view.now) transaction.now draft.tally.legs draft.residuals)) stop) }
     ensures memory { IsErrOf result Memory
@@ -193,11 +224,12 @@ fn take_up(
     elided: Option<Elided<'_>>,
     draft: &mut Draft,
 ) -> Result<(), Stop>
+    requires few { length transaction.now.postings ≤ most_postings }
     requires elided { IsElided elided transaction.now }
-    requires lists { ListsSums (known view.now) draft.old.tally.legs draft.old.tally.positions.entries }
+    requires lists { ListsTally (known view.now) draft.old.tally }
     ensures passed { IsOk result → first_of (residual_conditions (known view.now) transaction.now draft.old.tally.legs draft.old.residuals) ≡ None }
     ensures legs { OnOk result (draft.new.tally.legs ≡ legs_with_fill (known view.now) transaction.now draft.old.tally.legs draft.old.residuals) }
-    ensures lists { OnOk result (ListsSums (known view.now) draft.new.tally.legs draft.new.tally.positions.entries) }
+    ensures lists { OnOk result (ListsTally (known view.now) draft.new.tally) }
     ensures sales { OnOk result (draft.new.sales ≡ draft.old.sales) }
     ensures stops { IfErr result (λ stop. Stops (first_of (residual_conditions (known view.now) transaction.now draft.old.tally.legs draft.old.residuals)) stop) }
     ensures memory { IsErrOf result Memory
@@ -215,16 +247,31 @@ fn take_up(
 
 /// Books the postings with amounts, each on the legs of those before it. The error is the refusal of the first that can't
 /// be booked, or out of memory.
-fn book_amounts(alloc: Global, view: &View, transaction: &Transaction) -> Result<Draft, Stop>
+fn book_amounts(
+    alloc: Global,
+    edition: Edition,
+    view: &View,
+    transaction: &Transaction,
+) -> Result<Draft, Stop>
     requires { length transaction.now.postings ≤ most_postings }
-    ensures drafts { IfOk result (λ draft. DraftsAll (known view.now) transaction.now draft) }
-    ensures stops { IfErr result (λ stop. StopsBooking (known view.now) transaction.now stop) }
+    ensures drafts { IfOk result (λ draft.
+        DraftsAll (ties_for edition (known_with_openings view.now)) (known view.now) transaction.now draft) }
+    ensures stops { IfErr result (λ stop.
+        StopsBooking (ties_for edition (known_with_openings view.now)) (known view.now) transaction.now stop) }
     ensures memory { IsErrOf result Memory
-        → StoresFirst (known view.now) transaction.now.day 1 transaction.now.postings }
+        → StoresFirst (ties_for edition (known_with_openings view.now)) (known view.now) transaction.now.day 1 transaction.now.postings }
 {
     let mut draft = Draft::new(alloc);
     for (index, posting) in transaction.postings.as_slice().iter().enumerate() {
-        book_next(alloc, view, transaction.day, index + 1, posting, &mut draft)?;
+        book_next(
+            alloc,
+            edition,
+            view,
+            transaction.day,
+            index + 1,
+            posting,
+            &mut draft,
+        )?;
     }
     Ok(draft)
 }
@@ -232,23 +279,29 @@ fn book_amounts(alloc: Global, view: &View, transaction: &Transaction) -> Result
 /// Books the posting at that place, from 1, if it has an amount.
 fn book_next(
     alloc: Global,
+    edition: Edition,
     view: &View,
     day: Day,
     place: usize,
     posting: &Posting,
     draft: &mut Draft,
 ) -> Result<(), Stop>
-    requires lists { ListsSums (known view.now) draft.old.tally.legs draft.old.tally.positions.entries }
+    requires lists { ListsTally (known view.now) draft.old.tally }
+    requires few { place ≤ most_postings }
     requires room { AreWithin (most_postings - 1) draft.old.residuals }
-    ensures books { OnOk result (BooksNext (known view.now) day place posting.now.account posting.now.amount draft.old draft.new) }
-    ensures stops { IfErr result (λ stop. StopsNext (known view.now) day place posting.now.account posting.now.amount draft.old stop) }
+    ensures books { OnOk result (BooksNext (ties_for edition (known_with_openings view.now)) (known view.now)
+        day place posting.now.account posting.now.amount draft.old draft.new) }
+    ensures stops { IfErr result (λ stop. StopsNext (ties_for edition (known_with_openings view.now))
+        (known view.now) day place posting.now.account posting.now.amount draft.old stop) }
     ensures memory { IsErrOf result Memory
-        → NextMayLackMemory (known view.now) day place posting.now.account posting.now.amount draft.old }
+        → NextMayLackMemory (ties_for edition (known_with_openings view.now)) (known view.now)
+        day place posting.now.account posting.now.amount draft.old }
 {
     let Some(amount) = &posting.amount else {
         return Ok(());
     };
     let site = Site {
+        edition,
         entry: u64::from(view.entries()) + 1,
         day,
         posting: place,
@@ -263,12 +316,14 @@ fn no_change(alloc: Global) -> Change
     ensures legs { result.legs ≡ [] }
     ensures sales { result.sales ≡ [] }
     ensures positions { IsEmpty result.positions }
+    ensures openings { IsEmpty result.openings }
     ensures heads { IsEmpty result.heads }
 {
     Change {
         legs: Items::new(alloc),
         sales: Items::new(alloc),
         positions: BTreeMap::new(alloc),
+        openings: BTreeMap::new(alloc),
         heads: BTreeMap::new(alloc),
     }
 }
@@ -279,15 +334,21 @@ fn change_of(draft: Draft, heads: BTreeMap<Pair, Day>) -> Change
       legs = draft.tally.legs;
       sales = draft.sales;
       positions = draft.tally.positions;
+      openings = draft.tally.openings;
       heads = heads;
     } }
 {
     let Draft { tally, sales, .. } = draft;
-    let Tally { legs, positions } = tally;
+    let Tally {
+        legs,
+        positions,
+        openings,
+    } = tally;
     Change {
         legs,
         sales,
         positions,
+        openings,
         heads,
     }
 }

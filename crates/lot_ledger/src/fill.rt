@@ -1,11 +1,11 @@
-ghost use Rattle.std.specs.Prelude.{◌≡◌, ◌≢◌, ◌∷◌, [], ◌++◌, suc, None, Some, not, IfErr, IfOk, IsErrOf, IsOk, OnErr, OnOk};
+ghost use Rattle.std.specs.Prelude.{◌≡◌, ◌≢◌, ◌≤◌, ◌∷◌, [], ◌++◌, suc, None, Some, not, IfErr, IfOk, IsErrOf, IsOk, OnErr, OnOk};
 ghost use Rattle.std.specs.Option.{option_map, option_or};
 ghost use Rattle.lot_book.specs.declared.refusal.Refusal.TheVariants.{FillNotAllowed};
 ghost use Rattle.lot_book.specs.declared.refusal.Stop.TheVariants.{Memory};
 ghost use Rattle.lot_book.specs.Balance.{fill_of, fits_units, left_over};
-ghost use Rattle.lot_book.specs.Change.{ListsSums};
 ghost use Rattle.lot_ledger.specs.Decide.{FillMayLackMemory, filled, first_barred};
-ghost use Rattle.lot_book.specs.Refusals.{Stops, fill_not_allowed, fill_out_of_range, first_currency, inexact_fill};
+ghost use Rattle.lot_book.specs.Refusals.{Stops, fill_not_allowed, fill_out_of_range, first_currency, inexact_fill, most_postings};
+ghost use Rattle.lot_posting.specs.Tally.{HaveNumbers, ListsTally};
 ghost use Rattle.lot_view.specs.View.{known};
 
 use crate::checks::Elided;
@@ -18,22 +18,23 @@ use std::alloc::{AllocError, Global};
 use std::mem;
 
 /// Adds the legs of the elided posting, which take the residuals. The refusal is `InexactFill`, `FillNotAllowed` or
-/// `Range`, each over all residuals before the next. Memory may lack only where each residual is that of units, and there is
-/// something to take.
+/// `Range`, each over all residuals before the next. Memory may lack only where each residual is that of units, the account
+/// allows each that isn't zero, and there is one.
 pub(crate) fn fill(
     alloc: Global,
     view: &View,
     elided: Elided<'_>,
     draft: &mut Draft,
 ) -> Result<(), Stop>
-    requires { ListsSums (known view.now) draft.old.tally.legs draft.old.tally.positions.entries }
+    requires few { elided.0 ≤ most_postings }
+    requires lists { ListsTally (known view.now) draft.old.tally }
     ensures exact { OnOk result (inexact_fill (elided.entry ∷ []) draft.old.residuals ≡ None) }
     ensures allowed { OnOk result (fill_not_allowed (known view.now) (elided.entry ∷ []) draft.old.residuals ≡ None) }
     ensures in_range { OnOk result (fill_out_of_range (known view.now) (elided.entry ∷ []) draft.old.tally.legs
         (fill_of (suc (known view.now).entries) (elided.entry ∷ []) draft.old.residuals) ≡ None) }
     ensures legs { OnOk result (draft.new.tally.legs ≡ draft.old.tally.legs
         ++ fill_of (suc (known view.now).entries) (elided.entry ∷ []) draft.old.residuals) }
-    ensures lists { OnOk result (ListsSums (known view.now) draft.new.tally.legs draft.new.tally.positions.entries) }
+    ensures lists { OnOk result (ListsTally (known view.now) draft.new.tally) }
     ensures sales { OnOk result (draft.new.sales ≡ draft.old.sales) }
     ensures stops { IfErr result (λ stop. Stops (option_or (inexact_fill (elided.entry ∷ []) draft.old.residuals)
         (option_or (fill_not_allowed (known view.now) (elided.entry ∷ []) draft.old.residuals)
@@ -59,8 +60,8 @@ fn fill_exactly(
     elided: Elided<'_>,
     draft: &mut Draft,
 ) -> Result<(), Stop>
-    requires lists { ListsSums (known view.now)
-        draft.old.tally.legs draft.old.tally.positions.entries }
+    requires few { elided.0 ≤ most_postings }
+    requires lists { ListsTally (known view.now) draft.old.tally }
     requires exact { first_currency (λ r. not (fits_units r.1)) draft.old.residuals ≡ None }
     ensures exact { OnOk result (inexact_fill (elided.entry ∷ []) draft.old.residuals ≡ None) }
     ensures allowed { OnOk result
@@ -70,8 +71,7 @@ fn fill_exactly(
         (fill_of (suc (known view.now).entries) (elided.entry ∷ []) draft.old.residuals) ≡ None) }
     ensures legs { OnOk result (draft.new.tally.legs ≡ draft.old.tally.legs
         ++ fill_of (suc (known view.now).entries) (elided.entry ∷ []) draft.old.residuals) }
-    ensures lists { OnOk result (ListsSums (known view.now)
-        draft.new.tally.legs draft.new.tally.positions.entries) }
+    ensures lists { OnOk result (ListsTally (known view.now) draft.new.tally) }
     ensures sales { OnOk result (draft.new.sales ≡ draft.old.sales) }
     ensures stops { IfErr result (λ stop. Stops
         (option_or (inexact_fill (elided.entry ∷ []) draft.old.residuals)
@@ -118,10 +118,13 @@ fn legs_of_fills(
     elided: &Elided<'_>,
     fills: Vec<(Commodity, Units)>,
 ) -> Result<Vec<Leg>, AllocError>
+    requires few { elided.now.0 ≤ most_postings }
     ensures legs { IfOk result (λ legs. legs.items
         ≡ filled (suc (known view.now).entries) elided.now.0 elided.now.1 0 fills.items) }
+    ensures numbers { IfOk result (λ legs. HaveNumbers legs.items) }
     ensures memory { OnErr result (fills.items ≢ []) }
 {
+    let entry = u64::from(view.entries()) + 1;
     let mut legs = Vec::new(alloc);
     for (place, (commodity, units)) in fills.into_iter().enumerate() {
         let position = Position {
@@ -130,7 +133,7 @@ fn legs_of_fills(
             lot: None,
         };
         legs.push(Leg {
-            entry: u64::from(view.entries()) + 1,
+            entry,
             posting: elided.posting,
             place,
             position,

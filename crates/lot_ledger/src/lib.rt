@@ -15,7 +15,8 @@ mod opening_numbers;
 
 pub use decision::{Outcome, decide};
 pub use lot_book::{
-    Change, Gain, Holding, Leg, LotKey, Pair, Position, Refusal, Sale, Standing, Stop, Verdict,
+    Change, Edition, Gain, Holding, Leg, LotKey, Pair, Position, Refusal, Sale, Standing, Stop,
+    Verdict,
 };
 pub use lot_view::{Touched, View, touches};
 pub use opening_numbers::{LotOpening, openings};

@@ -3,10 +3,9 @@ ghost use Rattle.std.specs.BTreeMap.{get};
 ghost use Rattle.lot_num.specs.Amount.{IsUnits};
 ghost use Rattle.lot_book.specs.declared.leg.Leg.{Leg};
 ghost use Rattle.lot_book.specs.Leg.{position_cmp};
-ghost use Rattle.lot_book.specs.OpeningNumber.{posting_number};
-ghost use Rattle.lot_ledger.specs.Openings.{IsNumbered, KeepsLots, ListsOpenings, StayInRange, row_of, units_kept};
+ghost use Rattle.lot_book.specs.OpeningNumber.{IsNumbered, StayInRange, posting_number};
+ghost use Rattle.lot_ledger.specs.LotOpenings.{KeepsLots, ListsOpenings, row_of, units_kept};
 
-use crate::checks::MOST_POSTINGS;
 use lot_base::{Account, Commodity};
 use lot_book::{Leg, Position};
 use lot_cost::LotKey;
@@ -61,7 +60,7 @@ impl OpenLot {
     {
         OpenLot {
             units: leg.units,
-            opening: posting_number(leg),
+            opening: leg.number(),
         }
     }
 
@@ -84,14 +83,6 @@ impl OpenLot {
             None => unreachable!(),
         }
     }
-}
-
-/// Returns the number of the posting of a leg.
-fn posting_number(leg: &Leg) -> u64
-    requires { IsNumbered leg.now }
-    ensures { result ≡ posting_number leg.now }
-{
-    MOST_POSTINGS as u64 * (leg.entry - 1) + leg.posting as u64
 }
 
 /// Adds one more leg to what is kept of the lots. The only error is out of memory.

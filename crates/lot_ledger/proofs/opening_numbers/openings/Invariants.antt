@@ -1,7 +1,7 @@
 use Rattle.std.proofs.Common.{◌≢◌, [], take}
 use Rattle.std.specs.Prelude.{Any, IsSome}
 use Rattle.lot_book.specs.declared.leg.Leg.{Leg}
-use Rattle.lot_ledger.specs.Openings.{KeepsLots}
+use Rattle.lot_ledger.specs.LotOpenings.{KeepsLots}
 use Rattle.lot_ledger.proofs.opening_numbers.openings.Given as goal
 
 -- the lots are kept as the legs so far leave them, and there are none before a leg at a lot

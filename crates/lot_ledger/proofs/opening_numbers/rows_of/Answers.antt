@@ -3,7 +3,7 @@ use Rattle.std.proofs.Common.{◌≡◌, [], ◌++◌, sym, ap, subst, ◌∙◌
 use Rattle.std.proofs.lemmas.List.{append-nil}
 use Rattle.std.specs.List.{filter_map}
 use Rattle.lot_ledger.proofs.OpeningRowLemmas.{lists-rows}
-use Rattle.lot_ledger.specs.Openings.{ListsOpenings, row_of}
+use Rattle.lot_ledger.specs.LotOpenings.{ListsOpenings, row_of}
 use Rattle.lot_ledger.proofs.opening_numbers.rows_of.Goals as goal
 
 pub returns-clause-lists : goal.returns-clause-lists

@@ -1,6 +1,6 @@
 use Rattle.std.proofs.Common.{◌≡◌, ◌++◌}
 use Rattle.std.specs.List.{filter_map}
-use Rattle.lot_ledger.specs.Openings.{row_of}
+use Rattle.lot_ledger.specs.LotOpenings.{row_of}
 use Rattle.lot_ledger.proofs.opening_numbers.rows_of.Given as goal
 
 -- the rows so far and those of what is left are all

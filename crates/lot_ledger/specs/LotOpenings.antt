@@ -1,31 +1,16 @@
 -- The opening numbers of the lots that legs leave units in, as rows.
-use Rattle.std.specs.Prelude.{◌≡◌, ◌≢◌, ◌≤◌, ℕ, if◌then◌else◌, List, take, map, All, Contains, Option, None, Some, IsSome, ℤ, pos}
+use Rattle.std.specs.Prelude.{◌≡◌, ◌≢◌, ℕ, if◌then◌else◌, List, map, All, Contains, Option, None, Some, IsSome, ℤ, pos}
 use Rattle.std.specs.BTreeMap.{BTreeMap, get}
 use Rattle.std.specs.List.Sorted.{IsStrictlySortedBy}
 use Rattle.std.specs.Option.{option_map}
 use Rattle.std.specs.Ordering.{int_eq}
-use Rattle.lot_num.specs.Amount.{IsUnits}
 use Rattle.lot_cost.specs.declared.lot_key.LotKey.{LotKey}
 use Rattle.lot_book.specs.declared.leg.Leg.{Leg}
 use Rattle.lot_book.specs.declared.leg.Position.{Position}
 use Rattle.lot_book.specs.Leg.{position_cmp, sum_at}
 use Rattle.lot_book.specs.OpeningNumber.{HasOpeningNumber}
-use Rattle.lot_book.specs.Refusals.{most_entries, most_postings}
 use Rattle.lot_ledger.specs.declared.opening_numbers.LotOpening.{LotOpening}
 use Rattle.lot_ledger.specs.declared.opening_numbers.OpenLot.{OpenLot}
-
--- ---- What legs have to be.
-
--- a leg is numbered as in a book: entries count from 1 to the most of a book, postings from 1 to the most of a transaction
-pub record IsNumbered (leg : Leg) : Type 0 where
-  pub entry_from_one : 1 ≤ leg.entry
-  pub entry_in_book : leg.entry ≤ most_entries
-  pub posting_from_one : 1 ≤ leg.posting
-  pub posting_in_entry : leg.posting ≤ most_postings
-
--- however many legs are booked so far, what they leave at a position is in the range of units
-abbrev pub StayInRange : List Leg → Type 0
-StayInRange legs = (count : ℕ) (position : Position) → IsUnits (sum_at (take count legs) position)
 
 -- ---- The rows.
 
