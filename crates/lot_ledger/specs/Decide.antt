@@ -19,20 +19,13 @@ use Rattle.lot_book.specs.declared.refusal.Stop.{Stop}
 use Rattle.lot_book.specs.declared.refusal.Stop.TheVariants.{Refused, Memory}
 use Rattle.lot_book.specs.Balance.{elided_postings, fill_of, left_over, residuals, weights_in}
 use Rattle.lot_book.specs.Booking.{All, Booked, BooksAllUnder, Stopped, TieRule, legs_in, line_under}
-use Rattle.lot_book.specs.Change.{ListsHeads, ListsOpened, ListsSums}
+use Rattle.lot_book.specs.Change.{IsAcceptedUnder, ListsUnder}
 use Rattle.lot_book.specs.Facts.{Facts}
 use Rattle.lot_posting.specs.Posting.{Books, MayLackMemory as PostingMayLackMemory, StopsPosting, StoresFor}
 use Rattle.lot_posting.specs.Tally.{ListsTally}
-use Rattle.lot_book.specs.Sale.{AreSalesUnder, sales_in}
+use Rattle.lot_book.specs.Sale.{sales_in}
 use Rattle.lot_book.specs.Step.{first_conditions, first_of}
 use Rattle.lot_book.specs.Step.{Accept, DecidesUnder, JudgesUnder, Refuse, Repeat}
-
--- a change lists what an accepted command changes, where ties are decided so
-pub record ListsUnder (ties : TieRule) (facts : Facts) (command : Command) (change : Change) : Type 0 where
-  pub positions : ListsSums facts change.legs change.positions.entries
-  pub openings : ListsOpened facts change.legs change.openings
-  pub heads : ListsHeads command change.heads
-  pub sales : AreSalesUnder ties facts command change.sales
 
 -- a command whose key is new is accepted with the change
 pub record Accepts (ties : TieRule) (facts : Facts) (command : Command) (change : Change) : Type 0 where
@@ -41,8 +34,7 @@ pub record Accepts (ties : TieRule) (facts : Facts) (command : Command) (change 
 
 -- the outcome that is decided is that of the step
 abbrev pub Comes : TieRule → Facts → Command → Decided → Type 0
-Comes ties facts command (decided.Accept change) =
-    DecidesUnder ties facts command (Accept change.legs) × ListsUnder ties facts command change
+Comes ties facts command (decided.Accept change) = IsAcceptedUnder ties facts command change
 Comes ties facts command decided.Repeat = DecidesUnder ties facts command Repeat
 
 -- deciding stops at the refusal of the step, or out of memory, of which the clause `memory` says where

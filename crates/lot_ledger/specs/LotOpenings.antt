@@ -1,5 +1,5 @@
 -- The opening numbers of the lots that legs leave units in, as rows.
-use Rattle.std.specs.Prelude.{◌≡◌, ◌≢◌, ℕ, if◌then◌else◌, List, map, All, Contains, Option, None, Some, IsSome, ℤ, pos}
+use Rattle.std.specs.Prelude.{◌≡◌, ◌≢◌, if◌then◌else◌, List, map, All, Contains, Option, None, Some, IsSome, ℤ, pos}
 use Rattle.std.specs.BTreeMap.{BTreeMap, get}
 use Rattle.std.specs.List.Sorted.{IsStrictlySortedBy}
 use Rattle.std.specs.Option.{option_map}
