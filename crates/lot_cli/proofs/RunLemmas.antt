@@ -16,9 +16,8 @@ use Rattle.lot_cli.specs.Runs.{RunsOn, status_of_run}
 use Rattle.lot_cli.specs.Says.{Halts}
 use Rattle.lot_cli.specs.declared.halt.Halt.TheVariants as halt
 use Rattle.lot_store.proofs.ApplyLemmas.{stands_along}
-use Rattle.lot_store.proofs.DamageLemmas.{heed_since, of_damage_since}
+use Rattle.lot_store.proofs.ByTextLemmas.{has_along, runs_by_text_since}
 use Rattle.lot_store.specs.Create.{IsHandedBack, IsTaken, TellsBook, TellsOf}
-use Rattle.lot_store.specs.Damage.{EndsOfDamage}
 use Rattle.lot_report.specs.Output.{IsFlushed, WritesMade}
 use Rattle.lot_store.specs.Run.{IsWrittenOut, LeavesAfter, LeavesAtAnswer, LeavesAtFault, LeavesAtVerdict, RunsSession, RunsBook}
 use Rattle.lot_store.specs.Session.{LeavesFirst, LeavesJudged, LeavesNext}
@@ -38,13 +37,6 @@ use Rattle.lot_store.specs.declared.run.RunEnd.{RunEnd}
 use Rattle.lot_rows.proofs.StateLemmas.{failed_then}
 use Rattle.lot_table.specs.Book.{Holds, IsUndone}
 use Rattle.lot_table.specs.Statement.{DiskFailed}
-
--- a run that ended so for a damaged text since then ended so since before
-ends_since : (old mid new : State) → (DiskFailed mid new → DiskFailed old new) → (answer : Result Ack ApplyFault) (ending : Ending)
-    → EndsOfDamage mid new answer ending → EndsOfDamage old new answer ending
-ends_since old mid new failed answer Complete none = none
-ends_since old mid new failed answer (Stopped fault) is = of_damage_since old mid new failed (Err (apply.Failed fault)) is
-ends_since old mid new failed answer Output is = of_damage_since old mid new failed answer is
 
 -- a crash may leave no more after the look than before, and a disk that failed since then has failed since before
 module _ (old mid new : State) (verdicts : List Verdict) (book : List Entry) (may : (trees : Trees) → mid.may_leave trees → old.may_leave trees)
@@ -109,12 +101,10 @@ runs_after_look commands from old mid new before written answer end same look ra
       (λ clean trees leaves entries stands.
       let calm : HasCleanDisk mid = omega (arith, clean, ran.crash.clean) in leaves entries (stands_along old mid entries (same calm).0.now_is stands))
       look ran.crash;
-  damage = λ clean tables has.
+  texts = λ clean tables has.
       let calm : HasCleanDisk mid = omega (arith, clean, ran.crash.clean) in
-      heed_since tables commands ran.verdicts (EndsOfDamage mid new answer end.ending) (EndsOfDamage old new answer end.ending)
-      (ends_since old mid new (failed_then old mid new (same calm) look) answer end.ending)
-      (ran.damage clean tables
-      (subst (λ (db : Database). (db.schema ≡ layout.schema) × Holds layout db.trees tables) (sym (same calm).0.now_is) has));
+      runs_by_text_since old mid new (failed_then old mid new (same calm) look) tables commands ran.verdicts answer end.ending
+      (ran.texts clean tables (has_along old mid tables (same calm).0.now_is has));
 }
 
 -- commands are run on the book that was taken up

@@ -1,5 +1,6 @@
 pub mod AdoptLemmas
 pub mod ApplyLemmas
+pub mod ByTextLemmas
 pub mod CommitLemmas
 pub mod CreateLemmas
 pub mod DamageLemmas

@@ -2,7 +2,7 @@
 use Rattle.std.proofs.Common.{◌≡◌, ◌≢◌, ◌∙◌, ◌⊎◌, inl, inr, false, ◌<◌, ◌≤◌, ◌+◌, ℕ, IfSome, IsTrue, List, [], ◌∷◌, ◌++◌, Ok, Err, Option, Result, Some, length, take, drop, get_or, add-one, append_assoc, append-nil, length-append, take-append-drop, refl, sym, ap, subst, arith}
 use Rattle.std.proofs.KnownBytes.{Appends-nil, Appends-trans}
 use Rattle.std.proofs.lemmas.Bool.{true≢false}
-use Rattle.std.proofs.Math.Seq.{drop-cons, take-suc}
+use Rattle.std.proofs.Math.Seq.{take-suc}
 use Rattle.std.specs.Io.KnownBytes.{Appends}
 use Rattle.sqlite.proofs.StateLemmas.{survives_then}
 use Rattle.sqlite.specs.Effect.{Database}
@@ -25,7 +25,7 @@ use Rattle.lot_rows.specs.Tables.{Has, Tables, layout}
 use Rattle.lot_table.specs.Book.{Holds}
 use Rattle.lot_table.specs.Statement.{DiskFailed}
 use Rattle.lot_store.specs.Apply.{AppliesWith, FailsFor, MayAdd, StandsWith, condition_after, ready_of, verdict_of}
-use Rattle.lot_store.specs.Damage.{EndsOfDamage, HeedDamage, IsOfDamage, MeetsDamage}
+use Rattle.lot_store.specs.ByText.{AnswersByText, AnswersFirst, EndsByText, HasTurned, IsByText, RunsByText, TurnAllByText}
 use Rattle.lot_store.specs.Run.{AppendsSome, EndsBehind, FlushesLine, HasNoRoomForNext, IsConditionAfter, LeavesAfter, LeavesAtAnswer, LeavesAtFault, LeavesAtVerdict, RepliesTo, RunsSession, RunsBook, StopsWith, Writes, WritesEnd, WritesOut, answer_line, count_refused, fault_line, told}
 use Rattle.lot_store.specs.Session.{LeavesEntry, LeavesFirst, LeavesJudged, LeavesNext, LeavesStopped, Session}
 use Rattle.lot_store.specs.declared.book.Ack.{Ack}
@@ -40,7 +40,8 @@ use Rattle.lot_store.specs.declared.run.Ending.{Ending}
 use Rattle.lot_store.specs.declared.run.Ending.TheVariants.{Complete, Output, Stopped}
 use Rattle.lot_store.specs.declared.run.RunEnd.{RunEnd}
 use Rattle.lot_store.proofs.ApplyLemmas.{stands_along}
-use Rattle.lot_store.proofs.DamageLemmas.{Heeds, IsNext, heeds_all, heeds_end, heeds_next, heeds_none, of_damage_since}
+use Rattle.lot_store.proofs.ByTextLemmas.{leaves_by_text, turn_more}
+use Rattle.lot_store.proofs.DamageLemmas.{of_damage_since}
 use Rattle.lot_rows.proofs.StateLemmas.{survives_same}
 
 -- ---- one line
@@ -71,19 +72,19 @@ told_usable answer verdict is spent = let none : Err NeedsReopen ≡ Ok verdict 
 
 module _ (Kept KeptThen : List Entry → Type 0) (key : Key) (command : Command) (number : ℕ) (old new : State) (before written : Option (List ℕ)) (condition : Condition)
     (answer : Result Ack ApplyFault) (applies : AppliesWith Kept KeptThen key command old new answer) (fails : FailsFor Kept key command old new answer)
-    (after : condition ≡ condition_after answer) (ending : Ending) where
+    (by_text : IsByText key command old new answer) (after : condition ≡ condition_after answer) (ending : Ending) where
   -- the reply isn't written out
   pub reply_cut : (verdict : Verdict) → told answer ≡ Ok verdict → WritesOut before written (reply number verdict) (Err ending)
       → RepliesTo Kept KeptThen key command number old new before written condition (Err ending)
   reply_cut verdict is (cut, part) =
-      (answer, applies, fails, told_usable answer verdict is, after, inr (cut, subst (AppendsSome before written) (sym (told_line number answer verdict is)) part))
+      (answer, applies, fails, by_text, told_usable answer verdict is, after, inr (cut, subst (AppendsSome before written) (sym (told_line number answer verdict is)) part))
 
   -- it stops at a fault
   pub reply_stops : (fault : StoreFault) → told answer ≡ Err fault → (answer ≢ Err (apply.Failed NeedsReopen)) → StopsWith number fault before written ending
       → RepliesTo Kept KeptThen key command number old new before written condition (Err ending)
-  reply_stops fault is usable (inl (stopped, printed)) = (answer, applies, fails, usable, after, inl (fault, told_fault answer fault is, stopped, printed))
+  reply_stops fault is usable (inl (stopped, printed)) = (answer, applies, fails, by_text, usable, after, inl (fault, told_fault answer fault is, stopped, printed))
   reply_stops fault is usable (inr (cut, part)) =
-      (answer, applies, fails, usable, after, inr (cut, subst (λ (a : Result Ack ApplyFault). AppendsSome before written (answer_line number a)) (sym (told_fault answer fault is)) part))
+      (answer, applies, fails, by_text, usable, after, inr (cut, subst (λ (a : Result Ack ApplyFault). AppendsSome before written (answer_line number a)) (sym (told_fault answer fault is)) part))
 
 pub ready_fault : (condition : Condition) (fault : StoreFault) → ready_of condition ≡ Err fault → fault ≡ NeedsReopen
 ready_fault Ready fault is = absurd cc
@@ -100,11 +101,11 @@ ready_ok MustReopen is = absurd cc
 -- a book that could be used doesn't stop since it needs reopening
 pub reply_usable : (Kept KeptThen : List Entry → Type 0) (key : Key) (command : Command) (number : ℕ) (old new : State) (before written : Option (List ℕ)) (condition : Condition) (ending : Ending)
     → RepliesTo Kept KeptThen key command number old new before written condition (Err ending) → ending ≢ Stopped NeedsReopen
-reply_usable Kept KeptThen key command number old new before written condition ending (answer, applies, fails, usable, after, inl (fault, same, stopped, printed)) is =
+reply_usable Kept KeptThen key command number old new before written condition ending (answer, applies, fails, by_text, usable, after, inl (fault, same, stopped, printed)) is =
     let both : Stopped fault ≡ Stopped NeedsReopen = sym stopped ∙ is in
     let equal : fault ≡ NeedsReopen = cc in
     usable (same ∙ ap (λ (f : StoreFault). Err (apply.Failed f)) equal)
-reply_usable Kept KeptThen key command number old new before written condition ending (answer, applies, fails, usable, after, inr (cut, part)) is =
+reply_usable Kept KeptThen key command number old new before written condition ending (answer, applies, fails, by_text, usable, after, inr (cut, part)) is =
     let both : Output ≡ Stopped NeedsReopen = sym cut ∙ is in absurd cc
 
 -- ---- one command more
@@ -134,7 +135,9 @@ pub record SoFar (Kept : List Entry → Type 0) (commands : List (Key × Command
   -- only a database that was shut before is shut now
   pub shut : HasCleanDisk now → now.is_open ≡ false → old.is_open ≡ false
   pub crash : Survives old now (λ trees. (entries : List Entry) → Stands old entries → LeavesFirst entries commands trees)
-  pub heeds : Heeds commands verdicts old now
+  -- the tables that the first commands leave of others, whatever these stand for
+  pub turned : HasCleanDisk now → (tables : Tables) → Has old tables
+      → (after : Tables) × TurnAllByText tables (take index commands) verdicts after × Has now after
 
 -- what is kept before the first is of any book
 pub so_far_none : (Kept : List Entry → Type 0) → ((entries : List Entry) → Kept entries) → (commands : List (Key × Command)) (from : ℕ) (old : State) (before : Option (List ℕ))
@@ -147,7 +150,7 @@ so_far_none Kept all commands from old before = record {
   judged = λ clean entries stands. (entries, refl, (stands, all entries), λ trees may. inr (refl, may));
   shut = λ clean is. is;
   crash = survives_same old _;
-  heeds = heeds_none commands old;
+  turned = λ clean tables has. (tables, refl, has);
 }
 
 -- the next command is told with a verdict
@@ -247,9 +250,9 @@ run_of : (commands : List (Key × Command)) (from : ℕ) (old new : State) (befo
     → (HasCleanDisk new → (entries : List Entry) → Stands old entries
     → (book : List Entry) × (left : List (Key × Command)) × Session entries commands verdicts book left × LeavesAfter verdicts book left old new answer end.ending)
     → Survives old new (λ trees. (entries : List Entry) → Stands old entries → LeavesFirst entries commands trees)
-    → (HasCleanDisk new → (tables : Tables) → Has old tables → HeedDamage tables (EndsOfDamage old new answer end.ending) commands verdicts)
+    → (HasCleanDisk new → (tables : Tables) → Has old tables → RunsByText tables commands verdicts old new answer end.ending)
     → RunsSession commands from old new before written answer end
-run_of commands from old new before written answer end verdicts stands_so writes place session crash damage = record {
+run_of commands from old new before written answer end verdicts stands_so writes place session crash texts = record {
   verdicts = verdicts;
   writes = writes;
   place = place;
@@ -258,7 +261,7 @@ run_of commands from old new before written answer end verdicts stands_so writes
       let on = session clean entries stands in
       stops entries commands verdicts on.0 old new (stands_so (omega (arith, clean, crash.clean)) opened entries stands) answer end.ending on.1 on.2 on.3;
   crash = crash;
-  damage = damage;
+  texts = texts;
 }
 
 -- what a command may add is the book with its entry
@@ -286,14 +289,6 @@ module _ (Kept KeptThen : List Entry → Type 0) (commands : List (Key × Comman
 
   count : number ≡ length so.verdicts + from
   count = omega (arith, numbered, so.counted)
-
-  at_next : IsNext commands so.verdicts next (drop (index + 1) commands)
-  at_next =
-      let step : drop index commands ≡ get_or commands index other ∷ drop (index + 1) commands = rw add-one (drop-cons commands index other within) in
-      ap (λ n. drop n commands) (sym so.counted) ∙ step ∙ ap (λ (k : Key × Command). k ∷ drop (index + 1) commands) (sym is_next)
-
-  early : (answer : Result Ack ApplyFault) → AppliesWith Kept KeptThen next.0 next.1 now new answer → HasCleanDisk new → HasCleanDisk now
-  early answer applies clean = omega (arith, clean, applies.crash.clean)
 
   -- a crash may leave the first commands, with the next one too
   first : (answer : Result Ack ApplyFault) → AppliesWith Kept KeptThen next.0 next.1 now new answer → Survives old new (λ trees. (entries : List Entry) → Stands old entries → LeavesFirst entries commands trees)
@@ -327,7 +322,7 @@ module _ (Kept KeptThen : List Entry → Type 0) (commands : List (Key × Comman
   pub so_far_next : (verdict : Verdict) (condition : Condition) → RepliesTo Kept KeptThen next.0 next.1 number now new mid written condition (Ok verdict)
       → (IsTrue new.is_open → (trees : Trees) → new.may_leave trees → trees ≡ new.committed.trees)
       → SoFar KeptThen commands from (index + 1) (refused + count_refused (verdict ∷ [])) old new before written
-  so_far_next verdict condition (answer, applies, is_told, printed, meets) safe = record {
+  so_far_next verdict condition (answer, applies, is_told, printed, by_text) safe = record {
     verdicts = so.verdicts ++ verdict ∷ [];
     counted = ap (λ n. n + 1) so.counted ∙ sym (length-append so.verdicts (verdict ∷ []));
     refusals = ap (λ n. n + count_refused (verdict ∷ [])) so.refusals ∙ sym (refused_more so.verdicts verdict);
@@ -345,7 +340,15 @@ module _ (Kept KeptThen : List Entry → Type 0) (commands : List (Key × Comman
         let set = subst (λ o. IfSome o (λ v. IsTrue new.is_open × (new.committed ≡ new.now))) (verdict_told answer verdict is_told) (applies.settled clean) in
         absurd (true≢false (sym set.0 ∙ is));
     crash = first answer applies;
-    heeds = heeds_next commands so.verdicts old now new so.heeds next (drop (index + 1) commands) at_next (early answer applies) answer meets verdict is_told applies.rest;
+    turned = λ clean tables has.
+        let was = so.turned (omega (arith, clean, applies.crash.clean)) tables has in
+        let one : HasTurned was.0 next.0 next.1 new verdict =
+        subst (λ o. IfSome o (HasTurned was.0 next.0 next.1 new)) (verdict_told answer verdict is_told) (by_text clean was.0 was.2) in (
+          one.0,
+          subst (λ done. TurnAllByText tables done (so.verdicts ++ verdict ∷ []) one.0) (sym taken)
+              (turn_more tables (take index commands) so.verdicts was.0 one.0 next verdict was.1 one.1),
+          one.2,
+        );
   }
 
   -- ---- the run ends at the command
@@ -423,45 +426,62 @@ module _ (Kept KeptThen : List Entry → Type 0) (commands : List (Key × Comman
   here : length so.verdicts < length commands
   here = omega (arith, within, so.counted)
 
-  -- an answer to a command with a damaged text under its key ends it so
-  heeds_answer : (answer : Result Ack ApplyFault) (ending : Ending) → AppliesWith Kept KeptThen next.0 next.1 now new answer → MeetsDamage next.0 now new answer
-      → (IsOfDamage old new answer → EndsOfDamage old new answer ending) → HasCleanDisk new → (tables : Tables) → Has old tables
-      → HeedDamage tables (EndsOfDamage old new answer ending) commands so.verdicts
-  heeds_answer answer ending applies meets ends clean =
-      heeds_end commands so.verdicts old now new so.heeds next (drop (index + 1) commands) at_next (early answer applies) answer meets
-      (EndsOfDamage old new answer ending) (λ is. ends (of_damage_since old now new (failed_since answer applies clean) answer is)) clean
+  -- the answer to the command on the tables before it
+  answers_next : (answer : Result Ack ApplyFault) → AppliesWith Kept KeptThen next.0 next.1 now new answer → FailsFor Kept next.0 next.1 now new answer
+      → IsByText next.0 next.1 now new answer → HasCleanDisk new → (tables : Tables) → Has now tables
+      → AnswersByText tables next.0 next.1 old new answer
+  answers_next answer applies fails by_text clean tables has = record {
+    damage = λ damaged. of_damage_since old now new (failed_since answer applies clean) answer (fails.damage clean tables has damaged);
+    leaves = leaves_by_text tables next.0 next.1 now new (verdict_of answer) (by_text clean tables has) (applies.rest clean) has;
+  }
+
+  -- the run ends at it
+  texts_end : (answer : Result Ack ApplyFault) (ending : Ending) → AppliesWith Kept KeptThen next.0 next.1 now new answer → FailsFor Kept next.0 next.1 now new answer
+      → IsByText next.0 next.1 now new answer
+      → ((tables : Tables) → AnswersByText tables next.0 next.1 old new answer → EndsByText tables (next ∷ drop (index + 1) commands) old new answer ending)
+      → HasCleanDisk new → (tables : Tables) → Has old tables → RunsByText tables commands so.verdicts old new answer ending
+  texts_end answer ending applies fails by_text ends clean tables has =
+      let was = so.turned (omega (arith, clean, applies.crash.clean)) tables has in
+      record {
+        done = take index commands;
+        left = next ∷ drop (index + 1) commands;
+        split = split;
+        after = was.0;
+        turn = was.1;
+        ends = ends was.0 (answers_next answer applies fails by_text clean was.0 was.2);
+      }
 
   -- what was written up to the end, and what stands then
   ends_so : (answer : Result Ack ApplyFault) (ending : Ending) → LeavesWhatStands old → AppliesWith Kept KeptThen next.0 next.1 now new answer → WritesEnd from so.verdicts answer ending before written
       → EndsBehind (length commands) (length so.verdicts) answer ending
       → (HasCleanDisk new → (book : List Entry) → StandsWith Kept now book → ((trees : Trees) → now.may_leave trees → LeavesJudged old.may_leave so.verdicts book trees)
       → LeavesAfter so.verdicts book (next ∷ drop (index + 1) commands) old new answer ending)
-      → (HasCleanDisk new → (tables : Tables) → Has old tables → HeedDamage tables (EndsOfDamage old new answer ending) commands so.verdicts)
+      → (HasCleanDisk new → (tables : Tables) → Has old tables → RunsByText tables commands so.verdicts old new answer ending)
       → RunsSession commands from old new before written answer (record { replied = index; refused = refused; ending = ending })
-  ends_so answer ending stands_so applies lines place leaves heeds =
+  ends_so answer ending stands_so applies lines place leaves texts =
       run_of commands from old new before written answer (record { replied = index; refused = refused; ending = ending }) so.verdicts stands_so
       (record { replied = so.counted; refused = so.refusals; lines = lines }) place
       (λ clean entries stands.
       let was = so.judged (omega (arith, clean, applies.crash.clean)) entries stands in
-      (was.0, next ∷ drop (index + 1) commands, session entries was.0 was.1, leaves clean was.0 was.2 was.3)) (first answer applies) heeds
+      (was.0, next ∷ drop (index + 1) commands, session entries was.0 was.1, leaves clean was.0 was.2 was.3)) (first answer applies) texts
 
   pub run_ends : (ending : Ending) (was condition : Condition) → RepliesTo Kept KeptThen next.0 next.1 number now new mid written condition (Err ending)
       → (IsTrue new.is_open → (trees : Trees) → new.may_leave trees → trees ≡ new.committed.trees) → LeavesWhatStands old
       → RunsBook commands from old new before written was condition (record { replied = index; refused = refused; ending = ending })
-  run_ends ending was condition (answer, applies, fails, usable, after, inl (fault, is, stopped, printed)) safe stands_so = rw stopped (
+  run_ends ending was condition (answer, applies, fails, by_text, usable, after, inl (fault, is, stopped, printed)) safe stands_so = rw stopped (
     answer,
     ends_so answer (Stopped fault) stands_so applies
         (subst (λ n. Appends before written (replies from so.verdicts ++ fault_line n fault)) count (Appends-trans before mid written _ _ so.lines printed)) (inl here)
         (at_fault fault (subst (AppliesWith Kept KeptThen next.0 next.1 now new) is applies) (subst (FailsFor Kept next.0 next.1 now new) is fails) (λ spent. usable (is ∙ ap (λ (f : StoreFault). Err (apply.Failed f)) spent)))
-        (heeds_answer answer (Stopped fault) applies fails.damage (subst (IsOfDamage old new) is)),
+        (texts_end answer (Stopped fault) applies fails by_text (λ tables answers. subst (AnswersByText tables next.0 next.1 old new) is answers)),
     λ ready. usable,
     after ∙ ap condition_after is,
   )
-  run_ends ending was condition (answer, applies, fails, usable, after, inr (cut, part)) safe stands_so = rw cut (
+  run_ends ending was condition (answer, applies, fails, by_text, usable, after, inr (cut, part)) safe stands_so = rw cut (
     answer,
     ends_so answer Output stands_so applies
         (part.0, subst (λ n. IsPrefixOf part.0 (answer_line n answer)) count part.1, Appends-trans before mid written _ _ so.lines part.2) (inl here)
-        (at_answer answer applies fails usable safe) (heeds_answer answer Output applies fails.damage (λ is. is)),
+        (at_answer answer applies fails usable safe) (texts_end answer Output applies fails by_text (λ tables answers. answers)),
     λ ready. usable,
     after,
   )
@@ -485,7 +505,17 @@ run_completes Kept commands from refused old new before written was condition so
         [],
         record { done = commands; split = sym (append-nil commands); judged = subst (λ cs. JudgesAll entries cs so.verdicts was.0) (take_all commands) was.1 },
         (refl, was.2.0, was.3),
-      )) so.crash (heeds_all commands so.verdicts old new so.heeds (sym so.counted) (EndsOfDamage old new (Ok ack.Accepted) Complete)),
+      )) so.crash
+      (λ clean tables has.
+      let was = so.turned clean tables has in
+      record {
+        done = commands;
+        left = [];
+        split = sym (append-nil commands);
+        after = was.0;
+        turn = subst (λ cs. TurnAllByText tables cs so.verdicts was.0) (take_all commands) was.1;
+        ends = (refl, was.2);
+      }),
   λ usable is. absurd cc,
   ready,
 )
@@ -498,7 +528,7 @@ run_needs_reopening commands from old before written ending condition stops_so s
   run_of commands from old old before written (Err (apply.Failed NeedsReopen)) (record { replied = 0; refused = 0; ending = ending }) [] stands_so
       (record { replied = refl; refused = refl; lines = lines stops_so }) (place stops_so)
       (λ clean entries stands. (entries, commands, record { done = []; split = refl; judged = refl }, leaves stops_so entries stands)) (survives_same old _)
-      (λ clean tables has. heeds stops_so tables commands),
+      (λ clean tables has. record { done = []; left = commands; split = refl; after = tables; turn = refl; ends = texts stops_so tables has commands }),
   λ ready. let both = sym ready ∙ spent in absurd cc,
   after stops_so,
 )
@@ -518,12 +548,14 @@ run_needs_reopening commands from old before written ending condition stops_so s
     leaves (inl (is, printed)) entries stands = rw is (refl, stands, λ trees may. inr (refl, may))
     leaves (inr (is, part)) entries stands = rw is (refl, stands, λ trees may. inr (refl, may))
 
-    heeds : StopsWith from NeedsReopen before written ending → (tables : Tables) (cs : List (Key × Command))
-        → HeedDamage tables (EndsOfDamage old old (Err (apply.Failed NeedsReopen)) ending) cs []
-    heeds (inl (is, printed)) tables [] = tt
-    heeds (inl (is, printed)) tables (next ∷ left) = λ damaged. rw is tt
-    heeds (inr (is, part)) tables [] = tt
-    heeds (inr (is, part)) tables (next ∷ left) = λ damaged. rw is tt
+    spent_answer : (tables : Tables) → Has old tables → (cs : List (Key × Command)) → AnswersFirst tables cs old old (Err (apply.Failed NeedsReopen))
+    spent_answer tables has [] = tt
+    spent_answer tables has (next ∷ left) = record { damage = λ damaged. tt; leaves = λ opened. has }
+
+    texts : StopsWith from NeedsReopen before written ending → (tables : Tables) → Has old tables → (cs : List (Key × Command))
+        → EndsByText tables cs old old (Err (apply.Failed NeedsReopen)) ending
+    texts (inl (is, printed)) tables has cs = rw is (spent_answer tables has cs)
+    texts (inr (is, part)) tables has cs = rw is (spent_answer tables has cs)
 
     after : StopsWith from NeedsReopen before written ending → IsConditionAfter (Err (apply.Failed NeedsReopen)) ending condition
     after (inl (is, printed)) = rw is spent

@@ -1,28 +1,92 @@
--- What the text under the key of a command decides, whatever else the tables hold (docs/RULES.md, Keys and repeats).
-use Rattle.std.specs.Prelude.{IfSome, List, Result}
+-- What commands come to on tables, whatever these stand for: by the texts under their keys (docs/RULES.md, Keys and repeats).
+use Rattle.std.specs.Prelude.{◌≡◌, List, [], ◌∷◌, ◌++◌, IfSome, IsTrue, Option, None, Some, Result, Err, ⊤}
 use Rattle.sqlite.specs.State.{HasCleanDisk, State}
+use Rattle.lot_command.specs.Canonical.{canonical}
 use Rattle.lot_command.specs.declared.command.Command.{Command}
 use Rattle.lot_command.specs.declared.key.Key.{Key}
+use Rattle.lot_book.specs.Change.{IsAcceptedWith}
 use Rattle.lot_book.specs.Facts.{Facts}
-use Rattle.lot_book.specs.Step.{Accept, Decides, Refuse, Repeat}
-use Rattle.lot_book.specs.declared.leg.Leg.{Leg}
+use Rattle.lot_book.specs.Step.{Decides, Refuse, Repeat}
+use Rattle.lot_book.specs.declared.change.Change.{Change}
 use Rattle.lot_book.specs.declared.verdict.Verdict.{Verdict}
 use Rattle.lot_book.specs.declared.verdict.Verdict.TheVariants.{Accepted, Repeated, Refused}
-use Rattle.lot_load.specs.Damage.{HasText}
+use Rattle.lot_load.specs.Damage.{HasDamagedText, HasText}
 use Rattle.lot_rows.specs.Tables.{Has, Tables}
+use Rattle.lot_write.specs.Write.{written_all}
+use Rattle.lot_write.specs.Writes.{writes_of}
 use Rattle.lot_store.specs.Apply.{verdict_of}
+use Rattle.lot_store.specs.Damage.{IsOfDamage}
 use Rattle.lot_store.specs.declared.book.Ack.{Ack}
 use Rattle.lot_store.specs.declared.fault.ApplyFault.{ApplyFault}
+use Rattle.lot_store.specs.declared.fault.ApplyFault.TheVariants as apply
+use Rattle.lot_store.specs.declared.run.Ending.{Ending}
+use Rattle.lot_store.specs.declared.run.Ending.TheVariants.{Complete, Output, Stopped}
 
--- on these facts a command comes to the verdict
-abbrev pub ComesTo : Facts → Command → Verdict → Type 0
-ComesTo known command Accepted = (legs : List Leg) × Decides known command (Accept legs)
-ComesTo known command Repeated = Decides known command Repeat
-ComesTo known command (Refused refusal) = Decides known command (Refuse refusal)
+-- ---- one command
 
--- A verdict is one on facts with the text that the tables have under the key. Where there is one it is canonical, and the
--- verdict is `Repeated` or `Refused KeyReused` by it; else it is that of a command whose key is new.
+-- What a command comes to on these facts, and which tables it leaves. Where it is accepted its writes are made, and its
+-- canonical text stands under its key then; else nothing changes.
+abbrev pub TurnsOn : Facts → Tables → Key → Command → Verdict → Tables → Type 0
+TurnsOn known tables key command Accepted after =
+    (change : Change) × IsAcceptedWith known command change
+    × (after ≡ written_all (writes_of known key command change) tables) × HasText after key (Some (canonical command))
+TurnsOn known tables key command Repeated after = Decides known command Repeat × (after ≡ tables)
+TurnsOn known tables key command (Refused refusal) after = Decides known command (Refuse refusal) × (after ≡ tables)
+
+-- The same on facts with the text that the tables have under the key. Where there is one it is canonical, and the verdict is
+-- `Repeated` or `Refused KeyReused` by it; else it is that of a command whose key is new.
+abbrev pub TurnsByText : Tables → Key → Command → Verdict → Tables → Type 0
+TurnsByText tables key command verdict after =
+    (known : Facts) × HasText tables key known.text × TurnsOn known tables key command verdict after
+
+-- the database has the tables that the command leaves with that verdict
+abbrev pub HasTurned : Tables → Key → Command → State → Verdict → Type 0
+HasTurned tables key command new verdict = (after : Tables) × TurnsByText tables key command verdict after × Has new after
+
+-- so is a verdict on any tables
 abbrev pub IsByText : Key → Command → State → State → Result Ack ApplyFault → Type 0
 IsByText key command old new answer =
-    HasCleanDisk new → (tables : Tables) → Has old tables
-    → IfSome (verdict_of answer) (λ verdict. (known : Facts) × HasText tables key known.text × ComesTo known command verdict)
+    HasCleanDisk new → (tables : Tables) → Has old tables → IfSome (verdict_of answer) (HasTurned tables key command new)
+
+-- ---- a run
+
+-- commands with their keys, one after another: the verdict on each, and the tables that all of them leave
+abbrev pub TurnAllByText : Tables → List (Key × Command) → List Verdict → Tables → Type 0
+TurnAllByText tables [] [] after = after ≡ tables
+TurnAllByText tables [] (verdict ∷ verdicts) after = ⊥
+TurnAllByText tables (keyed ∷ more) [] after = ⊥
+TurnAllByText tables (keyed ∷ more) (verdict ∷ verdicts) after =
+    (mid : Tables) × TurnsByText tables keyed.0 keyed.1 verdict mid × TurnAllByText mid more verdicts after
+
+-- the tables that an answer leaves; without a verdict they are as they were, while the connection is open
+abbrev pub LeavesByText : Option Verdict → Tables → Key → Command → State → Type 0
+LeavesByText None tables key command new = IsTrue new.is_open → Has new tables
+LeavesByText (Some verdict) tables key command new = HasTurned tables key command new verdict
+
+-- the answer to a command on these tables: with a damaged text under its key it tells of the damage, or of what may come before
+pub record AnswersByText (tables : Tables) (key : Key) (command : Command) (old new : State) (answer : Result Ack ApplyFault)
+    : Type 0 where
+  pub damage : HasDamagedText tables key → IsOfDamage old new answer
+  pub leaves : LeavesByText (verdict_of answer) tables key command new
+
+-- the same of the answer to the first of these commands
+abbrev pub AnswersFirst : Tables → List (Key × Command) → State → State → Result Ack ApplyFault → Type 0
+AnswersFirst tables [] old new answer = ⊤
+AnswersFirst tables (next ∷ left) old new answer = AnswersByText tables next.0 next.1 old new answer
+
+-- how a run ends on these tables, with these commands left: behind all, or at the first of them; where the writer failed that
+-- one has the answer
+abbrev pub EndsByText : Tables → List (Key × Command) → State → State → Result Ack ApplyFault → Ending → Type 0
+EndsByText tables left old new answer Complete = (left ≡ []) × Has new tables
+EndsByText tables left old new answer (Stopped fault) = AnswersFirst tables left old new (Err (apply.Failed fault))
+EndsByText tables left old new answer Output = AnswersFirst tables left old new answer
+
+-- a run of commands on tables, whatever these stand for: the first of them came to the verdicts, and it ended behind those
+pub record RunsByText (tables : Tables) (commands : List (Key × Command)) (verdicts : List Verdict) (old new : State)
+    (answer : Result Ack ApplyFault) (ending : Ending) : Type 0 where
+  pub done : List (Key × Command)
+  pub left : List (Key × Command)
+  pub split : commands ≡ done ++ left
+  pub after : Tables
+  pub turn : TurnAllByText tables done verdicts after
+  pub ends : EndsByText after left old new answer ending

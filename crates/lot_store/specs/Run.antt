@@ -18,7 +18,7 @@ use Rattle.lot_report.specs.Printed.{line, replies, reply}
 use Rattle.lot_report.specs.Written.{IsPrefixOf}
 use Rattle.lot_table.specs.Statement.{DiskFailed}
 use Rattle.lot_store.specs.Apply.{AppliesWith, FailsFor, HasNoRoomFor, condition_after}
-use Rattle.lot_store.specs.Damage.{EndsOfDamage, HeedDamage, MeetsDamage}
+use Rattle.lot_store.specs.ByText.{IsByText, RunsByText}
 use Rattle.lot_store.specs.Session.{LeavesFirst, LeavesJudged, LeavesNext, LeavesStopped, Session}
 use Rattle.lot_store.specs.declared.book.Ack.{Ack}
 use Rattle.lot_store.specs.declared.book.Ack.TheVariants as ack
@@ -90,14 +90,16 @@ EndsAt number answer old new ending =
     ⊎ ((ending ≡ Output) × AppendsSome old new (answer_line number answer))
 
 -- A command of that number is applied, and its reply is written, or the run ends at it, and that is the condition of the book
--- then. `Kept` tells of which books is what is kept before it, and `KeptThen` of which is what is kept then.
+-- then. On any tables a verdict is by the text under its key. `Kept` tells of which books is what is kept before it, and
+-- `KeptThen` of which is what is kept then.
 abbrev pub RepliesTo : (Kept KeptThen : List Entry → Type 0) → Key → Command → ℕ → State → State → Option (List ℕ) → Option (List ℕ) → Condition → Result Verdict Ending → Type 0
 RepliesTo Kept KeptThen key command number old new before written condition (Ok verdict) =
     (answer : Result Ack ApplyFault) × AppliesWith Kept KeptThen key command old new answer × (told answer ≡ Ok verdict) × Appends before written (reply number verdict)
-    × MeetsDamage key old new answer
+    × IsByText key command old new answer
 RepliesTo Kept KeptThen key command number old new before written condition (Err ending) =
     (answer : Result Ack ApplyFault) × AppliesWith Kept KeptThen key command old new answer
-    × FailsFor Kept key command old new answer × (answer ≢ Err (apply.Failed NeedsReopen))
+    × FailsFor Kept key command old new answer × IsByText key command old new answer
+    × (answer ≢ Err (apply.Failed NeedsReopen))
     × (condition ≡ condition_after answer) × EndsAt number answer before written ending
 
 -- ---- flushing
@@ -205,9 +207,9 @@ pub record RunsSession (commands : List (Key × Command)) (from : ℕ) (old new 
   pub stop : HasCleanDisk new → IsTrue old.is_open → (entries : List Entry) → Stands old entries
       → (trees : Trees) → new.may_leave trees → LeavesStopped entries commands verdicts trees
   pub crash : Survives old new (λ trees. (entries : List Entry) → Stands old entries → LeavesFirst entries commands trees)
-  -- a command with a damaged text under its key ends the run, where none before it was accepted
-  pub damage : HasCleanDisk new → (tables : Tables) → Has old tables
-      → HeedDamage tables (EndsOfDamage old new answer end.ending) commands verdicts
+  -- whatever the tables stand for, each verdict is by the text under its key, and the writes of each accepted command are made
+  pub texts : HasCleanDisk new → (tables : Tables) → Has old tables
+      → RunsByText tables commands verdicts old new answer end.ending
 
 -- ---- the condition of the book
 

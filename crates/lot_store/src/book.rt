@@ -56,7 +56,8 @@ impl<S: Alter> Book<S> {
     /// It reads and writes only the rows that the command touches. On a book `Device` comes only where the disk failed, or
     /// the database has no room for what the command writes. After `Device` and `InDoubt`, and only then, the book
     /// needs reopening, and each further call returns `NeedsReopen`. Where the text under the key is the canonical text of no
-    /// command the call fails with `Damaged`, unless memory or the disk fails before.
+    /// command the call fails with `Damaged`, unless memory or the disk fails before. Whatever the tables stand for, a verdict
+    /// is by the text that they have under the key, and after `Accepted` the canonical text of the command stands there.
     pub fn apply(&mut self, key: &Key, command: &Command) -> Result<Ack, ApplyFault>
         ensures applies { Applies key.now command.now (state S.Store self.old.conn) (state S.Store self.new.conn) result }
         // With the connection open a crash leaves the last commit, and nothing else.

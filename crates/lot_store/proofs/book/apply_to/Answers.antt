@@ -1,4 +1,4 @@
-use Rattle.std.proofs.Common.{◌≡◌, ◌∙◌, Err, ap, arith, not, sym}
+use Rattle.std.proofs.Common.{◌≡◌, ◌∙◌, Err, ap, arith, not, refl, sym}
 use Rattle.std.proofs.lemmas.Result.{err_from_is_err_and}
 use Rattle.std.specs.Result.{result_ok}
 use Rattle.sqlite.specs.Held.{state}
@@ -12,6 +12,7 @@ use Rattle.lot_write.specs.Writes.{writes_of}
 use Rattle.lot_store.specs.Apply.{store_fault_of}
 use Rattle.lot_store.specs.declared.fault.StoreFault.TheVariants.{Device}
 use Rattle.lot_store.proofs.ApplyLemmas.{LooksOn, accepts, fails, fails_unwritten, refused, refused_number, refuses, repeats}
+use Rattle.lot_store.proofs.ByTextLemmas.{has_along, turns_accepted}
 use Rattle.lot_store.proofs.CommitLemmas.{of_damaged, of_device}
 use Rattle.lot_store.proofs.DamageLemmas.{looked_at}
 use Rattle.lot_store.proofs.KeptLemmas.{comes_on, kept_then, stops_on, writes_on}
@@ -170,23 +171,39 @@ returns-in-Err-Memory-clause-damage g c clean tables has damaged = let none = c.
 
 pub returns-in_ok-commit-in-Ok-Accept-clause-text : goal.returns-in_ok-commit-in-Ok-Accept-clause-text
 returns-in_ok-commit-in-Ok-Accept-clause-text g c clean tables has =
+    let old = state g.S.Store c.args.conn.now in
+    let mid = state g.S.Store c.look_on.new.conn in
+    let new = state g.S.Store c.commit.new.conn in
     let looked = c.in_ok-looked.looked in
     let comes : Comes (seen looked) c.args.command.now (Accept c.in-Ok-Accept.change) = comes_on looked c.view.result.now c.view.ensures c.args.command.now _ _ c.in-Ok-Accept.field-0-is c.in-Ok-Accept.ensures.decided in
-    (seen looked, c.in_ok-looked.ensures.text (omega (arith, clean, c.in_ok-commit-in-Ok-Accept.ensures.crash.clean)) tables has, (c.in-Ok-Accept.change.legs, comes.0))
+    let made = c.in_ok-writes-in-Ok-Accept.ensures in
+    let are : c.deref.result.now ≡ writes_of (seen looked) c.args.key.now c.args.command.now c.in-Ok-Accept.change = writes_on looked c.view-in-Ok-Accept.result.now c.view-in-Ok-Accept.ensures c.args.command.now c.args.key.now c.in-Ok-Accept.change c.deref.result.now (c.deref.ensures.value ∙ made.writes) in
+    let early : HasCleanDisk mid = omega (arith, clean, c.in_ok-commit-in-Ok-Accept.ensures.crash.clean) in
+    turns_accepted (seen looked) c.args.key.now c.args.command.now c.in-Ok-Accept.change c.deref.result.now are comes c.is_sayable.ensures tables
+    (c.in_ok-looked.ensures.text early tables has) new
+    ((c.in_ok-commit-in-Ok-Accept.ensures.done clean).tables tables (has_along old mid tables (c.in_ok-looked.ensures.looks.same early).0.now_is has))
 
 pub returns-in-Ok-Repeat-clause-text : goal.returns-in-Ok-Repeat-clause-text
 returns-in-Ok-Repeat-clause-text g c clean tables has =
     let looked = c.in_ok-looked.looked in (
-      seen looked,
-      c.in_ok-looked.ensures.text clean tables has,
-      comes_on looked c.view.result.now c.view.ensures c.args.command.now _ Repeat c.in-Ok-Repeat.field-0-is c.in-Ok-Repeat.ensures.decided,
+      tables,
+      (
+        seen looked,
+        c.in_ok-looked.ensures.text clean tables has,
+        (comes_on looked c.view.result.now c.view.ensures c.args.command.now _ Repeat c.in-Ok-Repeat.field-0-is c.in-Ok-Repeat.ensures.decided, refl),
+      ),
+      has_along (state g.S.Store c.args.conn.now) (state g.S.Store c.look_on.new.conn) tables (c.in_ok-looked.ensures.looks.same clean).0.now_is has,
     )
 
 pub returns-in-Err-Refused-clause-text : goal.returns-in-Err-Refused-clause-text
 returns-in-Err-Refused-clause-text g c clean tables has =
     let looked = c.in_ok-looked.looked in
     rw c.in-Err-Refused.refusal-is (
-      seen looked,
-      c.in_ok-looked.ensures.text clean tables has,
-      stops_on looked c.view.result.now c.view.ensures c.args.command.now _ (Refused c.in-Err-Refused.refusal) c.in-Err-Refused.field-0-is c.in-Err-Refused.ensures.stops,
+      tables,
+      (
+        seen looked,
+        c.in_ok-looked.ensures.text clean tables has,
+        (stops_on looked c.view.result.now c.view.ensures c.args.command.now _ (Refused c.in-Err-Refused.refusal) c.in-Err-Refused.field-0-is c.in-Err-Refused.ensures.stops, refl),
+      ),
+      has_along (state g.S.Store c.args.conn.now) (state g.S.Store c.look_on.new.conn) tables (c.in_ok-looked.ensures.looks.same clean).0.now_is has,
     )
