@@ -76,13 +76,3 @@ pub accepted_new : (ties : TieRule) (facts : Facts) (command kind : Command) (ch
 accepted_new ties facts command kind change given none is same accepts =
     let now : Accepts ties facts command change = subst (λ (c : Command). Accepts ties facts c change) (sym is) (subst (Accepts ties facts kind) (sym same) accepts) in
     (subst (λ (text : Option (List ℕ)). DecidesByUnder ties text facts command (Accept change.legs)) (sym none) now.judged, now.lists)
-
--- ---- edition 1
-
--- what comes where all ties are decided by key is what is accepted by edition 1
-pub accepted_by_key : (facts : Facts) (command : Command) (change : Change) → Comes all_by_key facts command (decided.Accept change)
-    → IsAcceptedWith facts command change
-accepted_by_key facts command change comes = (
-  comes.0,
-  record { positions = comes.1.positions; openings = comes.1.openings; heads = comes.1.heads; sales = comes.1.sales },
-)

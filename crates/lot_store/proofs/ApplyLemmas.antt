@@ -19,9 +19,7 @@ use Rattle.lot_stored.specs.StandFor.{AreOfBook, StandFor, Stands}
 use Rattle.lot_laws.proofs.RecordedBook.{book-grows, key_was_new}
 use Rattle.lot_laws.proofs.StepLooks.{same_decision}
 use Rattle.lot_command.specs.Sayable.{IsSayable}
-use Rattle.lot_book.specs.Change.{Lists}
-use Rattle.lot_ledger.specs.Decide.{Comes}
-use Rattle.lot_ledger.specs.declared.decision.Outcome.TheVariants as decided
+use Rattle.lot_book.specs.Change.{IsAcceptedWith, Lists}
 use Rattle.lot_write.specs.Call.{Stops}
 use Rattle.lot_write.specs.Write.{AreFit, IsGood, written_all}
 use Rattle.lot_write.specs.Writes.{AreNumbered, ListsInOrder, writes_of}
@@ -58,7 +56,7 @@ of_book s entries stands = (entries, stands.book, stands.stand)
 abbrev pub KeepsBook : Type 0
 KeepsBook =
     (tables : Tables) (entries : List Entry) (known : Facts) (key : Key) (command : Command) (change : Change) → IsBook entries → StandFor tables entries
-    → Agrees known (facts_of entries key) command → known.text ≡ None → Comes known command (decided.Accept change) → ListsInOrder command change → IsSayable command
+    → Agrees known (facts_of entries key) command → known.text ≡ None → IsAcceptedWith known command change → ListsInOrder command change → IsSayable command
     → All IsGood (writes_of known key command change)
     → AreFit (writes_of known key command change) tables
     × StandFor (written_all (writes_of known key command change) tables) (entries ++ entry_of key command change.legs ∷ [])
@@ -148,7 +146,7 @@ module _ (Kept Looked : List Entry → Type 0) (key : Key) (command : Command) (
 -- ---- a command that is accepted, after what it looks at was read, with its writes committed or not
 
 module _ (law : KeepsBook) (Kept Looked : List Entry → Type 0) (key : Key) (command : Command) (known : Facts) (change : Change) (writes : List Write)
-    (are : writes ≡ writes_of known key command change) (comes : Comes known command (decided.Accept change)) (ordered : ListsInOrder command change)
+    (are : writes ≡ writes_of known key command change) (comes : IsAcceptedWith known command change) (ordered : ListsInOrder command change)
     (sayable : IsSayable command) (good : All IsGood writes) (old mid new : State) (same : HasCleanDisk mid → IsUnchanged old mid)
     (looks : HasCleanDisk mid → LooksOn Kept Looked known key command old)
     (settled : HasCleanDisk mid → IsTrue old.is_open → old.now ≡ old.committed) (looked : Survives old mid (λ _. ⊥)) where
@@ -259,7 +257,7 @@ fails_unwritten Kept KeptThen key command old new fault apart same crash = recor
 }
 
 -- a number of what is accepted doesn't fit its column
-pub refused_number : (Kept Looked : List Entry → Type 0) (key : Key) (command : Command) (known : Facts) (change : Change) (old mid : State) → Comes known command (decided.Accept change)
+pub refused_number : (Kept Looked : List Entry → Type 0) (key : Key) (command : Command) (known : Facts) (change : Change) (old mid : State) → IsAcceptedWith known command change
     → LooksOn Kept Looked known key command old → ¬ AreNumbered change
     → RefusedByDeviceWith Kept key command old mid
 refused_number Kept Looked key command known change old mid comes looks numbers entries stands is_kept = inr (record {

@@ -8,6 +8,8 @@ use Rattle.lot_book.specs.Book.{IsBook, entry_of}
 use Rattle.lot_book.specs.Facts.{Entry, facts_of}
 use Rattle.lot_book.specs.declared.change.Change.{Change}
 use Rattle.lot_book.specs.declared.refusal.Stop.{Stop}
+use Rattle.lot_book.specs.Booking.{all_by_key}
+use Rattle.lot_book.specs.Change.{IsAcceptedWith}
 use Rattle.lot_ledger.specs.Decide.{Comes, StopsStep}
 use Rattle.lot_ledger.specs.declared.decision.Outcome.{Outcome}
 use Rattle.lot_ledger.specs.declared.decision.Outcome.TheVariants.{Accept}
@@ -21,11 +23,14 @@ use Rattle.lot_view.specs.declared.view.View.{View}
 -- ---- the view of what is kept
 
 module _ (looked : Kept) (view : View) (same : view ≡ looked.view) (command : Command) where
-  pub comes_on : (decided outcome : Outcome) → decided ≡ outcome → Comes (known view) command decided → Comes (seen looked) command outcome
-  comes_on decided outcome is comes = subst (λ (v : View). Comes (known v) command outcome) same (subst (Comes (known view) command) is comes)
+  pub comes_on : (decided outcome : Outcome) → decided ≡ outcome → Comes all_by_key (known view) command decided → Comes all_by_key (seen looked) command outcome
+  comes_on decided outcome is comes = subst (λ (v : View). Comes all_by_key (known v) command outcome) same (subst (Comes all_by_key (known view) command) is comes)
 
-  pub stops_on : (stopped stop : Stop) → stopped ≡ stop → StopsStep (known view) command stopped → StopsStep (seen looked) command stop
-  stops_on stopped stop is stops = subst (λ (v : View). StopsStep (known v) command stop) same (subst (StopsStep (known view) command) is stops)
+  pub accepted_on : (decided : Outcome) (change : Change) → decided ≡ Accept change → Comes all_by_key (known view) command decided → IsAcceptedWith (seen looked) command change
+  accepted_on decided change is comes = comes_on decided (Accept change) is comes
+
+  pub stops_on : (stopped stop : Stop) → stopped ≡ stop → StopsStep all_by_key (known view) command stopped → StopsStep all_by_key (seen looked) command stop
+  stops_on stopped stop is stops = subst (λ (v : View). StopsStep all_by_key (known v) command stop) same (subst (StopsStep all_by_key (known view) command) is stops)
 
   pub writes_on : (key : Key) (change : Change) (writes : List Write) → writes ≡ writes_of (known view) key command change → writes ≡ writes_of (seen looked) key command change
   writes_on key change writes = subst (λ (v : View). writes ≡ writes_of (known v) key command change) same
@@ -35,8 +40,8 @@ module _ (looked : Kept) (view : View) (same : view ≡ looked.view) (command : 
 -- what recording gives is kept of the book with the entry; out of memory nothing is kept
 pub kept_then : {E : Type 0} (looked : Kept) (key : Key) (command : Command) (change : Change) (recorded : Result Kept E)
     → IfOk recorded (λ after. (entries : List Entry) (other : Key) → IsBook entries → Keeps looked entries → Agrees (seen looked) (facts_of entries other) command
-    → Comes (seen looked) command (Accept change) → Keeps after (entries ++ entry_of other command change.legs ∷ []))
-    → Comes (seen looked) command (Accept change) → (entries : List Entry) → IsBook entries → Keeps looked entries → Agrees (seen looked) (facts_of entries key) command
+    → IsAcceptedWith (seen looked) command change → Keeps after (entries ++ entry_of other command change.legs ∷ []))
+    → IsAcceptedWith (seen looked) command change → (entries : List Entry) → IsBook entries → Keeps looked entries → Agrees (seen looked) (facts_of entries key) command
     → IsOf (result_ok recorded) (entries ++ entry_of key command change.legs ∷ [])
 kept_then looked key command change (Ok after) records comes entries book keeps agrees = records entries key book keeps agrees comes
 kept_then looked key command change (Err out) records comes entries book keeps agrees = tt

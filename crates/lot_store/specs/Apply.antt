@@ -5,14 +5,13 @@ use Rattle.sqlite.specs.Tree.{Trees}
 use Rattle.lot_command.specs.declared.command.Command.{Command}
 use Rattle.lot_command.specs.declared.key.Key.{Key}
 use Rattle.lot_book.specs.Agree.{Agrees}
+use Rattle.lot_book.specs.Change.{IsAcceptedWith}
 use Rattle.lot_book.specs.Facts.{Entry, Facts, facts_of}
 use Rattle.lot_book.specs.Judged.{JudgesOn}
 use Rattle.lot_book.specs.declared.change.Change.{Change}
 use Rattle.lot_book.specs.declared.verdict.Verdict.{Verdict}
 use Rattle.lot_book.specs.declared.verdict.Verdict.TheVariants as verdict
 use Rattle.lot_stored.specs.StandFor.{Stands}
-use Rattle.lot_ledger.specs.Decide.{Comes}
-use Rattle.lot_ledger.specs.declared.decision.Outcome.TheVariants.{Accept}
 use Rattle.lot_write.specs.Call.{Stops as StopsWriting}
 use Rattle.lot_write.specs.Write.{AreFit, written_all}
 use Rattle.lot_write.specs.Writes.{AreNumbered, writes_of}
@@ -147,7 +146,7 @@ pub record HasNoRoomFor (key : Key) (command : Command) (entries : List Entry) (
   pub known : Facts
   pub change : Change
   pub agrees : Agrees known (facts_of entries key) command
-  pub accepted : Comes known command (Accept change)
+  pub accepted : IsAcceptedWith known command change
   pub lacks : (¬ AreNumbered change) ⊎ StopsWriting (writes_of known key command change) tables new
 
 -- the device refuses a command of a book only where the disk failed, or the database has no room

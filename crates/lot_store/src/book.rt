@@ -14,7 +14,7 @@ ghost use Rattle.sqlite.specs.Tree.{Trees};
 use crate::commit::commit;
 use crate::fault::{ApplyFault, StoreFault};
 use lot_command::{Command, Key, is_sayable};
-use lot_ledger::{Outcome, Stop, decide};
+use lot_ledger::{Edition, Outcome, Stop, decide};
 use lot_load::{Kept, look_on};
 use lot_table::Fault;
 use lot_walk::Place;
@@ -207,7 +207,7 @@ fn apply_to<S: Alter>(
     // Outside a transaction the tables are those of the last commit.
     let _settled = conn.is_autocommit();
     let looked = look_on(alloc, conn, kept.take(), key, command)?;
-    match decide(alloc, looked.view(), command) {
+    match decide(alloc, Edition::First, looked.view(), command) {
         Ok(Outcome::Accept(change)) => {
             let writes = writes(alloc, looked.view(), key, command, &change)?;
             commit(conn, &writes)?;

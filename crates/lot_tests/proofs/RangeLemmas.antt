@@ -10,7 +10,7 @@ use Rattle.lot_book.specs.declared.leg.Position.{Position}
 use Rattle.lot_book.specs.Leg.{same_position, sum_at, units_moved}
 use Rattle.lot_book.proofs.CaseLemmas.{by_bool}
 use Rattle.lot_book.proofs.SumLemmas.{sum_where_apart, sum_where_here}
-use Rattle.lot_ledger.specs.Openings.{StayInRange}
+use Rattle.lot_book.specs.OpeningNumber.{StayInRange}
 
 sum_size : (a b : ℤ) → unsigned_abs (a +ℤ b) ≤ unsigned_abs a + unsigned_abs b
 sum_size a b = omega (arith, ints)

@@ -5,13 +5,13 @@ use crate::assertions::assert_is;
 use crate::make::{account, command, commands, commodity, lot, units};
 use lot_command::Command;
 use lot_command::canonical::body;
-use lot_ledger::{Change, Outcome, Stop, Verdict, View, decide};
+use lot_ledger::{Change, Edition, Outcome, Stop, Verdict, View, decide};
 use lot_num::Rate;
 use lot_report::print_reply;
 use std::process::Abort;
 
 /// The most entries that a book may have.
-const MOST_ENTRIES: u32 = 2_000_000_000;
+pub(crate) const MOST_ENTRIES: u32 = 2_000_000_000;
 
 /// The last commands of the book: accounts that are opened later, closed before or opened with EUR alone; two lots; postings at
 /// cost of a later day; and positions at the limit of units.
@@ -140,7 +140,7 @@ const REPLIES: &[(&str, &str)] = &[
 ];
 
 /// The change of a command that is accepted.
-fn change_of(decided: Result<Outcome, Stop>) -> Option<Change> {
+pub(crate) fn change_of(decided: Result<Outcome, Stop>) -> Option<Change> {
     match decided {
         Ok(Outcome::Accept(change)) => Some(change),
         _ => None,
@@ -149,7 +149,7 @@ fn change_of(decided: Result<Outcome, Stop>) -> Option<Change> {
 
 /// The view of a book with the entry of a command, which has to be accepted.
 fn recorded(rt: &(impl Abort + AllocGlobal), view: View, command: &Command) -> View {
-    let decided = decide(rt.alloc(), &view, command);
+    let decided = decide(rt.alloc(), Edition::First, &view, command);
     let change = change_of(decided).expect(rt, "accepted");
     assert!(rt; view.entries() < MOST_ENTRIES);
     view.record(command, &change).expect(rt, "recorded")
@@ -161,7 +161,7 @@ fn put_lots(rt: &(impl Abort + AllocGlobal), view: &mut View) {
     let (one, mut key) = (units(rt, "1"), lot(rt, "0"));
     for mantissa in 1..=10_000 {
         key.number = Rate::from_mantissa(mantissa).expect(rt, "rate");
-        view.put_position(&account, &hool, Some(&key), one)
+        view.put_position(&account, &hool, Some(&key), one, mantissa)
             .expect(rt, "lot");
     }
 }
@@ -189,7 +189,7 @@ fn verdict_of(decided: Result<Outcome, Stop>) -> Option<Verdict> {
 
 /// Asserts the reply to a command, as the seventh.
 fn assert_reply(rt: &(impl Abort + AllocGlobal), view: &View, command: &Command, want: &str) {
-    let decided = decide(rt.alloc(), view, command);
+    let decided = decide(rt.alloc(), Edition::First, view, command);
     let verdict = verdict_of(decided).expect(rt, want);
     let mut written = Vec::new(rt.alloc());
     let done = print_reply(&mut written, 7, &verdict);

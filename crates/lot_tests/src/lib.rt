@@ -6,6 +6,7 @@
 //! - `commands`: the canonical texts of commands and of their copies.
 //! - `copies`: copies of other values equal their source.
 //! - `faults`: the texts of faults, and which of several faults of a number is told.
+//! - `edition_2`: ties between lots by edition 2.
 //! - `full_book`: a book with as many entries as it may have.
 //! - `opening_numbers`: the lots that legs leave, with their opening numbers.
 //! - `streams`: readers and writers that give or take little, are interrupted, or fail, by a script (`scripted`).
@@ -21,6 +22,8 @@ mod assertions;
 mod commands;
 #[cfg(test)]
 mod copies;
+#[cfg(test)]
+mod edition_2;
 #[cfg(test)]
 mod faults;
 #[cfg(test)]

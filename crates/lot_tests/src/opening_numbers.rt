@@ -1,7 +1,7 @@
 //! Opening numbers, of legs at lots that are added to, emptied, opened again or below zero, and of plain units.
 
 ghost use Rattle.std.specs.Prelude.{All, ◌≤◌, unsigned_abs};
-ghost use Rattle.lot_ledger.specs.Openings.{IsNumbered, StayInRange};
+ghost use Rattle.lot_book.specs.OpeningNumber.{IsNumbered, StayInRange};
 
 use crate::assertions::assert_text;
 use crate::make::{account, commodity, label, lot};

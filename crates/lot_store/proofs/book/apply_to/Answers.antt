@@ -3,10 +3,10 @@ use Rattle.std.proofs.lemmas.Result.{err_from_is_err_and}
 use Rattle.std.specs.Result.{result_ok}
 use Rattle.sqlite.specs.Held.{state}
 use Rattle.sqlite.specs.State.{HasCleanDisk}
+use Rattle.lot_book.specs.Change.{IsAcceptedWith}
 use Rattle.lot_book.specs.declared.refusal.Stop.TheVariants.{Refused}
 use Rattle.lot_laws.proofs.RecordedBook.{room_where_decided}
-use Rattle.lot_ledger.specs.Decide.{Comes}
-use Rattle.lot_ledger.specs.declared.decision.Outcome.TheVariants.{Accept, Repeat}
+use Rattle.lot_ledger.specs.declared.decision.Outcome.TheVariants.{Repeat}
 use Rattle.lot_load.specs.Kept.{IsOf, Keeps, seen}
 use Rattle.lot_write.specs.Writes.{writes_of}
 use Rattle.lot_store.specs.Apply.{store_fault_of}
@@ -15,19 +15,19 @@ use Rattle.lot_store.proofs.ApplyLemmas.{LooksOn, accepts, fails, fails_unwritte
 use Rattle.lot_store.proofs.ByTextLemmas.{has_along, turns_accepted}
 use Rattle.lot_store.proofs.CommitLemmas.{of_damaged, of_device}
 use Rattle.lot_store.proofs.DamageLemmas.{looked_at}
-use Rattle.lot_store.proofs.KeptLemmas.{comes_on, kept_then, stops_on, writes_on}
+use Rattle.lot_store.proofs.KeptLemmas.{accepted_on, comes_on, kept_then, stops_on, writes_on}
 use Rattle.lot_store.proofs.book.apply_to.Goals as goal
 
 pub writes-requires : goal.writes-requires
 writes-requires g c =
     let looked = c.in_ok-looked.looked in
-    let comes : Comes (seen looked) c.args.command.now (Accept c.in-Ok-Accept.change) = comes_on looked c.view.result.now c.view.ensures c.args.command.now _ _ c.in-Ok-Accept.field-0-is c.in-Ok-Accept.ensures.decided in
+    let comes : IsAcceptedWith (seen looked) c.args.command.now c.in-Ok-Accept.change = accepted_on looked c.view.result.now c.view.ensures c.args.command.now _ _ c.in-Ok-Accept.field-0-is c.in-Ok-Accept.ensures.decided in
     rw c.view-in-Ok-Accept.ensures (room_where_decided (seen looked) c.args.command.now c.in-Ok-Accept.change.legs comes.0)
 
 pub record-requires : goal.record-requires
 record-requires g c =
     let looked = c.in_ok-looked.looked in
-    let comes : Comes (seen looked) c.args.command.now (Accept c.in-Ok-Accept.change) = comes_on looked c.view.result.now c.view.ensures c.args.command.now _ _ c.in-Ok-Accept.field-0-is c.in-Ok-Accept.ensures.decided in
+    let comes : IsAcceptedWith (seen looked) c.args.command.now c.in-Ok-Accept.change = accepted_on looked c.view.result.now c.view.ensures c.args.command.now _ _ c.in-Ok-Accept.field-0-is c.in-Ok-Accept.ensures.decided in
     room_where_decided (seen looked) c.args.command.now c.in-Ok-Accept.change.legs comes.0
 
 pub returns-in-Ok-Repeat-clause-applies : goal.returns-in-Ok-Repeat-clause-applies
@@ -70,7 +70,7 @@ returns-in_err-commit-in-Ok-Accept-clause-applies g c =
     let mid = state g.S.Store c.look_on.new.conn in
     let new = state g.S.Store c.commit.new.conn in
     let looked = c.in_ok-looked.looked in
-    let comes : Comes (seen looked) c.args.command.now (Accept c.in-Ok-Accept.change) = comes_on looked c.view.result.now c.view.ensures c.args.command.now _ _ c.in-Ok-Accept.field-0-is c.in-Ok-Accept.ensures.decided in
+    let comes : IsAcceptedWith (seen looked) c.args.command.now c.in-Ok-Accept.change = accepted_on looked c.view.result.now c.view.ensures c.args.command.now _ _ c.in-Ok-Accept.field-0-is c.in-Ok-Accept.ensures.decided in
     let read = c.in_ok-looked.ensures.looks in
     let looks : HasCleanDisk mid → LooksOn (IsOf c.args.kept.now) (Keeps looked) (seen looked) c.args.key.now c.args.command.now old =
     λ clean tables has entries book stand is_kept. read.says clean tables has entries book stand (rw c.take.ensures.value is_kept) in
@@ -90,7 +90,7 @@ returns-in_ok-commit-in-Ok-Accept-clause-applies g c =
     let mid = state g.S.Store c.look_on.new.conn in
     let new = state g.S.Store c.commit.new.conn in
     let looked = c.in_ok-looked.looked in
-    let comes : Comes (seen looked) c.args.command.now (Accept c.in-Ok-Accept.change) = comes_on looked c.view.result.now c.view.ensures c.args.command.now _ _ c.in-Ok-Accept.field-0-is c.in-Ok-Accept.ensures.decided in
+    let comes : IsAcceptedWith (seen looked) c.args.command.now c.in-Ok-Accept.change = accepted_on looked c.view.result.now c.view.ensures c.args.command.now _ _ c.in-Ok-Accept.field-0-is c.in-Ok-Accept.ensures.decided in
     let read = c.in_ok-looked.ensures.looks in
     let looks : HasCleanDisk mid → LooksOn (IsOf c.args.kept.now) (Keeps looked) (seen looked) c.args.key.now c.args.command.now old =
     λ clean tables has entries book stand is_kept. read.says clean tables has entries book stand (rw c.take.ensures.value is_kept) in
@@ -109,7 +109,7 @@ returns-in_err-writes-in-Ok-Accept-clause-device g c clean is =
     let old = state g.S.Store c.args.conn.now in
     let mid = state g.S.Store c.look_on.new.conn in
     let looked = c.in_ok-looked.looked in
-    let comes : Comes (seen looked) c.args.command.now (Accept c.in-Ok-Accept.change) = comes_on looked c.view.result.now c.view.ensures c.args.command.now _ _ c.in-Ok-Accept.field-0-is c.in-Ok-Accept.ensures.decided in
+    let comes : IsAcceptedWith (seen looked) c.args.command.now c.in-Ok-Accept.change = accepted_on looked c.view.result.now c.view.ensures c.args.command.now _ _ c.in-Ok-Accept.field-0-is c.in-Ok-Accept.ensures.decided in
     let read = c.in_ok-looked.ensures.looks in
     let looks : HasCleanDisk mid → LooksOn (IsOf c.args.kept.now) (Keeps looked) (seen looked) c.args.key.now c.args.command.now old =
     λ clean tables has entries book stand is_kept. read.says clean tables has entries book stand (rw c.take.ensures.value is_kept) in
@@ -126,7 +126,7 @@ returns-in_err-commit-in-Ok-Accept-clause-device g c clean is =
     let mid = state g.S.Store c.look_on.new.conn in
     let new = state g.S.Store c.commit.new.conn in
     let looked = c.in_ok-looked.looked in
-    let comes : Comes (seen looked) c.args.command.now (Accept c.in-Ok-Accept.change) = comes_on looked c.view.result.now c.view.ensures c.args.command.now _ _ c.in-Ok-Accept.field-0-is c.in-Ok-Accept.ensures.decided in
+    let comes : IsAcceptedWith (seen looked) c.args.command.now c.in-Ok-Accept.change = accepted_on looked c.view.result.now c.view.ensures c.args.command.now _ _ c.in-Ok-Accept.field-0-is c.in-Ok-Accept.ensures.decided in
     let read = c.in_ok-looked.ensures.looks in
     let looks : HasCleanDisk mid → LooksOn (IsOf c.args.kept.now) (Keeps looked) (seen looked) c.args.key.now c.args.command.now old =
     λ clean tables has entries book stand is_kept. read.says clean tables has entries book stand (rw c.take.ensures.value is_kept) in
@@ -175,7 +175,7 @@ returns-in_ok-commit-in-Ok-Accept-clause-text g c clean tables has =
     let mid = state g.S.Store c.look_on.new.conn in
     let new = state g.S.Store c.commit.new.conn in
     let looked = c.in_ok-looked.looked in
-    let comes : Comes (seen looked) c.args.command.now (Accept c.in-Ok-Accept.change) = comes_on looked c.view.result.now c.view.ensures c.args.command.now _ _ c.in-Ok-Accept.field-0-is c.in-Ok-Accept.ensures.decided in
+    let comes : IsAcceptedWith (seen looked) c.args.command.now c.in-Ok-Accept.change = accepted_on looked c.view.result.now c.view.ensures c.args.command.now _ _ c.in-Ok-Accept.field-0-is c.in-Ok-Accept.ensures.decided in
     let made = c.in_ok-writes-in-Ok-Accept.ensures in
     let are : c.deref.result.now ≡ writes_of (seen looked) c.args.key.now c.args.command.now c.in-Ok-Accept.change = writes_on looked c.view-in-Ok-Accept.result.now c.view-in-Ok-Accept.ensures c.args.command.now c.args.key.now c.in-Ok-Accept.change c.deref.result.now (c.deref.ensures.value ∙ made.writes) in
     let early : HasCleanDisk mid = omega (arith, clean, c.in_ok-commit-in-Ok-Accept.ensures.crash.clean) in

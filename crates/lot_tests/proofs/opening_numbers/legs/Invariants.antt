@@ -1,7 +1,7 @@
 use Rattle.std.proofs.Common.{◌*◌, ◌≤◌}
 use Rattle.std.specs.Prelude.{All}
 use Rattle.lot_book.specs.Leg.{units_moved}
-use Rattle.lot_ledger.specs.Openings.{IsNumbered}
+use Rattle.lot_book.specs.OpeningNumber.{IsNumbered}
 use Rattle.lot_tests.proofs.opening_numbers.legs.Given as goal
 
 -- the legs so far are numbered, and move few units each
