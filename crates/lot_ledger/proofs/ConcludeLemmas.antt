@@ -11,8 +11,7 @@ use Rattle.lot_book.specs.declared.change.Change.{Change}
 use Rattle.lot_posting.specs.declared.draft.Draft.{Draft}
 use Rattle.lot_book.specs.declared.refusal.Stop.{Stop}
 use Rattle.lot_book.specs.declared.refusal.Stop.TheVariants.{Refused, Memory}
-use Rattle.lot_book.specs.Booking.{All, TieRule, all_by_key}
-use Rattle.lot_book.specs.Change.{IsAcceptedWith}
+use Rattle.lot_book.specs.Booking.{All, TieRule}
 use Rattle.lot_ledger.specs.declared.decision.Outcome.TheVariants as decided
 use Rattle.lot_ledger.specs.Decide.{Accepts, Comes, DraftsAll, StopsJudging, conditions_on, legs_with_fill, residual_conditions}
 use Rattle.lot_book.specs.Facts.{Facts}
