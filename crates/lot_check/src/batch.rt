@@ -125,9 +125,9 @@ fn status_of_verdict(verdict: &Verdict) -> Status
     }
 }
 
-/// Judges a command by edition 1 on what is known of the book, and returns the verdict with what is known then: of an accepted command
-/// its entry is recorded. The error is out of memory; the view is then lost. It comes only where deciding the command may lack
-/// memory, or the command is accepted: never for a refusal that stores nothing.
+/// Judges a command by edition 1 on what is known of the book, and returns the verdict with what is known then: of an
+/// accepted command its entry is recorded. The error is out of memory; the view is then lost. It comes only where deciding
+/// the command may lack memory, or the command is accepted: never for a refusal that stores nothing.
 fn judge(alloc: Global, view: View, command: &Command) -> Result<(View, Verdict), AllocError>
     ensures judged { IfOk result (λ judged. JudgesKnown (known view) command.now judged.1 (known judged.0)) }
     ensures memory { OnErr result (JudgingMayLackMemory (known view) command.now) }

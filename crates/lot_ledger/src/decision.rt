@@ -53,11 +53,14 @@ pub fn decide(
     command: &Command,
 ) -> Result<Outcome, Stop>
     ensures decided { IfOk result (λ outcome.
-        Comes (ties_for edition (known_with_openings view.now)) (known view.now) command.now outcome) }
+        Comes (ties_for edition (known_with_openings view.now))
+        (known view.now) command.now outcome) }
     ensures stops { IfErr result (λ stop.
-        StopsStep (ties_for edition (known_with_openings view.now)) (known view.now) command.now stop) }
+        StopsStep (ties_for edition (known_with_openings view.now))
+        (known view.now) command.now stop) }
     ensures memory { IsErrOf result Memory
-        → MayLackMemory (ties_for edition (known_with_openings view.now)) (known view.now) command.now }
+        → MayLackMemory (ties_for edition (known_with_openings view.now))
+        (known view.now) command.now }
 {
     if let Some(text) = view.text() {
         let body = canonical::body(alloc, command)?;
@@ -91,10 +94,10 @@ fn repeated(standing: &str, text: &str) -> Result<Outcome, Refusal>
 
 /// Returns the change of an opening whose key is new, or why it is refused. It is the same by each edition.
 fn decide_opening(alloc: Global, view: &View, opening: &Opening) -> Result<Change, Refusal>
-    ensures accepted { IfOk result (λ change.
-        (ties : TieRule) → Accepts ties (known view.now) (OpeningOf opening.now) change) }
-    ensures refused { IfErr result (λ refusal.
-        (ties : TieRule) → JudgesUnder ties (known view.now) (OpeningOf opening.now) (Refuse refusal)) }
+    ensures accepted { IfOk result (λ change. (ties : TieRule)
+        → Accepts ties (known view.now) (OpeningOf opening.now) change) }
+    ensures refused { IfErr result (λ refusal. (ties : TieRule)
+        → JudgesUnder ties (known view.now) (OpeningOf opening.now) (Refuse refusal)) }
 {
     if view.standing(&opening.account).is_some() {
         return Err(Refusal::AlreadyOpen);
@@ -105,10 +108,10 @@ fn decide_opening(alloc: Global, view: &View, opening: &Opening) -> Result<Chang
 
 /// The same for a closing whose key is new.
 fn decide_closing(alloc: Global, view: &View, closing: &Closing) -> Result<Change, Refusal>
-    ensures accepted { IfOk result (λ change.
-        (ties : TieRule) → Accepts ties (known view.now) (ClosingOf closing.now) change) }
-    ensures refused { IfErr result (λ refusal.
-        (ties : TieRule) → JudgesUnder ties (known view.now) (ClosingOf closing.now) (Refuse refusal)) }
+    ensures accepted { IfOk result (λ change. (ties : TieRule)
+        → Accepts ties (known view.now) (ClosingOf closing.now) change) }
+    ensures refused { IfErr result (λ refusal. (ties : TieRule)
+        → JudgesUnder ties (known view.now) (ClosingOf closing.now) (Refuse refusal)) }
 {
     let Some(standing) = view.standing(&closing.account) else {
         return Err(Refusal::UnknownAccount { posting: None });
@@ -125,10 +128,10 @@ fn decide_closing(alloc: Global, view: &View, closing: &Closing) -> Result<Chang
 
 /// The same for a declaring whose key is new.
 fn decide_declaring(alloc: Global, view: &View, declaring: &Declaring) -> Result<Change, Refusal>
-    ensures accepted { IfOk result (λ change.
-        (ties : TieRule) → Accepts ties (known view.now) (DeclaringOf declaring.now) change) }
-    ensures refused { IfErr result (λ refusal.
-        (ties : TieRule) → JudgesUnder ties (known view.now) (DeclaringOf declaring.now) (Refuse refusal)) }
+    ensures accepted { IfOk result (λ change. (ties : TieRule)
+        → Accepts ties (known view.now) (DeclaringOf declaring.now) change) }
+    ensures refused { IfErr result (λ refusal. (ties : TieRule)
+        → JudgesUnder ties (known view.now) (DeclaringOf declaring.now) (Refuse refusal)) }
 {
     if view.is_declared(&declaring.commodity) {
         return Err(Refusal::AlreadyDeclared);
@@ -155,9 +158,11 @@ fn decide_transaction(
     view: &View,
     transaction: &Transaction,
 ) -> Result<Change, Stop>
-    ensures accepted { IfOk result (λ change. Accepts (ties_for edition (known_with_openings view.now))
+    ensures accepted { IfOk result (λ change.
+        Accepts (ties_for edition (known_with_openings view.now))
         (known view.now) (TransactionOf transaction.now) change) }
-    ensures stops { IfErr result (λ stop. StopsJudging (ties_for edition (known_with_openings view.now))
+    ensures stops { IfErr result (λ stop.
+        StopsJudging (ties_for edition (known_with_openings view.now))
         (known view.now) (TransactionOf transaction.now) stop) }
     ensures memory { IsErrOf result Memory
         → JudgingMayLackMemory (ties_for edition (known_with_openings view.now))
@@ -201,7 +206,8 @@ fn conclude(
     ensures legs { IfOk result (λ change. change.legs ≡ legs_with_fill (known view.now) transaction.now draft.tally.legs draft.residuals) }
     ensures sales { IfOk result (λ change. change.sales ≡ draft.sales) }
     ensures positions { IfOk result (λ change. ListsSums (known view.now) change.legs change.positions.entries) }
-    ensures openings { IfOk result (λ change. ListsOpened (known view.now) change.legs change.openings) }
+    ensures openings { IfOk result (λ change.
+        ListsOpened (known view.now) change.legs change.openings) }
     ensures heads { IfOk result (λ change. ListsHeads (TransactionOf transaction.now) change.heads) }
     ensures stops { IfErr result (λ stop. Stops (first_of (conditions_on (known view.now) transaction.now draft.tally.legs draft.residuals)) stop) }
     ensures memory { IsErrOf result Memory
@@ -255,11 +261,14 @@ fn book_amounts(
 ) -> Result<Draft, Stop>
     requires { length transaction.now.postings ≤ most_postings }
     ensures drafts { IfOk result (λ draft.
-        DraftsAll (ties_for edition (known_with_openings view.now)) (known view.now) transaction.now draft) }
+        DraftsAll (ties_for edition (known_with_openings view.now))
+        (known view.now) transaction.now draft) }
     ensures stops { IfErr result (λ stop.
-        StopsBooking (ties_for edition (known_with_openings view.now)) (known view.now) transaction.now stop) }
+        StopsBooking (ties_for edition (known_with_openings view.now))
+        (known view.now) transaction.now stop) }
     ensures memory { IsErrOf result Memory
-        → StoresFirst (ties_for edition (known_with_openings view.now)) (known view.now) transaction.now.day 1 transaction.now.postings }
+        → StoresFirst (ties_for edition (known_with_openings view.now))
+        (known view.now) transaction.now.day 1 transaction.now.postings }
 {
     let mut draft = Draft::new(alloc);
     for (index, posting) in transaction.postings.as_slice().iter().enumerate() {
@@ -289,13 +298,14 @@ fn book_next(
     requires lists { ListsTally (known view.now) draft.old.tally }
     requires few { place ≤ most_postings }
     requires room { AreWithin (most_postings - 1) draft.old.residuals }
-    ensures books { OnOk result (BooksNext (ties_for edition (known_with_openings view.now)) (known view.now)
-        day place posting.now.account posting.now.amount draft.old draft.new) }
-    ensures stops { IfErr result (λ stop. StopsNext (ties_for edition (known_with_openings view.now))
+    ensures books { OnOk result (BooksNext (ties_for edition (known_with_openings view.now))
+        (known view.now) day place posting.now.account posting.now.amount draft.old draft.new) }
+    ensures stops { IfErr result (λ stop.
+        StopsNext (ties_for edition (known_with_openings view.now))
         (known view.now) day place posting.now.account posting.now.amount draft.old stop) }
     ensures memory { IsErrOf result Memory
-        → NextMayLackMemory (ties_for edition (known_with_openings view.now)) (known view.now)
-        day place posting.now.account posting.now.amount draft.old }
+        → NextMayLackMemory (ties_for edition (known_with_openings view.now))
+        (known view.now) day place posting.now.account posting.now.amount draft.old }
 {
     let Some(amount) = &posting.amount else {
         return Ok(());
