@@ -1,6 +1,6 @@
 -- Why a report of a book ends before its end: the code and the name of each fault (docs/RULES.md, All codes).
-use Rattle.std.specs.Prelude.{ℕ, Bool, true, false, IsTrue, List, Option, Result, Ok, Err, codes, ⊤}
-use Rattle.lot_report.specs.Output.{HasFailed, WriteCalls}
+use Rattle.std.specs.Prelude.{ℕ, Bool, true, false, IsTrue, List, Result, Ok, Err, codes}
+use Rattle.lot_report.specs.Output.{HasFailed, NoneFailed, WritesMade}
 use Rattle.lot_report.specs.declared.fault.ReportFault.{ReportFault}
 use Rattle.lot_report.specs.declared.fault.ReportFault.TheVariants as report
 use Rattle.lot_report.specs.declared.fault.RowFault.{RowFault}
@@ -38,10 +38,12 @@ is_of_writer (Row (Report report.Write)) = true
 is_of_writer (Row (Report report.Memory)) = false
 is_of_writer (Row Spent) = false
 
--- a report that ends for the writer ends so where a call of it failed
-abbrev pub HasCause : Result (Unit {0}) ShowFault → Option WriteCalls → Type 0
-HasCause (Ok done) calls = ⊤
-HasCause (Err fault) calls = IsTrue (is_of_writer fault) → HasFailed calls
+-- What the calls of the writer came to in a report. None failed where it is whole, and where the book stops it; and it ends for
+-- the writer only where one did.
+abbrev pub HasCause : Result (Unit {0}) ShowFault → WritesMade → Type 0
+HasCause (Ok done) calls = NoneFailed calls.before calls.after
+HasCause (Err (Walk fault)) calls = NoneFailed calls.before calls.after
+HasCause (Err (Row fault)) calls = IsTrue (is_of_writer (Row fault)) → HasFailed calls.after
 
 -- what a fault of the journal is for a report
 abbrev pub of_journal : JournalFault → ShowFault

@@ -28,7 +28,10 @@ pub fn show_gains<S: Alter, W: CountedWrite>(
     ensures rows { HoldsOfTables S.Store book.old book.new
         (λ tables. ShowsAllSales tables (first, last) (W.contents writer.old) (W.contents writer.new) result) }
     ensures reads { ReadsBook S.Store book.old book.new result }
-    ensures cause { HasCause result (W.calls writer.new) }
+    ensures cause { HasCause result (record {
+      before = W.calls writer.old;
+      after = W.calls writer.new;
+    }) }
 {
     let mut report = Gains::new(alloc);
     let mut walk = book.gains(first, last);

@@ -31,7 +31,10 @@ pub fn show_holdings<S: Alter, W: CountedWrite>(
     ensures rows { HoldsOfTables S.Store book.old book.new
         (λ tables. ShowsAllHoldings tables day (W.contents writer.old) (W.contents writer.new) result) }
     ensures reads { ReadsBook S.Store book.old book.new result }
-    ensures cause { HasCause result (W.calls writer.new) }
+    ensures cause { HasCause result (record {
+      before = W.calls writer.old;
+      after = W.calls writer.new;
+    }) }
 {
     match day {
         Some(day) => {
@@ -55,7 +58,10 @@ fn write_holdings<S: Alter, W: CountedWrite>(
     ensures rows { HoldsOfTables S.Store book.old book.new
         (λ tables. ShowsAllWith tables prices.now (W.contents writer.old) (W.contents writer.new) result) }
     ensures reads { ReadsBook S.Store book.old book.new result }
-    ensures cause { HasCause result (W.calls writer.new) }
+    ensures cause { HasCause result (record {
+      before = W.calls writer.old;
+      after = W.calls writer.new;
+    }) }
 {
     let mut report = Holdings::new(alloc);
     let mut walk = book.holdings();

@@ -23,7 +23,10 @@ pub fn show_journal<S: Alter, W: CountedWrite>(
     ensures rows { HoldsOfTables S.Store book.old book.new
         (λ tables. ShowsAllEntries tables (W.contents writer.old) (W.contents writer.new) result) }
     ensures reads { ReadsBook S.Store book.old book.new result }
-    ensures cause { HasCause result (W.calls writer.new) }
+    ensures cause { HasCause result (record {
+      before = W.calls writer.old;
+      after = W.calls writer.new;
+    }) }
 {
     let mut journal = Journal::new();
     let mut walk = book.journal();

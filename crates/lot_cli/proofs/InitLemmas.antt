@@ -3,7 +3,7 @@ use Rattle.std.proofs.Common.{◌≡◌, ◌≢◌, inl, inr, ℕ, List, [], IsT
 use Rattle.sqlite.specs.State.{HasCleanDisk, KeepsCommit, State, Survives}
 use Rattle.lot_stream.specs.declared.status.Status.TheVariants.{Accepted}
 use Rattle.lot_stored.specs.StandFor.{Left, Stands}
-use Rattle.lot_report.specs.Output.{WriteCalls}
+use Rattle.lot_report.specs.Output.{WritesMade}
 use Rattle.lot_cli.specs.Says.{Halts, Says}
 use Rattle.lot_cli.specs.Serve.{Makes, ready_line}
 use Rattle.lot_cli.specs.declared.halt.Halt.TheVariants as halt
@@ -12,14 +12,14 @@ use Rattle.lot_store.specs.declared.fault.CreateFault.{CreateFault}
 use Rattle.lot_store.specs.declared.fault.CreateFault.TheVariants.{NotABook}
 use Rattle.lot_table.specs.Shape.{schema_of}
 
-pub makes : (old new : State) (before written : Option (List ℕ)) (calls : Option WriteCalls) (status : ℕ) → (HasCleanDisk new → Stands new [])
+pub makes : (old new : State) (before written : Option (List ℕ)) (calls : WritesMade) (status : ℕ) → (HasCleanDisk new → Stands new [])
     → (HasCleanDisk new → IsTrue new.is_open × (new.committed ≡ new.now)) → old.now.schema ≡ schema_of []
     → Survives old new (λ trees. Left trees []) → Says ready_line Accepted before written calls status
     → Makes old new before written calls status
 makes old new before written calls status made committed empty crash said =
     inl (record { made = made; committed = committed; empty = empty; crash = crash }, said)
 
-pub makes_none : (old new : State) (before written : Option (List ℕ)) (calls : Option WriteCalls) (fault : CreateFault) (status : ℕ) → (HasCleanDisk new → RefusedFor old new fault)
+pub makes_none : (old new : State) (before written : Option (List ℕ)) (calls : WritesMade) (fault : CreateFault) (status : ℕ) → (HasCleanDisk new → RefusedFor old new fault)
     → (old.now.schema ≢ schema_of [] → fault ≡ NotABook) → (HasCleanDisk new → IsHandedBack old new) → (HasCleanDisk new → KeepsCommit old new)
     → Survives old new (λ trees. Left trees []) → Halts (halt.Create fault) before written calls status
     → Makes old new before written calls status

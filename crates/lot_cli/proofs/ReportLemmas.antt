@@ -1,15 +1,17 @@
 -- A report of a database that was only looked at before is a report of the database as it was.
-use Rattle.std.proofs.Common.{◌≡◌, ◌≢◌, ◌∙◌, inl, inr, ℕ, List, Ok, Err, Option, Result, sym}
+use Rattle.std.proofs.Common.{◌≡◌, ◌≢◌, ◌∙◌, inl, inr, ℕ, IsTrue, List, Ok, Err, Option, Result, sym}
+use Rattle.std.proofs.lemmas.Bool.{true≢false}
 use Rattle.sqlite.specs.Held.{state}
 use Rattle.sqlite.specs.State.{HasCleanDisk, IsUnchanged, State, Survives}
 use Rattle.sqlite.specs.Store.{Ghosts}
 use Rattle.lot_page.specs.Cursor.{Stays}
 use Rattle.lot_rows.specs.Tables.{Has, Tables}
 use Rattle.lot_cli.specs.Reports.{Concludes, IsRead, Reports, ShowsReport, ShowsAllRows, ShowsSome}
-use Rattle.lot_report.specs.Output.{WriteCalls}
+use Rattle.lot_report.specs.Output.{HasFailed, WriteCalls, WritesMade}
 use Rattle.lot_cli.specs.Says.{Halts}
 use Rattle.lot_cli.specs.declared.halt.Halt.TheVariants as halt
 use Rattle.lot_cli.specs.declared.report.Report.{Report}
+use Rattle.lot_book_report.specs.Fault.{HasCause, is_of_writer}
 use Rattle.lot_book_report.specs.Show.{HoldsOfBook, HoldsOfTables, ReadsBook, UnlessStopped}
 use Rattle.lot_book_report.specs.declared.fault.ShowFault.{ShowFault}
 use Rattle.lot_book_report.specs.declared.fault.ShowFault.TheVariants.{Row as AtRow, Walk as AtWalk}
@@ -50,29 +52,37 @@ reads_on g old book later shown same look ready reads =
 
 -- a report of the book that was taken up
 pub reported : {S : Type 0} (g : Ghosts S) (report : Report) (old : State) (book later : Book S g) (shown : Result (Unit {0}) ShowFault)
-    (before mid written : Option (List ℕ)) (calls : Option WriteCalls) (status : ℕ)
+    (before mid written : Option (List ℕ)) (first between last : Option WriteCalls) (status : ℕ)
     → (HasCleanDisk (state g book.conn) → IsTaken old) → (HasCleanDisk (state g book.conn) → IsUnchanged old (state g book.conn)) → Survives old (state g book.conn) (λ _. ⊥) → book.condition ≡ Ready
     → ReadsBook g book later shown
     → HoldsOfBook g book later (λ entries. ShowsReport report entries before mid shown)
     → ShowsSome report before mid shown
     → HoldsOfTables g book later (λ tables. ShowsAllRows report tables before mid shown)
-    → Concludes shown mid written calls status → Reports report old (state g later.conn) before written calls status
-reported g report old book later shown before mid written calls status found same look ready reads shows some rows concludes =
+    → HasCause shown (record { before = first; after = between }) → Concludes shown mid written (record { before = between; after = last }) status
+    → Reports report old (state g later.conn) before written (record { before = first; after = last }) status
+reported g report old book later shown before mid written first between last status found same look ready reads shows some rows cause concludes =
     let taken = state g book.conn in
     let calm : HasCleanDisk (state g later.conn) → HasCleanDisk taken = early taken (state g later.conn) reads.crash in
     inl (
       shown,
       mid,
+      between,
       (λ clean. found (calm clean)),
       reads_on g old book later shown same look ready reads,
       (λ clean entries stands. shows.holds clean entries (stands_along old taken entries (same (calm clean)).0.now_is stands)),
       some,
       (λ clean tables has. rows.holds clean tables (has_still old taken tables (unchanged_stays old taken (same (calm clean))) has)),
+      cause,
       concludes,
     )
 
+-- a report that ends for the writer ends so where a call of it failed
+pub failed_writer : (fault : ShowFault) (calls : WritesMade) → HasCause (Err fault) calls → IsTrue (is_of_writer fault) → HasFailed calls.after
+failed_writer (AtWalk fault) calls none is = absurd (true≢false (sym is))
+failed_writer (AtRow fault) calls cause is = cause is
+
 -- the book isn't taken up
-pub report_refused : (report : Report) (old new : State) (before written : Option (List ℕ)) (calls : Option WriteCalls) (fault : AdoptFault) (status : ℕ)
+pub report_refused : (report : Report) (old new : State) (before written : Option (List ℕ)) (calls : WritesMade) (fault : AdoptFault) (status : ℕ)
     → (HasCleanDisk new → TellsOf old new (Err fault))
     → (HasCleanDisk new → fault ≢ adopt.Device → (tables : Tables) → Has old tables → TellsBook tables.book (Err fault)) → (HasCleanDisk new → IsHandedBack old new)
     → (HasCleanDisk new → IsUndone old new) → Survives old new (λ _. ⊥) → Halts (halt.Adopt fault) before written calls status

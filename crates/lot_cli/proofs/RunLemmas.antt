@@ -111,7 +111,7 @@ runs_after_look commands from old mid new before written answer end same look ra
 pub runs_on : (commands : List (Key × Command)) (from : ℕ) (old mid new : State) (before written : Option (List ℕ)) (calls : WritesMade) (was condition : Condition) (end : RunEnd) (status : ℕ)
     → (HasCleanDisk mid → IsTaken old) → (HasCleanDisk mid → IsUnchanged old mid) → Survives old mid (λ _. ⊥) → was ≡ Ready
     → RunsBook commands from mid new before written was condition end → (was ≡ Ready → end.ending ≢ Stopped NeedsReopen)
-    → status ≡ code_of (status_of_run end) → (IsFlushed calls.before → IsWrittenOut end.ending calls.after)
+    → status ≡ code_of (status_of_run end) → (IsFlushed calls.before → IsWrittenOut end.ending calls)
     → RunsOn commands from old new before written calls status
 runs_on commands from old mid new before written calls was condition end status found same look ready (answer, ran, usable, known) stops is flushed =
     inl (
@@ -128,7 +128,7 @@ runs_on commands from old mid new before written calls was condition end status 
 pub left_alone : (commands : List (Key × Command)) (from : ℕ) (old new : State) (before written : Option (List ℕ)) (calls : WritesMade) (fault : AdoptFault) (status : ℕ)
     → (HasCleanDisk new → TellsOf old new (Err fault))
     → (HasCleanDisk new → fault ≢ adopt.Device → (tables : Tables) → Has old tables → TellsBook tables.book (Err fault)) → (HasCleanDisk new → IsHandedBack old new)
-    → (HasCleanDisk new → IsUndone old new) → Survives old new (λ _. ⊥) → Halts (halt.Adopt fault) before written calls.after status
+    → (HasCleanDisk new → IsUndone old new) → Survives old new (λ _. ⊥) → Halts (halt.Adopt fault) before written calls status
     → RunsOn commands from old new before written calls status
 left_alone commands from old new before written calls fault status tells told back undone crash said =
     inr (fault, record { tells = tells; told = told; handed_back = back; undone = undone; crash = crash }, said)

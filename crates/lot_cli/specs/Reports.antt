@@ -8,7 +8,7 @@ use Rattle.lot_stream.specs.declared.status.Status.TheVariants.{Accepted, Stoppe
 use Rattle.lot_stored.specs.Rows.{entry_rows}
 use Rattle.lot_stored.specs.StandFor.{Stands}
 use Rattle.lot_page.specs.Cursor.{Stays}
-use Rattle.lot_report.specs.Output.{HasFailed, IsFlushed, WriteCalls}
+use Rattle.lot_report.specs.Output.{AllFlushed, HasFailed, WriteCalls, WritesMade}
 use Rattle.lot_report.specs.Printed.{line}
 use Rattle.lot_rows.specs.Tables.{Has, Tables}
 use Rattle.lot_cli.specs.Runs.{IsLeft}
@@ -17,7 +17,7 @@ use Rattle.lot_cli.specs.Says.{Halts, Says}
 use Rattle.lot_cli.specs.declared.halt.Halt.TheVariants as halt
 use Rattle.lot_cli.specs.declared.report.Report.{Report}
 use Rattle.lot_cli.specs.declared.report.Report.TheVariants.{Holdings, Gains, Journal}
-use Rattle.lot_book_report.specs.Fault.{fault_name, is_of_writer}
+use Rattle.lot_book_report.specs.Fault.{HasCause, fault_name, is_of_writer}
 use Rattle.lot_book_report.specs.Gains.{ShowsAllSales, ShowsGains, ShowsSomeGains}
 use Rattle.lot_book_report.specs.Holdings.{ShowsAllHoldings, ShowsHoldings, ShowsSomeHoldings}
 use Rattle.lot_book_report.specs.Journal.{ShowsAllEntries, ShowsJournal, ShowsSomeJournal}
@@ -38,14 +38,14 @@ abbrev pub report_line : ShowFault → List ℕ
 report_line fault = line (codes "fault " ++ fault_name fault)
 
 -- what follows what was written of a report: nothing where the writer failed; else a line that reports the fault
-abbrev pub ConcludesFault : Bool → ShowFault → Option (List ℕ) → Option (List ℕ) → Option WriteCalls → ℕ → Type 0
-ConcludesFault true fault shown written calls status = Keeps shown written × (status ≡ code_of Stopped) × HasFailed calls
+abbrev pub ConcludesFault : Bool → ShowFault → Option (List ℕ) → Option (List ℕ) → WritesMade → ℕ → Type 0
+ConcludesFault true fault shown written calls status = Keeps shown written × (status ≡ code_of Stopped) × HasFailed calls.after
 ConcludesFault false fault shown written calls status = Says (report_line fault) Stopped shown written calls status
 
 -- the same of any report: nothing follows a whole one, which is flushed, or a call of the writer failed
-abbrev pub Concludes : Result (Unit {0}) ShowFault → Option (List ℕ) → Option (List ℕ) → Option WriteCalls → ℕ → Type 0
+abbrev pub Concludes : Result (Unit {0}) ShowFault → Option (List ℕ) → Option (List ℕ) → WritesMade → ℕ → Type 0
 Concludes (Ok done) shown written calls status =
-    Keeps shown written × (((status ≡ code_of Accepted) × IsFlushed calls) ⊎ ((status ≡ code_of Stopped) × HasFailed calls))
+    Keeps shown written × (((status ≡ code_of Accepted) × AllFlushed calls) ⊎ ((status ≡ code_of Stopped) × HasFailed calls.after))
 Concludes (Err fault) shown written calls status = ConcludesFault (is_of_writer fault) fault shown written calls status
 
 -- ---- the book
@@ -87,11 +87,12 @@ ShowsAllRows (Gains first last) tables = ShowsAllSales tables (first, last)
 ShowsAllRows Journal tables = ShowsAllEntries tables
 
 -- a report of the book that is there is written, as far as its fault lets it, and concluded; or the database isn't taken up
-abbrev pub Reports : Report → State → State → Option (List ℕ) → Option (List ℕ) → Option WriteCalls → ℕ → Type 0
+abbrev pub Reports : Report → State → State → Option (List ℕ) → Option (List ℕ) → WritesMade → ℕ → Type 0
 Reports report old new before written calls status =
-    ((shown : Result (Unit {0}) ShowFault) × (mid : Option (List ℕ)) × (HasCleanDisk new → IsTaken old) × IsRead old new shown
+    ((shown : Result (Unit {0}) ShowFault) × (mid : Option (List ℕ)) × (between : Option WriteCalls) × (HasCleanDisk new → IsTaken old) × IsRead old new shown
     × (HasCleanDisk new → (entries : List Entry) → Stands old entries → ShowsReport report entries before mid shown)
     × ShowsSome report before mid shown
     × (HasCleanDisk new → (tables : Tables) → Has old tables → ShowsAllRows report tables before mid shown)
-    × Concludes shown mid written calls status)
+    × HasCause shown (record { before = calls.before; after = between })
+    × Concludes shown mid written (record { before = between; after = calls.after }) status)
     ⊎ ((fault : AdoptFault) × IsLeft old new fault × Halts (halt.Adopt fault) before written calls status)

@@ -63,13 +63,13 @@ abbrev pub NeverReopens : Result Ack ApplyFault → Ending → Type 0
 NeverReopens answer end = (answer ≢ Err (apply.Failed NeedsReopen)) × (end ≢ ending.Stopped NeedsReopen)
 
 -- Commands, of which the first has that number, are run on the book that is there; or it isn't taken up. The answer is that to
--- the command at which the writer failed. Where all was flushed before, all is then, or a call of the writer failed.
+-- the command at which the writer failed. Where all was flushed before, all is then and no call of the writer failed, or one did.
 abbrev pub RunsOn : List (Key × Command) → ℕ → State → State → Option (List ℕ) → Option (List ℕ) → WritesMade → ℕ → Type 0
 RunsOn commands from old new before written calls status =
     ((answer : Result Ack ApplyFault) × (end : RunEnd) × (HasCleanDisk new → IsTaken old) × RunsSession commands from old new before written answer end
     × NeverReopens answer end.ending × (status ≡ code_of (status_of_run end))
-    × (IsFlushed calls.before → IsWrittenOut end.ending calls.after))
-    ⊎ ((fault : AdoptFault) × IsLeft old new fault × Halts (halt.Adopt fault) before written calls.after status)
+    × (IsFlushed calls.before → IsWrittenOut end.ending calls))
+    ⊎ ((fault : AdoptFault) × IsLeft old new fault × Halts (halt.Adopt fault) before written calls status)
 
 -- ---- an input
 
@@ -78,7 +78,7 @@ RunsOn commands from old new before written calls status =
 abbrev pub RunsInput : (List ℕ → List (Key × Command) → Type 0) → (List ℕ → InputFault → Type 0)
     → ℕ → Reading → State → State → Option (List ℕ) → Option (List ℕ) → WritesMade → ℕ → Type 0
 RunsInput Means IsFaulty from reading old new before written calls status =
-    ((fault : InputFault) × GivesNone IsFaulty reading fault × IsUntouched old new × Halts (halt.Input fault) before written calls.after status)
+    ((fault : InputFault) × GivesNone IsFaulty reading fault × IsUntouched old new × Halts (halt.Input fault) before written calls status)
     ⊎ ((keyed : List (Key × Command)) × Gives Means reading keyed × RunsOn keyed from old new before written calls status)
 
 -- ledger text that is posted, and a broker file that is imported (docs/RULES.md, The program)

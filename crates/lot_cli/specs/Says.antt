@@ -1,28 +1,32 @@
 -- What an action writes where it ends with a line.
 use Rattle.std.specs.Prelude.{◌≡◌, ◌⊎◌, ℕ, List, Option, Result, Err, Ok}
 use Rattle.std.specs.Io.KnownBytes.{Appends}
-use Rattle.lot_stream.specs.Status.{code_of}
+use Rattle.lot_stream.specs.Status.{Ends, EndsIfFailed, code_of}
 use Rattle.lot_stream.specs.declared.status.Status.{Status}
 use Rattle.lot_stream.specs.declared.status.Status.TheVariants.{Stopped}
-use Rattle.lot_report.specs.Output.{HasFailed, IsFlushed, WriteCalls}
+use Rattle.lot_report.specs.Output.{AllFlushed, HasFailed, WritesMade}
 use Rattle.lot_report.specs.declared.line.PrintFault.{PrintFault}
 use Rattle.lot_cli.specs.HaltLine.{halt_line, status_of_halt}
 use Rattle.lot_cli.specs.declared.halt.Halt.{Halt}
 use Rattle.lot_store.specs.Run.{AppendsSome}
 
--- an action writes a text, flushes it, and ends with its status; or a call of the writer failed, and some of the text is
--- written, or all of it without the flush
-abbrev pub Says : List ℕ → Status → Option (List ℕ) → Option (List ℕ) → Option WriteCalls → ℕ → Type 0
+-- an action writes a text, flushes it, and ends with its status, and no call of the writer failed; or one did, and some of the
+-- text is written, or all of it without the flush
+abbrev pub Says : List ℕ → Status → Option (List ℕ) → Option (List ℕ) → WritesMade → ℕ → Type 0
 Says text status before written calls end =
-    ((end ≡ code_of status) × Appends before written text × IsFlushed calls)
-    ⊎ ((end ≡ code_of Stopped) × AppendsSome before written text × HasFailed calls)
+    ((end ≡ code_of status) × Appends before written text × AllFlushed calls)
+    ⊎ ((end ≡ code_of Stopped) × AppendsSome before written text × HasFailed calls.after)
 
 -- the same of the line that reports why it ends before its first command
-abbrev pub Halts : Halt → Option (List ℕ) → Option (List ℕ) → Option WriteCalls → ℕ → Type 0
+abbrev pub Halts : Halt → Option (List ℕ) → Option (List ℕ) → WritesMade → ℕ → Type 0
 Halts cause = Says (halt_line cause) (status_of_halt cause)
 
--- the status after a line of an action that ends with that one was printed: it is flushed, or a call of the writer failed and the
--- action is stopped
-abbrev pub Finishes : Result (Unit {0}) PrintFault → Status → Option WriteCalls → ℕ → Type 0
-Finishes (Ok done) status calls end = ((end ≡ code_of status) × IsFlushed calls) ⊎ ((end ≡ code_of Stopped) × HasFailed calls)
-Finishes (Err cut) status calls end = end ≡ code_of Stopped
+-- a line that was printed of an action that ends with that status
+abbrev pub concluded : Result (Unit {0}) PrintFault → Status → Result Status PrintFault
+concluded (Ok done) status = Ok status
+concluded (Err cut) status = Err cut
+
+-- the program ends behind that line as a run does
+abbrev pub EndsWithLine : Result (Unit {0}) PrintFault → Status → WritesMade → ℕ → Type 0
+EndsWithLine printed status calls code =
+    (end : Status) × (code ≡ code_of end) × Ends (concluded printed status) calls.after end × EndsIfFailed calls end

@@ -4,7 +4,7 @@ use Rattle.sqlite.specs.State.{HasCleanDisk, KeepsCommit, State, Survives}
 use Rattle.lot_check.specs.Answer.{IsOutcome}
 use Rattle.lot_stream.specs.declared.status.Status.TheVariants.{Accepted}
 use Rattle.lot_stored.specs.StandFor.{Left, Stands}
-use Rattle.lot_report.specs.Output.{WriteCalls, WritesMade}
+use Rattle.lot_report.specs.Output.{WritesMade}
 use Rattle.lot_report.specs.Printed.{line}
 use Rattle.lot_input.specs.Input.{Reading}
 use Rattle.lot_cli.specs.Reports.{Reports}
@@ -42,7 +42,7 @@ pub record IsNotMade (old new : State) (fault : CreateFault) : Type 0 where
   pub kept : HasCleanDisk new → KeepsCommit old new
   pub crash : Survives old new (λ trees. Left trees [])
 
-abbrev pub Makes : State → State → Option (List ℕ) → Option (List ℕ) → Option WriteCalls → ℕ → Type 0
+abbrev pub Makes : State → State → Option (List ℕ) → Option (List ℕ) → WritesMade → ℕ → Type 0
 Makes old new before written calls status =
     (IsMade old new × Says ready_line Accepted before written calls status)
     ⊎ ((fault : CreateFault) × IsNotMade old new fault × Halts (halt.Create fault) before written calls status)
@@ -76,9 +76,9 @@ abbrev pub Serves : Action → Call → Type 0
 Serves Check c =
     IsUntouched c.old c.new × IfSome c.input.bytes (λ input. (text : List ℕ) × Appends c.before c.written text
     × IsOutcome c.input.calls c.calls.after input text c.status)
-Serves (Init book) c = Makes c.old c.new c.before c.written c.calls.after c.status
+Serves (Init book) c = Makes c.old c.new c.before c.written c.calls c.status
 Serves (Post book batch from) c = Posts batch from c.input c.old c.new c.before c.written c.calls c.status
 Serves (Import book batch accounts from) c = Imports batch accounts from c.input c.old c.new c.before c.written c.calls c.status
-Serves (Holdings book day) c = Reports (report.Holdings day) c.old c.new c.before c.written c.calls.after c.status
-Serves (Gains book first last) c = Reports (report.Gains first last) c.old c.new c.before c.written c.calls.after c.status
-Serves (Journal book) c = Reports report.Journal c.old c.new c.before c.written c.calls.after c.status
+Serves (Holdings book day) c = Reports (report.Holdings day) c.old c.new c.before c.written c.calls c.status
+Serves (Gains book first last) c = Reports (report.Gains first last) c.old c.new c.before c.written c.calls c.status
+Serves (Journal book) c = Reports report.Journal c.old c.new c.before c.written c.calls c.status

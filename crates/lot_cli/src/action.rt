@@ -98,7 +98,10 @@ fn init<W: CountedWrite, S: Alter>(alloc: Global, writer: &mut W, conn: Connecti
     requires outside { conn.in_transaction ≡ false }
     requires unlimited { conn.step_limit ≡ None }
     ensures makes { Makes (state S.Store conn) (state S.Store result.conn)
-        (W.contents writer.old) (W.contents writer.new) (W.calls writer.new) result.status }
+        (W.contents writer.old) (W.contents writer.new) (record {
+          before = W.calls writer.old;
+          after = W.calls writer.new;
+        }) result.status }
     ensures status { IsStatus result.status }
 {
     match create(alloc, conn) {

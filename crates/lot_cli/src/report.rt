@@ -1,5 +1,6 @@
 //! Reports of the book that is there.
-ghost use Rattle.std.specs.Prelude.{◌≡◌, None, false};
+ghost use Rattle.std.specs.Prelude.{◌≡◌, None, Option, false};
+ghost use Rattle.lot_report.specs.Output.{WriteCalls};
 ghost use Rattle.lot_stream.specs.Status.{IsStatus};
 ghost use Rattle.lot_stream.specs.declared.status.Status.TheVariants.{Stopped};
 ghost use Rattle.lot_cli.specs.Reports.{Concludes, Reports, ShowsReport, ShowsAllRows, ShowsSome, report_line};
@@ -45,7 +46,10 @@ pub(crate) fn write_report<W: CountedWrite, S: Alter>(
     requires outside { conn.in_transaction ≡ false }
     requires unlimited { conn.step_limit ≡ None }
     ensures reports { Reports report (state S.Store conn) (state S.Store result.conn)
-        (W.contents writer.old) (W.contents writer.new) (W.calls writer.new) result.status }
+        (W.contents writer.old) (W.contents writer.new) (record {
+          before = W.calls writer.old;
+          after = W.calls writer.new;
+        }) result.status }
     ensures status { IsStatus result.status }
 {
     match adopt(alloc, conn) {
@@ -73,7 +77,10 @@ fn show<W: CountedWrite, S: Alter>(
     ensures rows { HoldsOfTables S.Store book.old book.new
         (λ tables. ShowsAllRows report tables (W.contents writer.old) (W.contents writer.new) result) }
     ensures reads { ReadsBook S.Store book.old book.new result }
-    ensures cause { HasCause result (W.calls writer.new) }
+    ensures cause { HasCause result (record {
+      before = W.calls writer.old;
+      after = W.calls writer.new;
+    }) }
 {
     match report {
         Report::Holdings { day } => show_holdings(alloc, book, day, writer),
@@ -85,8 +92,13 @@ fn show<W: CountedWrite, S: Alter>(
 /// Ends a report: flushes it where it is whole, else reports why it isn't. A writer that failed is asked for nothing more.
 /// Returns the status of the program.
 fn conclude<W: CountedWrite>(writer: &mut W, shown: Result<(), ShowFault>) -> u8
-    ensures concludes { HasCause shown (W.calls writer.old)
-        → Concludes shown (W.contents writer.old) (W.contents writer.new) (W.calls writer.new) result }
+    ensures concludes { (before : Option WriteCalls) → HasCause shown (record {
+      before = before;
+      after = W.calls writer.old;
+    }) → Concludes shown (W.contents writer.old) (W.contents writer.new) (record {
+      before = W.calls writer.old;
+      after = W.calls writer.new;
+    }) result }
     ensures status { IsStatus result }
 {
     match shown {
@@ -99,7 +111,10 @@ fn conclude<W: CountedWrite>(writer: &mut W, shown: Result<(), ShowFault>) -> u8
 /// Reports why a report ends before its end, and returns the status of the program.
 fn stopped<W: CountedWrite>(writer: &mut W, fault: ShowFault) -> u8
     ensures says { Says (report_line fault) Stopped
-        (W.contents writer.old) (W.contents writer.new) (W.calls writer.new) result }
+        (W.contents writer.old) (W.contents writer.new) (record {
+          before = W.calls writer.old;
+          after = W.calls writer.new;
+        }) result }
     ensures status { IsStatus result }
 {
     let printed = print_texts(writer, &["fault ", fault.name(), "\n"]);

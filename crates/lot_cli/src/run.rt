@@ -2,7 +2,7 @@
 ghost use Rattle.std.specs.Prelude.{◌≡◌, ◌+◌, ◌<◌, ◌^◌, IsErr, None, false, length};
 ghost use Rattle.lot_stream.specs.Status.{IsStatus};
 ghost use Rattle.lot_cli.specs.Runs.{RunsOn, status_of_run};
-ghost use Rattle.lot_cli.specs.Says.{Finishes, Halts};
+ghost use Rattle.lot_cli.specs.Says.{EndsWithLine, Halts};
 ghost use Rattle.std.specs.Io.KnownBytes.{Keeps};
 ghost use Rattle.sqlite.specs.Held.{state};
 
@@ -63,7 +63,10 @@ pub(crate) fn halted<W: CountedWrite, S: Alter>(
     conn: Connection<S>,
 ) -> Served<S>
     ensures says { Halts halt
-        (W.contents writer.old) (W.contents writer.new) (W.calls writer.new) result.status }
+        (W.contents writer.old) (W.contents writer.new) (record {
+          before = W.calls writer.old;
+          after = W.calls writer.new;
+        }) result.status }
     ensures same { result.conn ≡ conn }
     ensures status { IsStatus result.status }
 {
@@ -82,7 +85,10 @@ pub(crate) fn tell<W: CountedWrite>(
     status: Status,
 ) -> u8
     ensures kept { Keeps (W.contents writer.old) (W.contents writer.new) }
-    ensures end { Finishes printed status (W.calls writer.new) result }
+    ensures end { EndsWithLine printed status (record {
+      before = W.calls writer.old;
+      after = W.calls writer.new;
+    }) result }
     ensures unasked { IsErr printed → writer.new ≡ writer.old }
     ensures status { IsStatus result }
 {

@@ -1,5 +1,5 @@
-ghost use Rattle.std.specs.Prelude.{◌≡◌, IfErr, OnErr};
-ghost use Rattle.lot_report.specs.Output.{HasFailed};
+ghost use Rattle.std.specs.Prelude.{◌≡◌, IfErr, OnErr, OnOk};
+ghost use Rattle.lot_report.specs.Output.{HasFailed, NoneFailed};
 ghost use Rattle.lot_report.specs.Written.{WritesLine};
 ghost use Rattle.lot_input.specs.InputLine.{cash_line, cause_name, input_line, memory_line, rows_line, status_of_cash, status_of_input, status_of_rows};
 
@@ -114,6 +114,7 @@ pub fn print_input_fault<W: CountedWrite>(
         (input_line fault) }
     ensures fault { IfErr result (λ fault. fault ≡ PrintFault.Write) }
     ensures cause { OnErr result (HasFailed (W.calls writer.new)) }
+    ensures none_failed { OnOk result (NoneFailed (W.calls writer.old) (W.calls writer.new)) }
 {
     match fault {
         InputFault::Unread(fault) => print_fault(writer, Fault::from(fault)),
@@ -129,6 +130,7 @@ fn print_memory<W: CountedWrite>(writer: &mut W) -> Result<(), PrintFault>
     ensures bytes { WritesLine (W.contents writer.old) (W.contents writer.new) result memory_line }
     ensures fault { IfErr result (λ fault. fault ≡ PrintFault.Write) }
     ensures cause { OnErr result (HasFailed (W.calls writer.new)) }
+    ensures none_failed { OnOk result (NoneFailed (W.calls writer.old) (W.calls writer.new)) }
 {
     print_texts(writer, &["fault Memory\n"])
 }
@@ -159,6 +161,7 @@ fn print_rows_fault<W: CountedWrite>(writer: &mut W, fault: RowsFault) -> Result
         (rows_line fault) }
     ensures fault { IfErr result (λ fault. fault ≡ PrintFault.Write) }
     ensures cause { OnErr result (HasFailed (W.calls writer.new)) }
+    ensures none_failed { OnOk result (NoneFailed (W.calls writer.old) (W.calls writer.new)) }
 {
     let mut digits = Buffer::new();
     match fault {
@@ -184,6 +187,7 @@ fn print_cash_fault<W: CountedWrite>(writer: &mut W, fault: KeyedFault) -> Resul
         (cash_line fault) }
     ensures fault { IfErr result (λ fault. fault ≡ PrintFault.Write) }
     ensures cause { OnErr result (HasFailed (W.calls writer.new)) }
+    ensures none_failed { OnOk result (NoneFailed (W.calls writer.old) (W.calls writer.new)) }
 {
     let mut digits = Buffer::new();
     match fault {

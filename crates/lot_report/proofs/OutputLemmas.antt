@@ -1,13 +1,13 @@
 -- What is known of a writer after calls of it.
-use Rattle.std.proofs.Common.{◌≡◌, ◌<◌, ◌≤◌, inl, inr, ℕ, arith, refl}
-use Rattle.std.specs.Prelude.{◌+◌, ◌≢◌, ⊤, IsFalse, IsTrue, Option, None, Some, Result, Ok, Err, IsErrAnd, IsErrOf, OnErr}
+use Rattle.std.proofs.Common.{◌≡◌, ◌∙◌, ◌<◌, ◌≤◌, inl, inr, ℕ, ap, arith, refl}
+use Rattle.std.specs.Prelude.{◌+◌, ◌≢◌, ⊤, IsFalse, IsTrue, Option, None, Some, Result, Ok, Err, IsErrAnd, IsErrOf, OnErr, OnOk}
 use Rattle.std.specs.IoError.{error_kind}
 use Rattle.std.specs.declared.io.Error.{Error}
 use Rattle.std.specs.declared.io.ErrorKind.{ErrorKind}
 use Rattle.lot_report.specs.declared.fault.ReportFault.{ReportFault}
 use Rattle.lot_report.specs.declared.fault.RowFault.{RowFault}
 use Rattle.lot_report.specs.declared.line.PrintFault.{PrintFault}
-use Rattle.lot_report.specs.Output.{CountsWrite, HasFailed, MarksWrite, WriteCalls, most_calls}
+use Rattle.lot_report.specs.Output.{CountsWrite, HasFailed, MarksWrite, NoneFailed, WriteCalls, most_calls}
 use Rattle.lot_report.specs.Report.{report_fault}
 use Rattle.lot_report.specs.Written.{IsTaken}
 
@@ -44,6 +44,23 @@ failed_call (Some old) (Some new) (Ok taken) fault (made, inl (none, marked, flu
 failed_call (Some old) (Some new) (Ok taken) fault (made, inr (some, same, flushed)) (nothing, is) = absurd (omega (arith, some, nothing))
 failed_call (Some old) (Some new) (Err error) fault (made, (inl (kind, same), flushed)) (failed, is) = absurd (failed kind)
 failed_call (Some old) (Some new) (Err error) fault (made, (inr (kind, marked), flushed)) (failed, is) = inl marked
+
+-- no call failed, or it was interrupted
+pub went_on : (old new : Option WriteCalls) (outcome : Result ℕ Error) (count : ℕ) → CountsWrite old new outcome
+    → IsTaken outcome (Ok count) → NoneFailed old new
+went_on None None outcome count counts taken = refl
+went_on None (Some new) outcome count counts taken = absurd counts
+went_on (Some old) None outcome count counts taken = absurd counts
+went_on (Some old) (Some new) (Ok some) count (made, inl (none, marked, flushed)) (below, is) = absurd (omega (arith, below, none))
+went_on (Some old) (Some new) (Ok some) count (made, inr (more, same, flushed)) taken = ap Some same
+went_on (Some old) (Some new) (Err error) count (made, (inl (kind, same), flushed)) taken = ap Some same
+went_on (Some old) (Some new) (Err error) count (made, (inr (kind, marked), flushed)) (paused, is) = absurd (kind paused)
+
+-- none failed before either
+pub none_then : {A E : Type 0} (result : Result A E) (old mid new : Option WriteCalls) → NoneFailed old mid
+    → OnOk result (NoneFailed mid new) → OnOk result (NoneFailed old new)
+none_then (Ok x) old mid new before then = then ∙ before
+none_then (Err e) old mid new before then = tt
 
 -- where there is an error, what holds anyway
 pub on_err : {A E : Type 0} (result : Result A E) (P : Type 0) → P → OnErr result P

@@ -1,5 +1,5 @@
 -- What calls of a writer come to.
-use Rattle.std.specs.Prelude.{◌≡◌, ◌≢◌, ◌⊎◌, ◌<◌, ◌≤◌, ◌+◌, ◌-◌, ◌^◌, ℕ, min, Bool, true, false, IsTrue, IsFalse, Option, None, Some, Result, Ok, Err, ⊤}
+use Rattle.std.specs.Prelude.{◌≡◌, ◌≢◌, ◌⊎◌, ◌<◌, ◌≤◌, ◌+◌, ◌-◌, ◌^◌, ℕ, min, Bool, true, false, IsTrue, IsFalse, Option, None, Some, option_map, Result, Ok, Err, ⊤}
 use Rattle.std.specs.IoError.{error_kind}
 use Rattle.std.specs.declared.io.Error.{Error}
 use Rattle.std.specs.declared.io.ErrorKind.{ErrorKind}
@@ -57,6 +57,14 @@ abbrev pub HasFailed : Option WriteCalls → Type 0
 HasFailed None = ⊤
 HasFailed (Some calls) = IsTrue calls.has_failed ⊎ (most_calls ≤ calls.made)
 
+-- whether a call failed, where it is known what all calls came to
+abbrev pub failed_of : Option WriteCalls → Option Bool
+failed_of = option_map (λ (calls : WriteCalls). calls.has_failed)
+
+-- none of the calls between failed: that is known as it was before them
+abbrev pub NoneFailed : Option WriteCalls → Option WriteCalls → Type 0
+NoneFailed old new = failed_of new ≡ failed_of old
+
 -- what is known of all calls of a writer before some were made, and after them
 pub record WritesMade : Type 0 where
   pub before : Option WriteCalls
@@ -66,6 +74,10 @@ pub record WritesMade : Type 0 where
 abbrev pub IsFlushed : Option WriteCalls → Type 0
 IsFlushed None = ⊤
 IsFlushed (Some calls) = IsTrue calls.is_flushed
+
+-- no call failed, and nothing was taken since the last flush
+abbrev pub AllFlushed : WritesMade → Type 0
+AllFlushed calls = IsFlushed calls.after × NoneFailed calls.before calls.after
 
 -- at least so many calls of `write` were made
 abbrev pub AtLeast : ℕ → Option WriteCalls → Type 0

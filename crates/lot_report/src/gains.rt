@@ -1,9 +1,9 @@
-ghost use Rattle.std.specs.Prelude.{◌≡◌, ◌↔◌, List, [], ℕ, Option, option_map, ◌≢◌, IfErr, IsErr, IsErrOf, IsFalse, IsTrue};
+ghost use Rattle.std.specs.Prelude.{◌≡◌, ◌↔◌, List, [], ℕ, Option, option_map, ◌≢◌, IfErr, IsErr, IsErrOf, IsFalse, IsTrue, OnOk};
 ghost use Rattle.std.specs.Io.KnownBytes.{Appends};
 ghost use Rattle.lot_book.specs.Gain.{currency_of};
 ghost use Rattle.lot_book.specs.Sale.{SaleParts};
 ghost use Rattle.lot_report.specs.Gains.{CountsSale, EndsGains, GrowsBySale, HasTaken, IsFed, TakesSale, end_lines, gained, is_spent, leg_line, priced_line, sale_line, sale_lines, sales_text, unpriced_line};
-ghost use Rattle.lot_report.specs.Output.{HasFailed};
+ghost use Rattle.lot_report.specs.Output.{HasFailed, NoneFailed};
 ghost use Rattle.lot_report.specs.Written.{WritesEach, WritesLine};
 
 use crate::fault::{ReportFault, RowFault};
@@ -49,6 +49,7 @@ impl Gains {
             → GrowsBySale sales sale.now self.new start (W.contents writer.new) result }
         ensures cause { IsErrOf result (RowFault.Report ReportFault.Write)
             → HasFailed (W.calls writer.new) }
+        ensures none_failed { OnOk result (NoneFailed (W.calls writer.old) (W.calls writer.new)) }
         ensures spent { IsErrOf result RowFault.Spent ↔ IsTrue (is_spent self.old) }
         ensures after { IsErr result ↔ IsTrue (is_spent self.new) }
     {
@@ -70,6 +71,7 @@ impl Gains {
             → EndsGains sales start (W.contents writer.new) result }
         ensures cause { IsErrOf result (RowFault.Report ReportFault.Write)
             → HasFailed (W.calls writer.new) }
+        ensures none_failed { OnOk result (NoneFailed (W.calls writer.old) (W.calls writer.new)) }
         ensures spent { IsErrOf result RowFault.Spent ↔ IsTrue (is_spent self) }
     {
         let Some(progress) = &self.progress else {
@@ -107,6 +109,7 @@ impl Progress {
         ensures takes { (sales : List SaleParts) → HasTaken sales self.old
             → TakesSale sales sale.now self.new (W.contents writer.old) (W.contents writer.new) result }
         ensures cause { IsErrOf result ReportFault.Write → HasFailed (W.calls writer.new) }
+        ensures none_failed { OnOk result (NoneFailed (W.calls writer.old) (W.calls writer.new)) }
     {
         self.take_gain(sale)?;
         print_sale(self.alloc, writer, sale)?;
@@ -129,6 +132,7 @@ impl Progress {
     fn end<W: CountedWrite>(&self, writer: &mut W) -> Result<(), PrintFault>
         ensures lines { WritesEach (λ text. text) (end_lines self.now.is_empty self.now.gains.sums.entries) (W.contents writer.old) (W.contents writer.new) result }
         ensures cause { IsErrOf result PrintFault.Write → HasFailed (W.calls writer.new) }
+        ensures none_failed { OnOk result (NoneFailed (W.calls writer.old) (W.calls writer.new)) }
     {
         if self.is_empty {
             return print_line(writer, "no gains");
@@ -159,6 +163,7 @@ fn currency_of(price: &Price) -> &Commodity
 fn print_sale<W: CountedWrite>(alloc: Global, writer: &mut W, sale: &Sale) -> Result<(), PrintFault>
     ensures lines { WritesEach (λ text. text) (sale_lines sale.now) (W.contents writer.old) (W.contents writer.new) result }
     ensures cause { IsErrOf result PrintFault.Write → HasFailed (W.calls writer.new) }
+    ensures none_failed { OnOk result (NoneFailed (W.calls writer.old) (W.calls writer.new)) }
 {
     print_front(alloc, writer, sale)?;
     print_legs(alloc, writer, sale)
@@ -172,6 +177,7 @@ fn print_front<W: CountedWrite>(
 ) -> Result<(), PrintFault>
     ensures line { WritesLine (W.contents writer.old) (W.contents writer.new) result (sale_line sale.now (gained sale.now)) }
     ensures cause { IsErrOf result PrintFault.Write → HasFailed (W.calls writer.new) }
+    ensures none_failed { OnOk result (NoneFailed (W.calls writer.old) (W.calls writer.new)) }
 {
     match priced(sale) {
         Some((currency, gain)) => print_priced(alloc, writer, sale, currency, gain),
@@ -189,6 +195,7 @@ fn print_priced<W: CountedWrite>(
 ) -> Result<(), PrintFault>
     ensures line { WritesLine (W.contents writer.old) (W.contents writer.new) result (priced_line sale.now currency.now gain) }
     ensures cause { IsErrOf result PrintFault.Write → HasFailed (W.calls writer.new) }
+    ensures none_failed { OnOk result (NoneFailed (W.calls writer.old) (W.calls writer.new)) }
 {
     let units = sale.units().text(alloc)?;
     let front = SaleFront {
@@ -212,6 +219,7 @@ fn print_unpriced<W: CountedWrite>(
 ) -> Result<(), PrintFault>
     ensures line { WritesLine (W.contents writer.old) (W.contents writer.new) result (unpriced_line sale.now) }
     ensures cause { IsErrOf result PrintFault.Write → HasFailed (W.calls writer.new) }
+    ensures none_failed { OnOk result (NoneFailed (W.calls writer.old) (W.calls writer.new)) }
 {
     let units = sale.units().text(alloc)?;
     let front = SaleFront {
@@ -247,6 +255,7 @@ impl fmt::Display for SaleFront<'_> {
 fn print_legs<W: CountedWrite>(alloc: Global, writer: &mut W, sale: &Sale) -> Result<(), PrintFault>
     ensures lines { WritesEach (leg_line sale.now.commodity) sale.now.legs (W.contents writer.old) (W.contents writer.new) result }
     ensures cause { IsErrOf result PrintFault.Write → HasFailed (W.calls writer.new) }
+    ensures none_failed { OnOk result (NoneFailed (W.calls writer.old) (W.calls writer.new)) }
 {
     let commodity = sale.commodity();
     let legs = sale.legs();

@@ -1,8 +1,8 @@
-ghost use Rattle.std.specs.Prelude.{◌≡◌, ◌↔◌, List, [], ◌∷◌, ℕ, ℤ, ◌≢◌, Option, Some, IfErr, IsErr, IsErrOf, IsFalse, IsTrue};
+ghost use Rattle.std.specs.Prelude.{◌≡◌, ◌↔◌, List, [], ◌∷◌, ℕ, ℤ, ◌≢◌, Option, Some, IfErr, IsErr, IsErrOf, IsFalse, IsTrue, OnOk};
 ghost use Rattle.std.specs.Io.KnownBytes.{Appends};
 ghost use Rattle.lot_report.specs.declared.holdings.ValuedHolding.{ValuedHolding as Row};
 ghost use Rattle.lot_report.specs.Holdings.{CountsBoth, CountsHolding, EndsHoldings, GrowsByHolding, HasTaken, IsFed, TakesHolding, cost_of, end_lines, holding_row, is_spent, rows_text, value_at};
-ghost use Rattle.lot_report.specs.Output.{HasFailed};
+ghost use Rattle.lot_report.specs.Output.{HasFailed, NoneFailed};
 ghost use Rattle.lot_report.specs.Printed.{plain_row};
 ghost use Rattle.lot_report.specs.Report.{AreSums};
 ghost use Rattle.lot_report.specs.Written.{WritesEach, WritesLine};
@@ -60,6 +60,7 @@ impl Holdings {
             → GrowsByHolding rows row.now self.new start (W.contents writer.new) result }
         ensures cause { IsErrOf result (RowFault.Report ReportFault.Write)
             → HasFailed (W.calls writer.new) }
+        ensures none_failed { OnOk result (NoneFailed (W.calls writer.old) (W.calls writer.new)) }
         ensures spent { IsErrOf result RowFault.Spent ↔ IsTrue (is_spent self.old) }
         ensures after { IsErr result ↔ IsTrue (is_spent self.new) }
     {
@@ -82,6 +83,7 @@ impl Holdings {
             → EndsHoldings rows start (W.contents writer.new) result }
         ensures cause { IsErrOf result (RowFault.Report ReportFault.Write)
             → HasFailed (W.calls writer.new) }
+        ensures none_failed { OnOk result (NoneFailed (W.calls writer.old) (W.calls writer.new)) }
         ensures spent { IsErrOf result RowFault.Spent ↔ IsTrue (is_spent self) }
     {
         let Some(progress) = &self.progress else {
@@ -125,6 +127,7 @@ impl Progress {
         ensures takes { (rows : List Row) → HasTaken rows self.old
             → TakesHolding rows row.now self.new (W.contents writer.old) (W.contents writer.new) result }
         ensures cause { IsErrOf result ReportFault.Write → HasFailed (W.calls writer.new) }
+        ensures none_failed { OnOk result (NoneFailed (W.calls writer.old) (W.calls writer.new)) }
     {
         self.count(row)?;
         print_row(self.alloc, writer, row)?;
@@ -186,6 +189,7 @@ impl Progress {
         ensures lines { WritesEach (λ text. text) (end_lines self.now.is_empty self.now.costs.sums.entries self.now.values.sums.entries)
             (W.contents writer.old) (W.contents writer.new) result }
         ensures cause { IsErrOf result PrintFault.Write → HasFailed (W.calls writer.new) }
+        ensures none_failed { OnOk result (NoneFailed (W.calls writer.old) (W.calls writer.new)) }
     {
         if self.is_empty {
             return print_line(writer, "nothing held");
@@ -202,6 +206,7 @@ fn print_row<W: CountedWrite>(
 ) -> Result<(), PrintFault>
     ensures line { WritesLine (W.contents writer.old) (W.contents writer.new) result (holding_row row.now) }
     ensures cause { IsErrOf result PrintFault.Write → HasFailed (W.calls writer.new) }
+    ensures none_failed { OnOk result (NoneFailed (W.calls writer.old) (W.calls writer.new)) }
 {
     let holding = &row.holding;
     match &holding.lot {
@@ -227,6 +232,7 @@ fn print_plain<W: CountedWrite>(
     ensures line { WritesLine (W.contents writer.old) (W.contents writer.new) result
         (plain_row holding.now.account holding.now.commodity holding.now.units) }
     ensures cause { IsErrOf result PrintFault.Write → HasFailed (W.calls writer.new) }
+    ensures none_failed { OnOk result (NoneFailed (W.calls writer.old) (W.calls writer.new)) }
 {
     let account = &holding.account;
     let units = holding.units.text_money(alloc)?;

@@ -1,8 +1,8 @@
-ghost use Rattle.std.specs.Prelude.{◌≡◌, ◌∷◌, ◌++◌, [], ◌↔◌, List, Option, IfErr, IsErr, IsErrOf, IsFalse, IsTrue, OnErr, ℕ};
+ghost use Rattle.std.specs.Prelude.{◌≡◌, ◌∷◌, ◌++◌, [], ◌↔◌, List, Option, IfErr, IsErr, IsErrOf, IsFalse, IsTrue, OnErr, ℕ, OnOk};
 ghost use Rattle.std.specs.Io.KnownBytes.{Appends};
 ghost use Rattle.lot_report.specs.declared.journal.Entry.{Entry as EntryValue};
 ghost use Rattle.lot_report.specs.Journal.{GrowsByEntry, entry_text, is_spent, journal_text};
-ghost use Rattle.lot_report.specs.Output.{HasFailed};
+ghost use Rattle.lot_report.specs.Output.{HasFailed, NoneFailed};
 ghost use Rattle.lot_report.specs.Written.{WritesLine};
 
 use crate::line::{PrintFault, put_all};
@@ -61,6 +61,7 @@ impl Journal {
         ensures text { (entries : List EntryValue) (start : Option (List ℕ)) → Appends start (W.contents writer.old) (journal_text entries)
             → GrowsByEntry entries entry.now start (W.contents writer.new) result }
         ensures cause { IsErrOf result JournalFault.Write → HasFailed (W.calls writer.new) }
+        ensures none_failed { OnOk result (NoneFailed (W.calls writer.old) (W.calls writer.new)) }
         ensures spent { IsErrOf result JournalFault.Spent ↔ IsTrue (is_spent self.old) }
         ensures after { IsErr result ↔ IsTrue (is_spent self.new) }
     {
@@ -98,6 +99,7 @@ fn print_entry<W: CountedWrite>(writer: &mut W, entry: &Entry) -> Result<(), Pri
     ensures bytes { WritesLine (W.contents writer.old) (W.contents writer.new) result (entry_text entry.now) }
     ensures fault { IfErr result (λ fault. fault ≡ PrintFault.Write) }
     ensures cause { OnErr result (HasFailed (W.calls writer.new)) }
+    ensures none_failed { OnOk result (NoneFailed (W.calls writer.old) (W.calls writer.new)) }
 {
     let mut digits = Buffer::new();
     let texts = [

@@ -1,6 +1,6 @@
-ghost use Rattle.std.specs.Prelude.{◌≡◌, ◌≤◌, length, flat_map, IfOk, IfErr, IsErrOf, IfSome, OnErr};
+ghost use Rattle.std.specs.Prelude.{◌≡◌, ◌≤◌, length, flat_map, IfOk, IfErr, IsErrOf, IfSome, OnErr, OnOk};
 ghost use Rattle.std.specs.Fmt.{with_newline};
-ghost use Rattle.lot_report.specs.Output.{HasFailed};
+ghost use Rattle.lot_report.specs.Output.{HasFailed, NoneFailed};
 ghost use Rattle.lot_report.specs.Written.{IsTaken, WritesLine, longest_written};
 
 use crate::output::CountedWrite;
@@ -53,6 +53,7 @@ pub fn print_line<W: CountedWrite, T: Display + Drop>(
     ensures write { IsErrOf result PrintFault.Write
         → IfSome (with_newline (T.output text)) (λ line. length line ≤ longest_written) }
     ensures cause { IsErrOf result PrintFault.Write → HasFailed (W.calls writer.new) }
+    ensures none_failed { OnOk result (NoneFailed (W.calls writer.old) (W.calls writer.new)) }
 {
     let line = line_of(text)?;
     put(writer, line.as_str().as_bytes())
@@ -79,6 +80,7 @@ pub fn print_texts<W: CountedWrite>(writer: &mut W, texts: &[&str]) -> Result<()
         (flat_map (λ text. text.now) texts.now) }
     ensures fault { IfErr result (λ fault. fault ≡ PrintFault.Write) }
     ensures cause { OnErr result (HasFailed (W.calls writer.new)) }
+    ensures none_failed { OnOk result (NoneFailed (W.calls writer.old) (W.calls writer.new)) }
 {
     match joined(texts) {
         Some(line) => put(writer, line.as_str().as_bytes()),
@@ -105,6 +107,7 @@ pub(crate) fn put_all<W: CountedWrite>(writer: &mut W, texts: &[&str]) -> Result
     ensures bytes { WritesLine (W.contents writer.old) (W.contents writer.new) result (flat_map (λ text. text.now) texts.now) }
     ensures fault { IfErr result (λ fault. fault ≡ PrintFault.Write) }
     ensures cause { OnErr result (HasFailed (W.calls writer.new)) }
+    ensures none_failed { OnOk result (NoneFailed (W.calls writer.old) (W.calls writer.new)) }
 {
     for text in texts {
         put(writer, text.as_bytes())?;
@@ -117,6 +120,7 @@ fn put<W: CountedWrite>(writer: &mut W, bytes: &[u8]) -> Result<(), PrintFault>
     ensures bytes { WritesLine (W.contents writer.old) (W.contents writer.new) result bytes.now }
     ensures fault { IfErr result (λ fault. fault ≡ PrintFault.Write) }
     ensures cause { OnErr result (HasFailed (W.calls writer.new)) }
+    ensures none_failed { OnOk result (NoneFailed (W.calls writer.old) (W.calls writer.new)) }
 {
     let mut rest = bytes;
     for _made in 0..u64::MAX {

@@ -1,5 +1,5 @@
-ghost use Rattle.std.specs.Prelude.{◌≡◌, IsErrOf};
-ghost use Rattle.lot_report.specs.Output.{HasFailed};
+ghost use Rattle.std.specs.Prelude.{◌≡◌, IsErrOf, OnOk};
+ghost use Rattle.lot_report.specs.Output.{HasFailed, NoneFailed};
 ghost use Rattle.lot_report.specs.Printed.{lot_row, price_of};
 ghost use Rattle.lot_report.specs.Written.{WritesLine};
 
@@ -48,6 +48,7 @@ pub(crate) fn print_lot<'a, W: CountedWrite>(
 ) -> Result<(), PrintFault>
     ensures line { WritesLine (W.contents writer.old) (W.contents writer.new) result (lot_row front.now commodity.now lot.now units valuation) }
     ensures cause { IsErrOf result PrintFault.Write → HasFailed (W.calls writer.new) }
+    ensures none_failed { OnOk result (NoneFailed (W.calls writer.old) (W.calls writer.new)) }
 {
     let text = units.text(alloc)?;
     let number = lot.number.text(alloc)?;

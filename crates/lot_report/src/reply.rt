@@ -1,5 +1,5 @@
-ghost use Rattle.std.specs.Prelude.{◌≡◌, IfErr, OnErr};
-ghost use Rattle.lot_report.specs.Output.{HasFailed};
+ghost use Rattle.std.specs.Prelude.{◌≡◌, IfErr, OnErr, OnOk};
+ghost use Rattle.lot_report.specs.Output.{HasFailed, NoneFailed};
 ghost use Rattle.lot_report.specs.Printed.{argument_text, name_text, refused_line, reply, shown};
 ghost use Rattle.lot_report.specs.Written.{WritesLine};
 
@@ -20,6 +20,7 @@ pub fn print_reply<W: CountedWrite>(
     ensures bytes { WritesLine (W.contents writer.old) (W.contents writer.new) result (reply number verdict.now) }
     ensures fault { IfErr result (λ fault. fault ≡ PrintFault.Write) }
     ensures cause { OnErr result (HasFailed (W.calls writer.new)) }
+    ensures none_failed { OnOk result (NoneFailed (W.calls writer.old) (W.calls writer.new)) }
 {
     let mut digits = Buffer::new();
     match verdict {
@@ -39,6 +40,7 @@ fn print_refused<W: CountedWrite>(
         (refused_line number refusal.now) }
     ensures fault { IfErr result (λ fault. fault ≡ PrintFault.Write) }
     ensures cause { OnErr result (HasFailed (W.calls writer.new)) }
+    ensures none_failed { OnOk result (NoneFailed (W.calls writer.old) (W.calls writer.new)) }
 {
     let mut digits = Buffer::new();
     let number = digits.format(number);

@@ -1,7 +1,7 @@
 ghost use Rattle.std.specs.Prelude.{◌≡◌, ◌≢◌, List, [], ◌∷◌, ◌++◌, ℕ, ℤ, ◌+ℤ◌, SomeIff, OnOk, IfErr, IsErrOf};
 ghost use Rattle.lot_num.specs.Amount.{IsWide};
 ghost use Rattle.lot_book.specs.Currencies.{sum_in};
-ghost use Rattle.lot_report.specs.Output.{HasFailed};
+ghost use Rattle.lot_report.specs.Output.{HasFailed, NoneFailed};
 ghost use Rattle.lot_report.specs.Printed.{total_of};
 ghost use Rattle.lot_report.specs.Report.{AreSums};
 ghost use Rattle.lot_report.specs.Written.{WritesEach, WritesLine};
@@ -77,6 +77,7 @@ impl Totals {
     ) -> Result<(), PrintFault>
         ensures lines { WritesEach (λ sum. total_of what.now sum.0 sum.1) self.now.sums.entries (W.contents writer.old) (W.contents writer.new) result }
         ensures cause { IsErrOf result PrintFault.Write → HasFailed (W.calls writer.new) }
+        ensures none_failed { OnOk result (NoneFailed (W.calls writer.old) (W.calls writer.new)) }
     {
         for (currency, sum) in &self.sums {
             print_total(alloc, writer, what, currency, *sum)?;
@@ -95,6 +96,7 @@ fn print_total<W: CountedWrite>(
 ) -> Result<(), PrintFault>
     ensures line { WritesLine (W.contents writer.old) (W.contents writer.new) result (total_of what.now currency.now total) }
     ensures cause { IsErrOf result PrintFault.Write → HasFailed (W.calls writer.new) }
+    ensures none_failed { OnOk result (NoneFailed (W.calls writer.old) (W.calls writer.new)) }
 {
     let total = total.text_money(alloc)?;
     print_line(writer, format_args!("total {what} {total} {currency}"))

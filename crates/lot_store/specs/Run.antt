@@ -13,7 +13,7 @@ use Rattle.lot_rows.specs.Tables.{Has, Tables}
 use Rattle.lot_stored.specs.StandFor.{StandFor, Stands}
 use Rattle.std.specs.declared.io.Error.{Error}
 use Rattle.lot_report.specs.declared.line.PrintFault.{PrintFault}
-use Rattle.lot_report.specs.Output.{HasFailed, IsFlushed, WriteCalls}
+use Rattle.lot_report.specs.Output.{AllFlushed, HasFailed, WritesMade}
 use Rattle.lot_report.specs.Printed.{line, replies, reply}
 use Rattle.lot_report.specs.Written.{IsPrefixOf}
 use Rattle.lot_table.specs.Statement.{DiskFailed}
@@ -111,15 +111,15 @@ FlushesLine (Ok done) old new (Err ending) = (ending ≡ Output) × Appends old 
 FlushesLine (Err cut) old new (Ok flushed) = ⊥
 FlushesLine (Err cut) old new (Err ending) = (ending ≡ Output) × Appends old new []
 
--- where a run ends: all that it wrote is flushed, or a call of the writer failed
-abbrev pub IsWrittenOut : Ending → Option WriteCalls → Type 0
-IsWrittenOut Complete calls = IsFlushed calls
-IsWrittenOut (Stopped fault) calls = IsFlushed calls
-IsWrittenOut Output calls = HasFailed calls
+-- where a run ends: all that it wrote is flushed, and no call of the writer failed; or one did
+abbrev pub IsWrittenOut : Ending → WritesMade → Type 0
+IsWrittenOut Complete calls = AllFlushed calls
+IsWrittenOut (Stopped fault) calls = AllFlushed calls
+IsWrittenOut Output calls = HasFailed calls.after
 
 -- the same behind a line of it
-abbrev pub IsWrittenOutAs : {A : Type 0} → Result A Ending → Option WriteCalls → Type 0
-IsWrittenOutAs (Ok done) calls = IsFlushed calls
+abbrev pub IsWrittenOutAs : {A : Type 0} → Result A Ending → WritesMade → Type 0
+IsWrittenOutAs (Ok done) calls = AllFlushed calls
 IsWrittenOutAs (Err ending) calls = IsWrittenOut ending calls
 
 abbrev pub flush_outcome : Result (Unit {0}) Error → Result (Unit {0}) Ending

@@ -61,9 +61,12 @@ impl<S: Alter> Book<S> {
         ensures spent { self.old.condition ≡ Condition.NeedsReopen
             → StopsAtOnce from result (W.contents writer.old) (W.contents writer.new) × (self.new ≡ self.old) }
         ensures usable { self.old.condition ≡ Condition.Ready → result.ending ≢ Stopped StoreFault.NeedsReopen }
-        // Each line is flushed as it is written, and the output stops a run only where the writer failed.
-        ensures output { IsFlushed (W.calls writer.old)
-            → IsWrittenOut result.ending (W.calls writer.new) }
+        // Each line is flushed as it is written, and the output stops a run only where the writer failed. No call is made
+        // again that failed, but for one that was interrupted.
+        ensures output { IsFlushed (W.calls writer.old) → IsWrittenOut result.ending (record {
+          before = W.calls writer.old;
+          after = W.calls writer.new;
+        }) }
     {
         if let Err(fault) = self.ready() {
             return RunEnd {
@@ -108,7 +111,10 @@ impl<S: Alter> Book<S> {
         ensures safe { IsTrue (state S.Store self.new.conn).is_open → (trees : Trees) → (state S.Store self.new.conn).may_leave trees
             → trees ≡ (state S.Store self.new.conn).committed.trees }
         ensures ready { IsOk result → self.new.condition ≡ Condition.Ready }
-        ensures output { IsWrittenOutAs result (W.calls writer.new) }
+        ensures output { IsWrittenOutAs result (record {
+          before = W.calls writer.old;
+          after = W.calls writer.new;
+        }) }
     {
         match told(self.apply_with(kept, key, command)) {
             Ok(verdict) => {
@@ -149,7 +155,10 @@ fn write_reply<W: CountedWrite>(
     verdict: &Verdict,
 ) -> Result<(), Ending>
     ensures line { WritesOut (W.contents writer.old) (W.contents writer.new) (reply number verdict.now) result }
-    ensures output { IsWrittenOutAs result (W.calls writer.new) }
+    ensures output { IsWrittenOutAs result (record {
+      before = W.calls writer.old;
+      after = W.calls writer.new;
+    }) }
 {
     let printed = print_reply(writer, number, verdict);
     flush_line(writer, printed)
@@ -158,7 +167,10 @@ fn write_reply<W: CountedWrite>(
 /// Writes the line of the fault at which a run stops out, and returns how it ended.
 fn stop<W: CountedWrite>(writer: &mut W, number: usize, fault: StoreFault) -> Ending
     ensures line { StopsWith number fault (W.contents writer.old) (W.contents writer.new) result }
-    ensures output { IsWrittenOut result (W.calls writer.new) }
+    ensures output { IsWrittenOut result (record {
+      before = W.calls writer.old;
+      after = W.calls writer.new;
+    }) }
 {
     let mut digits = Buffer::new();
     let texts = [digits.format(number), " fault ", fault.name(), "\n"];
@@ -176,7 +188,10 @@ fn flush_line<W: CountedWrite>(
 ) -> Result<(), Ending>
     ensures line { FlushesLine printed (W.contents writer.old) (W.contents writer.new) result }
     ensures output { OnErr printed (HasFailed (W.calls writer.old))
-        → IsWrittenOutAs result (W.calls writer.new) }
+        → IsWrittenOutAs result (record {
+          before = W.calls writer.old;
+          after = W.calls writer.new;
+        }) }
 {
     match printed {
         Ok(()) => flushed(writer.flush_counted()),

@@ -7,7 +7,7 @@ use Rattle.lot_stream.specs.declared.input.SlurpFault.{SlurpFault}
 use Rattle.lot_read.specs.declared.fault.TextFault.{TextFault}
 use Rattle.lot_report.specs.declared.fault.ReportFault.{ReportFault}
 use Rattle.lot_report.specs.declared.line.PrintFault.{PrintFault}
-use Rattle.lot_report.specs.Output.{HasFailed, IsFlushed, WriteCalls}
+use Rattle.lot_report.specs.Output.{HasFailed, IsFlushed, NoneFailed, WriteCalls, WritesMade}
 use Rattle.lot_stream.specs.declared.status.Status.{Status}
 use Rattle.lot_stream.specs.declared.status.Status.TheVariants.{Accepted, Refused, BadInput, Stopped}
 
@@ -39,6 +39,10 @@ after_flush status (Err error) = Stopped
 abbrev pub Ends : Result Status PrintFault → Option WriteCalls → Status → Type 0
 Ends (Ok status) calls end = ((end ≡ status) × IsFlushed calls) ⊎ ((end ≡ Stopped) × HasFailed calls)
 Ends (Err cut) calls end = end ≡ Stopped
+
+-- no call of the writer failed, or one did and the run ends as stopped
+abbrev pub EndsIfFailed : WritesMade → Status → Type 0
+EndsIfFailed calls end = NoneFailed calls.before calls.after ⊎ ((end ≡ Stopped) × HasFailed calls.after)
 
 -- a fault of the input is the input's; every other one stops the run
 abbrev pub status_of : Fault → Status

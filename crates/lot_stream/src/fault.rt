@@ -1,7 +1,7 @@
-ghost use Rattle.std.specs.Prelude.{◌≡◌, IfErr, OnErr};
+ghost use Rattle.std.specs.Prelude.{◌≡◌, IfErr, OnErr, OnOk};
 ghost use Rattle.lot_stream.specs.FaultLine.{fault_line, name_text};
 ghost use Rattle.lot_stream.specs.Status.{status_of};
-ghost use Rattle.lot_report.specs.Output.{HasFailed};
+ghost use Rattle.lot_report.specs.Output.{HasFailed, NoneFailed};
 ghost use Rattle.lot_report.specs.Written.{WritesLine};
 
 use crate::input::SlurpFault;
@@ -112,6 +112,7 @@ pub fn print_fault<W: CountedWrite>(writer: &mut W, fault: Fault) -> Result<(), 
         (fault_line fault) }
     ensures fault { IfErr result (λ fault. fault ≡ PrintFault.Write) }
     ensures cause { OnErr result (HasFailed (W.calls writer.new)) }
+    ensures none_failed { OnOk result (NoneFailed (W.calls writer.old) (W.calls writer.new)) }
 {
     let mut digits = Buffer::new();
     match fault {

@@ -17,6 +17,7 @@ sales-init g c = record {
   same_book = refl;
   reading = reads_from g.S.Store c.args.book.now c.gains-walk.result c.gains-walk.ensures.going c.gains-walk.ensures.same;
   usable = λ below. absurd (omega arith);
+  none_failed = refl;
   fresh = c.new-report.ensures.spent;
   feeds = record {
     given = [];
@@ -202,6 +203,7 @@ sales-preserved g c =
       same_book = c.in_ok-sale.ensures.same_reference ∙ loop.same_book;
       reading = walks_on g.S.Store (λ (sale : SaleParts). sale) HasLegs AreSalesWithin IsBehindSales c.args.book.now before after loop.reading c.in-Some.sale walks;
       usable = λ below. usable g.S.Store (λ (sale : SaleParts). sale) HasLegs AreSalesWithin IsBehindSales c.args.book.now before after loop.reading (Some c.in-Some.sale) walks;
+      none_failed = c.in_ok-row.ensures.none_failed ∙ loop.none_failed;
       fresh = is_false (is_spent c.row.new.self) c.in_ok-row.ensures.after.1;
       feeds = feeds_more before _ c.sales.report.progress feeds after _ c.row.new.self.progress c.in-Some.sale c.in-Some.sale tt refl walks rows
           (c.in_ok-row.ensures.text (map (λ (sale : SaleParts). sale) feeds.given) _ feeds.has.fed feeds.has.written);
@@ -228,15 +230,18 @@ returns-clause-reads g c =
     (reads_short g.S.Store c.args.book.now c.sales.walk.book.now loop.reading.read (loop.usable (omega arith))))
 
 pub returns-in_err-sale-clause-cause : goal.returns-in_err-sale-clause-cause
-returns-in_err-sale-clause-cause g c = of_walk c.from_residual.result c.in_err-sale.field-0.0 _ c.from_residual.ensures.1
+returns-in_err-sale-clause-cause g c = of_walk c.from_residual.result c.in_err-sale.field-0.0 (record { before = g.W.CountedWrite.calls c.args.writer.now; after = g.W.CountedWrite.calls c.sales.writer }) c.from_residual.ensures.1 c.sales.invariant.none_failed
 
 pub returns-in_err-end-clause-cause : goal.returns-in_err-end-clause-cause
 returns-in_err-end-clause-cause g c =
-    of_row c.from_residual-in_err-end.result c.in_err-end.field-0.0 _ c.from_residual-in_err-end.ensures.1 (λ is. c.in_err-end.ensures.cause (ap Err is))
+    of_row c.from_residual-in_err-end.result c.in_err-end.field-0.0 (record { before = g.W.CountedWrite.calls c.args.writer.now; after = g.W.CountedWrite.calls c.end.new.writer }) c.from_residual-in_err-end.ensures.1 (λ is. c.in_err-end.ensures.cause (ap Err is))
 
 pub returns-in_err-row-clause-cause : goal.returns-in_err-row-clause-cause
 returns-in_err-row-clause-cause g c =
-    of_row c.from_residual-in_err-row.result c.in_err-row.field-0.0 _ c.from_residual-in_err-row.ensures.1 (λ is. c.in_err-row.ensures.cause (ap Err is))
+    of_row c.from_residual-in_err-row.result c.in_err-row.field-0.0 (record { before = g.W.CountedWrite.calls c.args.writer.now; after = g.W.CountedWrite.calls c.row.new.writer }) c.from_residual-in_err-row.ensures.1 (λ is. c.in_err-row.ensures.cause (ap Err is))
 
 pub returns-clause-cause : goal.returns-clause-cause
-returns-clause-cause g c = of_walk (Err c.from.result) (Failed Memory) _ c.from.ensures
+returns-clause-cause g c = of_walk (Err c.from.result) (Failed Memory) (record { before = g.W.CountedWrite.calls c.args.writer.now; after = g.W.CountedWrite.calls c.sales.writer }) c.from.ensures c.sales.invariant.none_failed
+
+pub returns-in_default-clause-cause : goal.returns-in_default-clause-cause
+returns-in_default-clause-cause g c = c.in_ok-end.ensures.none_failed ∙ c.sales.invariant.none_failed

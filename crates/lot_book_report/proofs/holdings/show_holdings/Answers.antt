@@ -1,5 +1,5 @@
 -- The prices are read first, and then the holdings.
-use Rattle.std.proofs.Common.{Err, ap}
+use Rattle.std.proofs.Common.{Err, ap, refl}
 use Rattle.std.proofs.lemmas.Result.{err_from_is_err_and}
 use Rattle.sqlite.specs.Held.{state}
 use Rattle.lot_report.specs.Holdings.{IsEnd, fits, row_lines}
@@ -81,4 +81,4 @@ returns-in-None-clause-rows g c =
 
 pub returns-in_err-prices-in-Some-clause-cause : goal.returns-in_err-prices-in-Some-clause-cause
 returns-in_err-prices-in-Some-clause-cause g c =
-    of_book c.from_residual.result c.in_err-prices-in-Some.field-0.0 _ c.from_residual.ensures.1 c.in_err-prices-in-Some.ensures.fault
+    of_book c.from_residual.result c.in_err-prices-in-Some.field-0.0 (record { before = g.W.CountedWrite.calls c.args.writer.now; after = g.W.CountedWrite.calls c.args.writer.now }) c.from_residual.ensures.1 c.in_err-prices-in-Some.ensures.fault refl

@@ -17,6 +17,7 @@ entries-init g c = record {
   same_book = refl;
   reading = reads_from g.S.Store c.args.book.now c.journal-walk.result c.journal-walk.ensures.going c.journal-walk.ensures.same;
   usable = λ below. absurd (omega arith);
+  none_failed = refl;
   fresh = c.new-journal.ensures;
   written = record {
     printed = [];
@@ -154,6 +155,7 @@ entries-preserved g c =
       same_book = c.in_ok-entry.ensures.same_reference ∙ loop.same_book;
       reading = walks_on g.S.Store said HasCanonicalText AreEntries IsBehindEntries c.args.book.now before after loop.reading c.in-Some.entry walks;
       usable = λ below. usable g.S.Store said HasCanonicalText AreEntries IsBehindEntries c.args.book.now before after loop.reading (Some c.in-Some.entry) walks;
+      none_failed = c.in_ok-row.ensures.none_failed ∙ loop.none_failed;
       fresh = is_false (is_spent c.row.new.self) c.in_ok-row.ensures.after.1;
       written = grown _ before _ has c.in-Some.entry _ after (gave_more has.gave c.in-Some.entry walks rows)
           (c.in_ok-row.ensures.text has.printed _ has.written);
@@ -178,11 +180,14 @@ returns-clause-reads g c =
     (reads_short g.S.Store c.args.book.now c.entries.walk.book.now loop.reading.read (loop.usable (omega arith))))
 
 pub returns-in_err-entry-clause-cause : goal.returns-in_err-entry-clause-cause
-returns-in_err-entry-clause-cause g c = of_walk c.from_residual.result c.in_err-entry.field-0.0 _ c.from_residual.ensures.1
+returns-in_err-entry-clause-cause g c = of_walk c.from_residual.result c.in_err-entry.field-0.0 (record { before = g.W.CountedWrite.calls c.args.writer.now; after = g.W.CountedWrite.calls c.entries.writer }) c.from_residual.ensures.1 c.entries.invariant.none_failed
 
 pub returns-in_err-row-clause-cause : goal.returns-in_err-row-clause-cause
 returns-in_err-row-clause-cause g c =
-    of_entry c.from_residual-in_err-row.result c.in_err-row.field-0.0 _ c.from_residual-in_err-row.ensures.1 (λ is. c.in_err-row.ensures.cause (ap Err is))
+    of_entry c.from_residual-in_err-row.result c.in_err-row.field-0.0 (record { before = g.W.CountedWrite.calls c.args.writer.now; after = g.W.CountedWrite.calls c.row.new.writer }) c.from_residual-in_err-row.ensures.1 (λ is. c.in_err-row.ensures.cause (ap Err is))
 
 pub returns-clause-cause : goal.returns-clause-cause
-returns-clause-cause g c = of_walk (Err c.from.result) (Failed Memory) _ c.from.ensures
+returns-clause-cause g c = of_walk (Err c.from.result) (Failed Memory) (record { before = g.W.CountedWrite.calls c.args.writer.now; after = g.W.CountedWrite.calls c.entries.writer }) c.from.ensures c.entries.invariant.none_failed
+
+pub returns-in_default-clause-cause : goal.returns-in_default-clause-cause
+returns-in_default-clause-cause g c = rw c.in_ok-end.ensures.text c.entries.invariant.none_failed

@@ -6,15 +6,16 @@ use Rattle.lot_cli.proofs.report.write_report.Goals as goal
 
 pub returns-in-Ok-clause-reports : goal.returns-in-Ok-clause-reports
 returns-in-Ok-clause-reports g c =
-    subst (λ conn. Reports c.args.report (state g.S.Store c.args.conn) (state g.S.Store conn) (g.W.CountedWrite.contents c.args.writer.now) (g.W.CountedWrite.contents c.conclude.new.writer) (g.W.CountedWrite.calls c.conclude.new.writer) c.conclude.result)
+    subst (λ conn. Reports c.args.report (state g.S.Store c.args.conn) (state g.S.Store conn) (g.W.CountedWrite.contents c.args.writer.now) (g.W.CountedWrite.contents c.conclude.new.writer) (record { before = g.W.CountedWrite.calls c.args.writer.now; after = g.W.CountedWrite.calls c.conclude.new.writer }) c.conclude.result)
     (sym c.into_connection.ensures.same)
-    (reported g.S.Store c.args.report (state g.S.Store c.args.conn) c.in-Ok.book c.show-shown.new.book c.show-shown.result _ _ _ _ c.conclude.result
-    c.in-Ok.ensures.taken c.in-Ok.ensures.same c.in-Ok.ensures.crash_ok c.in-Ok.ensures.ready c.show-shown.ensures.reads c.show-shown.ensures.shows c.show-shown.ensures.some c.show-shown.ensures.rows (c.conclude.ensures.concludes c.show-shown.ensures.cause))
+    (reported g.S.Store c.args.report (state g.S.Store c.args.conn) c.in-Ok.book c.show-shown.new.book c.show-shown.result _ _ _ (g.W.CountedWrite.calls c.args.writer.now) (g.W.CountedWrite.calls c.show-shown.new.writer) (g.W.CountedWrite.calls c.conclude.new.writer) c.conclude.result
+    c.in-Ok.ensures.taken c.in-Ok.ensures.same c.in-Ok.ensures.crash_ok c.in-Ok.ensures.ready c.show-shown.ensures.reads c.show-shown.ensures.shows c.show-shown.ensures.some c.show-shown.ensures.rows c.show-shown.ensures.cause
+    (c.conclude.ensures.concludes (g.W.CountedWrite.calls c.args.writer.now) c.show-shown.ensures.cause))
 
 pub returns-in-Err-clause-reports : goal.returns-in-Err-clause-reports
 returns-in-Err-clause-reports g c =
-    subst (λ conn. Reports c.args.report (state g.S.Store c.args.conn) (state g.S.Store conn) (g.W.CountedWrite.contents c.args.writer.now) (g.W.CountedWrite.contents c.halted.new.writer) (g.W.CountedWrite.calls c.halted.new.writer) c.halted.result.status)
+    subst (λ conn. Reports c.args.report (state g.S.Store c.args.conn) (state g.S.Store conn) (g.W.CountedWrite.contents c.args.writer.now) (g.W.CountedWrite.contents c.halted.new.writer) (record { before = g.W.CountedWrite.calls c.args.writer.now; after = g.W.CountedWrite.calls c.halted.new.writer }) c.halted.result.status)
     (sym c.halted.ensures.same)
-    (report_refused c.args.report (state g.S.Store c.args.conn) (state g.S.Store c.in-Err.field-0.conn) _ _ _ c.in-Err.field-0.fault c.halted.result.status
+    (report_refused c.args.report (state g.S.Store c.args.conn) (state g.S.Store c.in-Err.field-0.conn) _ _ (record { before = g.W.CountedWrite.calls c.args.writer.now; after = g.W.CountedWrite.calls c.halted.new.writer }) c.in-Err.field-0.fault c.halted.result.status
     c.in-Err.ensures.tells_err c.in-Err.ensures.refused c.in-Err.ensures.handed_back c.in-Err.ensures.undone c.in-Err.ensures.crash_err
     c.halted.ensures.says)

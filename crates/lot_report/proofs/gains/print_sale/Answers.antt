@@ -2,6 +2,7 @@ use Rattle.std.proofs.Common.{Err, Ok, [], ◌∷◌, map}
 use Rattle.std.proofs.lemmas.Result.{err_from_is_err_and}
 use Rattle.lot_report.proofs.FedLemmas.{lines_follow, lines_of_items, lines_stop, one_line}
 use Rattle.lot_report.specs.Gains.{gained, leg_line, sale_line}
+use Rattle.lot_report.proofs.OutputLemmas.{none_then}
 use Rattle.lot_report.proofs.gains.print_sale.Goals as goal
 
 pub returns-clause-lines : goal.returns-clause-lines
@@ -18,3 +19,6 @@ returns-in_err-print_front-clause-lines g c =
     rw (fault.1, fault.2)
     (lines_stop (sale_line sale (gained sale) ∷ []) (map (leg_line sale.commodity) sale.legs) _ _ c.in_err-print_front.field-0.0
     (one_line _ _ _ (Err c.in_err-print_front.field-0.0) c.in_err-print_front.ensures.line))
+
+pub returns-clause-none_failed : goal.returns-clause-none_failed
+returns-clause-none_failed g c = none_then c.print_legs.result _ _ _ c.in_ok-print_front.ensures.none_failed c.print_legs.ensures.none_failed

@@ -16,7 +16,7 @@ returns-in_err-write_reply-in-Ok-clause-replies g c =
 
 pub returns-in_err-write_reply-in-Ok-clause-output : goal.returns-in_err-write_reply-in-Ok-clause-output
 returns-in_err-write_reply-in-Ok-clause-output g c =
-    err_out c.from_residual.result _ _ c.from_residual.ensures.1 c.in_err-write_reply-in-Ok.ensures.output
+    err_out c.from_residual.result _ _ _ c.from_residual.ensures.1 c.in_err-write_reply-in-Ok.ensures.output
 
 pub returns-in-Err-clause-replies : goal.returns-in-Err-clause-replies
 returns-in-Err-clause-replies g c =

@@ -2,12 +2,13 @@ use Rattle.std.proofs.Common.{◌≡◌, ◌∙◌, ◌+◌, ◌∷◌, [], None
 use Rattle.sqlite.specs.Held.{state}
 use Rattle.lot_load.specs.Kept.{IsOf}
 use Rattle.lot_store.specs.Run.{StopsWith}
+use Rattle.lot_store.proofs.OutputLemmas.{out_then}
 use Rattle.lot_store.proofs.RunLemmas.{SoFar, few_refused, ready_fault, ready_ok, reply_usable, leaves_what_stands, run_completes, run_ends, run_needs_reopening, so_far_next, so_far_none, spent_if}
 use Rattle.lot_store.proofs.book.Book.run.Goals as goal
 
 pub commands-init : goal.commands-init
 commands-init g c =
-    (so_far_none (IsOf None) (λ entries. tt) c.args.commands.now c.args.from (state g.S.Store c.args.self.now.conn) _, ready_ok c.args.self.now.condition (sym c.ready.ensures.value ∙ c.in_default.is), λ flushed. flushed)
+    (so_far_none (IsOf None) (λ entries. tt) c.args.commands.now c.args.from (state g.S.Store c.args.self.now.conn) _, ready_ok c.args.self.now.condition (sym c.ready.ensures.value ∙ c.in_default.is), λ flushed. (flushed, refl))
 
 pub overflow_add-refused : goal.overflow_add-refused
 overflow_add-refused g c =
@@ -32,7 +33,7 @@ pub returns-in-Err-reply : goal.returns-in-Err-reply
 returns-in-Err-reply g c = record {
   spent = λ is. let both = sym is ∙ ready_ok c.args.self.now.condition (sym c.ready.ensures.value ∙ c.in_default.is) in absurd cc;
   safe = c.reply.ensures.safe;
-  output = λ flushed. c.in-Err-reply.ensures.output;
+  output = λ flushed. out_then _ _ _ c.in-Err-reply.ending (c.commands.invariant.2 flushed).1 c.in-Err-reply.ensures.output;
   usable = λ ready. reply_usable (IsOf c.commands.kept) (IsOf c.reply.new.kept) _ _ (c.args.from + c.commands.index) (state g.S.Store c.commands.self.conn) (state g.S.Store c.reply.new.self.conn) _ _ c.reply.new.self.condition c.in-Err-reply.ending c.in-Err-reply.ensures.replies;
   runs = run_ends (IsOf c.commands.kept) (IsOf c.reply.new.kept) c.args.commands.now c.args.from c.commands.index c.commands.refused (c.args.from + c.commands.index) (state g.S.Store c.args.self.now.conn) (state g.S.Store c.commands.self.conn)
       (state g.S.Store c.reply.new.self.conn) _ _ _ c.commands.invariant.0 c.index-commands-index.result _ c.index-commands-index.is c.commands-test.true refl c.in-Err-reply.ending
@@ -47,7 +48,7 @@ commands-preserved g c = (
       (state g.S.Store c.reply.new.self.conn) _ _ _ c.commands.invariant.0 c.index-commands-index.result _ c.index-commands-index.is c.commands-test.true refl c.in-Ok.verdict
       c.reply.new.self.condition c.in-Ok.ensures.replies c.reply.ensures.safe),
   c.in-Ok.ensures.ready refl,
-  λ flushed. c.in-Ok.ensures.output,
+  λ flushed. (c.in-Ok.ensures.output.0, c.in-Ok.ensures.output.1 ∙ (c.commands.invariant.2 flushed).1),
 )
 
 pub returns : goal.returns
