@@ -1,5 +1,6 @@
 #!/usr/bin/env bash
-# Books in files: they are made and posted to, sent again, stopped at any moment, and looked into by SQLite's own library.
+# Books in files: they are made and posted to, their lots are numbered as they are opened, batches are sent again, calls are stopped at
+# any moment, and SQLite's own library looks into the files.
 source "$(dirname "$(readlink -f "${BASH_SOURCE[0]}")")/lib/cases.sh"
 need_program
 
@@ -47,6 +48,88 @@ shows "four entries" "1|post:a|1
 4|post:b|3" rows "$book" "SELECT number, source, name FROM entry ORDER BY number"
 shows "what is held" $'Assets:Broker 20 HOOL {502.12 USD, 2020-01-02}\nAssets:Cash -10042.40 USD\ntotal cost 10042.40 USD' holdings "$book"
 shows "integrity" ok sound "$book"
+shows "the edition" "lot-book|2" rows "$book" "SELECT mark, edition FROM book"
+shows "no entry was migrated" 0 rows "$book" "SELECT entries FROM migration"
+shows "thirteen tables, in the order of their making" \
+    "book account allowed commodity price entry leg sale lot plain head opening migration" \
+    rows "$book" "SELECT group_concat(name, ' ') FROM (SELECT name FROM sqlite_schema WHERE type = 'table' ORDER BY rootpage)"
+
+# ---- opening numbers: 64 for each entry before, and the place of the posting, of the last leg before which the lot was empty
+
+# numbers NAME TEXT: the rows of `opening` of the book in `book`, which are those that its legs leave.
+numbers() {
+    shows "$1" "$2" openings "$book"
+    shows "$1, by the legs" "$2" numbered "$book"
+}
+book=$scratch/openings.book
+makes "$book"
+prints "a lot that is emptied, and opened again behind another one" 0 "$(seq -f '%g accepted' 8)" post --book "$book" --batch a <<'END'
+2020-01-01 open Assets:Broker "FIFO"
+2020-01-01 open Assets:Cash
+2020-01-01 open Income:Gains
+2020-01-01 open Equity:Start
+2020-01-02 *
+  Assets:Broker 5 HOOL {100 USD, "b"}
+  Equity:Start
+2020-01-02 *
+  Assets:Broker 5 HOOL {100 USD, "a"}
+  Equity:Start
+2020-01-02 *
+  Assets:Broker -5 HOOL {"b"}
+  Assets:Cash
+2020-01-02 *
+  Assets:Broker 5 HOOL {100 USD, "b"}
+  Equity:Start
+END
+# Entry 8, posting 1: 64 * 7 + 1. The other lot is of entry 6.
+numbers "its opening number" 'Assets:Broker HOOL {100 USD, 2020-01-02, "a"} 321
+Assets:Broker HOOL {100 USD, 2020-01-02, "b"} 449'
+# Entries 9 to 12, since a refused command is none: the lots are opened by posting 4 of entry 10, 64 * 9 + 4, and by posting 3 of
+# entry 12, 64 * 11 + 3.
+prints "openings within transactions" 1 "1 accepted
+2 refused L14 NotBalanced USD
+3 accepted
+4 accepted
+5 accepted" post --book "$book" --batch b <<'END'
+2020-01-02 * "One is emptied, and the third posting opens it again; the other is added to. The fill has no leg"
+  Equity:Start
+  Assets:Broker -5 HOOL {"a"}
+  Assets:Broker 5 HOOL {100 USD, "a"}
+  Assets:Broker 1 HOOL {100 USD, "b"}
+  Assets:Broker -1 HOOL {100 USD, "b"}
+2020-01-02 *
+  Assets:Broker 5 HOOL {100 USD, "c"}
+2020-01-02 * "Twice in one transaction"
+  Assets:Broker -5 HOOL {"a"}
+  Assets:Broker 2 HOOL {100 USD, "a"}
+  Assets:Broker -2 HOOL {"a"}
+  Assets:Broker 1 HOOL {100 USD, "a"}
+  Assets:Broker 1 HOOL {100 USD, "a"}
+  Equity:Start
+2020-01-01 open Assets:Any "NONE"
+2020-01-02 * "Without a method a lot of the other sign empties it"
+  Assets:Any 5 HOOL {100 USD}
+  Assets:Any -5 HOOL {100 USD}
+  Assets:Any -3 HOOL {100 USD}
+  Equity:Start
+END
+numbers "their opening numbers" 'Assets:Any HOOL {100 USD, 2020-01-02} 707
+Assets:Broker HOOL {100 USD, 2020-01-02, "a"} 580
+Assets:Broker HOOL {100 USD, 2020-01-02, "b"} 449'
+# Lots of another label are opened by posting 64 of entry 13 and by posting 1 of entry 14: 64 * 12 + 64 and 64 * 13 + 1.
+{
+    echo '2020-01-02 * "64 postings"' && yes '  Equity:Start 0 USD' | head -n 62
+    printf '  Equity:Start -1 USD\n  Assets:Broker 1 HOOL {1 USD, "z"}\n'
+    printf '2020-01-02 *\n  Assets:Broker 1 HOOL {1 USD, "y"}\n  Equity:Start\n'
+    printf '2020-01-03 *\n  Assets:Broker -8 HOOL {}\n  Equity:Start\n'
+} | prints "openings on either side of a multiple of 64" 0 "$(seq -f '%g accepted' 3)" post --book "$book" --batch c
+# The sale takes 5 of "b", 2 of "a" and 1 of "z": "y" was opened last.
+numbers "what the sale leaves" 'Assets:Any HOOL {100 USD, 2020-01-02} 707
+Assets:Broker HOOL {1 USD, 2020-01-02, "y"} 833'
+shows "from which it took in the order of their openings" $'0|b|-5\n1|a|-2\n2|z|-1' \
+    rows "$book" "SELECT place, cost_label, units / 100000000 FROM leg WHERE entry = 15 AND posting = 1 ORDER BY place"
+shows "the number of a lot is gone with it" 2 rows "$book" "SELECT count(*) FROM opening"
+book=$scratch/family.book
 
 # ---- the stored cases, on a file
 
@@ -124,9 +207,28 @@ shows "the other table" kept rows "$scratch/other.db" "SELECT content FROM notes
 makes "$scratch/newer.book"
 tables edition "$scratch/newer.book" 9
 refused "a book of edition 9" "$scratch/newer.book" "fault S1 NotABook" "fault S2 NewerEdition"
+makes "$scratch/next.book"
+tables edition "$scratch/next.book" 3
+refused "a book of edition 3" "$scratch/next.book" "fault S1 NotABook" "fault S2 NewerEdition"
 makes "$scratch/none.book"
 tables edition "$scratch/none.book" 0
 refused "a book of edition 0" "$scratch/none.book" "fault S1 NotABook" "fault S1 NotABook"
+
+# One that a program of edition 1 left, of eleven tables, and one that only says so.
+tables older "$scratch/older.book"
+makes "$scratch/back.book"
+tables edition "$scratch/back.book" 1
+for file in "$scratch/older.book" "$scratch/back.book"; do
+    name="a book of edition 1, ${file##*/}"
+    on "init on $name" "$file" 4 "fault S1 NotABook" init --book "$file" </dev/null
+    on "a faulty text on $name" "$file" 3 "fault line 1 X6 BadDay" post --book "$file" --batch a <"$scratch/faulty"
+    before=$(kept "$file")
+    run post --book "$file" --batch b <"$scratch/good"
+    older "post on $name"
+    run post --book "$file" --batch a --from 7 </dev/null
+    older "post of nothing on $name"
+    if [[ $(kept "$file") == "$before" ]]; then pass "$name is as it was"; else fail "$name is as it was" "the file changed"; fi
+done
 
 mkdir "$scratch/folder"
 closed "a folder" "$scratch/folder"

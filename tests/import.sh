@@ -89,6 +89,18 @@ printf '%s\n' "$header" "$row" "A2${row#A1}" |
     run import --gains Income:Gains --from 2 --fees Expenses:Fees --cash Assets:Cash --invest Assets:Broker --batch=x --book="$book"
 answers "the options in another order" 0 "2 repeat"
 
+# A lot whose row in one of the two tables is gone.
+begin "$openings"
+printf '%s\n' "$header" "$row" | import
+answers "a purchase" 0 "1 accepted"
+python3 -B "$root/tests/book/tables.py" rows "$book" "DELETE FROM opening"
+printf '%s\n' "$header" "$row" "A2,2020-01-03,SELL,HOOL,1,100,USD," | import --from 2
+answers "a sale from a lot without its opening number" 4 "2 fault S7 Damaged"
+
+begin "$openings"
+printf '%s\n' "$header" "$row" | import
+answers "the purchase in a new book" 0 "1 accepted"
+
 # Long files.
 { echo "$header" && rows 100000; } | import --from 100000
 answers "100,000 rows" 0 "100000 repeat"
@@ -121,6 +133,12 @@ printf '%s\n' "$header" "$row" | import
 answers "another database" 4 "fault S1 NotABook"
 printf '%s\n' "$header" "$row" "$inexact" | import
 answers "a faulty file and another database" 3 "fault row 2 C4 InexactAmount"
+rm -f "$book"*
+python3 -B "$root/tests/book/tables.py" older "$book"
+printf '%s\n' "$header" "$row" | import
+older "a book of edition 1"
+printf '%s\n' "$header" "$row" "$inexact" | import
+answers "a faulty file and a book of edition 1" 3 "fault row 2 C4 InexactAmount"
 rm -f "$book"*
 echo "no database" >"$book"
 printf '%s\n' "$row" | import

@@ -2,7 +2,8 @@
 # The program beside a plain judge and a second reader in Python, which were written from docs/RULES.md and docs/FORMATS.md alone:
 # on some thousand small ledgers that are drawn from fixed seeds, on texts of them that are changed at random, most of which are
 # faulty, and on ledgers of 10,000 lots. Each whole answer is compared, byte for byte, with its status. Every kind of refusal and
-# booking, every form of a line and every fault of text has to occur. tests/random/compare.py says how to repeat one seed.
+# booking, every order in which two or three lots that tie can be opened, every form of a line and every fault of text has to occur.
+# tests/random/compare.py says how to repeat one seed.
 source "$(dirname "$(readlink -f "${BASH_SOURCE[0]}")")/lib/cases.sh"
 need_program
 run_python tests/random/compare.py "$program" "$@"

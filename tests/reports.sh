@@ -165,6 +165,10 @@ for word in holdings "holdings --day 2020-01-01" gains journal; do
     "$program" init --book "$scratch/newer.book" </dev/null >/dev/null
     python3 -B "$root/tests/book/tables.py" edition "$scratch/newer.book" 9
     prints "$word of a book of edition 9" 4 "fault S2 NewerEdition" "${words[@]}" --book "$scratch/newer.book" </dev/null
+    rm -f "$scratch/older.book"*
+    python3 -B "$root/tests/book/tables.py" older "$scratch/older.book"
+    run "${words[@]}" --book "$scratch/older.book" </dev/null
+    older "$word of a book of edition 1"
     printf 'no database, but a text\n' >"$scratch/text.book"
     run "${words[@]}" --book "$scratch/text.book" </dev/null
     if ((status == 4)) && [[ $(<"$scratch/out") == "fault open" && -s $scratch/err ]]; then

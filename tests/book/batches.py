@@ -3,7 +3,8 @@
     batches.py PROGRAM FOLDER SCRATCH
 
 The replies are those of the stored answer, with the number 1 where a command is alone, and the tables hold what the stored
-answer prints. A faulty text has its fault, and changes nothing. It prints a line `ok NAME` or `FAILED NAME: ..` for each case.
+answer prints, with the opening number that the legs give each lot, and no migrated entry. A faulty text has its fault, and changes
+nothing. It prints a line `ok NAME` or `FAILED NAME: ..` for each case.
 """
 
 import concurrent.futures
@@ -63,7 +64,11 @@ def fault_of(program, book, text, answer, batches):
     held = tables.holdings(book)
     if held != answer[len(replies):]:
         return f"the tables hold {held[:3]}"
-    return ""
+    wrong = set(tables.openings(book)) ^ set(tables.openings_of_legs(book))
+    if wrong:
+        return f"other opening numbers: {sorted(wrong)[:3]}"
+    migrations = tables.contents(book)["migration"]
+    return "" if migrations == [(0,)] else f"rows of migration: {migrations}"
 
 
 def cases(folder):

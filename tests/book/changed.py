@@ -3,9 +3,10 @@
     changed.py PROGRAM SCRATCH
 
 Each case changes a copy of one book: a value of a row that no book has, a table that is gone, one of another form, columns that hold
-other types. Then a report or a post that reads this row ends with S7, or with S1 or S2 where it is the table `book`, and the book is
-as it was changed. What tests/reports/ shows of damaged rows doesn't stand here again. It prints a line `ok NAME` or `FAILED NAME: ..`
-for each case.
+other types. Then a report or a post that reads this row ends with S7, or with S1, S2 or S3 where it is the table `book`, and the book
+is as it was changed. What tests/reports/ shows of damaged rows doesn't stand here again. A row of `opening` without its row of `lot`, or
+the other way round, is S7 of a post to that account and commodity with braces. No report reads `opening`, and no call reads
+`migration` yet: whatever stands there, these answer as ever. It prints a line `ok NAME` or `FAILED NAME: ..` for each case.
 """
 
 import concurrent.futures
@@ -131,32 +132,74 @@ ROWS = [
     ("plain", "account = 'Assets:Cash'", "units", ["1000000000000000000", *UNITS], "holdings"),
     ("plain", "account = 'Assets:Cash'", "units", ["0", *UNITS], "buy"),
     ("head", "1", "day", [*DAYS, "-4294967296"], "buy"),
+    ("opening", "1", "opening", ["0", "-1", "-449", "-9223372036854775808"], "buy"),
+    ("opening", "1", "opening", ["0", "-1"], "sell"),
+    # The key of another row, or of one that no lot can have: the row of `lot` is then without its own.
+    ("opening", "1", "account", ["'Assets:Cash'", *ACCOUNTS], "buy"),
+    ("opening", "1", "commodity", ["'USD'", "''", *COMMODITIES], "sell"),
+    ("opening", "1", "cost_day", ["18263", *DAYS], "sell"),
+    ("opening", "1", "cost_currency", ["'EUR'", "''", *COMMODITIES], "buy"),
+    ("opening", "1", "cost_number", ["10000000001", "-1", "10000000000000000"], "sell"),
+    ("opening", "1", "cost_label", ["''", "'b'", "'A'", *LABELS], "buy"),
 ]
 
 # Values of the table `book`, as a mark and an edition, and what every call answers.
-NOT_A_BOOK, NEWER = "fault S1 NotABook", "fault S2 NewerEdition"
+NOT_A_BOOK, NEWER, OLDER = "fault S1 NotABook", "fault S2 NewerEdition", "fault S3 OlderEdition"
 MARKS = {
     "no row": ("", NOT_A_BOOK),
-    "another mark": ("('lot-books', 1)", NOT_A_BOOK),
-    "a mark in capitals": ("('LOT-BOOK', 1)", NOT_A_BOOK),
-    "a part of the mark": ("('lot', 1)", NOT_A_BOOK),
-    "an empty mark": ("('', 1)", NOT_A_BOOK),
-    "a mark of bytes": ("(x'6c6f742d626f6f6b', 1)", NOT_A_BOOK),
-    "a number as mark": ("(1, 1)", NOT_A_BOOK),
-    "no mark": ("(NULL, 1)", NOT_A_BOOK),
-    "two rows": ("('lot-book', 1), ('other', 1)", NOT_A_BOOK),
-    "two rows, ours behind": ("('a', 1), ('lot-book', 1)", NOT_A_BOOK),
-    "the row twice": ("('lot-book', 1), ('lot-book', 1)", NOT_A_BOOK),
+    "another mark": ("('lot-books', 2)", NOT_A_BOOK),
+    "another mark of edition 1": ("('lot-books', 1)", NOT_A_BOOK),
+    "a mark in capitals": ("('LOT-BOOK', 2)", NOT_A_BOOK),
+    "a part of the mark": ("('lot', 2)", NOT_A_BOOK),
+    "an empty mark": ("('', 2)", NOT_A_BOOK),
+    "a mark of bytes": ("(x'6c6f742d626f6f6b', 2)", NOT_A_BOOK),
+    "a number as mark": ("(2, 2)", NOT_A_BOOK),
+    "no mark": ("(NULL, 2)", NOT_A_BOOK),
+    "two rows": ("('lot-book', 2), ('other', 2)", NOT_A_BOOK),
+    "two rows, ours behind": ("('a', 2), ('lot-book', 2)", NOT_A_BOOK),
+    "the row twice": ("('lot-book', 2), ('lot-book', 2)", NOT_A_BOOK),
+    "two rows of two editions": ("('lot-book', 2), ('lot-book', 1)", NOT_A_BOOK),
     "edition -1": ("('lot-book', -1)", NOT_A_BOOK),
-    "a text as edition": ("('lot-book', '1')", NOT_A_BOOK),
+    "edition 0": ("('lot-book', 0)", NOT_A_BOOK),
+    "a text as edition": ("('lot-book', '2')", NOT_A_BOOK),
+    "a text as edition 1": ("('lot-book', '1')", NOT_A_BOOK),
     "a fraction as edition": ("('lot-book', 1.5)", NOT_A_BOOK),
-    "bytes as edition": ("('lot-book', x'31')", NOT_A_BOOK),
+    "bytes as edition": ("('lot-book', x'32')", NOT_A_BOOK),
     "no edition": ("('lot-book', NULL)", NOT_A_BOOK),
-    "edition 2": ("('lot-book', 2)", NEWER),
+    "edition 1": ("('lot-book', 1)", OLDER),
+    "edition 3": ("('lot-book', 3)", NEWER),
+    "edition 4294967298": ("('lot-book', 4294967298)", NEWER),
     "the greatest edition": ("('lot-book', 9223372036854775807)", NEWER),
 }
 
-# Of each table but `book` the columns that are read, and the probe that reads a row, found by its key or in the order of it.
+# Rows that are there or aren't, and the probes that meet that: those that post with braces to the account and commodity.
+LOTS = "account, commodity, cost_day, cost_currency, cost_number, 'b'"
+OTHERS = "'Assets:Old', commodity, cost_day, cost_currency, cost_number, cost_label"
+AT_LOTS = ("buy", "sell")
+APART = {
+    "no row of opening": ("DELETE FROM opening", AT_LOTS),
+    "no row of lot": ("DELETE FROM lot", AT_LOTS),
+    "a row of opening more": (f"INSERT INTO opening SELECT {LOTS}, opening FROM opening", AT_LOTS),
+    "a row of lot more": (f"INSERT INTO lot SELECT {LOTS}, units FROM lot", AT_LOTS),
+    "a row of opening of another account": (f"INSERT INTO opening SELECT {OTHERS}, opening FROM opening", ()),
+}
+
+# Rows of `opening` that no report reads, and of `migration`, that no call reads. A posting asks for the table `opening`.
+UNREAD = {
+    "holdings values gains journal declare quote again other": [
+        "DROP TABLE opening", "ALTER TABLE opening RENAME COLUMN opening TO other",
+    ],
+    "holdings values gains journal declare quote again other back": [
+        "DELETE FROM opening", "UPDATE opening SET opening = 0", "UPDATE opening SET account = 'x'",
+    ],
+    " ".join(PROBES): [
+        "DELETE FROM migration", "UPDATE migration SET entries = 9", "UPDATE migration SET entries = -1", "DROP TABLE migration",
+        "UPDATE migration SET entries = 9223372036854775807", "INSERT INTO migration VALUES (1)",
+        "ALTER TABLE migration RENAME COLUMN entries TO other",
+    ],
+}  # fmt: skip
+
+# Of each table but `book` and `migration` the columns that are read, and the probe that reads a row, found by its key or in the order of it.
 COLUMNS = {
     "account": ("opened closed method", "name = 'Assets:Broker'", "buy"),
     "allowed": ("place commodity", "place = 1", "buy"),
@@ -168,6 +211,7 @@ COLUMNS = {
     "lot": ("account commodity cost_day cost_currency cost_number cost_label units", "1", "holdings"),
     "plain": ("account commodity units", "account = 'Assets:Cash'", "holdings"),
     "head": ("day", "1", "buy"),
+    "opening": ("account commodity cost_day cost_currency cost_number cost_label opening", "1", "sell"),
 }
 
 # The columns by which the rows of a report are read: a sale from 0 on, an entry from the least number, others from the least text. What
@@ -186,6 +230,7 @@ NEEDED = {
     "lot": ["holdings", "buy"],
     "plain": ["holdings", "buy"],
     "head": ["buy"],
+    "opening": ["buy", "sell"],
 }
 
 
@@ -224,6 +269,11 @@ def without_types(db, table):
     ]
 
 
+def is_told(fault, errors):
+    """Whether these are the messages beside a fault: of an older edition a line says what helps."""
+    return errors.endswith("\n") and errors.count("\n") == 1 if fault == OLDER else not errors
+
+
 def is_within(lines, all_lines):
     """Whether lines are some of the others, in their order."""
     rest = iter(all_lines)
@@ -235,12 +285,19 @@ def fault_of(program, book, statements, name, fault, sound):
     held = changed(book, statements)
     output, errors, status = probe(program, book, name)
     lines = output.splitlines()
-    if errors or status != 4 or not lines or lines[-1] not in (fault, f"1 {fault}"):
+    if not is_told(fault, errors) or status != 4 or not lines or lines[-1] not in (fault, f"1 {fault}"):
         return f"status {status}, {lines[-1:]}, '{errors[:60]}'"
     if not is_within(lines[:-1], sound):
         return f"other lines before the fault: {lines[:3]}"
     with tables.connect(book) as db:
         return "" if dump(db) == held else "the file holds something else"
+
+
+def as_ever(program, book, statements, name, sound):
+    """What is wrong with the answer of a probe on a copy of the book where what the statements changed isn't read, or nothing."""
+    changed(book, statements)
+    answer = probe(program, book, name)
+    return "" if answer == sound else f"{answer}"
 
 
 def wrong_types(db, table, column, row):
@@ -275,6 +332,26 @@ def damages(db):
         for name in ("buy", "holdings"):
             yield f"{name} with {what} in the table book", statements, name, fault
     yield "buy with a table book of another form", ["DROP TABLE book", "CREATE TABLE book (other)"], "buy", NOT_A_BOOK
+    for what, (statement, names) in APART.items():
+        for name in names:
+            yield f"{name} where there is {what}", [statement], name, damaged
+
+
+def unread(db):
+    """The name, the statements and the probe of each case of a changed book that is answered as ever."""
+    for names, statements in UNREAD.items():
+        for statement in statements:
+            for name in names.split():
+                yield f"{name} after {statement}", [statement], name
+    for value in ("'0'", "0.5", "x'30'", "NULL"):
+        statements = [*without_types(db, "migration"), f"UPDATE migration SET entries = {value}"]
+        for name in PROBES:
+            yield f"{name} with migration.entries = {value} in a column without a type", statements, name
+    for what, (statement, names) in APART.items():
+        for name in PROBES:
+            is_of_lots = "lot" in what.split() and name in ("holdings", "values")
+            if name not in names and not is_of_lots:
+                yield f"{name} where there is {what}", [statement], name
 
 
 def takings():
@@ -316,7 +393,11 @@ def full(program, book):
     if answer != wanted:
         return f"{answer}"
     answer = call(program, ["post", "--book", book, "--batch", "c"], PROBES["quote"][1])
-    return "" if answer == ("1 refused L16 BookFull\n", "", 1) else f"then {answer}"
+    if answer != ("1 refused L16 BookFull\n", "", 1):
+        return f"then {answer}"
+    with tables.connect(book) as db:
+        numbers = list(db.execute("SELECT opening FROM opening ORDER BY opening"))
+    return "" if numbers == [(64 * 7 + 1,), (64 * 1_999_999_999 + 1,)] else f"opening numbers {numbers}"
 
 
 # Each byte that a label may have alone, then some of several bytes, and as many as there may be.
@@ -379,12 +460,13 @@ def main():
             return pool.submit(call_, program, book, *words)
 
         with tables.connect(first) as db:
-            cases = list(damages(db))
-        answers = {name: on_copy(probe, name) for name in PROBES}
-        sound = {name: answer.result()[0].splitlines() for name, answer in answers.items()}
+            cases, passed_over = list(damages(db)), list(unread(db))
+        answers = {name: job.result() for name, job in [(name, on_copy(probe, name)) for name in PROBES]}
+        sound = {name: answer[0].splitlines() for name, answer in answers.items()}
         wrong = [name for name, lines in sound.items() if not lines or "fault" in lines[-1]]
         print(f"FAILED without a change: {wrong}" if wrong else "ok without a change each is answered")
         jobs = [(case, on_copy(fault_of, statements, name, fault, sound[name])) for case, statements, name, fault in cases]
+        jobs += [(case, on_copy(as_ever, statements, name, answers[name])) for case, statements, name in passed_over]
         jobs += [(f"init where there is {what}", on_copy(taken, make, drop, copies=False)) for what, make, drop in takings()]
         jobs.append(("a book with as many entries as there may be", on_copy(full)))
         jobs.append(("lots whose labels have each byte", on_copy(labelled, copies=False)))

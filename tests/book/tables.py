@@ -2,10 +2,13 @@
 
     tables.py rows FILE QUERY       prints the rows of a query, columns apart by a bar
     tables.py holdings FILE         prints what the rows of `lot` and `plain` hold, as the program prints holdings
+    tables.py openings FILE         prints the rows of `opening`
+    tables.py numbered FILE         prints the rows of `opening` as the rows of `leg` leave them
     tables.py sound FILE            prints what `integrity_check` says
     tables.py edition FILE NUMBER   gives the book another edition
     tables.py damage FILE           adds an account that no book has, with units
     tables.py foreign FILE NAME     makes a database with one table of that name and one row
+    tables.py older FILE            makes a book of edition 1, whose text is edition-1.sql
 """
 
 import contextlib
@@ -19,7 +22,12 @@ sys.path.insert(0, os.path.join(os.path.dirname(os.path.abspath(__file__)), ".."
 
 import model  # noqa: E402  (the folder is named above)
 
-TABLES = ("book", "account", "allowed", "commodity", "price", "entry", "leg", "sale", "lot", "plain", "head")
+TABLES = ("book", "account", "allowed", "commodity", "price", "entry", "leg", "sale", "lot", "plain", "head", "opening", "migration")
+
+# A book as a program of edition 1 left it: seven entries, of which the last is a sale from the lot of the label "a".
+OLDER = os.path.join(os.path.dirname(os.path.abspath(__file__)), "edition-1.sql")
+
+KEY = "account, commodity, cost_day, cost_currency, cost_number, cost_label"
 
 
 def connect(path):
@@ -99,6 +107,30 @@ def holdings(path, day=None):
     return lines + totals_of("cost", totals) + totals_of("value", values) or ["nothing held"]
 
 
+def opening_text(key, opening):
+    account, commodity, day, currency, number, label = key
+    return f"{account} {commodity} {lot_text(number, currency, day, label)} {opening}"
+
+
+def openings(path):
+    """A line for each row of `opening`, in the order of the holdings."""
+    with connect(path) as db:
+        return [opening_text(key, opening) for *key, opening in sorted(db.execute(f"SELECT {KEY}, opening FROM opening"))]
+
+
+def openings_of_legs(path):
+    """The same of the rows of `leg`: the number of a lot is that of the last leg before which it was empty (docs/FORMATS.md, Tables)."""
+    held, numbers = {}, {}
+    with connect(path) as db:
+        legs = f"SELECT {KEY}, units, entry, posting FROM leg WHERE cost_day IS NOT NULL ORDER BY entry, posting, place"
+        for *key, units, entry, posting in db.execute(legs):
+            key = tuple(key)
+            if not held.get(key):
+                numbers[key] = model.opening_number(entry, posting)
+            held[key] = held.get(key, 0) + units
+    return [opening_text(key, numbers[key]) for key in sorted(held) if held[key]]
+
+
 def gains(path):
     """The lines that the program prints of these rows (docs/FORMATS.md, Gains)."""
     lines, totals = [], {}
@@ -135,15 +167,27 @@ def damage(db):
     db.execute("UPDATE account SET opened = 99999999 WHERE name = 'Assets:Cash'")
 
 
+def older(path):
+    """Makes a book of edition 1."""
+    with open(OLDER, encoding="utf-8") as text, connect(path) as db:
+        db.executescript(text.read())
+
+
 def foreign(db, name):
     db.execute(f"CREATE TABLE {name} (content TEXT)")
     db.execute(f"INSERT INTO {name} VALUES ('kept')")
 
 
+PRINTED = {"holdings": holdings, "openings": openings, "numbered": openings_of_legs}
+
+
 def main():
     what, path, *words = sys.argv[1:]
-    if what == "holdings":
-        print("\n".join(holdings(path)))
+    if what in PRINTED:
+        print("\n".join(PRINTED[what](path)))
+        return
+    if what == "older":
+        older(path)
         return
     with connect(path) as db:
         if what == "rows":

@@ -375,8 +375,8 @@ def short_calls(texts):
     yield Call("post of the first purchase", POST, texts["the first purchase"], [MAKE])
 
 
-def longer_calls(texts, broker):
-    """Those of which each growth is refused with --whole."""
+def longer_calls(texts, broker, older):
+    """Those of which each growth is refused with --whole. `older` is the file of a book of edition 1."""
     filled = [MAKE, (POST, texts["a sale"])]
     accounts = [MAKE, (["post", "--book", BOOK, "--batch", "accounts"], broker["accounts.ledger"])]
     yield Call("init of a book that is there", INIT, before=[MAKE])
@@ -391,10 +391,21 @@ def longer_calls(texts, broker):
     yield Call("import of a faulty file", IMPORT, broker["2024.csv"] + b"D-1006,2024-13-01,BUY,HOOL,1,1,USD,\n", accounts)
     yield Call("import again", IMPORT, broker["2024.csv"], [*accounts, (IMPORT, broker["2024.csv"])])
     yield Call("import of the next year", IMPORT, broker["2025.csv"], [*accounts, (IMPORT, broker["2024.csv"])])
+    yield Call("post to a book of edition 1", [*POST[:-1], "b"], texts["the first purchase"], file=older)
+    yield Call("import to a book of edition 1", IMPORT, broker["2024.csv"], file=older)
+    yield Call("holdings of a book of edition 1", ["holdings", "--book", BOOK], file=older)
+    yield Call("init of a book of edition 1", INIT, file=older)
     books = {"an empty book": [MAKE], "a book with a sale": filled, "a book of every kind": [MAKE, (POST, texts["every kind"])]}
     for book, before in books.items():
         for words in (["holdings"], ["holdings", "--day", "2020-12-31"], ["gains"], ["journal"]):
             yield Call(f"{' '.join(words)} of {book}", [words[0], "--book", BOOK, *words[1:]], before=before)
+
+
+def older_book(scratch):
+    """The bytes of a book of edition 1."""
+    book = os.path.join(scratch, "older.book")
+    tables.older(book)
+    return content(book)
 
 
 def found_of(words, scratch, number, call, step):
@@ -412,7 +423,7 @@ def sweep_all(words, scratch):
     }
     broker = {name: content(EXAMPLES, "broker", name) for name in ("accounts.ledger", "2024.csv", "2025.csv")}
     calls = [(call, 1) for call in short_calls(texts)]
-    calls += [(call, 1 if words.whole else STEP) for call in longer_calls(texts, broker)]
+    calls += [(call, 1 if words.whole else STEP) for call in longer_calls(texts, broker, older_book(scratch))]
     total = Found()
     with concurrent.futures.ProcessPoolExecutor(len(os.sched_getaffinity(0))) as pool:
         jobs = [

@@ -19,7 +19,7 @@ from small_book import WORDS, WRITERS, ask, small_book, with_log
 
 IN_THE_GATE = 200  # calls on tables of another form, and on values that no book has, of some two thousand each
 NOBODY = 65534
-RIGHT, OPEN, NOT_A_BOOK, DAMAGED = "right", "open", "S1 NotABook", "S7 Damaged"
+RIGHT, OPEN, NOT_A_BOOK, NEWER, OLDER, DAMAGED = "right", "open", "S1 NotABook", "S2 NewerEdition", "S3 OlderEdition", "S7 Damaged"
 DOUBLED = "right, and a row stands twice"
 
 
@@ -109,6 +109,9 @@ KINDS = {
     "garbage": (filled(GARBAGE), OPEN),
     **{f"one byte, {byte}": (filled(bytes([byte])), OPEN) for byte in (1, 10, 83, 255)},
     "a database of another program": (another_program, NOT_A_BOOK),
+    "a book of edition 1": (lambda path, _: tables.older(path), OLDER),
+    "a book that says that it is of edition 1": (rewritten("UPDATE book SET edition = 1"), OLDER),
+    "a book that says that it is of edition 3": (rewritten("UPDATE book SET edition = 3"), NEWER),
     "UTF-16, little-endian": (encoded("UTF-16le"), OPEN),
     "UTF-16, big-endian": (encoded("UTF-16be"), OPEN),
     "UTF-8, written anew": (encoded("UTF-8"), RIGHT),
@@ -170,6 +173,8 @@ def kind_fault(program, sound, folder, make, wanted, word, **streams):
     path = os.path.join(folder, "family.book")
     make(path, sound)
     before = lying_in(folder)
+    if word == "init" and wanted in (NEWER, OLDER):  # there are tables
+        wanted = NOT_A_BOOK
     got = ask(program, path, word, **streams)
     if wrong := sweep.strange(got):
         return f"{wrong}\n{got}"
@@ -273,7 +278,8 @@ def forms(table, sql):
     yield "a column more", [f"ALTER TABLE {table} ADD COLUMN more TEXT"], (RIGHT,)
     yield "a column more with a value", [f"ALTER TABLE {table} ADD COLUMN more INTEGER NOT NULL DEFAULT 7"], (OPEN,)
     yield "a column that is worked out", [f"ALTER TABLE {table} ADD COLUMN more INTEGER AS (1)"], (RIGHT, DAMAGED, NOT_A_BOOK)
-    yield "a column less", made_anew(table, columns[:-1], [], "STRICT"), (RIGHT, DAMAGED, NOT_A_BOOK)
+    if len(columns) > 1:
+        yield "a column less", made_anew(table, columns[:-1], [], "STRICT"), (RIGHT, DAMAGED, NOT_A_BOOK)
     yield "its columns in another order", made_anew(table, columns[::-1], rules, "STRICT"), (RIGHT,)
     yield "columns of any type", made_anew(table, columns, rules, ""), (RIGHT,)
     # A row is put where it stands already: no single row shows it.
@@ -337,15 +343,15 @@ def outcome_of_form(program, sound, path, statements, allowed, name):
     outcome = RIGHT if got == sound.answers[name] else got.fault() or "another"
     if wrong := sweep.strange(got):
         return outcome, f"{wrong}\n{got}"
-    there = rows_of(path, sound.columns)
-    if outcome == RIGHT and any({*rows} > {*sound.then[name][table]} for table, rows in there.items()):
+    there, then = rows_of(path, sound.columns), sound.then[name]
+    if outcome == RIGHT and any({*rows} >= {*then[table]} and len(rows) > len(then[table]) for table, rows in there.items()):
         outcome = DOUBLED
     if outcome not in allowed:
         return outcome, f"instead of {' or '.join(allowed)}\n{got}"
     if outcome == DOUBLED:
         return outcome, ""
     if outcome == RIGHT:
-        return outcome, "" if there.items() <= sound.then[name].items() else "the book holds something else"
+        return outcome, "" if there.items() <= then.items() else "the book holds something else"
     with tables.connect(path) as db:
         return outcome, "" if changed.dump(db) == held else "the file holds something else"
 

@@ -46,7 +46,7 @@ DAY = r"[0-9]{4}-[0-9]{2}-[0-9]{2}"
 ACCOUNT = r"[A-Z][A-Za-z]*(:[A-Z0-9][A-Za-z0-9-]*)+"
 COMMODITY = r"[A-Z][A-Z0-9'._-]*"
 LOT = rf'\{{{NUMBER} {COMMODITY}, {DAY}(, "[^"\\\x00-\x1f\x7f]+")?\}}'
-STORE = "S1 NotABook|S2 NewerEdition|S4 Device|S5 InDoubt|S6 NeedsReopen|S7 Damaged|S8 Ended"
+STORE = "S1 NotABook|S2 NewerEdition|S3 OlderEdition|S4 Device|S5 InDoubt|S6 NeedsReopen|S7 Damaged|S8 Ended"
 OUTSIDE = f"{STORE}|P1 Range|P2 Write|P3 Spent|K1 Read|K2 TooLong|Memory|open|C3 TooManyRows"
 COUNT = "[1-9][0-9]*"
 FAULT = re.compile(
@@ -84,6 +84,8 @@ def strange(answer):
     for line in lines:
         if not is_ours(line):
             return f"the line '{line[:200]}'"
+    if answer.fault() == "S3 OlderEdition":  # one line says what helps
+        return "" if answer.errors.endswith(b"\n") and answer.errors.count(b"\n") == 1 else "no line says what helps"
     if answer.errors and answer.status != 2 and answer.fault() != "open":
         return f"the message '{answer.errors[:200].decode(errors='replace')}'"
     return ""

@@ -13,6 +13,7 @@ import argparse
 import collections
 import concurrent.futures
 import functools
+import itertools
 import os
 import subprocess
 import sys
@@ -28,6 +29,14 @@ import text as second
 A_CASE = 100  # seeds
 AT_LEAST = 3  # times that each kind occurs
 
+ORDERED = ("FIFO", "LIFO", "HIFO")
+
+
+def orders(count):
+    """Each order in which so many lots may be opened, by their places in the order of keys."""
+    return [" ".join(map(str, order)) for order in itertools.permutations(range(1, count + 1))]
+
+
 KINDS = (
     ["opening accepted", "opening refused L2 AlreadyOpen", "transaction accepted"]
     + ["closing accepted", "declaring accepted", "quoting accepted", "closing refused L3 UnknownAccount"]
@@ -41,6 +50,13 @@ KINDS = (
     + [f"{method} takes {lots} of {sign}" for method in model.METHODS[:-1]
        for lots in ("one lot", "several lots") for sign in ("longs", "shorts")]
     + ["a lot taken in the transaction that opened it", "lots of both signs under NONE", "L11 Range of a fill"]
+    + [f"{method} takes some of {lots}" for method in ORDERED for lots in (
+        *(f"{count} lots that tie, opened as {order}" for count in (2, 3) for order in orders(count)), "20 lots and more that tie")]
+    + [f"{method} takes {what}" for method in ORDERED for what in (
+        "another lot than by keys alone", "another lot than by the first openings", "shorts that tie")]
+    + ["a lot opened again " + where for where in (
+        "by a later transaction", "by a later posting", "twice in a transaction", "in a transaction without a fill",
+        "in one whose fill has no leg", "under NONE")]
     + [f"a fill of {legs}" for legs in ("no leg", "one leg", "several legs")]
     + ["braces and a price", "a price without braces", "units of zero", "no postings"]
     + ["a whole cost opens", "a whole cost takes", "braces and a whole price", "a whole price without braces"]
@@ -52,6 +68,78 @@ KINDS = (
     + ["changed, X5 BadName of " + place for place in ("account", "commodity", "method", "label", "note")]
     + ["changed, X7 LineTooLong"]
 )
+
+
+# Ties: lots that differ in their openings alone, for the method that takes them.
+
+TIES = {"FIFO": lambda key: key.day, "LIFO": lambda key: key.day, "HIFO": lambda key: key.number}
+
+
+def ties(book):
+    """The kinds of sales that ties decide, and of lots that are opened again."""
+    methods = {entry.command.account: entry.command.method for entry in book if isinstance(entry.command, model.Opening)}
+    held, first, emptied = model.Held([]), {}, {}
+    for number, entry in enumerate(book, 1):
+        times = collections.Counter()
+        for place, booked in enumerate(entry.booked, 1):
+            posting = entry.command.postings[place - 1]
+            if booked.reduces and methods[posting.account] in TIES:
+                yield from tie(methods[posting.account], posting, booked, held, first)
+            for leg in booked.legs:
+                if leg.key is None:
+                    continue
+                at, opening = (leg.account, leg.commodity, leg.key), model.opening_number(number, place)
+                if leg.key not in held.lots_of(at[:2]):
+                    if at in emptied:
+                        times[at] += 1
+                        yield from opened_again(entry, emptied[at] == number, times[at], methods[leg.account])
+                    first.setdefault(at, opening)
+                if held.add(leg, opening) == 0:
+                    emptied[at] = number
+
+
+def opened_again(entry, within, times, method):
+    """The kinds of a lot that is opened again by this entry, so many times, within the transaction that emptied it or behind it."""
+    yield "a lot opened again " + ("by a later posting" if within else "by a later transaction")
+    if times > 1:
+        yield "a lot opened again twice in a transaction"
+    if method == "NONE":
+        yield "a lot opened again under NONE"
+    fills = [booked for posting, booked in zip(entry.command.postings, entry.booked) if posting.amount is None]
+    if not fills:
+        yield "a lot opened again in a transaction without a fill"
+    elif not fills[0].legs:
+        yield "a lot opened again in one whose fill has no leg"
+
+
+def tie(method, posting, booked, held, first):
+    """The kinds of a sale that takes some of several lots that tie, and leaves some."""
+    units, _, cost, _ = posting.amount
+    number = model.rate_of(cost.number, units) if cost.whole else cost.number
+    lots, opened = held.lots_of(posting.pair), held.openings_of(posting.pair)
+    same = TIES[method](booked.legs[-1].key)
+    tied = [
+        key for key in model.lots_of_other_sign(lots, units)
+        if model.fits(cost, number, key) and TIES[method](key) == same
+    ]  # fmt: skip
+    taken = {leg.key: -leg.units for leg in booked.legs}
+    if all(taken.get(key) == lots[key] for key in tied):
+        return
+    by_keys = sorted(tied, key=model.key_order)
+    by_opening = sorted(tied, key=opened.get)
+    if len(tied) in (2, 3):
+        order = " ".join(str(1 + by_keys.index(key)) for key in by_opening)
+        yield f"{method} takes some of {len(tied)} lots that tie, opened as {order}"
+    if len(tied) >= 20:
+        yield f"{method} takes some of 20 lots and more that tie"
+    count = sum(key in taken for key in tied)
+    if {*by_keys[:count]} != {*by_opening[:count]}:
+        yield f"{method} takes another lot than by keys alone"
+    by_first = sorted(tied, key=lambda key: first[(*posting.pair, key)])
+    if {*by_first[:count]} != {*by_opening[:count]}:
+        yield f"{method} takes another lot than by the first openings"
+    if units > 0 and len(tied) > 1:
+        yield f"{method} takes shorts that tie"
 
 
 def kinds(book, it):
@@ -146,6 +234,7 @@ def compare(program, drawing, changed):
     census = collections.Counter("the form " + form for form in forms.of(text))
     for it in drawing.judged:
         census.update(kinds(drawing.book, it))
+    census.update(ties(drawing.book))
     census["lots of both signs under NONE"] += both_signs(drawing.book)
     differences = [difference(program, text, model.answer(drawing.book, drawing.judged))]
     for _ in range(changed):

@@ -13,6 +13,7 @@ from model import Amount, Booked, Cost, Leg, LotKey, Posting, Price
 ACCOUNTS = ("Assets:Broker", "Assets:Broker:B", "Assets:Cash", "Income:Gains", "Equity:Start", "Liabilities:2nd-Loan")
 NAMES = ("HOOL", "ABC", "V", "X'Y_Z-1", "HOOL.B", "USD", "EUR", "CHF")
 LABELS = (None, None, None, "a", "b", "é", "a lot; {}", "L" * 64)
+TIED_LABELS = (None, "a", "b", "B", "ab", "é")
 PLAIN_NOTES = ("", "Buy", "Zürich", "{1 USD} ; * @ 5", "a\tb", "N" * 1000)
 NOTES_WITH_ESCAPES = ('say "x"', "a\\b", '"' * 1000, "\\" * 1000)
 STARTS = ("2020-02-25", "2020-02-25", "2020-02-25", "0001-01-01", "9999-12-20", "1999-12-28", "2100-02-26")
@@ -24,6 +25,14 @@ RATES = tuple(int(rate * model.ONE) for rate in (0, 1, 1, 2, 2, 3, 4, 10, 100, 1
 FINE = (1, 1, 10, model.ONE + 1)
 GREAT_UNITS = tuple(model.UNITS_LIMIT - less for less in (1, 1, model.ONE, 2 * model.ONE)) + (model.UNITS_LIMIT // 2,)
 GREAT_RATES = (model.RATE_LIMIT - 1, model.RATE_LIMIT - model.ONE, model.RATE_LIMIT // 10)
+
+
+EVERY = Cost(False, None, None, None, None)  # the specification that every lot fits
+
+
+def whole_key(key):
+    """The specification that has all parts of this key."""
+    return Cost(False, key.number, key.currency, key.day, key.label)
 
 
 class Drawing:
@@ -40,6 +49,9 @@ class Drawing:
         self.tidy = self.rng.choice((0.5, 0.9, 0.98, 0.98))  # how often a command is drawn to be accepted
         self.side = self.rng.choice((1, 1, -1))  # whether lots are mostly bought or sold short
         self.sales = 0.2  # how often a posting with braces is drawn to take lots
+        self.tied = self.rng.choice((0, 0, 0.8))  # how often a new lot has a day and a number of these few
+        self.tied_days = [self.today(), (2019, 12, 31)]
+        self.tied_rates = [self.rng.choice(RATES), self.rng.choice(RATES)]
 
     def chance(self, p):
         return self.rng.random() < p
@@ -56,6 +68,9 @@ class Drawing:
             self.judged.append(model.Judged(command, None, refused))
 
     # Parts of commands.
+
+    def today(self):
+        return self.day.year, self.day.month, self.day.day
 
     def next_day(self):
         """Mostly today or soon after it, now and then before it."""
@@ -102,6 +117,8 @@ class Drawing:
         number, currency = self.rate(), self.pick(self.names[1:3])
         day = self.next_day() if self.chance(0.2) else None
         label = self.pick(LABELS)
+        if self.chance(self.tied):
+            day, number, label = self.pick(self.tied_days), self.pick(self.tied_rates), self.pick(TIED_LABELS)
         if self.chance((1 - self.tidy) / 3):
             number, currency = self.pick(((None, currency), (number, None), (None, None)))
         if number is None or self.chance(0.75):
@@ -114,7 +131,7 @@ class Drawing:
     def part_of(self, key):
         """A specification that this key fits, of some of its parts."""
         if self.chance(0.6):
-            return Cost(False, None, None, None, None)
+            return EVERY
         parts = [part if self.chance(0.4) else None for part in (key.number, key.currency, key.day, key.label)]
         return Cost(False, *parts)
 
@@ -123,7 +140,8 @@ class Drawing:
         key = self.pick(sorted(lots, key=model.key_order))
         cost = self.part_of(key)
         fitting = [units for other, units in lots.items() if model.fits(cost, cost.number, other)]
-        units = self.pick((sum(fitting), sum(fitting), lots[key], lots[key], lots[key] // 2, self.units(), 2 * sum(fitting)))
+        some = sum(self.rng.sample(fitting, self.rng.randint(1, len(fitting))))
+        units = self.pick((sum(fitting), sum(fitting), some, some, lots[key], lots[key] // 2, self.units(), 2 * sum(fitting)))
         if abs(units) >= model.UNITS_LIMIT:
             units = lots[key]
         if self.chance(0.2):
@@ -139,6 +157,8 @@ class Drawing:
                 return Posting(account, Amount(self.pick((-units, -units, units, self.units())), commodity, cost, price))
         held = model.Held(self.book)
         pairs = [pair for pair in held.pairs() if held.lots_of(pair)]
+        if self.chance(self.tied / 4) and (leg := self.earlier_leg()):  # to a lot that is there, or was
+            return Posting(leg.account, Amount(self.units(), leg.commodity, whole_key(leg.key), None))
         if pairs and self.chance(self.sales):
             pair = self.pick(pairs)
             lots = held.lots_of(pair)
@@ -148,6 +168,29 @@ class Drawing:
         commodity = self.names[0] if self.chance(0.8) else self.names[1]
         cost = self.opening_cost(units)
         return Posting(self.account(), Amount(units, commodity, cost, self.price(cost.currency)))
+
+    def earlier_leg(self):
+        """A leg at a lot, of any accepted transaction, or none."""
+        legs = [leg for entry in self.book for booked in entry.booked for leg in booked.legs if leg.key is not None]
+        return self.pick(legs) if legs else None
+
+    def emptied_and_opened(self):
+        """Postings that empty a lot and open it again, once or twice, and perhaps take something between, or none."""
+        held = model.Held(self.book)
+        lots = [(pair, key) for pair, lots in sorted(held.lots.items()) for key in sorted(lots, key=model.key_order) if key.label]
+        if not lots:
+            return []
+        (account, commodity), key = self.pick(lots)
+        units = held.lots_of((account, commodity))[key]
+        postings = []
+        for _ in range(self.pick((1, 1, 2))):
+            again = self.pick((units, self.units()))
+            postings.append(Posting(account, Amount(-units, commodity, whole_key(key), None)))
+            if self.chance(0.3):
+                postings.append(Posting(account, Amount(-self.units(), commodity, EVERY, None)))
+            postings.append(Posting(account, Amount(again, commodity, whole_key(key), None)))
+            units = again
+        return postings
 
     def plain(self):
         units, commodity = self.units(), self.pick(self.names)
@@ -190,6 +233,8 @@ class Drawing:
         for _ in range(self.pick((0, 1, 1, 1, 2, 2, 3, 4))):
             earlier = [posting for posting in postings if posting.amount is not None]
             postings.append(self.at_cost(earlier) if self.chance(0.75) else self.plain())
+        if self.chance(self.tied / 4):
+            postings = self.emptied_and_opened() + self.pick(([], postings[:1]))
         if self.chance(self.great / 2):
             postings += self.brimful()
         if self.chance(0.1):
@@ -246,10 +291,43 @@ class Drawing:
             return model.Declaring(self.next_day(), self.pick(self.names))
         return model.Quoting(self.next_day(), self.pick(self.names), self.rate(), self.pick(self.names))
 
+    def ties(self):
+        """Opens several lots that tie in any order, in one transaction or in some, opens some of them again, then takes from them."""
+        rng, account, commodity = self.rng, self.accounts[0], self.names[0]
+        count = self.pick((2, 2, 3, 3, 3, 3, 20))
+        of_one_number = model.opening_of(self.book, account).method == "HIFO"
+        days, rates = (self.tied_days, self.tied_rates[:1]) if of_one_number else (self.tied_days[:1], RATES)
+        labels = TIED_LABELS if count < 20 else [*TIED_LABELS, *(f"{number:02}" for number in range(20))]
+        keys = {LotKey(self.pick(days), self.pick(self.names[1:3]), self.pick(rates), self.pick(labels)) for _ in range(9 * count)}
+        keys = rng.sample(sorted(keys, key=model.key_order), count)
+        postings = [Posting(account, Amount(self.side * self.pick(UNITS), commodity, whole_key(key), None)) for key in keys]
+        self.in_some_transactions(postings)
+        if self.chance(0.5):
+            self.in_some_transactions(self.emptied_and_opened())
+        for _ in range(rng.randint(1, 3)):
+            lots = model.Held(self.book).lots_of((account, commodity))
+            if lots:
+                units = sum(rng.sample(sorted(lots.values()), rng.randint(1, len(lots)))) - self.pick((0, 0, self.side))
+                units = max(1 - model.UNITS_LIMIT, min(units, model.UNITS_LIMIT - 1))
+                self.in_some_transactions([Posting(account, Amount(-units, commodity, EVERY, self.price(self.names[1])))])
+
+    def in_some_transactions(self, postings):
+        """Judges these postings in their order, in one transaction of today or in some, each with an elided posting."""
+        while postings:
+            count = self.pick((1, 1, 2, len(postings)))
+            some, postings = postings[:count], postings[count:]
+            some.insert(self.rng.randint(0, len(some)), Posting(self.pick(self.accounts), None))
+            self.judge(model.Transaction(self.today(), "*", None, None, tuple(some)))
+
     def small(self):
-        for account in self.accounts:
+        has_ties = self.tied and self.chance(0.8)
+        if has_ties:
+            self.judge(model.Opening(self.today(), self.accounts[0], (), self.pick(("FIFO", "LIFO", "HIFO"))))
+        for account in self.accounts[has_ties:]:
             if self.chance(0.98):
                 self.judge(self.opening(account))
+        if has_ties:
+            self.ties()
         purchases, sales = self.rng.randint(1, 9), self.rng.randint(0, 8)
         for turn in range(purchases + sales):
             self.sales = 0.2 if turn < purchases else 0.8
@@ -272,7 +350,7 @@ class Drawing:
             return model.Transaction(day, "*", None, None, (*postings, Posting(other, None)))
 
         filled = model.MOST_LOTS - self.rng.randint(1, 20)
-        for number in range(filled):
+        for number in self.rng.sample(range(filled), filled):  # they are of one day, and are opened in any order
             leg = Leg(broker, "HOOL", LotKey(day, "USD", number, None), 2 * model.ONE)
             fill = (Leg(other, "USD", None, -2 * number),) if number else ()
             command = paid([lot(broker, number, 2)])
@@ -284,8 +362,7 @@ class Drawing:
             for _ in range(self.rng.randint(0, 5)):
                 postings.append(lot(broker, self.rng.randint(0, 200), -2))
             if method != "NONE" and self.chance(0.5):
-                every = Cost(False, None, None, None, None)
-                postings.append(Posting(broker, Amount(-self.rng.randint(1, 9) * model.ONE, "HOOL", every, None)))
+                postings.append(Posting(broker, Amount(-self.rng.randint(1, 9) * model.ONE, "HOOL", EVERY, None)))
             self.rng.shuffle(postings)
             self.judge(paid(postings))
 

@@ -2,7 +2,7 @@
 
 A book is the list of its entries, and an entry is a command with its legs. What is held is summed anew for each command,
 over all legs of the book; each condition of a refusal looks over all entries. Numbers are mantissas: of units, totals and
-rates at scale 8, of weights at scale 16. Days are triples (year, month, day).
+rates at scale 8, of weights at scale 16. Days are triples (year, month, day). Entries and postings count from 1.
 """
 
 from typing import NamedTuple, Optional, Tuple, Union
@@ -159,27 +159,44 @@ def latest_at_cost(book, pair):
     return max(days, default=None)
 
 
+def opening_number(entry, place):
+    """That of a lot whose sum was zero before a leg of the posting at this place of an entry, and not zero since."""
+    return MOST_POSTINGS * (entry - 1) + place
+
+
 class Held:
-    """The sums of units over all legs of a book that aren't zero: plain, and by lot key, of pairs of account and commodity."""
+    """The sums of units over all legs of a book that aren't zero: plain, and by lot key, of pairs of account and commodity.
+
+    Each lot has its opening number beside its sum.
+    """
 
     def __init__(self, book):
         self.plain = {}
         self.lots = {}
-        for entry in book:
-            for leg in entry.legs():
-                self.add(leg)
+        self.openings = {}
+        for number, entry in enumerate(book, 1):
+            for place, booked in enumerate(entry.booked, 1):
+                for leg in booked.legs:
+                    self.add(leg, opening_number(number, place))
 
-    def add(self, leg):
-        """Adds a leg, and returns what is then held at its place."""
+    def add(self, leg, opening):
+        """Adds a leg, and returns what is then held at its place. A lot that was empty before it has this opening number."""
         pair = leg.account, leg.commodity
         sums, key = (self.plain, pair) if leg.key is None else (self.lots.setdefault(pair, {}), leg.key)
+        if leg.key is not None and key not in sums:
+            self.openings.setdefault(pair, {})[key] = opening
         units = sums.pop(key, 0) + leg.units
         if units != 0:
             sums[key] = units
+        elif leg.key is not None:
+            del self.openings[pair][key]
         return units
 
     def lots_of(self, pair):
         return self.lots.get(pair, {})
+
+    def openings_of(self, pair):
+        return self.openings.get(pair, {})
 
     def pairs(self):
         return sorted({*self.plain, *(pair for pair, lots in self.lots.items() if lots)})
@@ -196,15 +213,26 @@ def key_order(key):
     return key.day, key.currency, key.number, label_order(key.label)
 
 
-def newest_first(key):
-    return tuple(-part for part in key.day), key.currency, key.number, label_order(key.label)
+# In which order a method takes lots: each order is of a lot key and an opening number, of which no two lots of a book share one.
 
 
-def highest_first(key):
-    return -key.number, key.day, key.currency, label_order(key.label)
+def by_key(key, _):
+    return key_order(key)
 
 
-METHOD_ORDER = {"STRICT": key_order, "FIFO": key_order, "LIFO": newest_first, "HIFO": highest_first}
+def oldest_first(key, opening):
+    return key.day, opening
+
+
+def newest_first(key, opening):
+    return tuple(-part for part in key.day), opening
+
+
+def highest_first(key, opening):
+    return -key.number, opening
+
+
+METHOD_ORDER = {"STRICT": by_key, "FIFO": oldest_first, "LIFO": newest_first, "HIFO": highest_first}
 
 
 def rate_of(total, units):
@@ -228,8 +256,8 @@ def lots_of_other_sign(lots, units):
     return {key: there for key, there in lots.items() if there > 0}
 
 
-def book_at_cost(method, day, posting, lots, place):
-    """What a posting with braces comes to, where its account holds these lots of its commodity."""
+def book_at_cost(method, day, posting, lots, opened, place):
+    """What a posting with braces comes to, where its account holds these lots of its commodity, with these opening numbers."""
     units, commodity, cost, _ = posting.amount
     if units == 0:
         raise Refused("B6 ZeroUnits", at(place))
@@ -255,7 +283,7 @@ def book_at_cost(method, day, posting, lots, place):
         raise Refused("B3 NotEnough", at(place))
     sign = 1 if units > 0 else -1
     legs = []
-    for key in sorted(fitting, key=METHOD_ORDER[method]):
+    for key in sorted(fitting, key=lambda key: METHOD_ORDER[method](key, opened[key])):
         taken = min(left, abs(fitting[key]))
         left -= taken
         if taken:
@@ -341,7 +369,7 @@ def judge_transaction(book, command):
 
     def keep(legs, place):
         for leg in legs:
-            if abs(held.add(leg)) >= UNITS_LIMIT:
+            if abs(held.add(leg, opening_number(len(book) + 1, place))) >= UNITS_LIMIT:
                 raise Refused("L11 Range", at(place))
 
     for place, posting in places:
@@ -349,7 +377,8 @@ def judge_transaction(book, command):
             continue
         if posting.braces:
             method = openings[posting.account].method
-            booked[place] = book_at_cost(method, day, posting, held.lots_of(posting.pair), place)
+            lots, opened = held.lots_of(posting.pair), held.openings_of(posting.pair)
+            booked[place] = book_at_cost(method, day, posting, lots, opened, place)
         else:
             booked[place] = Booked(False, (Leg(*posting.pair, None, posting.amount.units),))
         keep(booked[place].legs, place)

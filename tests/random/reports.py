@@ -3,9 +3,10 @@
     reports.py PROGRAM SCRATCH [--first SEED] [--count N]
 
 The plain reports are written from docs/FORMATS.md and docs/RULES.md alone, over the entries of the plain judge: each looks over
-all entries of the book. Each ledger is posted to a new book; then its holdings, with and without days, its gains, whole and in
-ranges, and its journal are compared, byte for byte. It prints a line `ok NAME` or `FAILED NAME: ..` for the ledgers of a hundred
-seeds, and for each kind of row, which has to occur at least some times. A difference goes to standard error, with its seed.
+all entries of the book. Each ledger is posted to a new book, in two calls, of which the second finds in the file what the first one
+left; then its holdings, with and without days, its gains, whole and in ranges, and its journal are compared, byte for byte, and the
+opening number of each lot in the tables. It prints a line `ok NAME` or `FAILED NAME: ..` for the ledgers of a hundred seeds, and for
+each kind of row, which has to occur at least some times. A difference goes to standard error, with its seed.
 """
 
 import argparse
@@ -16,9 +17,12 @@ import random
 import subprocess
 import sys
 
+sys.path.append(os.path.join(os.path.dirname(os.path.abspath(__file__)), "..", "book"))
+
 import draw
 import model
 import spell
+import tables
 from model import ONE, day_text, key_order, money_text, number_text
 
 A_CASE = 100  # seeds
@@ -27,12 +31,13 @@ FIRST_DAY, LAST_DAY = (1, 1, 1), (9999, 12, 31)
 
 KINDS = (
     "a price of each unit", "a total price", "no price", "a price in another currency than that of a lot", "lots of several currencies",
-    "one leg", "several legs", "lots sold", "shorts covered", "a gain", "a loss", "a lot with a label",
+    "one leg", "several legs", "legs in another order than by keys", "legs of one day in another order than by keys",
+    "lots sold", "shorts covered", "a gain", "a loss", "a lot with a label",
     "totals in several currencies", "sales without a total", "no sales", "a range that leaves some sales out", "a range of one day with a sale",
     "a range whose first day is after its last", "a value", "no value", "a value below zero", "a value on the day of its price",
     "a price that was replaced", "a later price that doesn't count", "plain units of a commodity with lots", "nothing held",
     "an entry of Opening", "an entry of Closing", "an entry of Declaring", "an entry of Quoting", "an entry of Transaction",
-    "a refused command before an entry",
+    "a refused command before an entry", "lots of one day in another order than that of their openings",
 )
 
 
@@ -118,6 +123,10 @@ def note_sale(posting, legs, gain, seen):
     seen["several legs" if len(legs) > 1 else "one leg"] += 1
     seen["lots sold" if posting.amount.units < 0 else "shorts covered"] += 1
     seen["lots of several currencies"] += len(currencies) > 1
+    days = [leg.key.day for leg in legs]
+    in_order = [leg.key for leg in legs] == sorted((leg.key for leg in legs), key=key_order)
+    seen["legs in another order than by keys"] += not in_order
+    seen["legs of one day in another order than by keys"] += not in_order and len({*days}) == 1
     seen["a lot with a label"] += any(leg.key.label is not None for leg in legs)
     if price is not None and gain is None:
         seen["a price in another currency than that of a lot"] += 1
@@ -221,6 +230,23 @@ def journal(judged, seen):
     return lines
 
 
+# Opening numbers.
+
+
+def openings(book, seen):
+    """A line for each lot with its opening number, in the order of the holdings."""
+    lines = []
+    held = model.Held(book)
+    for pair in held.pairs():
+        opened = held.openings_of(pair)
+        keys = sorted(opened, key=key_order)
+        lines += [" ".join((*pair, lot_read(key), str(opened[key]))) for key in keys]
+        seen["lots of one day in another order than that of their openings"] += any(
+            one.day == other.day and opened[one] > opened[other] for one, other in zip(keys, keys[1:])
+        )
+    return lines
+
+
 # Comparing.
 
 
@@ -252,12 +278,16 @@ def compare(program, scratch, seed):
     drawing = draw.small(seed)
     rng, seen = random.Random(seed), collections.Counter()
     quote_more(rng, drawing)
-    text = spell.Speller(drawing.rng).ledger([it.command for it in drawing.judged])
+    commands = [it.command for it in drawing.judged]
+    at = rng.randint(0, len(commands))  # so many are posted by a call of their own
+    begun, text = (spell.Speller(drawing.rng).ledger(them) for them in (commands[:at], commands))
     book = os.path.join(scratch, f"drawn-{seed}.book")
     call(program, ["init", "--book", book])
-    posted = call(program, ["post", "--book", book, "--batch", "r"], text)
+    calls = (["--from", "1"], begun), (["--from", str(at + 1)], text)
+    posted = [call(program, ["post", "--book", book, "--batch", "r", *words], part) for words, part in calls]
+    replies, messages = ("".join(answer[which] for answer in posted) for which in (0, 2))
     wanted = [model.reply(number, it.refused) for number, it in enumerate(drawing.judged, 1)]
-    cases = [(["post"], wanted, (posted[0], 0, posted[2]))]
+    cases = [(["post"], wanted, (replies, 0, messages))]
     days, ranges = asked(rng, drawing.book)
     reports = [(["holdings"], holdings(drawing.book, None, seen)), (["journal"], journal(drawing.judged, seen))]
     reports += [(["holdings", "--day", day_text(day)], holdings(drawing.book, day, seen)) for day in days]
@@ -266,6 +296,8 @@ def compare(program, scratch, seed):
     reports.append((["gains"], gains(drawing.book, FIRST_DAY, LAST_DAY, seen)))
     for words, lines in reports:
         cases.append((words, lines, call(program, [words[0], "--book", book, *words[1:]])))
+    numbers = "".join(line + "\n" for line in tables.openings(book))
+    cases.append((["the table opening"], openings(drawing.book, seen), (numbers, 0, "")))
     for name in (book, book + "-wal"):
         if os.path.exists(name):
             os.remove(name)

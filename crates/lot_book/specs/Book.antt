@@ -1,9 +1,9 @@
 -- Books: lists of entries, each of which is the acceptance that a step gives on the entries before it.
-use Rattle.std.specs.Prelude.{List, [], ◌∷◌, ◌++◌, ⊤}
+use Rattle.std.specs.Prelude.{ℕ, ◌≤◌, List, [], ◌∷◌, ◌++◌, length, ⊤}
 use Rattle.lot_command.specs.declared.command.Command.{Command}
 use Rattle.lot_command.specs.declared.key.Key.{Key}
 use Rattle.lot_book.specs.declared.leg.Leg.{Leg}
-use Rattle.lot_book.specs.Edition.{Migration, NotYet, edition_on}
+use Rattle.lot_book.specs.Edition.{After, Migration, edition_on}
 use Rattle.lot_book.specs.Facts.{Entry}
 use Rattle.lot_book.specs.Step.{Accept, Outcome, Refuse, Repeat, StepIn}
 
@@ -26,10 +26,10 @@ ContinuesIn migration before (entry ∷ entries) =
 abbrev pub IsBookIn : Migration → List Entry → Type 0
 IsBookIn migration entries = ContinuesIn migration [] entries
 
--- ---- the same of a book of edition 1
+-- ---- a book of edition 2
 
-abbrev pub Continues : List Entry → List Entry → Type 0
-Continues before entries = ContinuesIn NotYet before entries
-
-abbrev pub IsBook : List Entry → Type 0
-IsBook entries = IsBookIn NotYet entries
+-- entries of a book that was made in edition 2, or was migrated to it after so many entries: its place of migration
+pub record IsBook (entries : List Entry) : Type 0 where
+  pub place : ℕ
+  pub placed : place ≤ length entries
+  pub is : IsBookIn (After place) entries

@@ -13,7 +13,7 @@ use Rattle.lot_book.specs.declared.change.Change.{Change}
 use Rattle.lot_book.specs.declared.change.Pair.{Pair}
 use Rattle.lot_book.specs.declared.leg.Leg.{Leg}
 use Rattle.lot_book.specs.declared.leg.Position.{Position}
-use Rattle.lot_book.specs.Booking.{TieRule, all_by_key}
+use Rattle.lot_book.specs.Booking.{TieRule}
 use Rattle.lot_book.specs.Facts.{Facts, day_at_cost}
 use Rattle.lot_book.specs.Leg.{position_cmp, same_position, with_legs}
 use Rattle.lot_book.specs.OpeningNumber.{opening_with_legs}
@@ -84,10 +84,3 @@ pub record ListsUnder (ties : TieRule) (facts : Facts) (command : Command) (chan
 -- a command is accepted, however ties are decided, and makes the change
 abbrev pub IsAcceptedUnder : TieRule → Facts → Command → Change → Type 0
 IsAcceptedUnder ties facts command change = DecidesUnder ties facts command (Accept change.legs) × ListsUnder ties facts command change
-
--- the same where all ties are decided by key
-abbrev pub Lists : Facts → Command → Change → Type 0
-Lists facts command change = ListsUnder all_by_key facts command change
-
-abbrev pub IsAcceptedWith : Facts → Command → Change → Type 0
-IsAcceptedWith facts command change = IsAcceptedUnder all_by_key facts command change

@@ -15,7 +15,7 @@ use Rattle.lot_book.specs.declared.leg.Leg.{Leg}
 use Rattle.lot_book.specs.declared.leg.Position.{Position}
 use Rattle.lot_book.specs.Agree.{Agrees}
 use Rattle.lot_book.specs.Booking.{Line, TieRule, all_by_key, line_under}
-use Rattle.lot_book.specs.Change.{listed_or}
+use Rattle.lot_book.specs.Change.{IsAcceptedUnder, listed_or}
 use Rattle.lot_book.specs.Edition.{Edition, First, Second}
 use Rattle.lot_book.specs.Facts.{Entry, Facts, facts_of, legs_of}
 use Rattle.lot_book.specs.Leg.{inventory_of, same_position}
@@ -91,6 +91,10 @@ line_in edition known day before place account amount =
 -- what a command comes to on what a book says, by edition 2
 abbrev pub DecidesByOpening : FactsWithOpenings → Command → Outcome → Type 0
 DecidesByOpening known command outcome = DecidesUnder (ties_on known) known.facts command outcome
+
+-- a command is accepted so, and makes the change
+abbrev pub IsAcceptedWith : FactsWithOpenings → Command → Change → Type 0
+IsAcceptedWith known command change = IsAcceptedUnder (ties_on known) known.facts command change
 
 -- ---- what a command looks at
 

@@ -12,8 +12,8 @@ use Rattle.lot_book.specs.declared.leg.Leg.{Leg}
 use Rattle.lot_book.specs.declared.refusal.Refusal.{Refusal}
 use Rattle.lot_book.specs.declared.refusal.Refusal.TheVariants.{KeyReused}
 use Rattle.lot_book.specs.Balance.{elided_postings, fill_of, residuals, weights_in}
-use Rattle.lot_book.specs.Booking.{All, Booked, Bookings, BooksAllUnder, Stopped, TieRule, all_by_key, legs_in}
-use Rattle.lot_book.specs.Edition.{Edition, First, ties_in}
+use Rattle.lot_book.specs.Booking.{All, Booked, Bookings, BooksAllUnder, Stopped, TieRule, legs_in}
+use Rattle.lot_book.specs.Edition.{Edition, Second, ties_in}
 use Rattle.lot_book.specs.Facts.{Entry, Facts, facts_of}
 use Rattle.lot_book.specs.Refusals.{already_declared, already_open, back_dated, book_full, closed, closing_again, closing_too_early, closing_unknown, currency_not_allowed, fill_not_allowed, fill_out_of_range, inexact_fill, not_balanced, not_open_yet, too_many_lots, too_many_postings, two_elided, unknown_account}
 
@@ -103,19 +103,6 @@ DecidesUnder ties facts command outcome = DecidesByUnder ties facts.text facts c
 abbrev pub StepIn : Edition → List Entry → Key → Command → Outcome → Type 0
 StepIn edition book key command outcome = DecidesUnder (ties_in edition book) (facts_of book key) command outcome
 
--- ---- the same by edition 1, where all ties are decided by key
-
-abbrev pub JudgesTransaction : Facts → TransactionOf → Option Refusal → Outcome → Type 0
-JudgesTransaction facts t refused outcome = JudgesTransactionUnder all_by_key facts t refused outcome
-
-abbrev pub Judges : Facts → Command → Outcome → Type 0
-Judges facts command outcome = JudgesUnder all_by_key facts command outcome
-
-abbrev pub DecidesBy : Option (List ℕ) → Facts → Command → Outcome → Type 0
-DecidesBy text facts command outcome = DecidesByUnder all_by_key text facts command outcome
-
-abbrev pub Decides : Facts → Command → Outcome → Type 0
-Decides facts command outcome = DecidesUnder all_by_key facts command outcome
-
+-- the same by edition 2
 abbrev pub Step : List Entry → Key → Command → Outcome → Type 0
-Step book key command outcome = StepIn First book key command outcome
+Step book key command outcome = StepIn Second book key command outcome

@@ -1,5 +1,5 @@
 -- Which faults of the parts of a run are faults of the writer.
-use Rattle.std.proofs.Common.{◌≡◌, refl}
+use Rattle.std.proofs.Common.{◌≡◌, ◌⊎◌, inl, inr, refl}
 use Rattle.std.specs.Prelude.{Option, Result, Ok, Err, IsErrAnd, IsErrOf}
 use Rattle.lot_read.specs.declared.fault.TextFault.{TextFault}
 use Rattle.lot_report.specs.Output.{HasFailed, WriteCalls}
@@ -7,6 +7,11 @@ use Rattle.lot_report.specs.declared.fault.ReportFault.{ReportFault}
 use Rattle.lot_stream.specs.Status.{fault_of_input, fault_of_report, fault_of_text}
 use Rattle.lot_stream.specs.declared.fault.Fault.{Fault}
 use Rattle.lot_stream.specs.declared.input.SlurpFault.{SlurpFault}
+
+-- where there is none, what is so unless there is one
+pub no_fault : {A : Type 0} (done : A) (P : Type 0) → IsErrOf {T = A} (Ok done) Fault.Write ⊎ P → P
+no_fault {A} done P (inl write) = cc
+no_fault {A} done P (inr holds) = holds
 
 -- none of the input is
 pub input_is_not : {A : Type 0} (result : Result A Fault) (fault : SlurpFault) (calls : Option WriteCalls)

@@ -1,4 +1,5 @@
 pub mod KeyLemmas
+pub mod MemoryLemmas
 pub mod RunLemmas
 pub mod CauseLemmas
 pub mod FaultLemmas

@@ -14,19 +14,21 @@ use Rattle.lot_command.specs.declared.key.Key.{Key}
 use Rattle.lot_stream.specs.Status.{status_after}
 use Rattle.lot_report.specs.Written.{AppendsPrefix, WritesLine}
 use Rattle.lot_report.specs.Printed.{reply, replies}
-use Rattle.lot_book.specs.Facts.{Entry, Facts}
+use Rattle.lot_book.specs.Facts.{Entry, facts_of}
 use Rattle.lot_book.specs.Judged.{JudgesOn, JudgesAll, numbered}
-use Rattle.lot_view.specs.View.{known}
+use Rattle.lot_book.specs.Openings.{FactsWithOpenings, facts_with_openings}
+use Rattle.lot_view.specs.View.{known_with_openings}
 use Rattle.lot_check.specs.Key.{key_of}
 use Rattle.lot_check.specs.Answer.{JudgingMayLackMemory, status_of_replies, status_of_verdict}
 use Rattle.lot_check.specs.Way.{JudgesKnown, Replies, RunsCommands}
 use Rattle.lot_laws.proofs.JudgedLaws.{judges_more}
 use Rattle.lot_report.proofs.PrintLemmas.{prefix_behind}
 use Rattle.lot_report.proofs.ReplyLemmas.{replies_more}
-use Rattle.lot_check.proofs.KeyLemmas.{Stands, judged_as}
+use Rattle.lot_check.proofs.KeyLemmas.{Stands, judged_as, to_next}
+use Rattle.lot_check.proofs.MemoryLemmas.{may_lack_on_book}
 
 -- a reply that isn't written whole
-pub reply_stops : (before after : Facts) (command : Command) (verdict : Verdict) (number : ℕ) (old new : Option (List ℕ)) (fault : PrintFault)
+pub reply_stops : (before after : FactsWithOpenings) (command : Command) (verdict : Verdict) (number : ℕ) (old new : Option (List ℕ)) (fault : PrintFault)
     → JudgesKnown before command verdict after → WritesLine old new (Err fault) (reply number verdict) → fault ≡ PrintFault.Write
     → Replies before command number old new (Err Fault.Write)
 reply_stops before after command verdict number old new fault judged part is =
@@ -83,7 +85,7 @@ status_more (v ∷ verdicts) verdict =
 abbrev pub RanSoFar : List Command → List Command → ℕ → View → Status → Option (List ℕ) → Option (List ℕ) → Type 0
 RanSoFar commands left count view status old new =
     (done : List Command) × (verdicts : List Verdict) × (book : List Entry) × (commands ≡ done ++ left) × (count ≡ length verdicts)
-    × JudgesAll [] (numbered key_of 1 done) verdicts book × Stands (known view) (length verdicts + 1) book × Appends old new (replies 1 verdicts) × (status ≡ status_of_replies verdicts)
+    × JudgesAll [] (numbered key_of 1 done) verdicts book × Stands (known_with_openings view) (length verdicts + 1) book × Appends old new (replies 1 verdicts) × (status ≡ status_of_replies verdicts)
 
 next_number : (number count : ℕ) (verdicts : List Verdict) → count ≡ length verdicts → number ≡ count + 1 → number ≡ length verdicts + 1
 next_number number count verdicts so_far is = omega (arith, so_far, is)
@@ -104,21 +106,21 @@ more_by_one verdicts verdict = omega (arith, length-append verdicts (verdict ∷
 pub run_next : (commands left rest : List Command) (command : Command) (count number later : ℕ) (view next : View) (status replied both : Status)
     (old mid new : Option (List ℕ))
     → RanSoFar commands left count view status old mid → left ≡ command ∷ rest → number ≡ count + 1 → later ≡ count + 1
-    → length commands < 2 ^ 64 → Replies (known view) command number mid new (Ok (next, replied)) → both ≡ status_after status replied
+    → length commands < 2 ^ 64 → Replies (known_with_openings view) command number mid new (Ok (next, replied)) → both ≡ status_after status replied
     → RanSoFar commands rest later next both old new
 run_next commands left rest command count number later view next status replied both old mid new so_far is numbered counted_on small
     (verdict, judged, written, said) joined =
     let (done, verdicts, book, split, counted, all, stands, before, status_is) = so_far in
     let place = next_number number count verdicts counted numbered in
     let (after, one, stands_next) =
-    judged_as (known view) (known next) book (length verdicts + 1) command verdict (in_range commands left rest command done verdicts book all split is small) stands judged in (
+    judged_as (known_with_openings view) (known_with_openings next) book (length verdicts + 1) command verdict (in_range commands left rest command done verdicts book all split is small) stands judged in (
       done ++ command ∷ [],
       verdicts ++ verdict ∷ [],
       after,
       split ∙ ap (λ cs. done ++ cs) is ∙ sym (append_assoc done (command ∷ []) rest),
       counted_on ∙ ap (λ n. n + 1) counted ∙ sym (length-append verdicts (verdict ∷ [])),
       judges_next done verdicts book after command verdict all one,
-      subst (λ (n : ℕ). Stands (known next) n after) (more_by_one verdicts verdict) stands_next,
+      subst (λ (n : ℕ). Stands (known_with_openings next) n after) (more_by_one verdicts verdict) stands_next,
       subst (Appends old new) (sym (replies_more 1 verdicts verdict ∙ ap (λ n. replies 1 verdicts ++ reply n verdict) (sym place)))
           (Appends-trans old mid new _ _ before written),
       joined ∙ ap (λ s. status_after s replied) status_is ∙ ap (λ s. status_after (status_of_replies verdicts) s) said ∙ sym (status_more verdicts verdict),
@@ -127,13 +129,13 @@ run_next commands left rest command count number later view next status replied 
 pub run_stops : (commands left rest : List Command) (command : Command) (count number : ℕ) (view : View) (status : Status) (fault : Fault)
     (old mid new : Option (List ℕ))
     → RanSoFar commands left count view status old mid → left ≡ command ∷ rest → number ≡ count + 1
-    → length commands < 2 ^ 64 → Replies (known view) command number mid new (Err fault)
+    → length commands < 2 ^ 64 → Replies (known_with_openings view) command number mid new (Err fault)
     → RunsCommands commands old new (Err fault)
 run_stops commands left rest command count number view status Fault.Write old mid new so_far is numbered small (verdict, after, judged, part) =
     let (done, verdicts, book, split, counted, all, stands, before, status_is) = so_far in
     let place = next_number number count verdicts counted numbered in
     let (more, one, stands_next) =
-    judged_as (known view) after book (length verdicts + 1) command verdict (in_range commands left rest command done verdicts book all split is small) stands judged in (
+    judged_as (known_with_openings view) after book (length verdicts + 1) command verdict (in_range commands left rest command done verdicts book all split is small) stands judged in (
       done ++ command ∷ [],
       rest,
       verdicts ++ verdict ∷ [],
@@ -144,7 +146,12 @@ run_stops commands left rest command count number view status Fault.Write old mi
           (prefix_behind old mid new (replies 1 verdicts) (reply number verdict) before part),
     )
 run_stops commands left rest command count number view status (Fault.MemoryAt stopped) old mid new so_far is numbered small (same, lack, nothing) =
-    let (done, verdicts, book, split, counted, all, stands, before, status_is) = so_far in (
+    let (done, verdicts, book, split, counted, all, stands, before, status_is) = so_far in
+    let place = same ∙ next_number number count verdicts counted numbered in
+    let known = known_with_openings view in
+    let key = key_of (length verdicts + 1) in
+    let told : known.facts ≡ facts_of book key =
+    to_next known book (length verdicts + 1) (in_range commands left rest command done verdicts book all split is small) stands in (
       done,
       command,
       rest,
@@ -152,8 +159,9 @@ run_stops commands left rest command count number view status (Fault.MemoryAt st
       book,
       split ∙ ap (λ cs. done ++ cs) is,
       all,
-      same ∙ next_number number count verdicts counted numbered,
-      subst (λ facts. JudgingMayLackMemory facts command) stands.1 lack,
+      place,
+      subst (λ (n : ℕ). JudgingMayLackMemory (facts_with_openings book (key_of n)) command) (sym place)
+          (may_lack_on_book known book key command told stands.openings lack),
       subst (Appends old new) (append-nil (replies 1 verdicts)) (Appends-trans old mid new _ _ before nothing),
     )
 run_stops commands left rest command count number view status Fault.Memory old mid new so_far is numbered small none = none

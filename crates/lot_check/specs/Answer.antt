@@ -1,5 +1,5 @@
 -- What `check` writes for an input, and with which status it ends.
-use Rattle.std.specs.Prelude.{◌≡◌, ◌⊎◌, ℕ, ◌+◌, ◌<◌, ◌≤◌, List, [], ◌∷◌, ◌++◌, length, Option}
+use Rattle.std.specs.Prelude.{◌≡◌, ◌⊎◌, ℕ, ◌+◌, ◌<◌, ◌≤◌, List, [], ◌∷◌, ◌++◌, length}
 use Rattle.lot_stream.specs.declared.fault.Fault.{Fault}
 use Rattle.lot_stream.specs.declared.status.Status.{Status}
 use Rattle.lot_command.specs.declared.command.Command.{Command}
@@ -8,17 +8,17 @@ use Rattle.lot_book.specs.declared.verdict.Verdict.{Verdict}
 use Rattle.lot_read.specs.Text.{Reads, IsFaultAt, RunsOutAt}
 use Rattle.lot_read.specs.declared.fault.LineFault.{LineFault}
 use Rattle.lot_book.specs.declared.change.Change.{Change}
-use Rattle.lot_book.specs.Booking.{all_by_key}
-use Rattle.lot_book.specs.Facts.{Entry, Facts}
+use Rattle.lot_book.specs.Facts.{Entry}
 use Rattle.lot_book.specs.Holding.{ListsHoldings}
 use Rattle.lot_book.specs.Judged.{JudgesAll, numbered}
-use Rattle.lot_book.specs.Step.{Accept, Decides}
+use Rattle.lot_book.specs.Openings.{DecidesByOpening, FactsWithOpenings, facts_with_openings, ties_on}
+use Rattle.lot_book.specs.Step.{Accept}
 use Rattle.lot_ledger.specs.Decide.{MayLackMemory}
 use Rattle.lot_report.specs.Printed.{replies}
 use Rattle.lot_stream.specs.FaultLine.{fault_line}
 use Rattle.lot_check.specs.Key.{key_of}
 use Rattle.lot_report.specs.Holdings.{IsReport, IsReportToFault, AreFirstLines, AreKeptLines, unvalued}
-use Rattle.lot_report.specs.Output.{HasFailed, IsFlushed, WriteCalls}
+use Rattle.lot_report.specs.Output.{AllFlushed, HasFailed, IsFlushed, WritesMade}
 use Rattle.lot_report.specs.Written.{IsProperPrefixOf}
 use Rattle.lot_stream.specs.Input.{CallsMade, EndsFor, EndsWell, longest_input}
 use Rattle.lot_stream.specs.declared.input.SlurpFault.TheVariants as slurp
@@ -101,9 +101,10 @@ RunsOutInText input kept last =
     (length input ≤ longest_input) × (number : ℕ) × RunsOutAt input number × (kept ≡ []) × (last ≡ fault_line Fault.Memory)
 
 -- judging a command may lack memory: to decide it, or to record it where it is accepted
-abbrev pub JudgingMayLackMemory : Facts → Command → Type 0
+abbrev pub JudgingMayLackMemory : FactsWithOpenings → Command → Type 0
 JudgingMayLackMemory before command =
-    MayLackMemory all_by_key before command ⊎ ((change : Change) × Decides before command (Accept change.legs))
+    MayLackMemory (ties_on before) before.facts command
+    ⊎ ((change : Change) × DecidesByOpening before command (Accept change.legs))
 
 -- the commands before the one of that number come to these verdicts, each on the book after those before it, and judging that one
 -- may lack memory
@@ -116,7 +117,7 @@ pub record IsJudgedBefore (input : List ℕ) (number : ℕ) (verdicts : List Ver
   pub reads : Reads input (done ++ command ∷ rest)
   pub judged : JudgesAll [] (numbered key_of 1 done) verdicts book
   pub numbered : number ≡ length verdicts + 1
-  pub may_lack : JudgingMayLackMemory (facts_in book) command
+  pub may_lack : JudgingMayLackMemory (facts_with_openings book (key_of number)) command
 
 -- at a command: the replies to those before it, and the line with its number
 abbrev pub RunsOutAtCommand : List ℕ → List ℕ → List ℕ → Type 0
@@ -163,6 +164,20 @@ IsOutput all input text status =
     IsUnread all input text status
     ⊎ (EndsWell all (length input) × (IsTextAnswer input text status ⊎ IsOutOfMemory input text status))
 
+-- the report was stopped: a total left the range, or memory ended within it
+abbrev pub IsStoppedReport : List ℕ → List ℕ → ℕ → Type 0
+IsStoppedReport input text status =
+    IsBroken input text status
+    ⊎ ((kept : List ℕ) × (last : List ℕ) × RunsOutInReport input kept last
+    × (text ≡ kept ++ last) × (status ≡ 4))
+
+-- An output was written and flushed, and no call of the writer failed. Of a report that was stopped it isn't said that none
+-- failed before the line that reports it, but that all is flushed.
+abbrev pub IsWritten : CallsMade → WritesMade → List ℕ → List ℕ → ℕ → Type 0
+IsWritten all calls input written status =
+    (IsOutput all input written status × AllFlushed calls)
+    ⊎ (EndsWell all (length input) × IsStoppedReport input written status × IsFlushed calls.after)
+
 -- ---- What is written where the writer fails.
 
 -- what is being written of an answer: the replies to the first commands, all replies and the first lines of the report, or
@@ -188,9 +203,9 @@ IsUnflushed all input written status = ((before : ℕ) × IsOutput all input wri
 -- What is written for an input that was read by these calls, and the status. The answer with its status; or the one line that
 -- the reader can't be read, with status 3; or, out of memory, with status 4, whole lines of the answer and the line that says
 -- at which command: before the end of the input none, and behind it never where the answer was settled before memory ended. All
--- of it is flushed. Or, with status 4, where a call of the writer failed: a prefix of that is written but not all of it; or all of
--- it is written, and it isn't flushed.
-abbrev pub IsOutcome : CallsMade → Option WriteCalls → List ℕ → List ℕ → ℕ → Type 0
+-- of it is flushed, and no call of the writer failed, save where the report was stopped. Or, with status 4, where a call of the
+-- writer failed: a prefix of that is written but not all of it; or all of it is written, and it isn't flushed.
+abbrev pub IsOutcome : CallsMade → WritesMade → List ℕ → List ℕ → ℕ → Type 0
 IsOutcome all calls input written status =
-    (IsOutput all input written status × IsFlushed calls)
-    ⊎ ((IsCut all input written status ⊎ IsUnflushed all input written status) × HasFailed calls)
+    IsWritten all calls input written status
+    ⊎ ((IsCut all input written status ⊎ IsUnflushed all input written status) × HasFailed calls.after)

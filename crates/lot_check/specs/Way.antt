@@ -11,12 +11,13 @@ use Rattle.lot_book.specs.declared.change.Change.{Change}
 use Rattle.lot_book.specs.declared.holding.Holding.{Holding}
 use Rattle.lot_book.specs.declared.verdict.Verdict.{Verdict}
 use Rattle.lot_view.specs.declared.view.View.{View}
-use Rattle.lot_read.specs.Text.{IsFaultAt, Reads}
-use Rattle.lot_book.specs.Change.{Lists}
-use Rattle.lot_book.specs.Facts.{Entry, Facts}
+use Rattle.lot_read.specs.Text.{IsFaultAt}
+use Rattle.lot_book.specs.Facts.{Entry}
 use Rattle.lot_book.specs.Judged.{JudgesAll, numbered}
-use Rattle.lot_book.specs.Step.{Accept, Decides, Refuse, Repeat}
-use Rattle.lot_view.specs.View.{known}
+use Rattle.lot_book.specs.Openings.{DecidesByOpening, FactsWithOpenings, HaveSameOpenings, IsAcceptedWith, facts_with_openings, with_listed}
+use Rattle.lot_book.specs.Step.{Refuse, Repeat}
+use Rattle.lot_view.specs.View.{known, known_with_openings}
+use Rattle.lot_report.specs.Output.{NoneFailed, WritesMade}
 use Rattle.lot_report.specs.Printed.{reply, replies}
 use Rattle.lot_report.specs.Holdings.{IsReportToFault, unvalued}
 use Rattle.lot_report.specs.Written.{AppendsPrefix}
@@ -25,27 +26,37 @@ use Rattle.lot_check.specs.Key.{key_of}
 use Rattle.lot_stream.specs.Input.{CallsMade, EndsFor, EndsWell, longest_input}
 use Rattle.lot_stream.specs.declared.input.SlurpFault.TheVariants as slurp
 use Rattle.lot_stream.specs.Status.{code_of, status_of}
-use Rattle.lot_check.specs.Answer.{status_of_replies, status_of_verdict, IsPart, IsWhole, IsJudged, JudgingMayLackMemory, RunsOut}
+use Rattle.lot_check.specs.Answer.{status_of_replies, status_of_verdict, IsPart, IsWhole, IsJudged, JudgingMayLackMemory, RunsOut, RunsOutInReport}
 use Rattle.lot_book.specs.Recorded.{facts_in, recorded}
 
 -- ---- Runs: commands judged on a fresh book, with a reply to each.
 
+-- what is known once an accepted command is recorded: the facts with what it changes; and of each lot that is held then the
+-- opening number that the change lists, or else its own
+pub record IsRecorded (before : FactsWithOpenings) (command : Command) (change : Change)
+    (after : FactsWithOpenings) : Type 0 where
+  pub facts : after.facts ≡ recorded before.facts command change
+  pub openings : (account commodity : List ℕ) → HaveSameOpenings commodity (after.facts.held account)
+      (with_listed change.openings before.opening account commodity) (after.opening account commodity)
+
 -- a command judged on what is known of a book: the verdict, and what is known after it
-abbrev pub JudgesKnown : Facts → Command → Verdict → Facts → Type 0
+abbrev pub JudgesKnown : FactsWithOpenings → Command → Verdict → FactsWithOpenings → Type 0
 JudgesKnown before command Verdict.Accepted after =
-    (change : Change) × Decides before command (Accept change.legs) × Lists before command change
-    × (after ≡ recorded before command change)
-JudgesKnown before command Verdict.Repeated after = Decides before command Repeat × (after ≡ before)
-JudgesKnown before command (Verdict.Refused refusal) after = Decides before command (Refuse refusal) × (after ≡ before)
+    (change : Change) × IsAcceptedWith before command change × IsRecorded before command change after
+JudgesKnown before command Verdict.Repeated after = DecidesByOpening before command Repeat × (after ≡ before)
+JudgesKnown before command (Verdict.Refused refusal) after =
+    DecidesByOpening before command (Refuse refusal) × (after ≡ before)
 
 -- a command of that number is judged on what is known, and its reply is written; or the writer fails within the reply; or,
 -- out of memory at that number, where judging it may lack memory, nothing is written
-abbrev pub Replies : Facts → Command → ℕ → Option (List ℕ) → Option (List ℕ) → Result (View × Status) Fault → Type 0
+abbrev pub Replies : FactsWithOpenings → Command → ℕ → Option (List ℕ) → Option (List ℕ)
+    → Result (View × Status) Fault → Type 0
 Replies before command number old new (Ok replied) =
-    (verdict : Verdict) × JudgesKnown before command verdict (known replied.0) × Appends old new (reply number verdict)
-    × (replied.1 ≡ status_of_verdict verdict)
+    (verdict : Verdict) × JudgesKnown before command verdict (known_with_openings replied.0)
+    × Appends old new (reply number verdict) × (replied.1 ≡ status_of_verdict verdict)
 Replies before command number old new (Err Fault.Write) =
-    (verdict : Verdict) × (after : Facts) × JudgesKnown before command verdict after × AppendsPrefix old new (reply number verdict)
+    (verdict : Verdict) × (after : FactsWithOpenings) × JudgesKnown before command verdict after
+    × AppendsPrefix old new (reply number verdict)
 Replies before command number old new (Err (Fault.MemoryAt stopped)) =
     (stopped ≡ number) × JudgingMayLackMemory before command × Appends old new []
 Replies before command number old new (Err Fault.Memory) = ⊥
@@ -65,7 +76,7 @@ abbrev pub RunsOutInRun : List Command → ℕ → Option (List ℕ) → Option 
 RunsOutInRun commands number old new =
     (done : List Command) × (command : Command) × (rest : List Command) × (verdicts : List Verdict) × (book : List Entry)
     × (commands ≡ done ++ command ∷ rest) × JudgesAll [] (numbered key_of 1 done) verdicts book × (number ≡ length verdicts + 1)
-    × JudgingMayLackMemory (facts_in book) command × Appends old new (replies 1 verdicts)
+    × JudgingMayLackMemory (facts_with_openings book (key_of number)) command × Appends old new (replies 1 verdicts)
 
 -- what a run of commands on a fresh book writes and returns: the replies to all, and what is known of the book after
 -- them; or it stops at one of them
@@ -84,22 +95,31 @@ RunsCommands commands old new (Err Fault.Read) = ⊥
 
 -- ---- The way from the input to its end, and the line of a fault.
 
--- whole lines of the answer are written, behind which the line of a fault of memory belongs
-abbrev pub StopsForMemory : List ℕ → Fault → Option (List ℕ) → Option (List ℕ) → Type 0
-StopsForMemory input fault old new = (kept : List ℕ) × RunsOut input kept (fault_line fault) × Appends old new kept
+-- whole lines of the answer are written, behind which the line of a fault of memory belongs; and no call of the writer failed,
+-- which isn't said where memory ended in the report
+abbrev pub StopsForMemory : List ℕ → WritesMade → Fault → Option (List ℕ) → Option (List ℕ) → Type 0
+StopsForMemory input calls fault old new =
+    (kept : List ℕ) × RunsOut input kept (fault_line fault)
+    × (NoneFailed calls.before calls.after ⊎ RunsOutInReport input kept (fault_line fault))
+    × Appends old new kept
 
--- what is written of an input that was read to its end before its fault is reported, if it comes to one
-abbrev pub Reaches : List ℕ → Option (List ℕ) → Option (List ℕ) → Result Status Fault → Type 0
-Reaches input old new (Ok status) = (text : List ℕ) × IsWhole input text (code_of status) × Appends old new text
-Reaches input old new (Err Fault.Read) = ⊥
-Reaches input old new (Err Fault.TooLong) = ⊥
-Reaches input old new (Err (Fault.Text number fault)) = (length input ≤ longest_input) × IsFaultAt input number fault × Appends old new []
-Reaches input old new (Err Fault.Range) =
+-- what is written of an input that was read to its end, by these calls of the writer, before its fault is reported, if it comes
+-- to one
+abbrev pub Reaches : List ℕ → WritesMade → Option (List ℕ) → Option (List ℕ) → Result Status Fault → Type 0
+Reaches input calls old new (Ok status) =
+    (text : List ℕ) × IsWhole input text (code_of status) × NoneFailed calls.before calls.after
+    × Appends old new text
+Reaches input calls old new (Err Fault.Read) = ⊥
+Reaches input calls old new (Err Fault.TooLong) = ⊥
+Reaches input calls old new (Err (Fault.Text number fault)) =
+    (length input ≤ longest_input) × IsFaultAt input number fault
+    × NoneFailed calls.before calls.after × Appends old new []
+Reaches input calls old new (Err Fault.Range) =
     (verdicts : List Verdict) × (rows : List Holding) × (report : List ℕ) × IsJudged input verdicts rows
     × IsReportToFault (unvalued rows) report × Appends old new (replies 1 verdicts ++ report)
-Reaches input old new (Err Fault.Write) = (text : List ℕ) × IsPart input text × AppendsPrefix old new text
-Reaches input old new (Err Fault.Memory) = StopsForMemory input Fault.Memory old new
-Reaches input old new (Err (Fault.MemoryAt number)) = StopsForMemory input (Fault.MemoryAt number) old new
+Reaches input calls old new (Err Fault.Write) = (text : List ℕ) × IsPart input text × AppendsPrefix old new text
+Reaches input calls old new (Err Fault.Memory) = StopsForMemory input calls Fault.Memory old new
+Reaches input calls old new (Err (Fault.MemoryAt number)) = StopsForMemory input calls (Fault.MemoryAt number) old new
 
 -- nothing is written where the reader isn't read to its end, and its calls have the cause of the fault
 abbrev pub IsUnheard : CallsMade → List ℕ → Option (List ℕ) → Option (List ℕ) → Result Status Fault → Type 0
@@ -114,9 +134,10 @@ IsUnheard all input old new (Err Fault.Write) = ⊥
 IsUnheard all input old new (Err (Fault.MemoryAt number)) = ⊥
 
 -- the same of what a reader has, which is read to its end, or isn't
-abbrev pub Answers : CallsMade → List ℕ → Option (List ℕ) → Option (List ℕ) → Result Status Fault → Type 0
-Answers all input old new result =
-    IsUnheard all input old new result ⊎ (EndsWell all (length input) × Reaches input old new result)
+abbrev pub Answers : CallsMade → List ℕ → WritesMade → Option (List ℕ) → Option (List ℕ) → Result Status Fault → Type 0
+Answers all input calls old new result =
+    (IsUnheard all input old new result × NoneFailed calls.before calls.after)
+    ⊎ (EndsWell all (length input) × Reaches input calls old new result)
 
 -- the line of a fault is written, with its status; or the writer fails within it
 abbrev pub ReportsFault : Fault → Option (List ℕ) → Option (List ℕ) → Result Status PrintFault → Type 0

@@ -2,14 +2,14 @@
 //!
 //! - `report`: what the book holds, as it is written.
 
-ghost use Rattle.std.specs.Prelude.{◌≡◌, ◌≤◌, ℕ, List, length, IfOk, IfSome, IsErrOf, OnErr};
+ghost use Rattle.std.specs.Prelude.{◌≡◌, ◌⊎◌, ◌≤◌, ℕ, List, length, IfOk, IfSome, IsErrOf, OnErr, OnOk};
 ghost use Rattle.std.specs.Io.KnownBytes.{Appends};
 ghost use Rattle.lot_stream.specs.Status.{IsStatus};
 ghost use Rattle.lot_check.specs.Answer.{IsOutcome, JudgingMayLackMemory, status_of_verdict};
 ghost use Rattle.lot_stream.specs.Input.{longest_input};
 ghost use Rattle.lot_check.specs.Way.{Answers, Concludes, JudgesKnown, Reaches, Replies, RunsCommands};
-ghost use Rattle.lot_report.specs.Output.{HasFailed};
-ghost use Rattle.lot_view.specs.View.{known};
+ghost use Rattle.lot_report.specs.Output.{HasFailed, NoneFailed};
+ghost use Rattle.lot_view.specs.View.{known_with_openings};
 
 mod report;
 
@@ -21,7 +21,7 @@ use lot_text::read;
 use report::print_holdings;
 use std::alloc::{AllocError, Global};
 
-/// Judges a ledger text on a fresh book, by edition 1: writes a reply to each of its commands, and then what the book holds.
+/// Judges a ledger text on a fresh book, by edition 2: writes a reply to each of its commands, and then what the book holds.
 ///
 /// The text is read to its end before the first command is judged, and where it can't be read or isn't ledger text, one
 /// line says so (docs/FORMATS.md, Printed texts). Returns the status of the program:
@@ -40,7 +40,7 @@ pub fn check<R: CountedRead, W: CountedWrite>(alloc: Global, reader: &mut R, wri
     ensures answer { IfSome (R.remaining reader.old) (λ input. (written : List ℕ)
         × Appends (W.contents writer.old) (W.contents writer.new) written
         × IsOutcome (record { before = R.calls reader.old; after = R.calls reader.new })
-        (W.calls writer.new) input written result) }
+        (record { before = W.calls writer.old; after = W.calls writer.new }) input written result) }
 {
     let outcome = answer(alloc, reader, writer);
     let concluded = conclude(writer, outcome);
@@ -54,8 +54,9 @@ fn answer<R: CountedRead, W: CountedWrite>(
     writer: &mut W,
 ) -> Result<Status, Fault>
     ensures answers { IfSome (R.remaining reader.old) (λ input.
-        Answers (record { before = R.calls reader.old; after = R.calls reader.new })
-        input (W.contents writer.old) (W.contents writer.new) result) }
+        Answers (record { before = R.calls reader.old; after = R.calls reader.new }) input
+        (record { before = W.calls writer.old; after = W.calls writer.new })
+        (W.contents writer.old) (W.contents writer.new) result) }
     ensures cause { IsErrOf result Fault.Write → HasFailed (W.calls writer.new) }
 {
     let text = slurp(alloc, reader)?;
@@ -65,7 +66,9 @@ fn answer<R: CountedRead, W: CountedWrite>(
 /// The same for a text that was read.
 fn answer_text<W: CountedWrite>(alloc: Global, text: &[u8], writer: &mut W) -> Result<Status, Fault>
     requires { length text.now ≤ longest_input }
-    ensures reaches { Reaches text.now (W.contents writer.old) (W.contents writer.new) result }
+    ensures reaches { Reaches text.now
+        (record { before = W.calls writer.old; after = W.calls writer.new })
+        (W.contents writer.old) (W.contents writer.new) result }
     ensures cause { IsErrOf result Fault.Write → HasFailed (W.calls writer.new) }
 {
     let commands = read(alloc, text)?;
@@ -84,6 +87,8 @@ fn run<W: CountedWrite>(
     ensures runs { RunsCommands commands.items
         (W.contents writer.old) (W.contents writer.new) result }
     ensures cause { IsErrOf result Fault.Write → HasFailed (W.calls writer.new) }
+    ensures none_failed { IsErrOf result Fault.Write
+        ⊎ NoneFailed (W.calls writer.old) (W.calls writer.new) }
 {
     let mut view = View::new(alloc, 0);
     let mut status = Status::Accepted;
@@ -103,8 +108,11 @@ fn reply<W: CountedWrite>(
     command: &Command,
     writer: &mut W,
 ) -> Result<(View, Status), Fault>
-    ensures replies { Replies (known view) command.now number (W.contents writer.old) (W.contents writer.new) result }
+    ensures replies { Replies (known_with_openings view) command.now number
+        (W.contents writer.old) (W.contents writer.new) result }
     ensures cause { IsErrOf result Fault.Write → HasFailed (W.calls writer.new) }
+    ensures none_failed { IsErrOf result Fault.Write
+        ⊎ NoneFailed (W.calls writer.old) (W.calls writer.new) }
 {
     let Ok((view, verdict)) = judge(alloc, view, command) else {
         return Err(Fault::MemoryAt { number });
@@ -125,14 +133,15 @@ fn status_of_verdict(verdict: &Verdict) -> Status
     }
 }
 
-/// Judges a command by edition 1 on what is known of the book, and returns the verdict with what is known then: of an
+/// Judges a command by edition 2 on what is known of the book, and returns the verdict with what is known then: of an
 /// accepted command its entry is recorded. The error is out of memory; the view is then lost. It comes only where deciding
 /// the command may lack memory, or the command is accepted: never for a refusal that stores nothing.
 fn judge(alloc: Global, view: View, command: &Command) -> Result<(View, Verdict), AllocError>
-    ensures judged { IfOk result (λ judged. JudgesKnown (known view) command.now judged.1 (known judged.0)) }
-    ensures memory { OnErr result (JudgingMayLackMemory (known view) command.now) }
+    ensures judged { IfOk result (λ judged.
+        JudgesKnown (known_with_openings view) command.now judged.1 (known_with_openings judged.0)) }
+    ensures memory { OnErr result (JudgingMayLackMemory (known_with_openings view) command.now) }
 {
-    match decide(alloc, Edition::First, &view, command) {
+    match decide(alloc, Edition::Second, &view, command) {
         Ok(Outcome::Accept(change)) => Ok((view.record(command, &change)?, Verdict::Accepted)),
         Ok(Outcome::Repeat) => Ok((view, Verdict::Repeated)),
         Err(Stop::Refused(refusal)) => Ok((view, Verdict::Refused(refusal))),
@@ -148,6 +157,7 @@ fn conclude<W: CountedWrite>(
     ensures concludes { Concludes (W.contents writer.old) (W.contents writer.new) outcome result }
     ensures cause { (IsErrOf outcome Fault.Write → HasFailed (W.calls writer.old))
         → OnErr result (HasFailed (W.calls writer.new)) }
+    ensures none_failed { OnOk result (NoneFailed (W.calls writer.old) (W.calls writer.new)) }
 {
     match outcome {
         Ok(status) => Ok(status),

@@ -1,6 +1,7 @@
 -- Sessions that follow one another, and a list that is sent again.
 use Rattle.std.proofs.Common.{◌≡◌, ◌∙◌, ◌≤◌, ◌-ℤ◌, inl, inr, ap, refl, subst, sym, arith, append_assoc, append-nil, ℕ, suc, List, [], ◌∷◌, ◌++◌, length, drop, Option, Some, None, cond}
 use Rattle.std.specs.List.{AllByRecursion}
+use Rattle.std.proofs.lemmas.List.{length-append}
 use Rattle.lot_base.proofs.TextLemmas.{one_text}
 use Rattle.lot_base.specs.Text.{same_text}
 use Rattle.lot_command.specs.Canonical.{canonical}
@@ -10,13 +11,14 @@ use Rattle.lot_command.specs.declared.key.Key.{Key}
 use Rattle.lot_command.specs.declared.price.Price.{Price}
 use Rattle.lot_command.specs.declared.transaction.Transaction.{Transaction as TransactionOf}
 use Rattle.lot_book.proofs.CaseLemmas.{by_bool}
-use Rattle.lot_book.specs.Book.{IsBook, entry_of}
-use Rattle.lot_book.specs.Booking.{All, Bookings, Stopped}
+use Rattle.lot_book.specs.Book.{IsBookIn, entry_of}
+use Rattle.lot_book.specs.Booking.{All, Bookings, Stopped, TieRule}
+use Rattle.lot_book.specs.Edition.{After, Second, ties_in}
 use Rattle.lot_book.specs.Facts.{Entry, Facts, facts_of, text_under}
 use Rattle.lot_book.specs.Gain.{cost_of, currency_of, gain_at, gain_from, has_other_currency, proceeds_at}
 use Rattle.lot_book.specs.Judged.{JudgesAll, JudgesOn}
 use Rattle.lot_book.specs.Sale.{SaleParts}
-use Rattle.lot_book.specs.Step.{DecidesBy, Judges, JudgesTransaction, Refuse, Repeat, accept_unless, concluded}
+use Rattle.lot_book.specs.Step.{DecidesByUnder, JudgesTransactionUnder, JudgesUnder, Refuse, Repeat, accept_unless, concluded}
 use Rattle.lot_book.specs.declared.gain.Gain.{Gain}
 use Rattle.lot_book.specs.declared.leg.Leg.{Leg}
 use Rattle.lot_book.specs.declared.refusal.Refusal.{Refusal}
@@ -24,9 +26,10 @@ use Rattle.lot_book.specs.declared.refusal.Refusal.TheVariants.{KeyReused}
 use Rattle.lot_book.specs.declared.verdict.Verdict.{Verdict}
 use Rattle.lot_book.specs.declared.verdict.Verdict.TheVariants.{Accepted, Refused, Repeated}
 use Rattle.lot_laws.proofs.GainLaws.{a_gain_is_proceeds_less_cost}
-use Rattle.lot_laws.proofs.JudgedLaws.{judged_alike, judged_book, some_judged}
+use Rattle.lot_laws.proofs.JudgedLaws.{judged_alike, judged_book_in, some_judged}
 use Rattle.lot_laws.proofs.KeyLaws.{accepted_stands, is_repeat, remains}
 use Rattle.lot_laws.proofs.LawUnits.{held_as_bought}
+use Rattle.lot_laws.proofs.MigrationLaws.{judged_behind_place}
 use Rattle.lot_store.specs.Session.{IsAfter, StopLeaves}
 use Rattle.lot_walk.proofs.SaleLegLemmas.{sale_legs}
 use Rattle.lot_cli.specs.Again.{AreBehind, IsOneRun, SentAgain}
@@ -132,20 +135,21 @@ no_repeat_booked : (facts : Facts) (t : TransactionOf) (bookings : Bookings) →
 no_repeat_booked facts t (Stopped refusal) is = cc
 no_repeat_booked facts t (All booked) is = no_repeat _ _ is
 
-no_repeat_of : (facts : Facts) (t : TransactionOf) (condition : Option Refusal) → JudgesTransaction facts t condition Repeat → ⊥
-no_repeat_of facts t (Some refusal) is = cc
-no_repeat_of facts t None (bookings, books, is) = no_repeat_booked facts t bookings is
+module _ (ties : TieRule) where
+  no_repeat_of : (facts : Facts) (t : TransactionOf) (condition : Option Refusal) → JudgesTransactionUnder ties facts t condition Repeat → ⊥
+  no_repeat_of facts t (Some refusal) is = cc
+  no_repeat_of facts t None (bookings, books, is) = no_repeat_booked facts t bookings is
 
-judges_no_repeat : (facts : Facts) (command : Command) → Judges facts command Repeat → ⊥
-judges_no_repeat facts (Opening o) is = no_repeat _ _ is
-judges_no_repeat facts (Closing c) is = no_repeat _ _ is
-judges_no_repeat facts (Declaring d) is = no_repeat _ _ is
-judges_no_repeat facts (Quoting q) is = no_repeat _ _ is
-judges_no_repeat facts (Transaction t) is = no_repeat_of facts t _ is
+  judges_no_repeat : (facts : Facts) (command : Command) → JudgesUnder ties facts command Repeat → ⊥
+  judges_no_repeat facts (Opening o) is = no_repeat _ _ is
+  judges_no_repeat facts (Closing c) is = no_repeat _ _ is
+  judges_no_repeat facts (Declaring d) is = no_repeat _ _ is
+  judges_no_repeat facts (Quoting q) is = no_repeat _ _ is
+  judges_no_repeat facts (Transaction t) is = no_repeat_of facts t _ is
 
-repeats_by : (text : Option (List ℕ)) (facts : Facts) (command : Command) → DecidesBy text facts command Repeat → text ≡ Some (canonical command)
-repeats_by None facts command is = absurd (judges_no_repeat facts command is)
-repeats_by (Some text) facts command is = by_bool (same_text text (canonical command))
+repeats_by : (ties : TieRule) (text : Option (List ℕ)) (facts : Facts) (command : Command) → DecidesByUnder ties text facts command Repeat → text ≡ Some (canonical command)
+repeats_by ties None facts command is = absurd (judges_no_repeat ties facts command is)
+repeats_by ties (Some text) facts command is = by_bool (same_text text (canonical command))
     (λ same. ap Some (one_text text (canonical command) same))
     (λ other. let none : Repeat ≡ Refuse KeyReused = is ∙ ap (λ b. cond b Repeat (Refuse KeyReused)) other in absurd cc)
 
@@ -155,7 +159,7 @@ remains_all before after [] [] all keyed known = ap (λ (b : List Entry). text_u
 remains_all before after [] (v ∷ vs) all keyed known = absurd all
 remains_all before after (c ∷ commands) [] all keyed known = absurd all
 remains_all before after (c ∷ commands) (v ∷ vs) all keyed known =
-    remains_all all.0 after commands vs all.2 keyed (remains before all.0 keyed.0 c.0 (canonical keyed.1) c.1 v known all.1)
+    remains_all all.0 after commands vs all.2 keyed (remains Second before all.0 keyed.0 c.0 (canonical keyed.1) c.1 v known all.1)
 
 -- the commands that were judged stand, with whatever comes behind them
 stand_after : (before after : List Entry) (done left : List (Key × Command)) (vs : List Verdict) → JudgesAll before done vs after → AreUnderKeys after (done ++ left) vs
@@ -163,11 +167,11 @@ stand_after before after [] left [] all = tt
 stand_after before after [] left (v ∷ vs) all = absurd all
 stand_after before after (c ∷ done) left [] all = absurd all
 stand_after before after (c ∷ done) left (Accepted ∷ vs) all = (
-  remains_all all.0 after done vs all.2 c (accepted_stands before all.0 c.0 c.1 all.1),
+  remains_all all.0 after done vs all.2 c (accepted_stands Second before all.0 c.0 c.1 all.1),
   stand_after all.0 after done left vs all.2,
 )
 stand_after before after (c ∷ done) left (Repeated ∷ vs) all = (
-  remains_all all.0 after done vs all.2 c (ap (λ (b : List Entry). text_under b c.0) all.1.1 ∙ repeats_by (text_under before c.0) (facts_of before c.0) c.1 all.1.0),
+  remains_all all.0 after done vs all.2 c (ap (λ (b : List Entry). text_under b c.0) all.1.1 ∙ repeats_by (ties_in Second before) (text_under before c.0) (facts_of before c.0) c.1 all.1.0),
   stand_after all.0 after done left vs all.2,
 )
 stand_after before after (c ∷ done) left (Refused refusal ∷ vs) all = stand_after all.0 after done left vs all.2
@@ -189,21 +193,34 @@ but_last book (c ∷ commands) (Refused refusal ∷ vs) v stand = but_last book 
 
 -- ---- one session
 
+-- a book with that place of migration
+abbrev IsAt : ℕ → List Entry → Type 0
+IsAt place book = (place ≤ length book) × IsBookIn (After place) book
+
+-- it remains one where commands are judged
+remains_at : (place : ℕ) (before after : List Entry) (commands : List (Key × Command)) (vs : List Verdict) → JudgesAll before commands vs after
+    → IsAt place before → IsAt place after
+remains_at place before after commands vs all is =
+    let more = grows before after commands vs all in (
+      omega (arith, is.0, ap length more.1, length-append before more.0),
+      judged_book_in (After place) before commands vs after is.1 ((judged_behind_place place before commands vs after is.0).1 all),
+    )
+
 -- it leaves a book, in which what stood before stands, and what it acknowledged
 record Passes (before : List Entry) (sent : Sent) (book : List Entry) : Type 0 where
-  pub is_book : IsBook before → IsBook book
+  pub is_book : (place : ℕ) → IsAt place before → IsAt place book
   pub still : (keyed : Key × Command) → IsUnderKey before keyed → IsUnderKey book keyed
   pub holds : HoldsAcknowledged book sent
 
 passes : (before : List Entry) (sent : Sent) (book : List Entry) → StopLeaves before sent.commands sent.replied book → Passes before sent book
 passes before sent book (inl after) = record {
-  is_book = λ is. judged_book before after.1.done sent.replied book is after.1.judged;
+  is_book = λ place. remains_at place before book after.1.done sent.replied after.1.judged;
   still = remains_all before book after.1.done sent.replied after.1.judged;
   holds = subst (λ (cs : List (Key × Command)). AreUnderKeys book cs sent.replied) (sym after.1.split) (stand_after before book after.1.done after.0 sent.replied after.1.judged);
 }
 passes before sent book (inr after) =
     let vs = sent.replied ++ Accepted ∷ [] in record {
-      is_book = λ is. judged_book before after.1.done vs book is after.1.judged;
+      is_book = λ place. remains_at place before book after.1.done vs after.1.judged;
       still = remains_all before book after.1.done vs after.1.judged;
       holds = but_last book sent.commands sent.replied Accepted
           (subst (λ (cs : List (Key × Command)). AreUnderKeys book cs vs) (sym after.1.split) (stand_after before book after.1.done after.0 vs after.1.judged));
@@ -212,14 +229,14 @@ passes before sent book (inr after) =
 -- ---- sessions that follow one another
 
 record PassAll (before : List Entry) (sessions : List Sent) (book : List Entry) : Type 0 where
-  pub is_book : IsBook before → IsBook book
+  pub is_book : (place : ℕ) → IsAt place before → IsAt place book
   pub still : (keyed : Key × Command) → IsUnderKey before keyed → IsUnderKey book keyed
   pub adds : AddFirst before sessions book
   pub holds : AllByRecursion (HoldsAcknowledged book) sessions
 
 pass_all : (before : List Entry) (sessions : List Sent) (book : List Entry) → StopsLeave before sessions book → PassAll before sessions book
 pass_all before [] book is = record {
-  is_book = λ was. subst IsBook (sym is) was;
+  is_book = λ place was. subst (IsAt place) (sym is) was;
   still = λ keyed known. ap (λ (b : List Entry). text_under b keyed.0) is ∙ known;
   adds = is;
   holds = tt;
@@ -227,7 +244,7 @@ pass_all before [] book is = record {
 pass_all before (sent ∷ more) book (mid, stop, rest) =
     let one = passes before sent mid stop in
     let all = pass_all mid more book rest in record {
-      is_book = λ was. all.is_book (one.is_book was);
+      is_book = λ place was. all.is_book place (one.is_book place was);
       still = λ keyed known. all.still keyed (one.still keyed known);
       adds = (mid, adds_first before sent mid stop, all.adds);
       holds = (stand_still mid book all.still sent.commands sent.replied one.holds, all.holds);
@@ -254,16 +271,20 @@ all_less_cost (sale ∷ sales) = (less_cost sale.1.1, all_less_cost sales)
 
 -- ---- the headline
 
-pub headline : (sessions : List Sent) (book : List Entry) → StopsLeave [] sessions book → Headline sessions book
-headline sessions book leave =
-    let all = pass_all [] sessions book leave in
-    let is_book : IsBook book = all.is_book tt in record {
+pub headline : (place : ℕ) (before : List Entry) (sessions : List Sent) (book : List Entry) → place ≤ length before → IsBookIn (After place) before
+    → StopsLeave before sessions book → Headline place before sessions book
+headline place before sessions book placed was leave =
+    let all = pass_all before sessions book leave in
+    let is_book : IsBookIn (After place) book = (all.is_book place (placed, was)).1 in record {
       is_book = is_book;
       accepted = all.adds;
       acknowledged = all.holds;
-      units = λ account commodity. held_as_bought book account commodity is_book;
-      gains = λ sales are. record { lots = sale_legs book sales is_book are; gains = all_less_cost sales };
+      units = λ account commodity. held_as_bought (After place) book account commodity is_book;
+      gains = λ sales are. record { lots = sale_legs (After place) book sales is_book are; gains = all_less_cost sales };
     }
+
+pub headline_of_made : (sessions : List Sent) (book : List Entry) → StopsLeave [] sessions book → Headline 0 [] sessions book
+headline_of_made sessions book leave = headline 0 [] sessions book (omega arith) tt leave
 
 -- ---- a list that is sent again
 
@@ -290,7 +311,7 @@ repeats_first : (book after : List Entry) (c : Key × Command) (left : List (Key
     → (more : List Verdict) × (vs ≡ Repeated ∷ more) × JudgesAll book left more after
 repeats_first book after c left [] known all = absurd all
 repeats_first book after c left (v ∷ vs) known all =
-    let is = is_repeat book all.0 c.0 c.1 v known all.1 in
+    let is = is_repeat Second book all.0 c.0 c.1 v known all.1 in
     (vs, ap (λ (w : Verdict). w ∷ vs) is.0, subst (λ (b : List Entry). JudgesAll b left vs after) is.1 all.2)
 
 pub one_run : (before : List Entry) (commands : List (Key × Command)) (replied : List Verdict) (again : List (List Verdict)) (book : List Entry)
@@ -318,7 +339,7 @@ one_run before commands replied (next ∷ more) book (mid, inr (left, on), rest)
     let sent : drop (length replied) commands ≡ last.1 ∷ left =
     ap (drop (length replied)) whole ∙ drop_done last.0 (last.1 ∷ left) (length replied) (sym (as_many before last.2 last.0 replied last.4)) in
     let judged = subst (λ (cs : List (Key × Command)). JudgesAll mid cs (next ++ run.verdicts) book) sent run.judged in
-    let again = repeats_first mid book last.1 left (next ++ run.verdicts) (accepted_stands last.2 mid last.1.0 last.1.1 last.5) judged in record {
+    let again = repeats_first mid book last.1 left (next ++ run.verdicts) (accepted_stands Second last.2 mid last.1.0 last.1.1 last.5) judged in record {
       verdicts = Accepted ∷ again.0;
       judged = subst (λ (cs : List (Key × Command)). JudgesAll before cs (replied ++ (Accepted ∷ again.0)) book) (sym on.split)
           (subst (λ (vs : List Verdict). JudgesAll before (on.done ++ left) vs book) (append_assoc replied (Accepted ∷ []) again.0)

@@ -1,5 +1,6 @@
 -- A row that comes again, and another one with its reference.
 use Rattle.std.proofs.Common.{◌≡◌, ◌≢◌, ◌∙◌, ap, subst, sym, ℕ, List, Some}
+use Rattle.lot_book.specs.Edition.{Second}
 use Rattle.lot_book.specs.Facts.{Entry, text_under}
 use Rattle.lot_book.specs.Judged.{JudgesOn}
 use Rattle.lot_book.specs.declared.refusal.Refusal.TheVariants.{KeyReused}
@@ -20,13 +21,13 @@ use Rattle.lot_command.specs.Sayable.{IsSayable}
 pub row_stands : (book after : List Entry) (source : List ℕ) (accounts : Accounts) (row : Row) (keyed : Key × Command)
     → IsKeyed source accounts row keyed → JudgesOn book keyed.0 keyed.1 Accepted after → text_under after keyed.0 ≡ Some (canonical keyed.1)
 row_stands book after source accounts row keyed is judged =
-    accepted_stands book after keyed.0 keyed.1 judged
+    accepted_stands Second book after keyed.0 keyed.1 judged
 
 pub row_repeats : (book after : List Entry) (source : List ℕ) (accounts : Accounts) (row : Row) (keyed again : Key × Command) (verdict : Verdict)
     → IsKeyed source accounts row keyed → IsKeyed source accounts row again → text_under book keyed.0 ≡ Some (canonical keyed.1)
     → JudgesOn book again.0 again.1 verdict after → (verdict ≡ Repeated) × (after ≡ book)
 row_repeats book after source accounts row keyed again verdict is more known judged =
-    is_repeat book after again.0 again.1 verdict
+    is_repeat Second book after again.0 again.1 verdict
     (ap (text_under book) (more.0 ∙ sym is.0) ∙ known ∙ ap (λ (c : Command). Some (canonical c)) (one_command accounts row keyed.1 again.1 is.1 more.1)) judged
 
 pub row_refused : (book after : List Entry) (source : List ℕ) (accounts : Accounts) (row other : Row) (keyed next : Key × Command) (verdict : Verdict)
@@ -34,7 +35,7 @@ pub row_refused : (book after : List Entry) (source : List ℕ) (accounts : Acco
     → IsSayable keyed.1 → IsSayable next.1 → text_under book keyed.0 ≡ Some (canonical keyed.1)
     → JudgesOn book next.0 next.1 verdict after → (verdict ≡ Refused KeyReused) × (after ≡ book)
 row_refused book after source accounts row other keyed next verdict is more named apart said said_next known judged =
-    is_refused book after next.0 next.1 (canonical keyed.1) verdict
+    is_refused Second book after next.0 next.1 (canonical keyed.1) verdict
     (ap (text_under book) (more.0 ∙ ap (λ (name : List ℕ). record { source = source; name = name }) named ∙ sym is.0) ∙ known)
     (λ same. apart (one_row_of accounts other row next.1 more.1
     (subst (λ (c : Command). IsCommandOf accounts row c) (same_command keyed.1 next.1 said said_next same) is.1)))

@@ -23,6 +23,7 @@ create_name create.Memory = codes "Memory"
 abbrev pub adopt_name : AdoptFault → List ℕ
 adopt_name adopt.NotABook = codes "S1 NotABook"
 adopt_name adopt.NewerEdition = codes "S2 NewerEdition"
+adopt_name adopt.OlderEdition = codes "S3 OlderEdition"
 adopt_name adopt.Device = codes "S4 Device"
 adopt_name adopt.Memory = codes "Memory"
 

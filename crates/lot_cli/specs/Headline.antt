@@ -6,7 +6,8 @@ use Rattle.lot_command.specs.Canonical.{canonical}
 use Rattle.lot_command.specs.declared.command.Command.{Command}
 use Rattle.lot_command.specs.declared.key.Key.{Key}
 use Rattle.lot_inv.specs.Inventory.{sum}
-use Rattle.lot_book.specs.Book.{IsBook}
+use Rattle.lot_book.specs.Book.{IsBookIn}
+use Rattle.lot_book.specs.Edition.{After}
 use Rattle.lot_book.specs.Facts.{Entry, legs_of, text_under}
 use Rattle.lot_book.specs.Gain.{cost_of, gain_of}
 use Rattle.lot_book.specs.Judged.{JudgesAll}
@@ -91,16 +92,17 @@ pub record HasGains (book : List Entry) (sales : List (ℕ × (ℕ × SaleParts)
 
 -- ---- the headline
 
--- what stands in a file that was made as a book, after these sessions
-pub record Headline (sessions : List Sent) (book : List Entry) : Type 0 where
-  -- each entry is what the judge accepts on those before it
-  pub is_book : IsBook book
+-- What stands in a file after these sessions on a book with that place of migration, which had these entries before. A
+-- book that was made in edition 2 has place 0, and none before the first session.
+pub record Headline (place : ℕ) (before : List Entry) (sessions : List Sent) (book : List Entry) : Type 0 where
+  -- each entry is what the judge accepts on those before it, by edition 1 up to the place and then by edition 2
+  pub is_book : IsBookIn (After place) book
   -- a prefix of the accepted commands of each session
-  pub accepted : AddFirst [] sessions book
+  pub accepted : AddFirst before sessions book
   -- every acknowledged command
   pub acknowledged : AllByRecursion (HoldsAcknowledged book) sessions
   -- each commodity's units at cost are those bought less those sold
   pub units : (account commodity : List ℕ) → sum (inventory_of (legs_of book) account) commodity
       ≡ bought book account commodity +ℤ neg_ℤ (sold book account commodity)
   -- each realised gain is its proceeds less the cost of its lots
-  pub gains : (sales : List (ℕ × (ℕ × SaleParts))) → SalesOf book sales → HasGains book sales
+  pub gains : (sales : List (ℕ × (ℕ × SaleParts))) → SalesOf (After place) book sales → HasGains book sales

@@ -75,7 +75,7 @@ pub record Call : Type 1 where
 abbrev pub Serves : Action → Call → Type 0
 Serves Check c =
     IsUntouched c.old c.new × IfSome c.input.bytes (λ input. (text : List ℕ) × Appends c.before c.written text
-    × IsOutcome c.input.calls c.calls.after input text c.status)
+    × IsOutcome c.input.calls c.calls input text c.status)
 Serves (Init book) c = Makes c.old c.new c.before c.written c.calls c.status
 Serves (Post book batch from) c = Posts batch from c.input c.old c.new c.before c.written c.calls c.status
 Serves (Import book batch accounts from) c = Imports batch accounts from c.input c.old c.new c.before c.written c.calls c.status

@@ -1,5 +1,6 @@
-ghost use Rattle.std.specs.Prelude.{◌≡◌, IsTrue, None, false};
+ghost use Rattle.std.specs.Prelude.{◌≡◌, IfSome, IsTrue, None, false};
 ghost use Rattle.lot_stream.specs.Status.{IsStatus};
+ghost use Rattle.lot_cli.specs.Says.{Halts};
 ghost use Rattle.lot_cli.specs.Serve.{Makes, ReadsNothing, Serves};
 ghost use Rattle.sqlite.specs.Held.{state};
 ghost use Rattle.sqlite.specs.Tree.{Trees};
@@ -21,6 +22,8 @@ use std::alloc::Global;
 pub struct Served<S: Alter> {
     /// The status of the program.
     pub status: u8,
+    /// Why it ended before its first command, where it did.
+    pub halt: Option<Halt>,
     /// The connection to the book, with every row as the action left it.
     pub conn: Connection<S>,
 }
@@ -64,11 +67,17 @@ pub fn serve<R: CountedRead, W: CountedWrite, S: Alter>(
     ensures safe { IsTrue (state S.Store result.conn).is_open → (trees : Trees) → (state S.Store result.conn).may_leave trees
         → trees ≡ (state S.Store result.conn).committed.trees }
     ensures unread { ReadsNothing action.now → reader.new ≡ reader.old }
+    ensures told { IfSome result.halt (λ halt. Halts halt
+        (W.contents writer.old) (W.contents writer.new) (record {
+          before = W.calls writer.old;
+          after = W.calls writer.new;
+        }) result.status) }
     ensures status { IsStatus result.status }
 {
     match action {
         Action::Check => Served {
             status: check(alloc, reader, writer),
+            halt: None,
             conn,
         },
         Action::Init { .. } => init(alloc, writer, conn),
@@ -102,6 +111,11 @@ fn init<W: CountedWrite, S: Alter>(alloc: Global, writer: &mut W, conn: Connecti
           before = W.calls writer.old;
           after = W.calls writer.new;
         }) result.status }
+    ensures told { IfSome result.halt (λ halt. Halts halt
+        (W.contents writer.old) (W.contents writer.new) (record {
+          before = W.calls writer.old;
+          after = W.calls writer.new;
+        }) result.status) }
     ensures status { IsStatus result.status }
 {
     match create(alloc, conn) {
@@ -109,6 +123,7 @@ fn init<W: CountedWrite, S: Alter>(alloc: Global, writer: &mut W, conn: Connecti
             let printed = print_texts(writer, &["book ready\n"]);
             Served {
                 status: tell(writer, printed, Status::Accepted),
+                halt: None,
                 conn: book.into_connection(),
             }
         }

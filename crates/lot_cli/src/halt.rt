@@ -10,7 +10,7 @@ use lot_stream::Status;
 
 /// Why an action ends before its first command.
 #[derive(Clone, Copy, Debug, PartialEq, Eq)]
-pub(crate) enum Halt {
+pub enum Halt {
     /// What was read gives no commands.
     Input(InputFault),
     /// The book isn't made.
@@ -66,6 +66,7 @@ fn adopt_name(fault: AdoptFault) -> &'static str
     match fault {
         AdoptFault::NotABook => "S1 NotABook",
         AdoptFault::NewerEdition => "S2 NewerEdition",
+        AdoptFault::OlderEdition => "S3 OlderEdition",
         AdoptFault::Device => "S4 Device",
         AdoptFault::Memory => "Memory",
     }

@@ -1,11 +1,13 @@
 //! Laws of what the contract of `serve` cites. Each is the contract of a function that does nothing.
-ghost use Rattle.std.specs.Prelude.{◌≡◌, ◌≢◌, Some, ℕ, List, []};
+ghost use Rattle.std.specs.Prelude.{◌≡◌, ◌≢◌, ◌≤◌, Some, ℕ, List, [], length};
 ghost use Rattle.sqlite.specs.Files.{Finds, HoldsDatabase, IsOpened, file_state, image_of};
 ghost use Rattle.sqlite.specs.Held.{Held, state};
 ghost use Rattle.sqlite.specs.State.{IsLive, Opens};
 ghost use Rattle.sqlite.specs.Tree.{Trees};
 ghost use Rattle.sqlite_disk.specs.declared.Files.{Files};
 ghost use Rattle.sqlite_store.specs.declared.store.FileStore.{FileStore};
+ghost use Rattle.lot_book.specs.Book.{IsBookIn};
+ghost use Rattle.lot_book.specs.Edition.{After};
 ghost use Rattle.lot_book.specs.Facts.{Entry, text_under};
 ghost use Rattle.lot_book.specs.Judged.{JudgesOn};
 ghost use Rattle.lot_book.specs.declared.refusal.Refusal.TheVariants.{KeyReused};
@@ -27,12 +29,18 @@ ghost use Rattle.lot_stored.specs.StandFor.{Left, Stands};
 use sqlite::Alter;
 use sqlite_disk::Disk;
 
-/// The headline. Sessions follow one another on a book that was made, and each may be stopped within any write: the next one
-/// begins on what the stop left. What stands in the end is the book of a prefix of the accepted commands of each session that
-/// holds every acknowledged one. In that book each commodity's units at cost are those bought less those sold, and each
-/// realised gain is its proceeds less the cost of the lots that its posting took.
+/// The headline. Sessions follow one another on a book, and each may be stopped within any write: the next one begins on what
+/// the stop left. What stands in the end is the book of a prefix of the accepted commands of each session that holds every
+/// acknowledged one. In that book each commodity's units at cost are those bought less those sold, and each realised gain is
+/// its proceeds less the cost of the lots that its posting took.
+///
+/// A book that was made has no entries before the first session, and place of migration 0.
 pub fn the_headline()
-    ensures { (sessions : List Sent) (book : List Entry) → StopsLeave [] sessions book → Headline sessions book }
+    ensures made { (sessions : List Sent) (book : List Entry)
+        → StopsLeave [] sessions book → Headline 0 [] sessions book }
+    ensures goes_on { (place : ℕ) (before : List Entry) (sessions : List Sent) (book : List Entry)
+        → place ≤ length before → IsBookIn (After place) before
+        → StopsLeave before sessions book → Headline place before sessions book }
 {}
 
 /// Commands that are sent again from the first one without a reply, as often as a session is stopped, come to the book of one

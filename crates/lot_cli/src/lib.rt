@@ -20,6 +20,9 @@ mod report;
 mod run;
 
 pub use action::{Served, serve};
+pub use halt::Halt;
 pub use lot_args::{Action, BadOption, Batch, Start, WordsFault, parse_words};
+pub use lot_input::InputFault;
 pub use lot_report::{CountedWrite, CountedWriter};
+pub use lot_store::{AdoptFault, CreateFault};
 pub use lot_stream::{Counted, CountedRead, SlurpFault, slurp};

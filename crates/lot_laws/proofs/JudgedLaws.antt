@@ -13,48 +13,33 @@ use Rattle.lot_book.specs.declared.refusal.Refusal.{Refusal}
 use Rattle.lot_book.specs.declared.verdict.Verdict.{Verdict}
 use Rattle.lot_book.specs.declared.verdict.Verdict.TheVariants.{Accepted, Repeated, Refused}
 use Rattle.lot_book.specs.Book.{IsBook, IsBookIn, entry_of}
-use Rattle.lot_book.specs.Edition.{Migration, NotYet, edition_on}
+use Rattle.lot_book.specs.Edition.{Edition, Migration, Second, edition_on}
 use Rattle.lot_book.specs.Facts.{Entry, Facts}
 use Rattle.lot_book.specs.Holding.{ListsHoldings, entry_of as as_entry, position_of}
-use Rattle.lot_book.specs.Judged.{JudgesAll, JudgesAllIn, JudgesOn, JudgesOnIn}
+use Rattle.lot_book.specs.Judged.{JudgesAll, JudgesAllIn, JudgesBy, JudgesOn}
 use Rattle.lot_book.specs.Leg.{position_cmp}
 use Rattle.lot_book.specs.Step.{Accept, Outcome, Refuse, Repeat, StepIn}
 use Rattle.lot_book.proofs.OrderLemmas.{exact_positions, positions_total}
-use Rattle.lot_laws.proofs.StepLemmas.{some_step_in, step_one_in}
-use Rattle.lot_laws.proofs.RecordedBook.{book-grows_in}
-
--- ---- Judged commands leave a book a book.
-
-judged_once : (migration : Migration) (before : List Entry) (key : Key) (command : Command) (verdict : Verdict) (after : List Entry)
-    → JudgesOnIn migration before key command verdict after → IsBookIn migration before → IsBookIn migration after
-judged_once migration before key command Accepted after h book = subst (IsBookIn migration) (sym h.2) (book-grows_in migration before key command h.0 book h.1)
-judged_once migration before key command Repeated after h book = subst (IsBookIn migration) (sym h.1) book
-judged_once migration before key command (Refused refusal) after h book = subst (IsBookIn migration) (sym h.1) book
-
-pub judged_book_in : (migration : Migration) (before : List Entry) (commands : List (Key × Command)) (verdicts : List Verdict) (after : List Entry)
-    → IsBookIn migration before → JudgesAllIn migration before commands verdicts after → IsBookIn migration after
-judged_book_in migration before [] [] after book h = subst (IsBookIn migration) (sym h) book
-judged_book_in migration before [] (verdict ∷ verdicts) after book h = absurd h
-judged_book_in migration before (next ∷ commands) [] after book h = absurd h
-judged_book_in migration before (next ∷ commands) (verdict ∷ verdicts) after book h =
-    judged_book_in migration h.0 commands verdicts after (judged_once migration before next.0 next.1 verdict h.0 h.1 book) h.2
+use Rattle.lot_laws.proofs.StepLemmas.{some_step, step_one}
+use Rattle.lot_laws.proofs.RecordedBook.{book-grows, book-grows_in}
+use Rattle.lot_laws.specs.Laws.{JudgesAllBy}
 
 -- ---- Commands come to some verdicts and some book.
 
-judged_by : (migration : Migration) (before : List Entry) (key : Key) (command : Command) (outcome : Outcome)
-    → StepIn (edition_on migration before) before key command outcome
-    → (verdict : Verdict) × (after : List Entry) × JudgesOnIn migration before key command verdict after
-judged_by migration before key command (Accept legs) step = (Accepted, before ++ entry_of key command legs ∷ [], (legs, step, refl))
-judged_by migration before key command Repeat step = (Repeated, before, (step, refl))
-judged_by migration before key command (Refuse refusal) step = (Refused refusal, before, (step, refl))
+judged_by : (edition : Edition) (before : List Entry) (key : Key) (command : Command) (outcome : Outcome)
+    → StepIn edition before key command outcome
+    → (verdict : Verdict) × (after : List Entry) × JudgesBy edition before key command verdict after
+judged_by edition before key command (Accept legs) step = (Accepted, before ++ entry_of key command legs ∷ [], (legs, step, refl))
+judged_by edition before key command Repeat step = (Repeated, before, (step, refl))
+judged_by edition before key command (Refuse refusal) step = (Refused refusal, before, (step, refl))
 
-pub some_judged_in : (migration : Migration) (before : List Entry) (commands : List (Key × Command))
-    → (verdicts : List Verdict) × (after : List Entry) × JudgesAllIn migration before commands verdicts after
-some_judged_in migration before [] = ([], before, refl)
-some_judged_in migration before (next ∷ commands) =
-    let outcome = some_step_in (edition_on migration before) before next.0 next.1 in
-    let first = judged_by migration before next.0 next.1 outcome.0 outcome.1 in
-    let rest = some_judged_in migration first.1 commands in
+pub some_judged_by : (edition : List Entry → Edition) (before : List Entry) (commands : List (Key × Command))
+    → (verdicts : List Verdict) × (after : List Entry) × JudgesAllBy edition before commands verdicts after
+some_judged_by edition before [] = ([], before, refl)
+some_judged_by edition before (next ∷ commands) =
+    let outcome = some_step (edition before) before next.0 next.1 in
+    let first = judged_by (edition before) before next.0 next.1 outcome.0 outcome.1 in
+    let rest = some_judged_by edition first.1 commands in
     (first.0 ∷ rest.0, rest.1, (first.1, first.2, rest.2))
 
 -- ---- They come to no other.
@@ -74,69 +59,93 @@ accept_or_refuse legs refusal e = cc
 repeat_or_refuse : (refusal : Refusal) → Repeat ≡ Refuse refusal → ⊥
 repeat_or_refuse refusal e = cc
 
-alike : (migration : Migration) (before : List Entry) (key : Key) (command : Command) (v w : Verdict) (a b : List Entry)
-    → JudgesOnIn migration before key command v a → JudgesOnIn migration before key command w b → (v ≡ w) × (a ≡ b)
-alike migration before key command Accepted Accepted a b h k =
-    let legs = same_legs h.0 k.0 (step_one_in (edition_on migration before) before key command (Accept h.0) (Accept k.0) h.1 k.1) in
+alike : (edition : Edition) (before : List Entry) (key : Key) (command : Command) (v w : Verdict) (a b : List Entry)
+    → JudgesBy edition before key command v a → JudgesBy edition before key command w b → (v ≡ w) × (a ≡ b)
+alike edition before key command Accepted Accepted a b h k =
+    let legs = same_legs h.0 k.0 (step_one edition before key command (Accept h.0) (Accept k.0) h.1 k.1) in
     (refl, h.2 ∙ ap (λ (legs : List Leg). before ++ entry_of key command legs ∷ []) legs ∙ sym k.2)
-alike migration before key command Accepted Repeated a b h k =
-    absurd (accept_or_repeat h.0 (step_one_in (edition_on migration before) before key command (Accept h.0) Repeat h.1 k.0))
-alike migration before key command Accepted (Refused q) a b h k =
-    absurd (accept_or_refuse h.0 q (step_one_in (edition_on migration before) before key command (Accept h.0) (Refuse q) h.1 k.0))
-alike migration before key command Repeated Accepted a b h k =
-    absurd (accept_or_repeat k.0 (step_one_in (edition_on migration before) before key command (Accept k.0) Repeat k.1 h.0))
-alike migration before key command Repeated Repeated a b h k = (refl, h.1 ∙ sym k.1)
-alike migration before key command Repeated (Refused q) a b h k =
-    absurd (repeat_or_refuse q (step_one_in (edition_on migration before) before key command Repeat (Refuse q) h.0 k.0))
-alike migration before key command (Refused p) Accepted a b h k =
-    absurd (accept_or_refuse k.0 p (step_one_in (edition_on migration before) before key command (Accept k.0) (Refuse p) k.1 h.0))
-alike migration before key command (Refused p) Repeated a b h k =
-    absurd (repeat_or_refuse p (step_one_in (edition_on migration before) before key command Repeat (Refuse p) k.0 h.0))
-alike migration before key command (Refused p) (Refused q) a b h k =
-    (ap Refused (same_refusal p q (step_one_in (edition_on migration before) before key command (Refuse p) (Refuse q) h.0 k.0)), h.1 ∙ sym k.1)
+alike edition before key command Accepted Repeated a b h k =
+    absurd (accept_or_repeat h.0 (step_one edition before key command (Accept h.0) Repeat h.1 k.0))
+alike edition before key command Accepted (Refused q) a b h k =
+    absurd (accept_or_refuse h.0 q (step_one edition before key command (Accept h.0) (Refuse q) h.1 k.0))
+alike edition before key command Repeated Accepted a b h k =
+    absurd (accept_or_repeat k.0 (step_one edition before key command (Accept k.0) Repeat k.1 h.0))
+alike edition before key command Repeated Repeated a b h k = (refl, h.1 ∙ sym k.1)
+alike edition before key command Repeated (Refused q) a b h k =
+    absurd (repeat_or_refuse q (step_one edition before key command Repeat (Refuse q) h.0 k.0))
+alike edition before key command (Refused p) Accepted a b h k =
+    absurd (accept_or_refuse k.0 p (step_one edition before key command (Accept k.0) (Refuse p) k.1 h.0))
+alike edition before key command (Refused p) Repeated a b h k =
+    absurd (repeat_or_refuse p (step_one edition before key command Repeat (Refuse p) k.0 h.0))
+alike edition before key command (Refused p) (Refused q) a b h k =
+    (ap Refused (same_refusal p q (step_one edition before key command (Refuse p) (Refuse q) h.0 k.0)), h.1 ∙ sym k.1)
 
-pub judged_alike_in : (migration : Migration) (before : List Entry) (commands : List (Key × Command)) (vs ws : List Verdict) (a b : List Entry)
-    → JudgesAllIn migration before commands vs a → JudgesAllIn migration before commands ws b → (vs ≡ ws) × (a ≡ b)
-judged_alike_in migration before [] [] [] a b h k = (refl, h ∙ sym k)
-judged_alike_in migration before [] [] (w ∷ ws) a b h k = absurd k
-judged_alike_in migration before [] (v ∷ vs) ws a b h k = absurd h
-judged_alike_in migration before (next ∷ commands) [] ws a b h k = absurd h
-judged_alike_in migration before (next ∷ commands) (v ∷ vs) [] a b h k = absurd k
-judged_alike_in migration before (next ∷ commands) (v ∷ vs) (w ∷ ws) a b h k =
-    let first = alike migration before next.0 next.1 v w h.0 k.0 h.1 k.1 in
-    let rest = judged_alike_in migration h.0 commands vs ws a b h.2 (subst (λ (mid : List Entry). JudgesAllIn migration mid commands ws b) (sym first.1) k.2) in
+pub judged_alike_by : (edition : List Entry → Edition) (before : List Entry) (commands : List (Key × Command)) (vs ws : List Verdict) (a b : List Entry)
+    → JudgesAllBy edition before commands vs a → JudgesAllBy edition before commands ws b → (vs ≡ ws) × (a ≡ b)
+judged_alike_by edition before [] [] [] a b h k = (refl, h ∙ sym k)
+judged_alike_by edition before [] [] (w ∷ ws) a b h k = absurd k
+judged_alike_by edition before [] (v ∷ vs) ws a b h k = absurd h
+judged_alike_by edition before (next ∷ commands) [] ws a b h k = absurd h
+judged_alike_by edition before (next ∷ commands) (v ∷ vs) [] a b h k = absurd k
+judged_alike_by edition before (next ∷ commands) (v ∷ vs) (w ∷ ws) a b h k =
+    let first = alike (edition before) before next.0 next.1 v w h.0 k.0 h.1 k.1 in
+    let rest = judged_alike_by edition h.0 commands vs ws a b h.2 (subst (λ (mid : List Entry). JudgesAllBy edition mid commands ws b) (sym first.1) k.2) in
     (ap (λ (u : Verdict). u ∷ vs) first.0 ∙ ap (λ (us : List Verdict). w ∷ us) rest.0, rest.1)
 
 -- ---- One command more.
 
-pub judges_more_in : (migration : Migration) (before : List Entry) (done : List (Key × Command)) (verdicts : List Verdict) (mid after : List Entry) (next : Key × Command)
-    (verdict : Verdict) → JudgesAllIn migration before done verdicts mid → JudgesOnIn migration mid next.0 next.1 verdict after
-    → JudgesAllIn migration before (done ++ next ∷ []) (verdicts ++ verdict ∷ []) after
-judges_more_in migration before [] [] mid after next verdict all one =
-    (after, subst (λ (book : List Entry). JudgesOnIn migration book next.0 next.1 verdict after) all one, refl)
-judges_more_in migration before [] (v ∷ verdicts) mid after next verdict all one = absurd all
-judges_more_in migration before (first ∷ done) [] mid after next verdict all one = absurd all
-judges_more_in migration before (first ∷ done) (v ∷ verdicts) mid after next verdict all one =
-    (all.0, all.1, judges_more_in migration all.0 done verdicts mid after next verdict all.2 one)
+pub judges_more_by : (edition : List Entry → Edition) (before : List Entry) (done : List (Key × Command)) (verdicts : List Verdict) (mid after : List Entry) (next : Key × Command)
+    (verdict : Verdict) → JudgesAllBy edition before done verdicts mid → JudgesBy (edition mid) mid next.0 next.1 verdict after
+    → JudgesAllBy edition before (done ++ next ∷ []) (verdicts ++ verdict ∷ []) after
+judges_more_by edition before [] [] mid after next verdict all one =
+    (after, subst (λ (book : List Entry). JudgesBy (edition book) book next.0 next.1 verdict after) all one, refl)
+judges_more_by edition before [] (v ∷ verdicts) mid after next verdict all one = absurd all
+judges_more_by edition before (first ∷ done) [] mid after next verdict all one = absurd all
+judges_more_by edition before (first ∷ done) (v ∷ verdicts) mid after next verdict all one =
+    (all.0, all.1, judges_more_by edition all.0 done verdicts mid after next verdict all.2 one)
 
--- ---- The same on a book of edition 1.
+-- ---- Judged commands leave a book a book.
+
+-- what an accepted command keeps of the entries, judged commands do
+module _ (edition : List Entry → Edition) (Keeps : List Entry → Type 0)
+    (grows : (before : List Entry) (key : Key) (command : Command) (legs : List Leg) → Keeps before
+    → StepIn (edition before) before key command (Accept legs) → Keeps (before ++ entry_of key command legs ∷ [])) where
+  kept_once : (before : List Entry) (key : Key) (command : Command) (verdict : Verdict) (after : List Entry)
+      → JudgesBy (edition before) before key command verdict after → Keeps before → Keeps after
+  kept_once before key command Accepted after h was = subst Keeps (sym h.2) (grows before key command h.0 was h.1)
+  kept_once before key command Repeated after h was = subst Keeps (sym h.1) was
+  kept_once before key command (Refused refusal) after h was = subst Keeps (sym h.1) was
+
+  kept_by_all : (before : List Entry) (commands : List (Key × Command)) (verdicts : List Verdict) (after : List Entry)
+      → Keeps before → JudgesAllBy edition before commands verdicts after → Keeps after
+  kept_by_all before [] [] after was h = subst Keeps (sym h) was
+  kept_by_all before [] (verdict ∷ verdicts) after was h = absurd h
+  kept_by_all before (next ∷ commands) [] after was h = absurd h
+  kept_by_all before (next ∷ commands) (verdict ∷ verdicts) after was h =
+      kept_by_all h.0 commands verdicts after (kept_once before next.0 next.1 verdict h.0 h.1 was) h.2
+
+pub judged_book_in : (migration : Migration) (before : List Entry) (commands : List (Key × Command)) (verdicts : List Verdict) (after : List Entry)
+    → IsBookIn migration before → JudgesAllIn migration before commands verdicts after → IsBookIn migration after
+judged_book_in migration = kept_by_all (edition_on migration) (IsBookIn migration) (book-grows_in migration)
+
+-- ---- The same by edition 2.
 
 pub judged_book : (before : List Entry) (commands : List (Key × Command)) (verdicts : List Verdict) (after : List Entry)
     → IsBook before → JudgesAll before commands verdicts after → IsBook after
-judged_book = judged_book_in NotYet
+judged_book = kept_by_all (λ book. Second) IsBook book-grows
 
 pub some_judged : (before : List Entry) (commands : List (Key × Command))
     → (verdicts : List Verdict) × (after : List Entry) × JudgesAll before commands verdicts after
-some_judged = some_judged_in NotYet
+some_judged = some_judged_by (λ book. Second)
 
 pub judged_alike : (before : List Entry) (commands : List (Key × Command)) (vs ws : List Verdict) (a b : List Entry)
     → JudgesAll before commands vs a → JudgesAll before commands ws b → (vs ≡ ws) × (a ≡ b)
-judged_alike = judged_alike_in NotYet
+judged_alike = judged_alike_by (λ book. Second)
 
 pub judges_more : (before : List Entry) (done : List (Key × Command)) (verdicts : List Verdict) (mid after : List Entry) (next : Key × Command)
     (verdict : Verdict) → JudgesAll before done verdicts mid → JudgesOn mid next.0 next.1 verdict after
     → JudgesAll before (done ++ next ∷ []) (verdicts ++ verdict ∷ []) after
-judges_more = judges_more_in NotYet
+judges_more = judges_more_by (λ book. Second)
 
 -- ---- What is held is listed in one way.
 

@@ -11,10 +11,10 @@ use Rattle.lot_book.specs.Book.{IsBookIn, entry_of}
 use Rattle.lot_book.specs.Booking.{All, Booked, Bookings, BooksAllUnder, Stopped, TieRule}
 use Rattle.lot_book.specs.Edition.{Edition, Migration, edition_on, ties_in}
 use Rattle.lot_book.specs.Facts.{Entry, Facts, facts_of}
-use Rattle.lot_laws.specs.Laws.{BooksCommandUnder, IsBalancedUnder}
+use Rattle.lot_laws.specs.Laws.{BooksCommand, IsBalanced}
 use Rattle.lot_book.specs.Step.{Accept, JudgesTransactionUnder, StepIn, all_legs, concluded, first_conditions, first_of, last_conditions}
 use Rattle.lot_laws.proofs.BalanceLaw.{unrefused_balances}
-use Rattle.lot_laws.proofs.LawBooks.{accepted_in, continued, none_holds}
+use Rattle.lot_laws.proofs.LawBooks.{accepted, continued, none_holds}
 
 -- the legs are those of a transaction whose postings are booked, and then no condition holds
 pub record IsUnrefused (ties : TieRule) (facts : Facts) (t : TransactionOf) (legs : List Leg) : Type 0 where
@@ -40,10 +40,10 @@ pub accepted_unrefused : (edition : Edition) (book : List Entry) (key : Key) (t 
 accepted_unrefused edition book key t legs h =
     let facts = facts_of book key in
     unrefused_unless (ties_in edition book) (first_of (first_conditions facts t)) facts t legs
-    (accepted_in edition book key (Transaction t) legs h).1
+    (accepted edition book key (Transaction t) legs h).1
 
 pub accepted_balances : (edition : Edition) (book : List Entry) (key : Key) (t : TransactionOf) (legs : List Leg)
-    → StepIn edition book key (Transaction t) (Accept legs) → IsBalancedUnder (ties_in edition book) (facts_of book key) t legs
+    → StepIn edition book key (Transaction t) (Accept legs) → IsBalanced (ties_in edition book) (facts_of book key) t legs
 accepted_balances edition book key t legs h =
     let is = accepted_unrefused edition book key t legs h in record {
       booked = is.booked;
@@ -54,7 +54,7 @@ accepted_balances edition book key t legs h =
 
 pub book_balances : (migration : Migration) (before more : List Entry) (key : Key) (t : TransactionOf) (legs : List Leg)
     → IsBookIn migration (before ++ entry_of key (Transaction t) legs ∷ more)
-    → IsBalancedUnder (ties_in (edition_on migration before) before) (facts_of before key) t legs
+    → IsBalanced (ties_in (edition_on migration before) before) (facts_of before key) t legs
 book_balances migration before more key t legs h =
     accepted_balances (edition_on migration before) before key t legs
     (continued migration [] before (entry_of key (Transaction t) legs ∷ more) h).0
@@ -62,10 +62,10 @@ book_balances migration before more key t legs h =
 -- what is booked of an accepted command
 pub command_booked : (edition : Edition) (book : List Entry) (key : Key) (command : Command) (legs : List Leg)
     → StepIn edition book key command (Accept legs)
-    → (booked : List Booked) × BooksCommandUnder (ties_in edition book) (facts_of book key) command legs booked
-command_booked edition book key (Opening o) legs h = ([], ((none_holds _ legs [] (accepted_in edition book key (Opening o) legs h).1).1, refl))
-command_booked edition book key (Closing c) legs h = ([], ((none_holds _ legs [] (accepted_in edition book key (Closing c) legs h).1).1, refl))
-command_booked edition book key (Declaring d) legs h = ([], ((none_holds _ legs [] (accepted_in edition book key (Declaring d) legs h).1).1, refl))
-command_booked edition book key (Quoting q) legs h = ([], ((none_holds _ legs [] (accepted_in edition book key (Quoting q) legs h).1).1, refl))
+    → (booked : List Booked) × BooksCommand (ties_in edition book) (facts_of book key) command legs booked
+command_booked edition book key (Opening o) legs h = ([], ((none_holds _ legs [] (accepted edition book key (Opening o) legs h).1).1, refl))
+command_booked edition book key (Closing c) legs h = ([], ((none_holds _ legs [] (accepted edition book key (Closing c) legs h).1).1, refl))
+command_booked edition book key (Declaring d) legs h = ([], ((none_holds _ legs [] (accepted edition book key (Declaring d) legs h).1).1, refl))
+command_booked edition book key (Quoting q) legs h = ([], ((none_holds _ legs [] (accepted edition book key (Quoting q) legs h).1).1, refl))
 command_booked edition book key (Transaction t) legs h =
     let is = accepted_balances edition book key t legs h in (is.booked, (is.all, is.books))

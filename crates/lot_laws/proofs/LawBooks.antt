@@ -1,6 +1,7 @@
 -- Books: each entry was accepted on the entries before it.
-use Rattle.std.specs.Prelude.{◌≡◌, ℕ, suc, Bool, true, false, cond, List, [], ◌∷◌, ◌++◌, Option, None, Some, ℤ}
-use Rattle.std.proofs.Common.{refl, sym, subst, append_assoc}
+use Rattle.std.specs.Prelude.{◌≡◌, ℕ, suc, ◌≤◌, Bool, true, false, cond, List, [], ◌∷◌, ◌++◌, length, Option, None, Some, ℤ}
+use Rattle.std.proofs.Common.{refl, sym, ap, subst, append_assoc}
+use Rattle.std.proofs.lemmas.Bool.{le-ltb}
 use Rattle.std.proofs.lemmas.List.{append-nil}
 use Rattle.lot_base.specs.Text.{same_text}
 use Rattle.lot_command.specs.Canonical.{canonical}
@@ -12,10 +13,10 @@ use Rattle.lot_book.specs.declared.leg.Leg.{Leg}
 use Rattle.lot_book.specs.declared.refusal.Refusal.{Refusal}
 use Rattle.lot_book.specs.declared.refusal.Refusal.TheVariants.{KeyReused}
 use Rattle.lot_book.specs.Book.{ContinuesIn}
-use Rattle.lot_book.specs.Booking.{All, Booked, Booking, Bookings, Books, BooksAll, BooksAllUnder, BooksTo, BooksWithUnder, Continue, Fails, IsBooked, Stopped, TieRule, all_by_key, follow, line_of, line_under}
-use Rattle.lot_book.specs.Edition.{Edition, First, Migration, ties_in}
+use Rattle.lot_book.specs.Booking.{All, Booked, Booking, Bookings, Books, BooksAllUnder, BooksTo, BooksWithUnder, Continue, Fails, IsBooked, Stopped, TieRule, follow, line_under}
+use Rattle.lot_book.specs.Edition.{After, Edition, First, Migration, Second, edition_on, ties_in}
 use Rattle.lot_book.specs.Facts.{Entry, Facts, facts_of, text_under}
-use Rattle.lot_book.specs.Step.{Accept, DecidesByUnder, Judges, JudgesUnder, Refuse, Repeat, Step, StepIn, accept_unless}
+use Rattle.lot_book.specs.Step.{Accept, DecidesByUnder, JudgesUnder, Refuse, Repeat, StepIn, accept_unless}
 
 -- ---- Acceptance.
 
@@ -33,20 +34,22 @@ accepted_by : (ties : TieRule) (text : Option (List ℕ)) (facts : Facts) (comma
 accepted_by ties None facts command legs h = (refl, h)
 accepted_by ties (Some text) facts command legs h = absurd (not_accepted (same_text text (canonical command)) legs h)
 
-pub accepted_in : (edition : Edition) (book : List Entry) (key : Key) (command : Command) (legs : List Leg)
+pub accepted : (edition : Edition) (book : List Entry) (key : Key) (command : Command) (legs : List Leg)
     → StepIn edition book key command (Accept legs)
     → (text_under book key ≡ None) × JudgesUnder (ties_in edition book) (facts_of book key) command (Accept legs)
-accepted_in edition book key command legs h =
+accepted edition book key command legs h =
     accepted_by (ties_in edition book) (text_under book key) (facts_of book key) command legs h
-
-pub accepted : (book : List Entry) (key : Key) (command : Command) (legs : List Leg) → Step book key command (Accept legs)
-    → (text_under book key ≡ None) × Judges (facts_of book key) command (Accept legs)
-accepted book key command legs h = accepted_in First book key command legs h
 
 -- what is accepted has no condition that holds, and its legs
 pub none_holds : (condition : Option Refusal) (legs more : List Leg) → Accept legs ≡ accept_unless condition more → (condition ≡ None) × (legs ≡ more)
 none_holds None legs more e = (refl, cc)
 none_holds (Some refusal) legs more e = absurd cc
+
+-- ---- Which edition judges.
+
+-- behind as many entries as the place of migration, or more, the second
+pub second_there : (place : ℕ) (before : List Entry) → place ≤ length before → edition_on (After place) before ≡ Second
+second_there place before more = ap (λ b. cond b First Second) (le-ltb (length before) place more)
 
 -- ---- Parts of a book.
 
@@ -107,11 +110,11 @@ module _ (ties : TieRule) (facts : Facts) (day : ℤ) (P : ℕ → List Leg → 
   with_first before place account (Some amount) postings booked rest books =
       continues before place account amount postings booked books.0 rest books.1 books.2
 
-  pub over_placed_under : (place : ℕ) (postings : List Posting) → Rest place postings
-  over_placed_under place [] before booked books =
+  pub over_placed : (place : ℕ) (postings : List Posting) → Rest place postings
+  over_placed place [] before booked books =
       let all : [] ≡ booked = cc in subst (λ (bs : List Booked). P place before [] bs) all (none place before)
-  over_placed_under place (posting ∷ postings) before booked books =
-      with_first before place posting.account posting.amount postings booked (over_placed_under (suc place) postings) books
+  over_placed place (posting ∷ postings) before booked books =
+      with_first before place posting.account posting.amount postings booked (over_placed (suc place) postings) books
 
 -- the same of what speaks of no place
 module _ (ties : TieRule) (facts : Facts) (day : ℤ) (P : List Leg → List Posting → List Booked → Type 0)
@@ -121,18 +124,6 @@ module _ (ties : TieRule) (facts : Facts) (day : ℤ) (P : List Leg → List Pos
     (one : (before : List Leg) (place : ℕ) (account : List ℕ) (amount : Amount) (postings : List Posting) (first : Booked) (more : List Booked)
     → IsBooked (line_under ties facts day before place account amount) first → P (before ++ first.legs) postings more
     → P before (posted account (Some amount) ∷ postings) (first ∷ more)) where
-  pub over_booked_under : (place : ℕ) (postings : List Posting) (before : List Leg) (booked : List Booked)
-      → BooksAllUnder ties facts day before place postings (All booked) → P before postings booked
-  over_booked_under = over_placed_under ties facts day (λ place. P) (λ place. none) (λ place. elided) one
-
--- the same where all ties are decided by key
-module _ (facts : Facts) (day : ℤ) (P : List Leg → List Posting → List Booked → Type 0)
-    (none : (before : List Leg) → P before [] [])
-    (elided : (before : List Leg) (account : List ℕ) (postings : List Posting) (booked : List Booked) → P before postings booked
-    → P before (posted account None ∷ postings) booked)
-    (one : (before : List Leg) (place : ℕ) (account : List ℕ) (amount : Amount) (postings : List Posting) (first : Booked) (more : List Booked)
-    → IsBooked (line_of facts day before place account amount) first → P (before ++ first.legs) postings more
-    → P before (posted account (Some amount) ∷ postings) (first ∷ more)) where
   pub over_booked : (place : ℕ) (postings : List Posting) (before : List Leg) (booked : List Booked)
-      → BooksAll facts day before place postings (All booked) → P before postings booked
-  over_booked = over_booked_under all_by_key facts day P none elided one
+      → BooksAllUnder ties facts day before place postings (All booked) → P before postings booked
+  over_booked = over_placed ties facts day (λ place. P) (λ place. none) (λ place. elided) one

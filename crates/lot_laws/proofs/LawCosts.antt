@@ -20,11 +20,11 @@ use Rattle.lot_book.specs.Booking.{All, Booked, BooksAllUnder, HasLegs, IsBooked
 use Rattle.lot_book.specs.Currencies.{sum_in}
 use Rattle.lot_book.specs.Edition.{Migration, edition_on, ties_in}
 use Rattle.lot_book.specs.Facts.{Entry, Facts, facts_of, is_at_cost, legs_of}
-use Rattle.lot_laws.specs.Laws.{BooksCommandUnder, BooksEntriesIn, BooksEntryIn, cost_in, cost_of, is_booked_at_cost, weights_at_cost}
+use Rattle.lot_laws.specs.Laws.{BooksCommand, BooksEntries, BooksEntry, cost_in, cost_of, is_booked_at_cost, weights_at_cost}
 use Rattle.lot_book.specs.Leg.{inventory_of, legs_at_lots}
 use Rattle.lot_laws.proofs.CollectLemmas.{over_collected}
 use Rattle.lot_laws.proofs.LawBalance.{command_booked}
-use Rattle.lot_laws.proofs.LawBooks.{over_booked_under}
+use Rattle.lot_laws.proofs.LawBooks.{over_booked}
 use Rattle.lot_laws.proofs.LawLots.{all_put, lots_put, lots_worth, put, total, total-append}
 use Rattle.lot_book.proofs.SumLemmas.{sum_in-append, sum_in-cons}
 
@@ -95,7 +95,7 @@ module _ (account commodity currency : List ℕ) where
   postings_weigh : (ties : TieRule) (facts : Facts) (day : ℤ) (postings : List Posting) (booked : List Booked) → BooksAllUnder ties facts day [] 1 postings (All booked)
       → sum_in (weights_at_cost account commodity booked) currency ≡ puts (legs_in booked)
   postings_weigh ties facts day postings booked books =
-      over_booked_under ties facts day (λ before postings booked. sum_in (weights_at_cost account commodity booked) currency ≡ puts (legs_in booked))
+      over_booked ties facts day (λ before postings booked. sum_in (weights_at_cost account commodity booked) currency ≡ puts (legs_in booked))
       (λ before. refl) (λ before other postings booked rest. rest)
       (λ before place other amount postings first more is rest.
       first_apart (is_booked_at_cost account commodity first) first (filter (is_booked_at_cost account commodity) more)
@@ -111,7 +111,7 @@ module _ (account commodity currency : List ℕ) where
   nothing_weighs legs booked h = ap (λ (bs : List Booked). sum_in (weights_at_cost account commodity bs) currency) h.1 ∙ sym (ap puts h.0)
 
   command_weighs : (ties : TieRule) (facts : Facts) (command : Command) (legs : List Leg) (booked : List Booked)
-      → BooksCommandUnder ties facts command legs booked
+      → BooksCommand ties facts command legs booked
       → sum_in (weights_at_cost account commodity booked) currency ≡ puts legs
   command_weighs ties facts (Opening o) legs booked h = nothing_weighs legs booked h
   command_weighs ties facts (Closing c) legs booked h = nothing_weighs legs booked h
@@ -120,9 +120,9 @@ module _ (account commodity currency : List ℕ) where
   command_weighs ties facts (Transaction t) legs booked h =
       postings_weigh ties facts t.day t.postings booked h.1 ∙ sym (ap puts h.0 ∙ all_put (number_in currency) account commodity facts t booked)
 
-  entries_weigh : (migration : Migration) (before entries : List Entry) (booked : List Booked) → BooksEntriesIn migration before entries booked
+  entries_weigh : (migration : Migration) (before entries : List Entry) (booked : List Booked) → BooksEntries migration before entries booked
       → sum_in (weights_at_cost account commodity booked) currency ≡ puts (legs_of entries)
-  entries_weigh migration = over_collected (BooksEntryIn migration)
+  entries_weigh migration = over_collected (BooksEntry migration)
       (λ before entries booked. sum_in (weights_at_cost account commodity booked) currency ≡ puts (legs_of entries)) (λ before. refl)
       (λ before entry entries first more is rest.
       let there = is_booked_at_cost account commodity in
@@ -135,7 +135,7 @@ module _ (account commodity currency : List ℕ) where
       ∙ sym (total-append (put (number_in currency) account commodity) entry.legs (legs_of entries)))
 
 pub lots_cost : (migration : Migration) (entries : List Entry) (booked : List Booked) (account commodity currency : List ℕ)
-    → BooksEntriesIn migration [] entries booked
+    → BooksEntries migration [] entries booked
     → cost_in (lots_of (inventory_of (legs_of entries) account) commodity) currency ≡ sum_in (weights_at_cost account commodity booked) currency
 lots_cost migration entries booked account commodity currency h =
     cost_as_sum currency (lots_of (inventory_of (legs_of entries) account) commodity)
@@ -145,7 +145,7 @@ lots_cost migration entries booked account commodity currency h =
 -- ---- Each book has its booked postings.
 
 entries_booked : (migration : Migration) (before entries : List Entry) → ContinuesIn migration before entries
-    → (booked : List Booked) × BooksEntriesIn migration before entries booked
+    → (booked : List Booked) × BooksEntries migration before entries booked
 entries_booked migration before [] h = ([], refl)
 entries_booked migration before (entry ∷ entries) h =
     let first = command_booked (edition_on migration before) before entry.key entry.command entry.legs h.0 in
@@ -153,5 +153,5 @@ entries_booked migration before (entry ∷ entries) h =
     (first.0 ++ more.0, (first.0, more.0, first.1, more.1, refl))
 
 pub book_booked : (migration : Migration) (entries : List Entry) → IsBookIn migration entries
-    → (booked : List Booked) × BooksEntriesIn migration [] entries booked
+    → (booked : List Booked) × BooksEntries migration [] entries booked
 book_booked migration entries book = entries_booked migration [] entries book

@@ -12,10 +12,11 @@ use Rattle.lot_command.specs.declared.command.Command.{Command}
 use Rattle.lot_command.specs.declared.key.Key.{Key}
 use Rattle.lot_book.specs.declared.leg.Leg.{Leg}
 use Rattle.lot_book.specs.declared.refusal.Refusal.TheVariants.{KeyReused}
-use Rattle.lot_book.specs.Book.{Continues, IsBook, after, entry_of}
+use Rattle.lot_book.specs.Book.{ContinuesIn, IsBookIn, after, entry_of}
+use Rattle.lot_book.specs.Edition.{Edition, Migration, edition_on, ties_in}
 use Rattle.lot_book.specs.Facts.{Entry, facts_of, same_key, text_under}
 use Rattle.lot_laws.specs.Laws.{HaveOneKeyEach}
-use Rattle.lot_book.specs.Step.{Accept, DecidesBy, Outcome, Refuse, Repeat, Step}
+use Rattle.lot_book.specs.Step.{Accept, DecidesByUnder, Outcome, Refuse, Repeat, StepIn}
 use Rattle.lot_laws.proofs.LawBooks.{accepted}
 use Rattle.lot_book.proofs.CaseLemmas.{by_bool}
 
@@ -59,24 +60,26 @@ new_text (first ∷ book) entry none =
     (λ there. first_under first (book ++ entry ∷ []) entry.key ∙ ap (λ b. first_text b first (book ++ entry ∷ []) entry.key) there
     ∙ new_text book entry (sym (ap (λ b. first_text b first book entry.key) there) ∙ was))
 
-pub stands : (book : List Entry) (key : Key) (command : Command) (legs : List Leg) → Step book key command (Accept legs)
+pub stands : (edition : Edition) (book : List Entry) (key : Key) (command : Command) (legs : List Leg)
+    → StepIn edition book key command (Accept legs)
     → text_under (after book key command (Accept legs)) key ≡ Some (canonical command)
-stands book key command legs step = new_text book (entry_of key command legs) (accepted book key command legs step).0
+stands edition book key command legs step = new_text book (entry_of key command legs) (accepted edition book key command legs step).0
 
 -- ---- Repeats.
 
 repeats_text : (text : List ℕ) → cond (same_text text text) Repeat (Refuse KeyReused) ≡ Repeat
 repeats_text text = ap (λ b. cond b Repeat (Refuse KeyReused)) (same_text-itself text)
 
-pub repeats : (book : List Entry) (key : Key) (command : Command) → text_under book key ≡ Some (canonical command) → Step book key command Repeat
-repeats book key command e =
-    subst (λ (text : Option (List ℕ)). DecidesBy text (facts_of book key) command Repeat) (sym e) (sym (repeats_text (canonical command)))
+pub repeats : (edition : Edition) (book : List Entry) (key : Key) (command : Command) → text_under book key ≡ Some (canonical command)
+    → StepIn edition book key command Repeat
+repeats edition book key command e =
+    subst (λ (text : Option (List ℕ)). DecidesByUnder (ties_in edition book) text (facts_of book key) command Repeat) (sym e) (sym (repeats_text (canonical command)))
 
-pub only_repeats : (book : List Entry) (key : Key) (command : Command) (outcome : Outcome)
-    → text_under book key ≡ Some (canonical command) → Step book key command outcome
+pub only_repeats : (edition : Edition) (book : List Entry) (key : Key) (command : Command) (outcome : Outcome)
+    → text_under book key ≡ Some (canonical command) → StepIn edition book key command outcome
     → outcome ≡ Repeat
-only_repeats book key command outcome e step =
-    subst (λ (text : Option (List ℕ)). DecidesBy text (facts_of book key) command outcome) e step ∙ repeats_text (canonical command)
+only_repeats edition book key command outcome e step =
+    subst (λ (text : Option (List ℕ)). DecidesByUnder (ties_in edition book) text (facts_of book key) command outcome) e step ∙ repeats_text (canonical command)
 
 pub still_stands : (book : List Entry) (key : Key) (text : List ℕ) (other : Key) (command : Command) (outcome : Outcome) → text_under book key ≡ Some text
     → text_under (after book other command outcome) key ≡ Some text
@@ -101,9 +104,13 @@ new_behind (first ∷ book) entry key e =
     (first_under first book key ∙ ap (λ b. first_text b first book key) there ∙ rest.0, rest.1))
 
 -- the keys of entries that may stand behind a book are new there
-news : (book entries : List Entry) → Continues book entries → AllByRecursion (λ (entry : Entry). text_under book entry.key ≡ None) entries
-news book [] h = tt
-news book (entry ∷ entries) h = ((accepted book entry.key entry.command entry.legs h.0).0, before entries (news (book ++ entry ∷ []) entries h.1))
+news : (migration : Migration) (book entries : List Entry) → ContinuesIn migration book entries
+    → AllByRecursion (λ (entry : Entry). text_under book entry.key ≡ None) entries
+news migration book [] h = tt
+news migration book (entry ∷ entries) h = (
+  (accepted (edition_on migration book) book entry.key entry.command entry.legs h.0).0,
+  before entries (news migration (book ++ entry ∷ []) entries h.1),
+)
   where
     before : (more : List Entry) → AllByRecursion (λ (next : Entry). text_under (book ++ entry ∷ []) next.key ≡ None) more
         → AllByRecursion (λ (next : Entry). text_under book next.key ≡ None) more
@@ -128,12 +135,12 @@ apart : (book : List Entry) (entry : Entry) (more : List Entry)
 apart book entry [] all = tt
 apart book entry (next ∷ more) all = (same_key-turned next.key entry.key (new_behind book entry next.key all.0).1, apart book entry more all.1)
 
-distinct_behind : (book entries : List Entry) → Continues book entries → HaveOneKeyEach entries
+distinct_behind : (migration : Migration) (book entries : List Entry) → ContinuesIn migration book entries → HaveOneKeyEach entries
 unfolding IsDistinct
-distinct_behind book [] h = tt
-distinct_behind book (entry ∷ entries) h =
-    IsDistinct-cons same_key entry.key (map (λ (e : Entry). e.key) entries) (apart book entry entries (news (book ++ entry ∷ []) entries h.1))
-    (distinct_behind (book ++ entry ∷ []) entries h.1)
+distinct_behind migration book [] h = tt
+distinct_behind migration book (entry ∷ entries) h =
+    IsDistinct-cons same_key entry.key (map (λ (e : Entry). e.key) entries) (apart book entry entries (news migration (book ++ entry ∷ []) entries h.1))
+    (distinct_behind migration (book ++ entry ∷ []) entries h.1)
 
-pub one_key_each : (entries : List Entry) → IsBook entries → HaveOneKeyEach entries
-one_key_each entries book = distinct_behind [] entries book
+pub one_key_each : (migration : Migration) (entries : List Entry) → IsBookIn migration entries → HaveOneKeyEach entries
+one_key_each migration entries book = distinct_behind migration [] entries book

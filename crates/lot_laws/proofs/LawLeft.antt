@@ -13,14 +13,14 @@ use Rattle.lot_book.specs.declared.leg.Leg.{Leg}
 use Rattle.lot_book.specs.declared.leg.Position.{Position}
 use Rattle.lot_book.specs.Balance.{elided_postings, fill_from, fill_of, left_over, opposite, residuals, weights_in}
 use Rattle.lot_book.specs.Booking.{Booked, legs_in, TieRule}
-use Rattle.lot_book.specs.Edition.{Migration, NotYet, edition_on, ties_in}
+use Rattle.lot_book.specs.Edition.{Migration, edition_on, ties_in}
 use Rattle.lot_book.specs.Facts.{Entry, Facts, facts_of, legs_of}
 use Rattle.lot_book.specs.Leg.{inventory_of, leg_at, same_position, sum_at}
 use Rattle.lot_book.specs.Step.{fill_legs}
 use Rattle.lot_book.proofs.CaseLemmas.{by_bool}
 use Rattle.lot_book.proofs.OrderLemmas.{one_position}
 use Rattle.lot_book.proofs.SumLemmas.{sum_where-append, sum_where_apart}
-use Rattle.lot_laws.specs.Laws.{BooksCommandUnder, BooksEntries, BooksEntriesIn, BooksEntryIn, bought_into, lot_at, sold_of}
+use Rattle.lot_laws.specs.Laws.{BooksCommand, BooksEntries, BooksEntry, bought_into, lot_at, sold_of}
 use Rattle.lot_laws.proofs.CollectLemmas.{over_collected}
 use Rattle.lot_laws.proofs.LawHoldings.{holds_sum}
 
@@ -102,7 +102,7 @@ module _ (account commodity : List ℕ) (lot : LotKey) where
   none_there legs booked h = ap (λ ls. sum_at ls there) h.0 ∙ sym (ap (λ (bs : List Booked). sum_at (legs_in bs) there) h.1)
 
   command_there : (ties : TieRule) (facts : Facts) (command : Command) (legs : List Leg) (booked : List Booked)
-      → BooksCommandUnder ties facts command legs booked
+      → BooksCommand ties facts command legs booked
       → sum_at legs there ≡ sum_at (legs_in booked) there
   command_there ties facts (Opening o) legs booked h = none_there legs booked h
   command_there ties facts (Closing c) legs booked h = none_there legs booked h
@@ -115,9 +115,9 @@ module _ (account commodity : List ℕ) (lot : LotKey) where
       (filled_apart (suc facts.entries) (elided_postings 1 t.postings) (residuals (weights_in booked)))
       ∙ +ℤ_idr (sum_at (legs_in booked) there)
 
-  entries_there : (migration : Migration) (before entries : List Entry) (booked : List Booked) → BooksEntriesIn migration before entries booked
+  entries_there : (migration : Migration) (before entries : List Entry) (booked : List Booked) → BooksEntries migration before entries booked
       → sum_at (legs_of entries) there ≡ sum_at (legs_in booked) there
-  entries_there migration = over_collected (BooksEntryIn migration)
+  entries_there migration = over_collected (BooksEntry migration)
       (λ before entries booked. sum_at (legs_of entries) there ≡ sum_at (legs_in booked) there) (λ before. refl)
       (λ before entry entries first more is rest.
       sum_at-append entry.legs (legs_of entries) there
@@ -126,18 +126,12 @@ module _ (account commodity : List ℕ) (lot : LotKey) where
       ∙ sym (legs_in-append first more there))
 
 module _ (migration : Migration) (entries : List Entry) (booked : List Booked) (account commodity : List ℕ) (lot : LotKey)
-    (h : BooksEntriesIn migration [] entries booked) where
-  sum_is_bought_and_sold_in : sum_at (legs_of entries) (lot_at account commodity lot)
+    (h : BooksEntries migration [] entries booked) where
+  pub sum_is_bought_and_sold : sum_at (legs_of entries) (lot_at account commodity lot)
       ≡ bought_into booked (lot_at account commodity lot) +ℤ sold_of booked (lot_at account commodity lot)
-  sum_is_bought_and_sold_in =
+  sum_is_bought_and_sold =
       entries_there account commodity lot migration [] entries booked h ∙ bought_or_sold booked (lot_at account commodity lot)
 
   pub bought_is_sold_or_left : units_at (inventory_of (legs_of entries) account) (commodity, Some lot)
       ≡ bought_into booked (lot_at account commodity lot) +ℤ sold_of booked (lot_at account commodity lot)
-  bought_is_sold_or_left = holds_sum (legs_of entries) (lot_at account commodity lot) ∙ sum_is_bought_and_sold_in
-
-pub sum_is_bought_and_sold : (entries : List Entry) (booked : List Booked) (account commodity : List ℕ) (lot : LotKey)
-    → BooksEntries [] entries booked
-    → sum_at (legs_of entries) (lot_at account commodity lot)
-    ≡ bought_into booked (lot_at account commodity lot) +ℤ sold_of booked (lot_at account commodity lot)
-sum_is_bought_and_sold = sum_is_bought_and_sold_in NotYet
+  bought_is_sold_or_left = holds_sum (legs_of entries) (lot_at account commodity lot) ∙ sum_is_bought_and_sold

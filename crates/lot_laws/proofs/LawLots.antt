@@ -20,7 +20,7 @@ use Rattle.lot_book.specs.Book.{ContinuesIn}
 use Rattle.lot_book.specs.Booking.{All, Booked, BooksAllUnder, TieRule, legs_in}
 use Rattle.lot_book.specs.Edition.{Migration, edition_on, ties_in}
 use Rattle.lot_book.specs.Facts.{Entry, Facts, facts_of, legs_of}
-use Rattle.lot_laws.specs.Laws.{BooksCommandUnder, over_entries, over_postings}
+use Rattle.lot_laws.specs.Laws.{BooksCommand, over_entries, over_postings}
 use Rattle.lot_book.specs.Leg.{inventory_of, legs_at_lots, with_leg, with_legs}
 use Rattle.lot_book.specs.Step.{fill_legs}
 use Rattle.lot_laws.proofs.LawBalance.{command_booked}
@@ -131,7 +131,7 @@ module _ (f : LotKey → ℤ) (account commodity : List ℕ) where
   module _ (of : Posting → ℤ)
       (each : (ties : TieRule) (facts : Facts) (t : TransactionOf) (booked : List Booked) → BooksAllUnder ties facts t.day [] 1 t.postings (All booked)
       → total put (legs_in booked) ≡ total of t.postings) where
-    step_puts : (ties : TieRule) (facts : Facts) (command : Command) (legs : List Leg) (booked : List Booked) → BooksCommandUnder ties facts command legs booked
+    step_puts : (ties : TieRule) (facts : Facts) (command : Command) (legs : List Leg) (booked : List Booked) → BooksCommand ties facts command legs booked
         → total put legs ≡ over_postings of command
     step_puts ties facts (Opening o) legs booked h = ap (total put) h.0
     step_puts ties facts (Closing c) legs booked h = ap (total put) h.0

@@ -32,9 +32,9 @@ use Rattle.lot_book.proofs.CaseLemmas.{by_bool}
 use Rattle.lot_book.proofs.OrderLemmas.{one_position}
 use Rattle.lot_base.proofs.OptionLemmas.{not_mapped}
 use Rattle.lot_book.proofs.SumLemmas.{sum_where_apart}
-use Rattle.lot_laws.specs.Laws.{BooksCommandUnder, BooksEntriesIn, BooksEntryIn, lot_at, sold_of}
+use Rattle.lot_laws.specs.Laws.{BooksCommand, BooksEntries, BooksEntry, lot_at, sold_of}
 use Rattle.lot_laws.proofs.CollectLemmas.{over_collected}
-use Rattle.lot_laws.proofs.LawBooks.{accepted_in, over_booked_under}
+use Rattle.lot_laws.proofs.LawBooks.{accepted, over_booked}
 use Rattle.lot_laws.proofs.LawLeft.{sold-append, sum_if}
 use Rattle.lot_laws.proofs.LawOneSign.{method_by, method_is, opening_then, stays_unmatched}
 use Rattle.lot_laws.proofs.LawSales.{booked_sale}
@@ -65,7 +65,7 @@ known edition book key t legs step =
     let facts = facts_of book key in
     let missing : Posting → Bool = λ p. is_none (facts.standing p.account) in
     let none : first_of (first_conditions facts t) ≡ None =
-    none_refused (ties_in edition book) facts t legs (first_of (first_conditions facts t)) (accepted_in edition book key (Transaction t) legs step).1 in
+    none_refused (ties_in edition book) facts t legs (first_of (first_conditions facts t)) (accepted edition book key (Transaction t) legs step).1 in
     let others : List (Option Refusal) =
     not_open_yet facts t.day t.postings ∷ closed facts t.day t.postings ∷ currency_not_allowed facts t.postings
     ∷ too_many_postings t.postings ∷ two_elided (elided_postings 1 t.postings) ∷ back_dated facts t.day t.postings ∷ [] in
@@ -129,7 +129,7 @@ module _ (account commodity : List ℕ) (lot : LotKey) where
       → (is_none (standing_of book account) ≡ false → may_reduce (method_of (standing_of book account)) ≡ false)
       → sold_of booked there ≡ pos 0
   postings_sell_none ties book key day postings booked books opened never =
-      over_booked_under ties (facts_of book key) day (λ before postings booked. AllByRecursion (IsKnown book) postings → sold_of booked there ≡ pos 0)
+      over_booked ties (facts_of book key) day (λ before postings booked. AllByRecursion (IsKnown book) postings → sold_of booked there ≡ pos 0)
       (λ before all. refl)
       (λ before other postings booked rest all. rest all.1)
       (λ before place other amount postings first more is rest all.
@@ -144,7 +144,7 @@ module _ (account commodity : List ℕ) (lot : LotKey) where
   none_of booked e = ap (λ (bs : List Booked). sold_of bs there) e
 
   command_sells_none : (edition : Edition) (book : List Entry) (key : Key) (command : Command) (legs : List Leg) (booked : List Booked)
-      → StepIn edition book key command (Accept legs) → BooksCommandUnder (ties_in edition book) (facts_of book key) command legs booked
+      → StepIn edition book key command (Accept legs) → BooksCommand (ties_in edition book) (facts_of book key) command legs booked
       → (is_none (standing_of book account) ≡ false → may_reduce (method_of (standing_of book account)) ≡ false)
       → sold_of booked there ≡ pos 0
   command_sells_none edition book key (Opening o) legs booked step h never = none_of booked h.1
@@ -157,9 +157,9 @@ module _ (account commodity : List ℕ) (lot : LotKey) where
   -- ---- A book.
 
   entries_sell_none : (migration : Migration) (before entries : List Entry) (booked : List Booked)
-      → BooksEntriesIn migration before entries booked → ContinuesIn migration before entries
+      → BooksEntries migration before entries booked → ContinuesIn migration before entries
       → method_by (opening_of (before ++ entries) account) ≡ Unmatched → sold_of booked there ≡ pos 0
-  entries_sell_none migration = over_collected (BooksEntryIn migration)
+  entries_sell_none migration = over_collected (BooksEntry migration)
       (λ before entries booked. ContinuesIn migration before entries → method_by (opening_of (before ++ entries) account) ≡ Unmatched
       → sold_of booked there ≡ pos 0)
       (λ before continues none. refl)
@@ -172,7 +172,7 @@ module _ (account commodity : List ℕ) (lot : LotKey) where
       ∙ rest continues.1 (ap (λ (es : List Entry). method_by (opening_of es account)) (append_assoc before (entry ∷ []) entries) ∙ none))
 
 pub none_sells : (migration : Migration) (entries : List Entry) (booked : List Booked) (account commodity : List ℕ) (lot : LotKey)
-    → IsBookIn migration entries → BooksEntriesIn migration [] entries booked → method_of (standing_of entries account) ≡ Unmatched → sold_of booked (lot_at account commodity lot) ≡ pos 0
+    → IsBookIn migration entries → BooksEntries migration [] entries booked → method_of (standing_of entries account) ≡ Unmatched → sold_of booked (lot_at account commodity lot) ≡ pos 0
 none_sells migration entries booked account commodity lot book h none =
     entries_sell_none account commodity lot migration [] entries booked h book
     (sym (method_is (closing_of entries account) (opening_of entries account)) ∙ none)

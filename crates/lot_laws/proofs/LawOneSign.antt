@@ -36,11 +36,11 @@ use Rattle.lot_book.specs.Book.{ContinuesIn, IsBookIn}
 use Rattle.lot_book.specs.Booking.{All, Booked, BooksAllUnder, HasLegs, Line, TieRule, braced, legs_in, line_under, method_of}
 use Rattle.lot_book.specs.Edition.{Migration, edition_on, ties_in}
 use Rattle.lot_book.specs.Facts.{Entry, Facts, closing_of, facts_of, legs_of, opening_by, opening_of, standing_by, standing_of}
-use Rattle.lot_laws.specs.Laws.{BooksCommandUnder, HaveOneSign}
+use Rattle.lot_laws.specs.Laws.{BooksCommand, HaveOneSign}
 use Rattle.lot_book.specs.Leg.{inventory_of, leg_at, legs_at_lots, with_leg, with_legs}
 use Rattle.lot_book.specs.Step.{fill_legs}
 use Rattle.lot_laws.proofs.LawBalance.{command_booked}
-use Rattle.lot_laws.proofs.LawBooks.{over_booked_under}
+use Rattle.lot_laws.proofs.LawBooks.{over_booked}
 use Rattle.lot_laws.proofs.LawSigns.{IsSigned, TakesHeld, adding, one_sign, signed_less, signed_more, signed_plain}
 use Rattle.lot_book.proofs.LegLemmas.{with_legs-append}
 use Rattle.lot_book.proofs.CaseLemmas.{by_bool}
@@ -122,7 +122,7 @@ postings_signed : (account : List ℕ) (ties : TieRule) (facts : Facts) (t : Tra
     → may_reduce (method_of (facts.standing account)) ≡ true
     → BooksAllUnder ties facts t.day [] 1 t.postings (All booked) → IsSigned (facts.held account) → IsSigned (with_legs account (facts.held account) (legs_in booked))
 postings_signed account ties facts t booked may books signed =
-    over_booked_under ties facts t.day
+    over_booked ties facts t.day
     (λ before postings booked. IsSigned (with_legs account (facts.held account) before) → IsSigned (with_legs account (facts.held account) (before ++ legs_in booked)))
     (λ before first. subst (λ (ls : List Leg). IsSigned (with_legs account (facts.held account) ls)) (sym (append-nil before)) first)
     (λ before other postings booked rest. rest)
@@ -193,7 +193,7 @@ still_signed : (account : List ℕ) (held : Held) (legs : List Leg) → legs ≡
 still_signed account held legs none signed = subst (λ (ls : List Leg). IsSigned (with_legs account held ls)) (sym none) signed
 
 step_signed : (account : List ℕ) (ties : TieRule) (facts : Facts) (command : Command) (legs : List Leg) (booked : List Booked)
-    → BooksCommandUnder ties facts command legs booked
+    → BooksCommand ties facts command legs booked
     → may_reduce (method_of (facts.standing account)) ≡ true → IsSigned (facts.held account) → IsSigned (with_legs account (facts.held account) legs)
 step_signed account ties facts (Opening o) legs booked h may signed = still_signed account (facts.held account) legs h.0 signed
 step_signed account ties facts (Closing c) legs booked h may signed = still_signed account (facts.held account) legs h.0 signed

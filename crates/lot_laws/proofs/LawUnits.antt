@@ -16,13 +16,13 @@ use Rattle.lot_command.specs.declared.command.Command.TheVariants.{Opening, Clos
 use Rattle.lot_command.specs.declared.transaction.Posting.{Posting}
 use Rattle.lot_command.specs.declared.transaction.Transaction.{Transaction as TransactionOf}
 use Rattle.lot_book.specs.declared.leg.Leg.{Leg}
-use Rattle.lot_book.specs.Book.{IsBook, IsBookIn}
+use Rattle.lot_book.specs.Book.{IsBookIn}
 use Rattle.lot_book.specs.Booking.{All, Booked, BooksAllUnder, HasLegs, Line, TieRule, braced, legs_in, line_under}
-use Rattle.lot_book.specs.Edition.{Migration, NotYet}
+use Rattle.lot_book.specs.Edition.{Migration}
 use Rattle.lot_book.specs.Facts.{Entry, Facts, legs_of}
 use Rattle.lot_laws.specs.Laws.{above_zero, below_zero, bought, over_entries, over_postings, sold, units_at_cost}
 use Rattle.lot_book.specs.Leg.{inventory_of}
-use Rattle.lot_laws.proofs.LawBooks.{over_booked_under, posted}
+use Rattle.lot_laws.proofs.LawBooks.{over_booked, posted}
 use Rattle.lot_laws.proofs.LawLots.{book_puts, lots_put, lots_worth, put, total, total-append}
 
 -- ---- A posting puts the units that it writes.
@@ -59,7 +59,7 @@ postings_put : (account commodity : List ℕ) (ties : TieRule) (facts : Facts) (
     → BooksAllUnder ties facts t.day [] 1 t.postings (All booked)
     → total (put as_one account commodity) (legs_in booked) ≡ total (units_at_cost account commodity) t.postings
 postings_put account commodity ties facts t booked books =
-    over_booked_under ties facts t.day (λ before postings booked. total (put as_one account commodity) (legs_in booked) ≡ total (units_at_cost account commodity) postings)
+    over_booked ties facts t.day (λ before postings booked. total (put as_one account commodity) (legs_in booked) ≡ total (units_at_cost account commodity) postings)
     (λ before. refl)
     (λ before other postings booked rest.
     rest ∙ sym (+ℤ_idl (total (units_at_cost account commodity) postings))
@@ -98,16 +98,12 @@ module _ (u a b : Posting → ℤ) (each : (posting : Posting) → u posting ≡
       total_apart (λ (entry : Entry). over_postings u entry.command) (λ (entry : Entry). over_postings a entry.command)
       (λ (entry : Entry). over_postings b entry.command) (λ entry. command_apart entry.command) entries
 
-pub held_as_bought_in : (migration : Migration) (entries : List Entry) (account commodity : List ℕ) → IsBookIn migration entries
+pub held_as_bought : (migration : Migration) (entries : List Entry) (account commodity : List ℕ) → IsBookIn migration entries
     → sum (inventory_of (legs_of entries) account) commodity ≡ bought entries account commodity +ℤ neg_ℤ (sold entries account commodity)
-held_as_bought_in migration entries account commodity book =
+held_as_bought migration entries account commodity book =
     sym (sum_as_one (lots_of (inventory_of (legs_of entries) account) commodity))
     ∙ lots_worth as_one account commodity (legs_of entries)
     ∙ book_puts as_one account commodity (units_at_cost account commodity) (postings_put account commodity) migration [] entries book
     ∙ entries_apart (units_at_cost account commodity)
     (λ posting. above_zero (units_at_cost account commodity posting)) (λ posting. below_zero (units_at_cost account commodity posting))
     (λ posting. bought_or_sold (units_at_cost account commodity posting)) entries
-
-pub held_as_bought : (entries : List Entry) (account commodity : List ℕ) → IsBook entries
-    → sum (inventory_of (legs_of entries) account) commodity ≡ bought entries account commodity +ℤ neg_ℤ (sold entries account commodity)
-held_as_bought = held_as_bought_in NotYet

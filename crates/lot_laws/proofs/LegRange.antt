@@ -29,7 +29,7 @@ use Rattle.lot_book.proofs.CaseLemmas.{by_bool}
 use Rattle.lot_book.proofs.LegLemmas.{with_legs-append, with_legs-push}
 use Rattle.lot_book.proofs.OrderLemmas.{one_position}
 use Rattle.lot_laws.proofs.LawBalance.{accepted_unrefused, command_booked}
-use Rattle.lot_laws.proofs.LawBooks.{over_booked_under}
+use Rattle.lot_laws.proofs.LawBooks.{over_booked}
 use Rattle.lot_laws.proofs.LawHoldings.{holds_sum}
 use Rattle.lot_laws.proofs.LawNone.{first_none, others_none}
 use Rattle.lot_laws.proofs.OpeningBooks.{not_held}
@@ -133,7 +133,7 @@ postings_stay ties book key day postings booked books within =
     let facts = facts_of book key in
     let all = legs_of book in
     subst (λ (ls : List Leg). StayBehind ls (legs_in booked)) (append-nil all)
-    (over_booked_under ties facts day
+    (over_booked ties facts day
     (λ before postings booked. InRange (all ++ before) → StayBehind (all ++ before) (legs_in booked))
     (λ before within. within)
     (λ before account postings booked rest. rest)

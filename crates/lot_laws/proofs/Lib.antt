@@ -1,6 +1,7 @@
 pub mod StepLemmas
 pub mod StepHeld
 pub mod StepAgree
+pub mod SameOpenings
 pub mod StepLooks
 pub mod RecordedDays
 pub mod RecordedBook

@@ -40,10 +40,10 @@ use Rattle.lot_book.specs.Leg.{inventory_of, leg_at, legs_at_lots, same_position
 use Rattle.lot_book.specs.Refusals.{back_dated, closed, currency_not_allowed, holds_as, most_postings, not_open_yet, too_many_postings, two_elided, unknown_account}
 use Rattle.lot_book.specs.Step.{Accept, StepIn, fill_legs, first_conditions, first_of}
 use Rattle.lot_book.proofs.LegLemmas.{with_legs-append}
-use Rattle.lot_laws.specs.Laws.{BooksCommandUnder, lot_at}
+use Rattle.lot_laws.specs.Laws.{BooksCommand, lot_at}
 use Rattle.lot_book.specs.OpeningNumber.{HasOpeningNumber, IsLastToOpen, Opens, opening_in, posting_number}
 use Rattle.lot_laws.proofs.LawBalance.{command_booked}
-use Rattle.lot_laws.proofs.LawBooks.{accepted_in, over_placed_under}
+use Rattle.lot_laws.proofs.LawBooks.{accepted, over_placed}
 use Rattle.lot_laws.proofs.LawHoldings.{holds_sum}
 use Rattle.lot_laws.proofs.LawNone.{first_none, others_none}
 use Rattle.lot_booking.proofs.SameTies.{candidate_held, sign_none}
@@ -306,7 +306,7 @@ postings_ascend ties book key day postings booked books =
     let facts = facts_of book key in
     let all = legs_of book in
     subst (λ (ls : List Leg). Ascend (base book + 1) (opened ls (legs_in booked)) (base book + 1 + length postings)) (append-nil all)
-    (over_placed_under ties facts day
+    (over_placed ties facts day
     (λ place before postings booked. Ascend (base book + place) (opened (all ++ before) (legs_in booked)) (base book + place + length postings))
     (λ place before. omega arith)
     (λ place before account postings booked rest.
@@ -344,7 +344,7 @@ pub few : (edition : Edition) (book : List Entry) (key : Key) (t : TransactionOf
 few edition book key t legs step =
     let facts = facts_of book key in
     let none : first_of (first_conditions facts t) ≡ None =
-    none_refused (ties_in edition book) facts t legs (first_of (first_conditions facts t)) (accepted_in edition book key (Transaction t) legs step).1 in
+    none_refused (ties_in edition book) facts t legs (first_of (first_conditions facts t)) (accepted edition book key (Transaction t) legs step).1 in
     let many = too_many_postings t.postings in
     let after_many : List (Option Refusal) = two_elided (elided_postings 1 t.postings) ∷ back_dated facts t.day t.postings ∷ [] in
     let after_open = closed facts t.day t.postings ∷ currency_not_allowed facts t.postings ∷ many ∷ after_many in
@@ -365,7 +365,7 @@ nothing_ascends book legs none =
     subst (λ (ls : List Leg). Ascend (base book + 1) (opened (legs_of book) ls) (base book + 1 + most_postings)) (sym none) (omega arith)
 
 command_ascends : (edition : Edition) (book : List Entry) (key : Key) (command : Command) (legs : List Leg) (booked : List Booked)
-    → StepIn edition book key command (Accept legs) → BooksCommandUnder (ties_in edition book) (facts_of book key) command legs booked
+    → StepIn edition book key command (Accept legs) → BooksCommand (ties_in edition book) (facts_of book key) command legs booked
     → Ascend (base book + 1) (opened (legs_of book) legs) (base book + 1 + most_postings)
 command_ascends edition book key (Opening o) legs booked step h = nothing_ascends book legs h.0
 command_ascends edition book key (Closing c) legs booked step h = nothing_ascends book legs h.0

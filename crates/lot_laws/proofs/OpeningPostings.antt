@@ -19,12 +19,12 @@ use Rattle.lot_book.specs.Facts.{Entry, Facts, facts_of, legs_of}
 use Rattle.lot_book.specs.Leg.{legs_at_lots}
 use Rattle.lot_book.specs.Refusals.{most_entries, most_postings}
 use Rattle.lot_book.specs.Step.{Accept, StepIn, fill_legs}
-use Rattle.lot_laws.specs.Laws.{BooksCommandUnder}
+use Rattle.lot_laws.specs.Laws.{BooksCommand}
 use Rattle.lot_book.specs.OpeningNumber.{IsNumbered, posting_number}
 use Rattle.lot_laws.proofs.LawBalance.{command_booked}
-use Rattle.lot_laws.proofs.LawBooks.{accepted_in, continued, over_placed_under}
+use Rattle.lot_laws.proofs.LawBooks.{accepted, continued, over_placed}
 use Rattle.lot_laws.proofs.OpeningBooks.{few, number_at}
-use Rattle.lot_laws.proofs.RecordedBook.{room_where_accepted_under}
+use Rattle.lot_laws.proofs.RecordedBook.{room_where_accepted}
 
 -- the leg is of the entry, and of a posting from one place to below another
 record IsOf (entry low high : ℕ) (leg : Leg) : Type 0 where
@@ -105,7 +105,7 @@ legs_of_postings : (ties : TieRule) (facts : Facts) (day : ℤ) (postings : List
     → BooksAllUnder ties facts day [] 1 postings (All booked) → AllByRecursion (IsOf (suc facts.entries) 1 (1 + length postings)) (legs_in booked)
 legs_of_postings ties facts day postings booked books =
     let entry = suc facts.entries in
-    over_placed_under ties facts day (λ place before postings booked. AllByRecursion (IsOf entry place (place + length postings)) (legs_in booked))
+    over_placed ties facts day (λ place before postings booked. AllByRecursion (IsOf entry place (place + length postings)) (legs_in booked))
     (λ place before. tt)
     (λ place before account postings booked rest.
     all_wider entry (suc place) (suc place + length postings) place (place + suc (length postings)) (omega arith) (omega arith)
@@ -124,7 +124,7 @@ none_of : (entry low high : ℕ) (legs : List Leg) → legs ≡ [] → AllByRecu
 none_of entry low high legs none = subst (AllByRecursion (IsOf entry low high)) (sym none) tt
 
 legs_of_command : (edition : Edition) (book : List Entry) (key : Key) (command : Command) (legs : List Leg) (booked : List Booked)
-    → StepIn edition book key command (Accept legs) → BooksCommandUnder (ties_in edition book) (facts_of book key) command legs booked
+    → StepIn edition book key command (Accept legs) → BooksCommand (ties_in edition book) (facts_of book key) command legs booked
     → AllByRecursion (IsOf (suc (length book)) 1 (suc most_postings)) legs
 legs_of_command edition book key (Opening o) legs booked step h = none_of (suc (length book)) 1 (suc most_postings) legs h.0
 legs_of_command edition book key (Closing c) legs booked step h = none_of (suc (length book)) 1 (suc most_postings) legs h.0
@@ -179,8 +179,8 @@ all_numbered migration before (entry ∷ entries) h =
     let edition = edition_on migration before in
     let booked = command_booked edition before entry.key entry.command entry.legs h.0 in
     let room : length before < most_entries =
-    room_where_accepted_under (ties_in edition before) (facts_of before entry.key) entry.command entry.legs
-    (accepted_in edition before entry.key entry.command entry.legs h.0).1 in
+    room_where_accepted (ties_in edition before) (facts_of before entry.key) entry.command entry.legs
+    (accepted edition before entry.key entry.command entry.legs h.0).1 in
     each-append IsNumbered entry.legs (legs_of entries)
     (all_weaker (IsOf (suc (length before)) 1 (suc most_postings)) IsNumbered (numbered_in before room) entry.legs
     (legs_of_command edition before entry.key entry.command entry.legs booked.0 h.0 booked.1))

@@ -24,16 +24,16 @@ use Rattle.lot_book.specs.declared.leg.Leg.{Leg}
 use Rattle.lot_book.specs.declared.refusal.Refusal.{Refusal}
 use Rattle.lot_book.specs.declared.refusal.Refusal.TheVariants.{AlreadyOpen, BookFull, KeyReused, UnknownAccount}
 use Rattle.lot_book.specs.Book.{ContinuesIn, IsBook, IsBookIn, entry_of}
-use Rattle.lot_book.specs.Edition.{Edition, Migration, NotYet, edition_on, ties_in}
+use Rattle.lot_book.specs.Edition.{After, Edition, Migration, edition_on, ties_in}
 use Rattle.lot_book.specs.Facts.{Entry, Facts, closing_by, closing_of, declares, facts_of, is_declared, legs_of, opening_by, opening_of, standing_by, standing_of, text_under}
 use Rattle.lot_book.specs.Leg.{inventory_of, with_legs}
 use Rattle.lot_book.specs.Refusals.{already_declared, already_open, book_full, closing_again, closing_too_early, closing_unknown, fill_not_allowed, fill_out_of_range, holds_as, inexact_fill, most_entries, not_balanced, too_many_lots}
-use Rattle.lot_book.specs.Step.{Accept, Decides, DecidesBy, Judges, JudgesTransactionUnder, JudgesUnder, Refuse, Repeat, Step, StepIn, accept_unless, all_legs, concluded, fill_legs, first_conditions, first_of}
+use Rattle.lot_book.specs.Step.{Accept, DecidesByUnder, DecidesUnder, JudgesTransactionUnder, JudgesUnder, Refuse, Repeat, Step, StepIn, accept_unless, all_legs, concluded, fill_legs, first_conditions, first_of}
 use Rattle.lot_book.specs.Balance.{elided_postings, residuals, weights_in}
-use Rattle.lot_book.specs.Booking.{All, Bookings, Stopped, TieRule, all_by_key, legs_in}
+use Rattle.lot_book.specs.Booking.{All, Bookings, Stopped, TieRule, legs_in}
 use Rattle.lot_book.specs.declared.change.Change.{Change}
-use Rattle.lot_laws.proofs.LawBooks.{accepted_in}
-use Rattle.lot_laws.proofs.RecordedDays.{last_none, latest-recorded_under}
+use Rattle.lot_laws.proofs.LawBooks.{accepted, second_there}
+use Rattle.lot_laws.proofs.RecordedDays.{last_none, latest-recorded}
 use Rattle.lot_book.specs.Change.{IsChange, ListsSums, day_listed}
 use Rattle.lot_book.specs.Recorded.{closed_on, facts_in, nothing_but, recorded, standing_after, with_rows, with_text}
 use Rattle.lot_book.proofs.LegLemmas.{with_legs-append}
@@ -49,27 +49,29 @@ holds_not true refusal conditions legs others e = cc
 holds_not false refusal conditions legs others e = (refl, e)
 
 -- the key of an accepted command is new
-pub key_was_new : (facts : Facts) (command : Command) (legs : List Leg) (text : Option (List ℕ))
-    → DecidesBy text facts command (Accept legs)
-    → (text ≡ None) × Judges facts command (Accept legs)
-key_was_new facts command legs None judges = (refl, judges)
-key_was_new facts command legs (Some text) e = absurd (by (same_text text (canonical command)) e)
+pub key_was_new : (ties : TieRule) (facts : Facts) (command : Command) (legs : List Leg) (text : Option (List ℕ))
+    → DecidesByUnder ties text facts command (Accept legs)
+    → (text ≡ None) × JudgesUnder ties facts command (Accept legs)
+key_was_new ties facts command legs None judges = (refl, judges)
+key_was_new ties facts command legs (Some text) e = absurd (by (same_text text (canonical command)) e)
   where
     by : (b : Bool) → Accept legs ≡ cond b Repeat (Refuse KeyReused) → ⊥
     by true e = cc
     by false e = cc
 
 -- an account that is opened wasn't open
-pub opening_is_new : (facts : Facts) (o : OpeningOf) (legs : List Leg) → Judges facts (Opening o) (Accept legs)
+pub opening_is_new : (ties : TieRule) (facts : Facts) (o : OpeningOf) (legs : List Leg)
+    → JudgesUnder ties facts (Opening o) (Accept legs)
     → facts.standing o.account ≡ None
-opening_is_new facts o legs judges =
+opening_is_new ties facts o legs judges =
     none_there (facts.standing o.account)
     (holds_not (is_some (facts.standing o.account)) AlreadyOpen (book_full facts ∷ []) legs [] judges).0
 
 -- an account that is closed was open
-pub closing_is_known : (facts : Facts) (c : ClosingOf) (legs : List Leg) → Judges facts (Closing c) (Accept legs)
+pub closing_is_known : (ties : TieRule) (facts : Facts) (c : ClosingOf) (legs : List Leg)
+    → JudgesUnder ties facts (Closing c) (Accept legs)
     → is_none (facts.standing c.account) ≡ false
-closing_is_known facts c legs judges =
+closing_is_known ties facts c legs judges =
     (holds_not (is_none (facts.standing c.account)) (UnknownAccount None)
     (closing_too_early facts c.account c.day ∷ closing_again facts c.account ∷ book_full facts ∷ []) legs [] judges).0
 
@@ -88,10 +90,10 @@ room_where_not_full facts none = by facts.entries most_entries none
     ]
 
 -- a book that accepts a command isn't full
-pub room_where_accepted_under : (ties : TieRule) (facts : Facts) (command : Command) (legs : List Leg)
+pub room_where_accepted : (ties : TieRule) (facts : Facts) (command : Command) (legs : List Leg)
     → JudgesUnder ties facts command (Accept legs)
     → facts.entries < most_entries
-room_where_accepted_under ties facts command legs judges = room_where_not_full facts (by command judges)
+room_where_accepted ties facts command legs judges = room_where_not_full facts (by command judges)
   where
     by : (c : Command) → JudgesUnder ties facts c (Accept legs) → book_full facts ≡ None
     by (Opening o) judges =
@@ -124,14 +126,11 @@ room_where_accepted_under ties facts command legs judges = room_where_not_full f
         transacts (Some refusal) e = cc
         transacts None judges = books judges.0 judges.2
 
-pub room_where_accepted : (facts : Facts) (command : Command) (legs : List Leg) → Judges facts command (Accept legs)
+pub room_where_decided : (ties : TieRule) (facts : Facts) (command : Command) (legs : List Leg)
+    → DecidesUnder ties facts command (Accept legs)
     → facts.entries < most_entries
-room_where_accepted = room_where_accepted_under all_by_key
-
-pub room_where_decided : (facts : Facts) (command : Command) (legs : List Leg) → Decides facts command (Accept legs)
-    → facts.entries < most_entries
-room_where_decided facts command legs decides =
-    room_where_accepted facts command legs (key_was_new facts command legs facts.text decides).1
+room_where_decided ties facts command legs decides =
+    room_where_accepted ties facts command legs (key_was_new ties facts command legs facts.text decides).1
 
 -- ---- openings and closings
 
@@ -168,7 +167,7 @@ closes_none ties book key (Transaction t) legs account judges e = refl
 closes_none ties book key (Closing c) legs account judges e = by (same_text account c.account) refl
   where
     known : is_none (standing_of book c.account) ≡ false
-    known = closing_is_known (facts_of book key) c legs judges
+    known = closing_is_known ties (facts_of book key) c legs judges
 
     by : (b : Bool) → same_text account c.account ≡ b → cond b (Some c.day) None ≡ None
     by true here =
@@ -184,7 +183,7 @@ closes_opened-append edition before entry closes step account e =
     let unknown : opening_of before account ≡ None =
     first_none (opening_of before account) (opening_by account entry.command)
     (sym (opening_of-append before entry account) ∙ e) in
-    let judges = (accepted_in edition before entry.key entry.command entry.legs step).1 in
+    let judges = (accepted edition before entry.key entry.command entry.legs step).1 in
     closing_of-append before entry account
     ∙ ap (λ o. option_or o (closing_by account entry.command)) (closes account unknown)
     ∙ closes_none (ties_in edition before) before entry.key entry.command entry.legs account judges unknown
@@ -197,11 +196,8 @@ closes_opened-continues migration before (entry ∷ entries) closes continues =
     (closes_opened-continues migration (before ++ entry ∷ []) entries
     (closes_opened-append (edition_on migration before) before entry closes continues.0) continues.1)
 
-pub closes_opened_in : (migration : Migration) (book : List Entry) → IsBookIn migration book → ClosesOpened book
-closes_opened_in migration book is = closes_opened-continues migration [] book (λ account e. refl) is
-
-pub closes_opened : (book : List Entry) → IsBook book → ClosesOpened book
-closes_opened = closes_opened_in NotYet
+pub closes_opened : (migration : Migration) (book : List Entry) → IsBookIn migration book → ClosesOpened book
+closes_opened migration book is = closes_opened-continues migration [] book (λ account e. refl) is
 
 -- how an account stands is what its opening and its closing say
 standing_of-append : (book : List Entry) (entry : Entry) (account : List ℕ)
@@ -215,11 +211,11 @@ standing_kept : (closing : Option ℤ) (opening : Option OpeningOf)
     → option_map (standing_by closing) opening ≡ option_map (standing_by (option_or closing None)) (option_or opening None)
 standing_kept closing opening = λ i. option_map (standing_by (sym (or_none closing) i)) (sym (or_none opening) i)
 
-standing-recorded_under : (ties : TieRule) (book : List Entry) (key : Key) (command : Command) (legs : List Leg) → ClosesOpened book
+pub standing-recorded : (ties : TieRule) (book : List Entry) (key : Key) (command : Command) (legs : List Leg) → ClosesOpened book
     → JudgesUnder ties (facts_of book key) command (Accept legs)
     → (account : List ℕ) → standing_after account command (standing_of book account)
     ≡ standing_of (book ++ entry_of key command legs ∷ []) account
-standing-recorded_under ties book key command legs closes judges account =
+standing-recorded ties book key command legs closes judges account =
     by command judges ∙ sym (standing_of-append book (entry_of key command legs) account)
   where
     by : (c : Command) → JudgesUnder ties (facts_of book key) c (Accept legs)
@@ -246,18 +242,11 @@ standing-recorded_under ties book key command legs closes judges account =
             (option_or (opening_of book account) (cond b (Some o) None))
         opens_by true here =
             let new : standing_of book account ≡ None =
-            ap (standing_of book) (one_text account o.account here) ∙ opening_is_new (facts_of book key) o legs judges in
+            ap (standing_of book) (one_text account o.account here) ∙ opening_is_new ties (facts_of book key) o legs judges in
             let unknown : opening_of book account ≡ None =
             not_mapped (standing_by (closing_of book account)) (opening_of book account) new in
             rw (unknown, closes account unknown) refl
         opens_by false apart = standing_kept (closing_of book account) (opening_of book account)
-
--- the same where all ties are decided by key
-pub standing-recorded : (book : List Entry) (key : Key) (command : Command) (legs : List Leg) → ClosesOpened book
-    → Judges (facts_of book key) command (Accept legs)
-    → (account : List ℕ) → standing_after account command (standing_of book account)
-    ≡ standing_of (book ++ entry_of key command legs ∷ []) account
-standing-recorded = standing-recorded_under all_by_key
 
 -- ---- commodities
 
@@ -298,44 +287,37 @@ held-recorded facts legs rows account kept lists = same_held _ _ (λ place.
 entries-recorded : (book : List Entry) (entry : Entry) → suc (length book) ≡ length (book ++ entry ∷ [])
 entries-recorded book entry = sym (length-append book (entry ∷ []) ∙ add-one (length book))
 
--- the facts of a book, once an accepted command is recorded, are those of the book with its entry
-recorded-facts : (migration : Migration) (book : List Entry) (key : Key) (command : Command) (legs : List Leg) (change : Change)
-    → IsBookIn migration book → StepIn (edition_on migration book) book key command (Accept legs)
+-- The facts of a book, once an accepted command is recorded, are those of the book with its entry. How ties were decided
+-- doesn't matter: the legs are those of the change.
+recorded-facts : (ties : TieRule) (migration : Migration) (book : List Entry) (key : Key) (command : Command) (legs : List Leg) (change : Change)
+    → IsBookIn migration book → DecidesUnder ties (facts_of book key) command (Accept legs)
     → IsChange (facts_of book key) command legs change
     → recorded (facts_of book key) command change ≡ facts_in (book ++ entry_of key command legs ∷ [])
-recorded-facts migration book key command legs change is step changes =
+recorded-facts ties migration book key command legs change is decides changes =
     let entry = entry_of key command legs in
     let facts = facts_of book key in
-    let edition = edition_on migration book in
-    let ties = ties_in edition book in
-    let judges = (accepted_in edition book key command legs step).1 in
+    let judges = (key_was_new ties facts command legs (text_under book key) decides).1 in
     same_facts (recorded facts command change) (facts_in (book ++ entry ∷ []))
     (entries-recorded book entry)
     refl
-    (standing-recorded_under ties book key command legs (closes_opened_in migration book is) judges)
+    (standing-recorded ties book key command legs (closes_opened migration book is) judges)
     (declared-recorded book entry)
-    (λ account commodity. latest-recorded_under ties book key entry account commodity (day_listed change.heads account commodity) judges
+    (λ account commodity. latest-recorded ties book key entry account commodity (day_listed change.heads account commodity) judges
     (changes.heads account commodity))
     (λ account. held-recorded facts legs change.positions.entries account
     (no_zeros-legs account finite.empty (legs_of book) no_zeros-empty) changes.positions
     ∙ sym (inventory_of-append book entry account))
 
 -- the same of facts that are those of the book, as a view holds them
-pub recorded-known_in : (migration : Migration) (facts : Facts) (book : List Entry) (key : Key) (command : Command) (legs : List Leg) (change : Change)
-    → IsBookIn migration book → facts ≡ facts_of book key → StepIn (edition_on migration book) book key command (Accept legs)
+pub recorded-known : (ties : TieRule) (migration : Migration) (facts : Facts) (book : List Entry) (key : Key) (command : Command) (legs : List Leg) (change : Change)
+    → IsBookIn migration book → facts ≡ facts_of book key → DecidesUnder ties facts command (Accept legs)
     → IsChange facts command legs change
     → recorded facts command change ≡ facts_in (book ++ entry_of key command legs ∷ [])
-recorded-known_in migration facts book key command legs change is same step changes =
+recorded-known ties migration facts book key command legs change is same decides changes =
     ap (λ (f : Facts). recorded f command change) same
-    ∙ recorded-facts migration book key command legs change is step
+    ∙ recorded-facts ties migration book key command legs change is
+    (subst (λ (f : Facts). DecidesUnder ties f command (Accept legs)) same decides)
     (subst (λ (f : Facts). IsChange f command legs change) same changes)
-
-pub recorded-known : (facts : Facts) (book : List Entry) (key : Key) (command : Command) (legs : List Leg) (change : Change)
-    → IsBook book → facts ≡ facts_of book key → Decides facts command (Accept legs) → IsChange facts command legs change
-    → recorded facts command change ≡ facts_in (book ++ entry_of key command legs ∷ [])
-recorded-known facts book key command legs change is same decides changes =
-    recorded-known_in NotYet facts book key command legs change is same
-    (subst (λ (f : Facts). Decides f command (Accept legs)) same decides) changes
 
 -- a book says no more to a command with a new key
 pub new-key : (entries : List Entry) (key : Key) → text_under entries key ≡ None → facts_in entries ≡ facts_of entries key
@@ -367,7 +349,15 @@ pub book-grows_in : (migration : Migration) (book : List Entry) (key : Key) (com
     → IsBookIn migration (book ++ entry_of key command legs ∷ [])
 book-grows_in migration book key command legs is step = continues-append migration [] book (entry_of key command legs) is step
 
+-- a book of edition 2 keeps its place of migration
 pub book-grows : (book : List Entry) (key : Key) (command : Command) (legs : List Leg) → IsBook book
     → Step book key command (Accept legs)
     → IsBook (book ++ entry_of key command legs ∷ [])
-book-grows = book-grows_in NotYet
+book-grows book key command legs is step =
+    let entry = entry_of key command legs in record {
+      place = is.place;
+      placed = omega (arith, is.placed, length-append book (entry ∷ []));
+      is = book-grows_in (After is.place) book key command legs is.is
+          (subst (λ (edition : Edition). StepIn edition book key command (Accept legs))
+          (sym (second_there is.place book is.placed)) step);
+    }

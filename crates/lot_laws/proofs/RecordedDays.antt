@@ -24,10 +24,10 @@ use Rattle.lot_book.specs.declared.leg.Leg.{Leg}
 use Rattle.lot_book.specs.declared.refusal.Refusal.{Refusal}
 use Rattle.lot_book.specs.declared.refusal.Refusal.TheVariants.{BackDated}
 use Rattle.lot_book.specs.Balance.{elided_postings}
-use Rattle.lot_book.specs.Booking.{TieRule, all_by_key}
+use Rattle.lot_book.specs.Booking.{TieRule}
 use Rattle.lot_book.specs.Facts.{Entry, Facts, day_at_cost, facts_of, is_at_cost, later, latest_at_cost, posts_at_cost}
 use Rattle.lot_book.specs.Refusals.{back_dated, closed, currency_not_allowed, dates_back, is_before, not_open_yet, place_of, too_many_postings, two_elided, unknown_account}
-use Rattle.lot_book.specs.Step.{Accept, Judges, JudgesTransactionUnder, JudgesUnder, first_conditions, first_of}
+use Rattle.lot_book.specs.Step.{Accept, JudgesTransactionUnder, JudgesUnder, first_conditions, first_of}
 
 -- ---- the later of two days
 
@@ -136,10 +136,10 @@ day_is_latest ties facts t legs account commodity judges posts =
 
 -- ---- the days of a book with one more entry
 
-pub latest-recorded_under : (ties : TieRule) (book : List Entry) (key : Key) (entry : Entry) (account commodity : List ℕ) (listed : Option ℤ)
+pub latest-recorded : (ties : TieRule) (book : List Entry) (key : Key) (entry : Entry) (account commodity : List ℕ) (listed : Option ℤ)
     → JudgesUnder ties (facts_of book key) entry.command (Accept entry.legs) → listed ≡ day_at_cost account commodity entry.command
     → option_or listed (latest_at_cost book account commodity) ≡ latest_at_cost (book ++ entry ∷ []) account commodity
-latest-recorded_under ties book key entry account commodity listed judges is =
+latest-recorded ties book key entry account commodity listed judges is =
     ap (λ day. option_or day (latest_at_cost book account commodity)) is
     ∙ by entry.command judges
     ∙ sym (latest_at_cost-append book entry account commodity)
@@ -160,9 +160,3 @@ latest-recorded_under ties book key entry account commodity listed judges is =
             (later-given (latest_at_cost book account commodity) t.day
             (day_is_latest ties (facts_of book key) t entry.legs account commodity judges posts))
         posts_by false none = sym (later-none (latest_at_cost book account commodity))
-
--- the same where all ties are decided by key
-pub latest-recorded : (book : List Entry) (key : Key) (entry : Entry) (account commodity : List ℕ) (listed : Option ℤ)
-    → Judges (facts_of book key) entry.command (Accept entry.legs) → listed ≡ day_at_cost account commodity entry.command
-    → option_or listed (latest_at_cost book account commodity) ≡ latest_at_cost (book ++ entry ∷ []) account commodity
-latest-recorded = latest-recorded_under all_by_key

@@ -17,7 +17,7 @@ use Rattle.lot_book.specs.declared.refusal.Refusal.{Refusal}
 use Rattle.lot_book.specs.Agree.{HaveSameOf, HaveSamePlain}
 use Rattle.lot_book.specs.Touched.{accounts_of, elided_of, if_elided, pair_of, pairs_of}
 use Rattle.lot_book.specs.Balance.{elided_postings}
-use Rattle.lot_book.specs.Booking.{Booking, Bookings, Books, BooksAll, BooksAllUnder, BooksTo, BooksWithUnder, Continue, Fails, HasLegs, HasNoLegs, Line, TieRule, all_by_key, line_under, method_of}
+use Rattle.lot_book.specs.Booking.{Booking, Bookings, Books, BooksAllUnder, BooksTo, BooksWithUnder, Continue, Fails, HasLegs, HasNoLegs, Line, TieRule, line_under, method_of}
 use Rattle.lot_book.specs.Facts.{Facts}
 use Rattle.lot_book.specs.Leg.{leave_range, legs_at_lots, with_legs}
 use Rattle.lot_laws.proofs.StepHeld.{HaveSame, IsOf, same_lots_of, same_of, same_range, same_with_legs}
@@ -210,21 +210,13 @@ module _ (s t : TieRule) (a b : Facts) (entries : a.entries ≡ b.entries) where
     same_continue Others More on before outcome h.0 h.2,
   )
 
-  pub same_books_under : (day : ℤ) (before : List Leg) (place : ℕ) (postings : List Posting) (outcome : Bookings)
+  pub same_books : (day : ℤ) (before : List Leg) (place : ℕ) (postings : List Posting) (outcome : Bookings)
       → AllByRecursion (Alike a b) postings → AllByRecursion (TiesAlike s t a) (pairs_of postings)
       → BooksAllUnder s a day before place postings outcome → BooksAllUnder t b day before place postings outcome
-  same_books_under day before place [] outcome alike ties h = h
-  same_books_under day before place (p ∷ ps) outcome alike ties h =
+  same_books day before place [] outcome alike ties h = h
+  same_books day before place (p ∷ ps) outcome alike ties h =
       let parts = all_parts (TiesAlike s t a) (pair_of p.account p.amount) (pairs_of ps) ties in
       same_with (λ legs others. BooksAllUnder s a day legs (suc place) ps others)
       (λ legs others. BooksAllUnder t b day legs (suc place) ps others)
-      (λ legs others books. same_books_under day legs (suc place) ps others alike.1 parts.1 books)
+      (λ legs others books. same_books day legs (suc place) ps others alike.1 parts.1 books)
       day before place p.account p.amount outcome alike.0.0 alike.0.1 parts.0 h
-
--- the same where all ties are decided by key
-pub same_books : (a b : Facts) → a.entries ≡ b.entries
-    → (day : ℤ) (before : List Leg) (place : ℕ) (postings : List Posting) (outcome : Bookings)
-    → AllByRecursion (Alike a b) postings → BooksAll a day before place postings outcome → BooksAll b day before place postings outcome
-same_books a b entries day before place postings outcome alike h =
-    same_books_under all_by_key all_by_key a b entries day before place postings outcome alike
-    (ties_themselves all_by_key a (pairs_of postings)) h

@@ -19,11 +19,11 @@ use Rattle.lot_command.specs.declared.transaction.Transaction.{Transaction as Tr
 use Rattle.lot_book.specs.declared.leg.Leg.{Leg}
 use Rattle.lot_book.specs.declared.refusal.Refusal.{Refusal}
 use Rattle.lot_book.specs.declared.refusal.Refusal.TheVariants as refusal
-use Rattle.lot_book.specs.Booking.{All, Booked, Booking, Bookings, Books, BooksAll, BooksAllUnder, BooksTo, BooksWithUnder, Continue, Fails, HasLegs, HasNoLegs, IsBooked, IsOutOfRange, IsRefusalOf, Line, Stopped, TieRule, all_by_key, braced, follow, line_under, plain_leg}
-use Rattle.lot_book.specs.Edition.{Edition, First, ties_in}
+use Rattle.lot_book.specs.Booking.{All, Booked, Booking, Bookings, Books, BooksAllUnder, BooksTo, BooksWithUnder, Continue, Fails, HasLegs, HasNoLegs, IsBooked, IsOutOfRange, IsRefusalOf, Line, Stopped, TieRule, braced, follow, line_under, plain_leg}
+use Rattle.lot_book.specs.Edition.{Edition, ties_in}
 use Rattle.lot_book.specs.Facts.{Entry, Facts, facts_of, text_under}
 use Rattle.lot_book.specs.Leg.{leave_range, legs_at_lots}
-use Rattle.lot_book.specs.Step.{DecidesByUnder, JudgesTransactionUnder, JudgesUnder, Outcome, Step, StepIn, concluded, first_conditions, first_of}
+use Rattle.lot_book.specs.Step.{DecidesByUnder, JudgesTransactionUnder, JudgesUnder, Outcome, StepIn, concluded, first_conditions, first_of}
 
 -- ---- the legs of a posting
 
@@ -123,24 +123,20 @@ module _ (ties : TieRule) (Others : List Leg → Bookings → Type 0) where
       let same : h.0 ≡ k.0 = booking_one (line_under ties facts day before place account amount) h.0 k.0 h.1 k.1 in
       continue_one one before a b h.0 h.2 (subst (Continue Others before b) (sym same) k.2)
 
-books_one_under : (ties : TieRule) (facts : Facts) (day : ℤ) (before : List Leg) (place : ℕ) (postings : List Posting) (a b : Bookings)
+pub books_one : (ties : TieRule) (facts : Facts) (day : ℤ) (before : List Leg) (place : ℕ) (postings : List Posting) (a b : Bookings)
     → BooksAllUnder ties facts day before place postings a → BooksAllUnder ties facts day before place postings b → a ≡ b
-books_one_under ties facts day before place [] a b h k = h ∙ sym k
-books_one_under ties facts day before place (posting ∷ postings) a b h k =
+books_one ties facts day before place [] a b h k = h ∙ sym k
+books_one ties facts day before place (posting ∷ postings) a b h k =
     with_one ties (λ legs others. BooksAllUnder ties facts day legs (suc place) postings others)
-    (λ legs c d g l. books_one_under ties facts day legs
+    (λ legs c d g l. books_one ties facts day legs
     (suc place) postings c d g l) facts day before place posting.account posting.amount a b h k
-
-pub books_one : (facts : Facts) (day : ℤ) (before : List Leg) (place : ℕ) (postings : List Posting) (a b : Bookings)
-    → BooksAll facts day before place postings a → BooksAll facts day before place postings b → a ≡ b
-books_one = books_one_under all_by_key
 
 -- ---- what a command comes to
 
 transaction_one : (ties : TieRule) (facts : Facts) (t : TransactionOf) (first : Option Refusal) (a b : Outcome)
     → JudgesTransactionUnder ties facts t first a → JudgesTransactionUnder ties facts t first b → a ≡ b
 transaction_one ties facts t (Some refused) a b h k = h ∙ sym k
-transaction_one ties facts t None a b h k = h.2 ∙ ap (concluded facts t) (books_one_under ties facts t.day [] 1 t.postings h.0 k.0 h.1 k.1)
+transaction_one ties facts t None a b h k = h.2 ∙ ap (concluded facts t) (books_one ties facts t.day [] 1 t.postings h.0 k.0 h.1 k.1)
     ∙ sym k.2
 
 judges_one : (ties : TieRule) (facts : Facts) (command : Command) (a b : Outcome) → JudgesUnder ties facts command a
@@ -156,14 +152,10 @@ by_text_one : (ties : TieRule) (text : Option (List ℕ)) (facts : Facts) (comma
 by_text_one ties None facts command a b h k = judges_one ties facts command a b h k
 by_text_one ties (Some text) facts command a b h k = h ∙ sym k
 
-pub step_one_in : (edition : Edition) (book : List Entry) (key : Key) (command : Command) (a b : Outcome)
+pub step_one : (edition : Edition) (book : List Entry) (key : Key) (command : Command) (a b : Outcome)
     → StepIn edition book key command a → StepIn edition book key command b → a ≡ b
-step_one_in edition book key command a b h k =
+step_one edition book key command a b h k =
     by_text_one (ties_in edition book) (text_under book key) (facts_of book key) command a b h k
-
-pub step_one : (book : List Entry) (key : Key) (command : Command) (a b : Outcome) → Step book key command a
-    → Step book key command b → a ≡ b
-step_one = step_one_in First
 
 -- ---- some outcome
 
@@ -252,9 +244,6 @@ some_by_text : (ties : TieRule) (text : Option (List ℕ)) (facts : Facts) (comm
 some_by_text ties None facts command = some_judgement ties facts command
 some_by_text ties (Some text) facts command = (_, refl)
 
-pub some_step_in : (edition : Edition) (book : List Entry) (key : Key) (command : Command)
+pub some_step : (edition : Edition) (book : List Entry) (key : Key) (command : Command)
     → (outcome : Outcome) × StepIn edition book key command outcome
-some_step_in edition book key command = some_by_text (ties_in edition book) (text_under book key) (facts_of book key) command
-
-pub some_step : (book : List Entry) (key : Key) (command : Command) → (outcome : Outcome) × Step book key command outcome
-some_step = some_step_in First
+some_step edition book key command = some_by_text (ties_in edition book) (text_under book key) (facts_of book key) command

@@ -20,9 +20,11 @@ use Rattle.lot_book.specs.Balance.{elided_postings, fill_from, fill_of, left_ove
 use Rattle.lot_book.specs.Booking.{All, Booked, Bookings, Stopped, TieRule, all_by_key, legs_in}
 use Rattle.lot_book.specs.Facts.{Facts}
 use Rattle.lot_book.specs.Leg.{with_legs}
+use Rattle.lot_book.specs.Openings.{AgreesWithOpenings, DecidesByOpening, FactsWithOpenings, ties_on}
 use Rattle.lot_book.specs.Refusals.{bars, bars_amount, book_full, closed_before, dates_back, fill_not_allowed, fill_out_of_range, first_currency, holds_as, holds_too_many, inexact_fill, is_before, most_entries, most_lots, not_balanced, opens_after, place_of, too_many_lots, too_many_postings, two_elided, was_closed}
-use Rattle.lot_book.specs.Step.{Decides, DecidesByUnder, DecidesUnder, JudgesTransactionUnder, JudgesUnder, Outcome, accept_unless, all_legs, concluded, fill_legs, first_conditions, first_of, last_conditions}
-use Rattle.lot_laws.proofs.StepAgree.{Alike, AlikeElided, AlikeIn, TiesAlike, all_of, alike_all, alike_elided, same_books_under, ties_themselves}
+use Rattle.lot_book.specs.Step.{DecidesByUnder, DecidesUnder, JudgesTransactionUnder, JudgesUnder, Outcome, accept_unless, all_legs, concluded, fill_legs, first_conditions, first_of, last_conditions}
+use Rattle.lot_laws.proofs.StepAgree.{Alike, AlikeElided, AlikeIn, TiesAlike, all_of, alike_all, alike_elided, same_books, ties_themselves}
+use Rattle.lot_laws.proofs.SameOpenings.{ties_alike}
 use Rattle.lot_laws.proofs.StepHeld.{IsOf, IsPlain, same_lots_of, same_of, same_plain, same_range, same_with_legs}
 
 -- ---- first places
@@ -154,7 +156,7 @@ module _ (a b : Facts) (entries : a.entries ≡ b.entries) where
   same_judgement r s t (Some refused) outcome alike ties h = h
   same_judgement r s t None outcome alike ties h = (
     h.0,
-    same_books_under r s a b entries t.day [] 1 t.postings h.0 alike ties h.1,
+    same_books r s a b entries t.day [] 1 t.postings h.0 alike ties h.1,
     h.2 ∙ same_conclusion t h.0 alike,
   )
 
@@ -195,10 +197,17 @@ module _ (r s : TieRule) (a b : Facts) where
       same_by_text b.text command outcome agrees ties (subst (λ text. DecidesByUnder r text a command outcome) agrees.text h)
 
 -- the same where all ties are decided by key
-pub same_decision : (a b : Facts) (command : Command) (outcome : Outcome) → Agrees a b command → Decides a command outcome
-    → Decides b command outcome
-same_decision a b command outcome agrees =
+pub same_decision_by_key : (a b : Facts) (command : Command) (outcome : Outcome) → Agrees a b command
+    → DecidesUnder all_by_key a command outcome → DecidesUnder all_by_key b command outcome
+same_decision_by_key a b command outcome agrees =
     same_decision_under all_by_key all_by_key a b command outcome agrees (ties_themselves all_by_key a (pairs_in command))
+
+-- the same where they are decided by opening
+pub same_decision : (a b : FactsWithOpenings) (command : Command) (outcome : Outcome) → AgreesWithOpenings a b command
+    → DecidesByOpening a command outcome → DecidesByOpening b command outcome
+same_decision a b command outcome agrees =
+    same_decision_under (ties_on a) (ties_on b) a.facts b.facts command outcome agrees.facts
+    (ties_alike a b (pairs_in command) agrees.facts.held agrees.opening)
 
 -- ---- facts agree with themselves, and agreeing goes both ways
 

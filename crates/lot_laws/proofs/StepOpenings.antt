@@ -1,5 +1,6 @@
 -- Opening numbers as facts: what legs make of them, and that the step of edition 2 rests on them.
-use Rattle.std.specs.Prelude.{◌≡◌, ◌≢◌, ◌↔◌, ℕ, ◌&&◌, true, false, cond, List, [], ◌∷◌, ◌++◌, Some, pos, ◌+ℤ◌}
+use Rattle.std.specs.Prelude.{◌≡◌, ◌≢◌, ◌↔◌, ℕ, ◌&&◌, true, false, cond, List, [], ◌∷◌, ◌++◌, Some, pos}
+use Rattle.std.specs.List.{AllByRecursion}
 use Rattle.std.specs.FinMap.{empty}
 use Rattle.std.specs.Option.{unwrap_or}
 use Rattle.std.specs.Ordering.{int_eq}
@@ -16,80 +17,33 @@ use Rattle.lot_book.specs.declared.leg.Leg.{Leg}
 use Rattle.lot_book.specs.declared.leg.Position.{Position}
 use Rattle.lot_book.specs.Agree.{HaveSameOf}
 use Rattle.lot_book.specs.Book.{entry_of}
+use Rattle.lot_book.specs.Booking.{all_by_key}
 use Rattle.lot_book.specs.Change.{IsChange, ListsOpened}
-use Rattle.lot_book.specs.Edition.{Second, ties_in}
+use Rattle.lot_book.specs.Edition.{Edition, First, Second, ties_in}
 use Rattle.lot_book.specs.Facts.{Entry, Facts, facts_of, legs_of}
 use Rattle.lot_book.specs.Leg.{inventory_of, same_position, sum_at, with_leg, with_legs}
 use Rattle.lot_book.specs.OpeningNumber.{opening_in, opening_number, opening_with_leg, opening_with_legs, posting_number}
-use Rattle.lot_book.specs.Openings.{AgreesWithOpenings, AreOpeningsOf, DecidesByOpening, FactsWithOpenings, HaveSameOpenings, facts_with_openings, opening_after, ties_on, with_listed}
+use Rattle.lot_book.specs.Openings.{AgreesOnOpenings, AgreesWithOpenings, AreOpeningsOf, DecidesByOpening, FactsWithOpenings, HaveSameOpenings, facts_with_openings, opening_after, ties_for, ties_on, with_listed}
 use Rattle.lot_book.specs.Step.{DecidesUnder, Outcome, StepIn}
 use Rattle.lot_book.specs.Touched.{pairs_in}
 use Rattle.lot_book.proofs.CaseLemmas.{by_bool}
-use Rattle.lot_book.proofs.LegLemmas.{with_leg-at, with_legs-append}
-use Rattle.lot_book.proofs.OrderLemmas.{one_position, same_position-itself, same_position-turned}
+use Rattle.lot_book.proofs.LegLemmas.{with_legs-append}
+use Rattle.lot_book.proofs.OrderLemmas.{one_position, same_position-itself}
 use Rattle.lot_laws.specs.Laws.{lot_at}
 use Rattle.lot_laws.proofs.LawHoldings.{holds_sum}
 use Rattle.lot_laws.proofs.OpeningLemmas.{number_elsewhere, number_kept, number_opened, some_units, zero_is}
 use Rattle.lot_laws.proofs.RecordedBook.{legs_of-append}
-use Rattle.lot_laws.proofs.StepAgree.{TiesAlike, all_of}
-use Rattle.lot_laws.proofs.StepHeld.{HaveSame, IsOf, same_of, same_with_leg}
+use Rattle.lot_laws.proofs.SameOpenings.{same_after_leg, same_after_legs}
+use Rattle.lot_laws.proofs.StepAgree.{TiesAlike, all_of, ties_themselves}
+use Rattle.lot_laws.proofs.StepHeld.{IsOf, same_of, same_with_legs}
 use Rattle.lot_laws.proofs.StepLooks.{agrees_itself, same_decision_under}
 use Rattle.lot_booking.proofs.SameTies.{IsHeldLot, same_by_opening}
 
--- ---- numbers that are the same for the lots that are held
+-- ---- the numbers over legs
 
 module _ (account commodity : List ℕ) where
   abbrev at_lot : LotKey → Position
   at_lot = lot_at account commodity
-
-  -- what a lot holds after a leg
-  units_with_leg : (held : Held) (leg : Leg) (lot : LotKey)
-      → units_at (with_leg account held leg) (commodity, Some lot)
-      ≡ cond (same_position (at_lot lot) leg.position) (units_at held (commodity, Some lot) +ℤ leg.units) (units_at held (commodity, Some lot))
-  units_with_leg held leg lot =
-      let had = units_at held (commodity, Some lot) in
-      with_leg-at held leg (at_lot lot)
-      ∙ ap (λ b. cond b (had +ℤ leg.units) had) (same_position-turned leg.position (at_lot lot))
-
-  -- a lot that holds something after a leg was opened by it, or held something before
-  held_before : (held : Held) (leg : Leg) (lot : LotKey)
-      → (same_position (at_lot lot) leg.position && int_eq (units_at held (commodity, Some lot)) (pos 0)) ≡ false
-      → IsHeldLot (with_leg account held leg) commodity lot → IsHeldLot held commodity lot
-  held_before held leg lot apart some none =
-      let had = units_at held (commodity, Some lot) in
-      let here = same_position (at_lot lot) leg.position in
-      let elsewhere : here ≡ false = by_bool here
-      (λ e. let both : (here && int_eq had (pos 0)) ≡ true = ap (λ b. b && int_eq had (pos 0)) e ∙ ap (λ z. int_eq z (pos 0)) none in cc)
-      (λ e. e) in
-      some (units_with_leg held leg lot ∙ ap (λ b. cond b (had +ℤ leg.units) had) elsewhere ∙ none)
-
-  -- they are the same after a leg
-  same_after_leg : (a b : Held) (f g : LotKey → ℕ) (leg : Leg) → HaveSame (IsOf commodity) a b → HaveSameOpenings commodity a f g
-      → HaveSameOpenings commodity (with_leg account a leg) (opening_with_leg account commodity a f leg)
-      (opening_with_leg account commodity b g leg)
-  same_after_leg a b f g leg same numbers lot some =
-      let here = same_position (at_lot lot) leg.position in
-      let opens = here && int_eq (units_at a (commodity, Some lot)) (pos 0) in
-      let number = posting_number leg in
-      let held : cond opens number (g lot) ≡ opening_with_leg account commodity b g leg lot =
-      ap (λ found. cond (here && int_eq (unwrap_or found (pos 0)) (pos 0)) number (g lot)) (same (commodity, Some lot) refl) in
-      by_bool opens
-      (λ opened. ap (λ b. cond b number (f lot)) opened ∙ ap (λ b. cond b number (g lot)) (sym opened))
-      (λ apart.
-      ap (λ b. cond b number (f lot)) apart ∙ numbers lot (held_before a leg lot apart some)
-      ∙ ap (λ b. cond b number (g lot)) (sym apart))
-      ∙ held
-
-  same_after_legs : (a b : Held) (f g : LotKey → ℕ) (legs : List Leg) → HaveSame (IsOf commodity) a b → HaveSameOpenings commodity a f g
-      → HaveSameOpenings commodity (with_legs account a legs) (opening_with_legs account commodity a f legs)
-      (opening_with_legs account commodity b g legs)
-  same_after_legs a b f g [] same numbers = numbers
-  same_after_legs a b f g (leg ∷ legs) same numbers =
-      same_after_legs (with_leg account a leg) (with_leg account b leg)
-      (opening_with_leg account commodity a f leg) (opening_with_leg account commodity b g leg) legs
-      (same_with_leg (IsOf commodity) account a b leg same) (same_after_leg a b f g leg same numbers)
-
-  -- ---- the numbers over legs
 
   -- what legs leave in the account
   abbrev left : List Leg → Held
@@ -144,7 +98,7 @@ module _ (account commodity : List ℕ) where
       let all = legs ++ leg ∷ [] in
       let next = opening_with_leg account commodity (left legs) f leg in
       let one : HaveSameOpenings commodity (left all) next (numbers_of all) = λ lot some.
-      same_after_leg (left legs) (left legs) f (numbers_of legs) leg (λ at is. refl) same lot
+      same_after_leg account commodity (left legs) (left legs) f (numbers_of legs) leg (λ at is. refl) same lot
       (subst (λ held. IsHeldLot held commodity lot) (sym (left-push legs leg)) some)
       ∙ numbers_with_leg legs leg lot some in
       subst (λ (ls : List Leg). HaveSameOpenings commodity (left ls)
@@ -219,20 +173,42 @@ pub step_on_book : (book : List Entry) (key : Key) (command : Command) (outcome 
 step_on_book book key command outcome =
     step_on_known (facts_with_openings book key) book key command outcome refl (λ account commodity lot held. refl)
 
--- ---- what a command looks at
+-- ---- on facts that agree with the book's
 
-pub same_decision_by_opening : (a b : FactsWithOpenings) (command : Command) (outcome : Outcome) → AgreesWithOpenings a b command
-    → DecidesByOpening a command outcome → DecidesByOpening b command outcome
-same_decision_by_opening a b command outcome agrees =
-    same_decision_under (ties_on a) (ties_on b) a.facts b.facts command outcome agrees.facts
-    (all_both (λ (pair : Pair). HaveSameOf pair.commodity (a.facts.held pair.account) (b.facts.held pair.account))
-    (λ (pair : Pair). HaveSameOpenings pair.commodity (a.facts.held pair.account)
-    (a.opening pair.account pair.commodity) (b.opening pair.account pair.commodity))
-    (TiesAlike (ties_on a) (ties_on b) a.facts)
-    (λ pair held numbers before.
-    same_by_opening (IsHeldLot (with_legs pair.account (a.facts.held pair.account) before) pair.commodity)
-    (opening_after a before pair.account pair.commodity) (opening_after b before pair.account pair.commodity)
-    (same_after_legs pair.account pair.commodity (a.facts.held pair.account) (b.facts.held pair.account)
-    (a.opening pair.account pair.commodity) (b.opening pair.account pair.commodity) before
-    (same_of pair.commodity (a.facts.held pair.account) (b.facts.held pair.account) held) numbers))
-    (pairs_in command) agrees.facts.held agrees.opening)
+-- by an edition, facts that agree with a book's at some pairs decide ties there as the book does
+pub agreed_ties : (edition : Edition) (known : FactsWithOpenings) (book : List Entry) (key : Key) (pairs : List Pair)
+    → AllByRecursion (λ (pair : Pair). HaveSameOf pair.commodity (known.facts.held pair.account) (inventory_of (legs_of book) pair.account)) pairs
+    → AgreesOnOpenings known (facts_with_openings book key) pairs
+    → AllByRecursion (TiesAlike (ties_for edition known) (ties_in edition book) known.facts) pairs
+agreed_ties First known book key pairs held numbers = ties_themselves all_by_key known.facts pairs
+agreed_ties Second known book key pairs held numbers =
+    let said = facts_with_openings book key in
+    all_both (λ (pair : Pair). HaveSameOf pair.commodity (known.facts.held pair.account) (inventory_of (legs_of book) pair.account))
+    (λ (pair : Pair). HaveSameOpenings pair.commodity (known.facts.held pair.account)
+    (known.opening pair.account pair.commodity) (said.opening pair.account pair.commodity))
+    (TiesAlike (ties_on known) (ties_in Second book) known.facts)
+    (λ pair same numbers before.
+    let account = pair.account in
+    let commodity = pair.commodity in
+    let here = known.facts.held account in
+    let there = inventory_of (legs_of book) account in
+    let alike = same_of commodity here there same in
+    let IsHeld = IsHeldLot (with_legs account here before) commodity in
+    let all : (lot : LotKey) → units_at (with_legs account here before) (commodity, Some lot)
+    ≡ units_at (inventory_of (legs_of book ++ before) account) (commodity, Some lot) =
+    λ lot. ap (λ found. unwrap_or found (pos 0)) (same_with_legs (IsOf commodity) account here there before alike (commodity, Some lot) refl)
+    ∙ ap (λ held. units_at held (commodity, Some lot)) (sym (with_legs-append account empty (legs_of book) before)) in
+    same_by_opening IsHeld (opening_after known before account commodity) (opening_in (legs_of book ++ before) account commodity)
+    (λ lot some.
+    same_after_legs account commodity here there (known.opening account commodity) (said.opening account commodity) before alike numbers lot some
+    ∙ numbers_after said book key before account commodity refl (λ account commodity lot held. refl) lot
+    (λ none. some (all lot ∙ none))))
+    pairs held numbers
+
+-- so what a command comes to on them is its step on the book
+pub step_where_agreed : (edition : Edition) (known : FactsWithOpenings) (book : List Entry) (key : Key) (command : Command) (outcome : Outcome)
+    → AgreesWithOpenings known (facts_with_openings book key) command
+    → DecidesUnder (ties_for edition known) known.facts command outcome → StepIn edition book key command outcome
+step_where_agreed edition known book key command outcome agrees =
+    same_decision_under (ties_for edition known) (ties_in edition book) known.facts (facts_of book key) command outcome agrees.facts
+    (agreed_ties edition known book key (pairs_in command) agrees.facts.held agrees.opening)

@@ -7,16 +7,19 @@ use Rattle.lot_cost.specs.declared.lot_key.LotKey.{LotKey}
 use Rattle.lot_inv.specs.Inventory.{other_sign}
 use Rattle.lot_command.specs.declared.command.Command.{Command}
 use Rattle.lot_command.specs.declared.command.Command.TheVariants.{Opening, Closing, Declaring, Quoting, Transaction}
+use Rattle.lot_command.specs.declared.key.Key.{Key}
 use Rattle.lot_command.specs.declared.transaction.Amount.{Amount}
 use Rattle.lot_command.specs.declared.transaction.Posting.{Posting}
 use Rattle.lot_command.specs.declared.transaction.Transaction.{Transaction as TransactionOf}
 use Rattle.lot_book.specs.declared.leg.Leg.{Leg}
 use Rattle.lot_book.specs.declared.leg.Position.{Position}
+use Rattle.lot_book.specs.declared.verdict.Verdict.{Verdict}
 use Rattle.lot_book.specs.Balance.{weight_of, weights_in}
-use Rattle.lot_book.specs.Booking.{All, Booked, BooksAllUnder, TieRule, all_by_key, legs_in}
+use Rattle.lot_book.specs.Booking.{All, Booked, BooksAllUnder, TieRule, legs_in}
 use Rattle.lot_book.specs.Currencies.{sum_in}
-use Rattle.lot_book.specs.Edition.{Migration, NotYet, edition_on, ties_in}
+use Rattle.lot_book.specs.Edition.{Edition, Migration, edition_on, ties_in}
 use Rattle.lot_book.specs.Facts.{Entry, Facts, facts_of, is_at_cost, posts_at_cost, same_key}
+use Rattle.lot_book.specs.Judged.{JudgesBy, JudgesEach}
 use Rattle.lot_book.specs.Leg.{sum_at}
 use Rattle.lot_book.specs.Step.{all_legs, fill_legs}
 use Rattle.lot_laws.specs.Collects.{Collects}
@@ -29,15 +32,11 @@ Balances facts t booked =
     (currency : List ℕ) → sum_in (weights_in booked ++ map weight_of (fill_legs facts t booked)) currency ≡ pos 0
 
 -- the legs are those of a transaction on what a book says, where ties are decided so, which balances
-pub record IsBalancedUnder (ties : TieRule) (facts : Facts) (t : TransactionOf) (legs : List Leg) : Type 0 where
+pub record IsBalanced (ties : TieRule) (facts : Facts) (t : TransactionOf) (legs : List Leg) : Type 0 where
   pub booked : List Booked
   pub books : BooksAllUnder ties facts t.day [] 1 t.postings (All booked)
   pub all : legs ≡ all_legs facts t booked
   pub balances : Balances facts t booked
-
--- the same where all ties are decided by key
-abbrev pub IsBalanced : Facts → TransactionOf → List Leg → Type 0
-IsBalanced facts t legs = IsBalancedUnder all_by_key facts t legs
 
 -- ---- What was bought and sold: of the commands alone, which know neither legs nor lots.
 
@@ -92,6 +91,14 @@ HaveOneSign lots =
 abbrev pub HaveOneKeyEach : List Entry → Type 0
 HaveOneKeyEach entries = IsDistinct same_key (map (λ (entry : Entry). entry.key) entries)
 
+-- ---- Judging.
+
+-- Commands with their keys, judged one after another, each by the edition that this says of the book before it. By edition 2
+-- on every book it is `JudgesAll`, and by the edition of a book with that migration `JudgesAllIn`.
+abbrev pub JudgesAllBy : (List Entry → Edition) → List Entry → List (Key × Command) → List Verdict → List Entry → Type 0
+JudgesAllBy edition before commands verdicts after =
+    JudgesEach (λ book key command verdict next. JudgesBy (edition book) book key command verdict next) before commands verdicts after
+
 -- ---- The cost of lots.
 
 -- the currency of a lot, and its cost there: units times number
@@ -103,32 +110,22 @@ abbrev pub cost_in : List (LotKey × ℤ) → List ℕ → ℤ
 cost_in lots currency = sum_in (map cost_of lots) currency
 
 -- what is booked of the postings of a command, which has these legs, where ties are decided so
-abbrev pub BooksCommandUnder : TieRule → Facts → Command → List Leg → List Booked → Type 0
-BooksCommandUnder ties facts (Opening o) legs booked = (legs ≡ []) × (booked ≡ [])
-BooksCommandUnder ties facts (Closing c) legs booked = (legs ≡ []) × (booked ≡ [])
-BooksCommandUnder ties facts (Declaring d) legs booked = (legs ≡ []) × (booked ≡ [])
-BooksCommandUnder ties facts (Quoting q) legs booked = (legs ≡ []) × (booked ≡ [])
-BooksCommandUnder ties facts (Transaction t) legs booked =
+abbrev pub BooksCommand : TieRule → Facts → Command → List Leg → List Booked → Type 0
+BooksCommand ties facts (Opening o) legs booked = (legs ≡ []) × (booked ≡ [])
+BooksCommand ties facts (Closing c) legs booked = (legs ≡ []) × (booked ≡ [])
+BooksCommand ties facts (Declaring d) legs booked = (legs ≡ []) × (booked ≡ [])
+BooksCommand ties facts (Quoting q) legs booked = (legs ≡ []) × (booked ≡ [])
+BooksCommand ties facts (Transaction t) legs booked =
     (legs ≡ all_legs facts t booked) × BooksAllUnder ties facts t.day [] 1 t.postings (All booked)
 
 -- what is booked of the postings of an entry behind those before it, by the edition there
-abbrev pub BooksEntryIn : Migration → List Entry → Entry → List Booked → Type 0
-BooksEntryIn migration before entry booked =
-    BooksCommandUnder (ties_in (edition_on migration before) before) (facts_of before entry.key) entry.command entry.legs booked
+abbrev pub BooksEntry : Migration → List Entry → Entry → List Booked → Type 0
+BooksEntry migration before entry booked =
+    BooksCommand (ties_in (edition_on migration before) before) (facts_of before entry.key) entry.command entry.legs booked
 
 -- what is booked of the postings of all entries behind those before them
-abbrev pub BooksEntriesIn : Migration → List Entry → List Entry → List Booked → Type 0
-BooksEntriesIn migration before entries booked = Collects (BooksEntryIn migration) before entries booked
-
--- the same in a book of edition 1
-abbrev pub BooksCommand : Facts → Command → List Leg → List Booked → Type 0
-BooksCommand facts command legs booked = BooksCommandUnder all_by_key facts command legs booked
-
-abbrev pub BooksEntry : List Entry → Entry → List Booked → Type 0
-BooksEntry before entry booked = BooksEntryIn NotYet before entry booked
-
-abbrev pub BooksEntries : List Entry → List Entry → List Booked → Type 0
-BooksEntries before entries booked = BooksEntriesIn NotYet before entries booked
+abbrev pub BooksEntries : Migration → List Entry → List Entry → List Booked → Type 0
+BooksEntries migration before entries booked = Collects (BooksEntry migration) before entries booked
 
 -- whether a booked posting has braces, of the account and the commodity
 abbrev pub is_booked_at_cost : List ℕ → List ℕ → Booked → Bool

@@ -1,4 +1,5 @@
-//! Laws of books: of their entries, of what they hold, and of what judging commands leaves.
+//! Laws of books: of their entries, of what they hold, and of what judging commands leaves. Each holds in either edition; a
+//! book of the program (`IsBook`) is one of edition 2 (`IsBookIn` with its place of migration).
 ghost use Rattle.std.specs.Prelude.{◌≡◌, ◌≢◌, ℕ, ℤ, pos, true, Some, List, [], ◌∷◌, ◌++◌, ◌+ℤ◌, neg_ℤ};
 ghost use Rattle.lot_cost.specs.declared.method.Method.TheVariants.{Unmatched};
 ghost use Rattle.lot_command.specs.Canonical.{canonical};
@@ -13,16 +14,17 @@ ghost use Rattle.lot_book.specs.declared.leg.Position.{Position};
 ghost use Rattle.lot_book.specs.declared.refusal.Refusal.TheVariants.{KeyReused};
 ghost use Rattle.lot_book.specs.declared.verdict.Verdict.{Verdict};
 ghost use Rattle.lot_book.specs.declared.verdict.Verdict.TheVariants.{Accepted, Refused, Repeated};
-ghost use Rattle.lot_book.specs.Book.{IsBook, after, entry_of};
+ghost use Rattle.lot_book.specs.Book.{IsBook, IsBookIn, after, entry_of};
 ghost use Rattle.lot_book.specs.Booking.{Booked, IsBooked, Line, method_of};
 ghost use Rattle.lot_book.specs.Currencies.{sum_in};
+ghost use Rattle.lot_book.specs.Edition.{Edition, Migration, edition_on, ties_in};
 ghost use Rattle.lot_book.specs.Facts.{Entry, facts_of, legs_of, standing_of, text_under};
-ghost use Rattle.lot_book.specs.Judged.{JudgesOn, JudgesAll};
-ghost use Rattle.lot_laws.specs.Laws.{BooksEntries, HaveOneKeyEach, HaveOneSign, IsBalanced};
+ghost use Rattle.lot_book.specs.Judged.{JudgesAll, JudgesAllIn, JudgesBy};
+ghost use Rattle.lot_laws.specs.Laws.{BooksEntries, HaveOneKeyEach, HaveOneSign, IsBalanced, JudgesAllBy};
 ghost use Rattle.lot_laws.specs.Laws.{bought, bought_into, cost_in, lot_at, sold, sold_of, weights_at_cost};
 ghost use Rattle.lot_book.specs.Leg.{inventory_of, legs_at_lots, sum_at};
 ghost use Rattle.lot_book.specs.Sale.{AreLegsOf};
-ghost use Rattle.lot_book.specs.Step.{Accept, Outcome, Repeat, Step};
+ghost use Rattle.lot_book.specs.Step.{Accept, Outcome, Repeat, StepIn};
 
 /// What an account holds in a position is the sum of the units of all legs there.
 pub fn what_an_account_holds_is_the_sum_of_its_legs()
@@ -33,78 +35,92 @@ pub fn what_an_account_holds_is_the_sum_of_its_legs()
 /// Each transaction of a book balances: its legs are those of its postings as they are booked on the entries before it,
 /// and in each currency the weights of the booked postings and of the elided posting's legs sum to zero, exactly.
 pub fn every_transaction_balances()
-    ensures { (before more : List Entry) (key : Key) (t : TransactionOf) (legs : List Leg)
-        → IsBook (before ++ entry_of key (Transaction t) legs ∷ more) → IsBalanced (facts_of before key) t legs }
+    ensures { (migration : Migration) (before more : List Entry) (key : Key)
+        (t : TransactionOf) (legs : List Leg)
+        → IsBookIn migration (before ++ entry_of key (Transaction t) legs ∷ more)
+        → IsBalanced (ties_in (edition_on migration before) before) (facts_of before key) t legs }
 {}
 
 /// In every book the units of a commodity that an account holds in lots are those that its commands bought there less
 /// those that they sold.
 pub fn units_held_in_lots_are_those_bought_less_those_sold()
-    ensures { (entries : List Entry) (account commodity : List ℕ) → IsBook entries
+    ensures { (migration : Migration) (entries : List Entry) (account commodity : List ℕ)
+        → IsBookIn migration entries
         → sum (inventory_of (legs_of entries) account) commodity
         ≡ bought entries account commodity +ℤ neg_ℤ (sold entries account commodity) }
 {}
 
 /// In every book the lots of a commodity in an account have one sign, unless the method of the account is NONE.
 pub fn an_accounts_lots_have_one_sign()
-    ensures { (entries : List Entry) (account commodity : List ℕ) → IsBook entries
+    ensures { (migration : Migration) (entries : List Entry) (account commodity : List ℕ)
+        → IsBookIn migration entries
         → method_of (standing_of entries account) ≢ Unmatched
         → HaveOneSign (lots_of (inventory_of (legs_of entries) account) commodity) }
 {}
 
 /// No two entries of a book have one key.
 pub fn the_keys_of_a_book_are_distinct()
-    ensures { (entries : List Entry) → IsBook entries → HaveOneKeyEach entries }
+    ensures { (migration : Migration) (entries : List Entry)
+        → IsBookIn migration entries → HaveOneKeyEach entries }
 {}
 
 /// An accepted command stands under its key. A command under a key that stands with its text repeats an entry, and does
 /// nothing else; so it may be taken out of any list of commands, or put in at any place, and the
-/// verdicts on the others and the book after them are the same.
+/// verdicts on the others and the book after them are the same. It holds whichever edition judges on each book.
 pub fn an_equal_command_may_be_taken_out()
-    ensures stands { (book : List Entry) (key : Key) (command : Command) (legs : List Leg)
-        → Step book key command (Accept legs)
+    ensures stands { (edition : Edition) (book : List Entry) (key : Key) (command : Command)
+        (legs : List Leg) → StepIn edition book key command (Accept legs)
         → text_under (after book key command (Accept legs)) key ≡ Some (canonical command) }
-    ensures repeats { (book : List Entry) (key : Key) (command : Command)
-        → text_under book key ≡ Some (canonical command) → Step book key command Repeat }
-    ensures nothing_else { (book : List Entry) (key : Key) (command : Command) (outcome : Outcome)
-        → text_under book key ≡ Some (canonical command) → Step book key command outcome → outcome ≡ Repeat }
-    ensures taken_out { (book result : List Entry) (key : Key) (command : Command)
-        (first more : List (Key × Command)) (verdicts : List Verdict)
+    ensures repeats { (edition : Edition) (book : List Entry) (key : Key) (command : Command)
+        → text_under book key ≡ Some (canonical command) → StepIn edition book key command Repeat }
+    ensures nothing_else { (edition : Edition) (book : List Entry) (key : Key) (command : Command)
+        (outcome : Outcome) → text_under book key ≡ Some (canonical command)
+        → StepIn edition book key command outcome → outcome ≡ Repeat }
+    ensures taken_out { (edition : List Entry → Edition) (book result : List Entry) (key : Key)
+        (command : Command) (first more : List (Key × Command)) (verdicts : List Verdict)
         → text_under book key ≡ Some (canonical command)
-        → JudgesAll book (first ++ (key, command) ∷ more) verdicts result
+        → JudgesAllBy edition book (first ++ (key, command) ∷ more) verdicts result
         → (earlier later : List Verdict) × (verdicts ≡ earlier ++ Repeated ∷ later)
-        × JudgesAll book (first ++ more) (earlier ++ later) result }
-    ensures put_in { (book result : List Entry) (key : Key) (command : Command)
-        (first more : List (Key × Command)) (verdicts : List Verdict)
+        × JudgesAllBy edition book (first ++ more) (earlier ++ later) result }
+    ensures put_in { (edition : List Entry → Edition) (book result : List Entry) (key : Key)
+        (command : Command) (first more : List (Key × Command)) (verdicts : List Verdict)
         → text_under book key ≡ Some (canonical command)
-        → JudgesAll book (first ++ more) verdicts result
+        → JudgesAllBy edition book (first ++ more) verdicts result
         → (earlier later : List Verdict) × (verdicts ≡ earlier ++ later)
-        × JudgesAll book (first ++ (key, command) ∷ more) (earlier ++ Repeated ∷ later) result }
+        × JudgesAllBy edition book (first ++ (key, command) ∷ more)
+        (earlier ++ Repeated ∷ later) result }
 {}
 
 /// A key acts once. The text of an accepted command stands under its key, and it remains there whatever is judged later. A
 /// command under a key that stands is a repeat where its text is the one that stands there, and is refused where it is
 /// another one; both leave the book as it was.
 pub fn a_key_acts_once()
-    ensures stands { (before after : List Entry) (key : Key) (command : Command)
-        → JudgesOn before key command Accepted after → text_under after key ≡ Some (canonical command) }
-    ensures remains { (before after : List Entry) (key other : Key) (text : List ℕ) (command : Command) (verdict : Verdict)
-        → text_under before key ≡ Some text → JudgesOn before other command verdict after
+    ensures stands { (edition : Edition) (before after : List Entry) (key : Key) (command : Command)
+        → JudgesBy edition before key command Accepted after
+        → text_under after key ≡ Some (canonical command) }
+    ensures remains { (edition : Edition) (before after : List Entry) (key other : Key)
+        (text : List ℕ) (command : Command) (verdict : Verdict)
+        → text_under before key ≡ Some text → JudgesBy edition before other command verdict after
         → text_under after key ≡ Some text }
-    ensures repeats { (before after : List Entry) (key : Key) (command : Command) (verdict : Verdict)
-        → text_under before key ≡ Some (canonical command) → JudgesOn before key command verdict after
+    ensures repeats { (edition : Edition) (before after : List Entry) (key : Key)
+        (command : Command) (verdict : Verdict)
+        → text_under before key ≡ Some (canonical command)
+        → JudgesBy edition before key command verdict after
         → (verdict ≡ Repeated) × (after ≡ before) }
-    ensures refused { (before after : List Entry) (key : Key) (command : Command) (text : List ℕ) (verdict : Verdict)
-        → text_under before key ≡ Some text → text ≢ canonical command → JudgesOn before key command verdict after
+    ensures refused { (edition : Edition) (before after : List Entry) (key : Key)
+        (command : Command) (text : List ℕ) (verdict : Verdict)
+        → text_under before key ≡ Some text → text ≢ canonical command
+        → JudgesBy edition before key command verdict after
         → (verdict ≡ Refused KeyReused) × (after ≡ before) }
 {}
 
 /// In every book the cost of the lots of a commodity that an account holds, in each currency, is what the postings with
 /// braces there weigh in it.
 pub fn the_cost_of_lots_is_the_weight_of_their_postings()
-    ensures booked { (entries : List Entry) → IsBook entries → (booked : List Booked) × BooksEntries [] entries booked }
-    ensures cost { (entries : List Entry) (booked : List Booked) (account commodity currency : List ℕ)
-        → BooksEntries [] entries booked
+    ensures booked { (migration : Migration) (entries : List Entry) → IsBookIn migration entries
+        → (booked : List Booked) × BooksEntries migration [] entries booked }
+    ensures cost { (migration : Migration) (entries : List Entry) (booked : List Booked)
+        (account commodity currency : List ℕ) → BooksEntries migration [] entries booked
         → cost_in (lots_of (inventory_of (legs_of entries) account) commodity) currency
         ≡ sum_in (weights_at_cost account commodity booked) currency }
 {}
@@ -120,8 +136,8 @@ pub fn the_legs_of_a_sale_add_up_to_its_units()
 /// In every book, what was bought into a lot and what was sold of it, with its sign, add up to what is left of it. All three
 /// are sums over all entries: a lot that was sold out may be opened again under its key.
 pub fn what_was_bought_into_a_lot_is_sold_or_left()
-    ensures { (entries : List Entry) (booked : List Booked) (account commodity : List ℕ) (lot : LotKey)
-        → BooksEntries [] entries booked
+    ensures { (migration : Migration) (entries : List Entry) (booked : List Booked)
+        (account commodity : List ℕ) (lot : LotKey) → BooksEntries migration [] entries booked
         → units_at (inventory_of (legs_of entries) account) (commodity, Some lot)
         ≡ bought_into booked (lot_at account commodity lot) +ℤ sold_of booked (lot_at account commodity lot) }
 {}
@@ -129,20 +145,29 @@ pub fn what_was_bought_into_a_lot_is_sold_or_left()
 /// In every book nothing is sold of a lot of an account whose method is NONE: what is held of it is what was bought, where a
 /// posting of the other sign counts with its sign.
 pub fn nothing_is_sold_under_none()
-    ensures { (entries : List Entry) (booked : List Booked) (account commodity : List ℕ) (lot : LotKey)
-        → IsBook entries → BooksEntries [] entries booked → method_of (standing_of entries account) ≡ Unmatched
+    ensures { (migration : Migration) (entries : List Entry) (booked : List Booked)
+        (account commodity : List ℕ) (lot : LotKey)
+        → IsBookIn migration entries → BooksEntries migration [] entries booked
+        → method_of (standing_of entries account) ≡ Unmatched
         → sold_of booked (lot_at account commodity lot) ≡ pos 0 }
 {}
 
-/// Commands, each under a key, are judged in one way: there is one list of verdicts, and one list
-/// of entries after them, which is a book where the list before them was.
+/// Commands, each under a key, are judged in one way, whichever edition judges on each book: there is one list of verdicts,
+/// and one list of entries after them, which is a book where the list before them was.
 pub fn judged_commands_make_a_book()
-    ensures some { (before : List Entry) (commands : List (Key × Command))
-        → (verdicts : List Verdict) × (after : List Entry) × JudgesAll before commands verdicts after }
-    ensures one { (before : List Entry) (commands : List (Key × Command)) (vs ws : List Verdict)
-        (a b : List Entry)
-        → JudgesAll before commands vs a → JudgesAll before commands ws b → (vs ≡ ws) × (a ≡ b) }
-    ensures book { (before : List Entry) (commands : List (Key × Command)) (verdicts : List Verdict)
-        (after : List Entry)
+    ensures some { (edition : List Entry → Edition) (before : List Entry)
+        (commands : List (Key × Command))
+        → (verdicts : List Verdict) × (after : List Entry)
+        × JudgesAllBy edition before commands verdicts after }
+    ensures one { (edition : List Entry → Edition) (before : List Entry)
+        (commands : List (Key × Command)) (vs ws : List Verdict) (a b : List Entry)
+        → JudgesAllBy edition before commands vs a → JudgesAllBy edition before commands ws b
+        → (vs ≡ ws) × (a ≡ b) }
+    ensures book { (before : List Entry) (commands : List (Key × Command))
+        (verdicts : List Verdict) (after : List Entry)
         → IsBook before → JudgesAll before commands verdicts after → IsBook after }
+    ensures book_in { (migration : Migration) (before : List Entry)
+        (commands : List (Key × Command)) (verdicts : List Verdict) (after : List Entry)
+        → IsBookIn migration before → JudgesAllIn migration before commands verdicts after
+        → IsBookIn migration after }
 {}

@@ -2,10 +2,10 @@
 //! nothing.
 //!
 //! - `steps`: what a command comes to.
-//! - `books`: entries, what they hold, and judging a list of commands.
+//! - `books`: entries of a book of either edition, what they hold, and judging a list of commands.
 //! - `gains`: sales and their gains.
 //! - `opening_numbers`: which lot was opened before which, and the orders by that.
-//! - `editions`: books of either edition.
+//! - `editions`: places of migration, and how each edition decides ties.
 //! - `openings`: opening numbers as facts, on which the step of edition 2 rests.
 #![tactic(auto)]
 

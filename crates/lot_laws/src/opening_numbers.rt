@@ -1,5 +1,5 @@
-//! Laws of opening numbers, and of the orders by them: on any legs, or in a book of either edition. The program judges by
-//! edition 1 so far.
+//! Laws of opening numbers, and of the orders by them, by which edition 2 decides ties: on any legs, or in a book of either
+//! edition.
 ghost use Rattle.std.specs.Prelude.{◌≡◌, ◌≢◌, ◌↔◌, ℕ, ◌+◌, ◌<◌, ◌≤◌, ◌*◌, Some, None, List, [], ◌∷◌, ◌++◌, length, All, ℤ, pos};
 ghost use Rattle.std.specs.List.{Contains};
 ghost use Rattle.std.specs.Ordering.{nat_cmp, int_cmp, ordering_then};

@@ -1,4 +1,4 @@
-//! Laws of opening numbers as facts, on which the step of edition 2 rests. The program judges by edition 1 so far.
+//! Laws of opening numbers as facts, on which the step of edition 2 rests.
 ghost use Rattle.std.specs.Prelude.{◌≡◌, ◌↔◌, ℕ, List, [], ◌∷◌, ◌++◌};
 ghost use Rattle.lot_cost.specs.declared.lot_key.LotKey.{LotKey};
 ghost use Rattle.lot_command.specs.declared.command.Command.{Command};
@@ -6,16 +6,17 @@ ghost use Rattle.lot_command.specs.declared.key.Key.{Key};
 ghost use Rattle.lot_book.specs.declared.change.Change.{Change};
 ghost use Rattle.lot_book.specs.declared.leg.Leg.{Leg};
 ghost use Rattle.lot_book.specs.Book.{IsBookIn, entry_of};
+ghost use Rattle.lot_book.specs.Booking.{TieRule};
 ghost use Rattle.lot_book.specs.Change.{IsChange, ListsOpened};
-ghost use Rattle.lot_book.specs.Edition.{Migration, Second, edition_on};
+ghost use Rattle.lot_book.specs.Edition.{Migration, Second};
 ghost use Rattle.lot_book.specs.Facts.{Entry, facts_of, legs_of};
 ghost use Rattle.lot_book.specs.Leg.{inventory_of};
 ghost use Rattle.lot_book.specs.OpeningNumber.{opening_in};
-ghost use Rattle.lot_book.specs.Openings.{AgreesWithOpenings, AreOpeningsOf, DecidesByOpening};
+ghost use Rattle.lot_book.specs.Openings.{AreOpeningsOf, DecidesByOpening};
 ghost use Rattle.lot_book.specs.Openings.{FactsWithOpenings, HaveSameOpenings, facts_with_openings};
 ghost use Rattle.lot_book.specs.Openings.{opening_after, recorded_with_openings, with_listed};
 ghost use Rattle.lot_book.specs.Recorded.{facts_in};
-ghost use Rattle.lot_book.specs.Step.{Accept, Outcome, StepIn};
+ghost use Rattle.lot_book.specs.Step.{Accept, DecidesUnder, Outcome, StepIn};
 
 /// Further legs make of the opening numbers of a book those over its legs and the further ones, of each lot that holds
 /// something then.
@@ -40,22 +41,14 @@ pub fn a_step_of_edition_2_is_one_on_facts_with_openings()
         → StepIn Second book key command outcome ↔ DecidesByOpening known command outcome }
 {}
 
-/// In edition 2, too, what a command comes to depends on what it looks at alone: that is what it looks at in edition 1, and
-/// the opening numbers of the lots that are held where it posts.
-pub fn a_step_by_opening_looks_at_what_a_command_touches()
-    ensures decides { (a b : FactsWithOpenings) (command : Command) (outcome : Outcome)
-        → AgreesWithOpenings a b command
-        → DecidesByOpening a command outcome → DecidesByOpening b command outcome }
-{}
-
-/// The facts of a book of either edition, once an accepted command is recorded, are those of the book with its entry. So are
-/// the opening numbers, of each lot that is held, once those that the change lists are put in; and putting them in makes of
-/// any numbers what the change's legs make of them.
+/// The facts of a book of either edition, once an accepted command is recorded, are those of the book with its entry, however
+/// ties were decided. So are the opening numbers, of each lot that is held, once those that the change lists are put in; and
+/// putting them in makes of any numbers what the change's legs make of them.
 pub fn what_is_recorded_is_what_the_book_says()
-    ensures facts { (known : FactsWithOpenings) (migration : Migration) (book : List Entry)
-        (key : Key) (command : Command) (legs : List Leg) (change : Change)
+    ensures facts { (ties : TieRule) (migration : Migration) (known : FactsWithOpenings)
+        (book : List Entry) (key : Key) (command : Command) (legs : List Leg) (change : Change)
         → IsBookIn migration book → known.facts ≡ facts_of book key
-        → StepIn (edition_on migration book) book key command (Accept legs)
+        → DecidesUnder ties known.facts command (Accept legs)
         → IsChange known.facts command legs change
         → (recorded_with_openings known command change).facts
         ≡ facts_in (book ++ entry_of key command legs ∷ []) }

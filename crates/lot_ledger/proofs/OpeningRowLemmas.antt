@@ -1,12 +1,11 @@
 -- The rows of what is kept of lots.
-use Rattle.std.specs.Prelude.{◌≡◌, ◌≢◌, ℕ, Bool, true, false, cond, List, get_or, [], ◌∷◌, map, All, Contains, Option, None, Some, is_some, IsSome, pos}
+use Rattle.std.specs.Prelude.{◌≡◌, ◌≢◌, ℕ, true, cond, List, get_or, [], ◌∷◌, map, All, Contains, Option, None, Some, is_some, IsSome, pos}
 use Rattle.std.specs.declared.cmp.Ordering.TheVariants.{Less}
 use Rattle.std.specs.BTreeMap.{BTreeMap, IsOrdered, get}
 use Rattle.std.specs.List.{AllByRecursion, cons_option, filter_map}
 use Rattle.std.specs.List.Sorted.{IsStrictlySortedBy}
 use Rattle.std.specs.Map.{keys_of, lookup}
 use Rattle.std.specs.Option.{option_map}
-use Rattle.std.specs.Ordering.{int_eq}
 use Rattle.std.proofs.Common.{refl, sym, ap, subst, ◌∙◌}
 use Rattle.std.proofs.lemmas.Bool.{true≢false}
 use Rattle.std.proofs.lemmas.List.Elements.{All-cons, All-head, All-nil, All-tail, Contains-append_left, Contains-append_right, Contains-push}
@@ -18,7 +17,6 @@ use Rattle.lot_book.specs.Leg.{position_cmp, same_position, sum_at}
 use Rattle.lot_book.specs.OpeningNumber.{HasOpeningNumber}
 use Rattle.lot_book.proofs.CaseLemmas.{by_bool}
 use Rattle.lot_book.proofs.OrderLemmas.{one_position, positions_total}
-use Rattle.lot_laws.proofs.OpeningLemmas.{not_zero, some_units}
 use Rattle.lot_ledger.specs.declared.opening_numbers.LotOpening.{LotOpening}
 use Rattle.lot_ledger.specs.declared.opening_numbers.OpenLot.{OpenLot}
 use Rattle.lot_ledger.specs.LotOpenings.{IsKept, KeepsLots, ListsOpenings, lot_of, row_of}
@@ -28,7 +26,6 @@ use Rattle.lot_ledger.specs.LotOpenings.{IsKept, KeepsLots, ListsOpenings, lot_o
 -- what a row says of what is kept
 record IsRowOf (kept : Position × OpenLot) (row : LotOpening) : Type 0 where
   there : lot_of row ≡ kept.0
-  some : kept.1.units ≢ pos 0
   number : row.opening ≡ kept.1.opening
 
 -- the row of a lot, by its key
@@ -36,23 +33,20 @@ abbrev keyed : Position × OpenLot → LotKey → LotOpening
 keyed kept lot = record { account = kept.0.account; commodity = kept.0.commodity; lot = lot; opening = kept.1.opening }
 
 row_is : (kept : Position × OpenLot) (row : LotOpening) → row_of kept ≡ Some row → IsRowOf kept row
-row_is kept row = by (int_eq kept.1.units (pos 0)) kept.0.lot refl refl
+row_is kept row = by kept.0.lot refl
   where
-    by : (b : Bool) (o : Option LotKey) → int_eq kept.1.units (pos 0) ≡ b → kept.0.lot ≡ o
-        → cond b None (option_map (keyed kept) o) ≡ Some row → IsRowOf kept row
-    by true o zero key e = absurd cc
-    by false None zero key e = absurd cc
-    by false (Some lot) zero key e =
+    by : (o : Option LotKey) → kept.0.lot ≡ o → option_map (keyed kept) o ≡ Some row → IsRowOf kept row
+    by None key e = absurd cc
+    by (Some lot) key e =
         let same : keyed kept lot ≡ row = cc in
         record {
           there = ap lot_of (sym same) ∙ (λ i. record { account = kept.0.account; commodity = kept.0.commodity; lot = sym key i });
-          some = some_units kept.1.units zero;
           number = ap (λ (r : LotOpening). r.opening) (sym same);
         }
 
--- a lot with some units has a row
-row_some : (kept : Position × OpenLot) → IsSome kept.0.lot → kept.1.units ≢ pos 0 → IsSome (row_of kept)
-row_some kept is_lot some = ap (λ b. is_some (cond b None (option_map (keyed kept) kept.0.lot))) (not_zero kept.1.units some) ∙ by kept.0.lot is_lot
+-- a lot has a row
+row_some : (kept : Position × OpenLot) → IsSome kept.0.lot → IsSome (row_of kept)
+row_some kept = by kept.0.lot
   where
     by : (o : Option LotKey) → is_some o ≡ true → is_some (option_map (keyed kept) o) ≡ true
     by None e = e
@@ -104,7 +98,7 @@ number_in_row : (legs : List Leg) (kept : Position × OpenLot) (row : LotOpening
     → IsNumber legs row
 number_in_row legs kept row is h =
     let is_lot : IsSome kept.0.lot = ap (λ (p : Position). is_some p.lot) (sym is.there) in
-    let number : HasOpeningNumber legs kept.0 kept.1.opening = (h is_lot).1 is.some in
+    let number : HasOpeningNumber legs kept.0 kept.1.opening = (h is_lot).2 in
     subst (λ (n : ℕ). HasOpeningNumber legs (lot_of row) n) (sym is.number)
     (subst (λ (p : Position). HasOpeningNumber legs p kept.1.opening) (sym is.there) number)
 
@@ -121,38 +115,33 @@ numbers_in legs (kept ∷ entries) h =
         All-cons (IsNumber legs) row (rows_in entries)
         (number_in_row legs kept row (row_is kept row e) (All-head (IsKeptEntry legs) kept entries h)) rest
 
-found_first : (entries : List (Position × OpenLot)) (first : Position × OpenLot) (lot : Position) (kept : OpenLot)
-    → same_position lot first.0 ≡ true → Some first.1 ≡ Some kept → IsSome lot.lot → kept.units ≢ pos 0
+found_first : (entries : List (Position × OpenLot)) (first : Position × OpenLot) (lot : Position)
+    → same_position lot first.0 ≡ true → IsSome lot.lot
     → Contains (map lot_of (cons_option (row_of first) (rows_in entries))) lot
-found_first entries first lot kept here is is_lot some = by (row_of first) refl
+found_first entries first lot here is_lot = by (row_of first) refl
   where
     there : lot ≡ first.0
     there = one_position lot first.0 here
 
-    held : first.1.units ≢ pos 0
-    held zero = let same : first.1 ≡ kept = cc in some (sym (ap (λ (l : OpenLot). l.units) same) ∙ zero)
-
     by : (o : Option LotOpening) → row_of first ≡ o → Contains (map lot_of (cons_option o (rows_in entries))) lot
     by None e =
-        absurd (true≢false (sym (row_some first (ap (λ (p : Position). is_some p.lot) (sym there) ∙ is_lot) held) ∙ ap is_some e))
+        absurd (true≢false (sym (row_some first (ap (λ (p : Position). is_some p.lot) (sym there) ∙ is_lot)) ∙ ap is_some e))
     by (Some row) e =
         let same : lot_of row ≡ lot = (row_is first row e).there ∙ sym there in
         Contains-append_left (lot_of row ∷ []) (lots_in entries) lot
         (subst (λ (p : Position). Contains (p ∷ []) lot) (sym same) (Contains-push [] lot))
 
--- a lot that is kept with some units is that of a row
+-- a lot that is kept is that of a row
 lot_found : (entries : List (Position × OpenLot)) (lot : Position) (kept : OpenLot)
-    → lookup (same_position lot) entries ≡ Some kept → IsSome lot.lot → kept.units ≢ pos 0
+    → lookup (same_position lot) entries ≡ Some kept → IsSome lot.lot
     → Contains (lots_in entries) lot
-lot_found [] lot kept found is_lot some = absurd cc
-lot_found (first ∷ entries) lot kept found is_lot some =
+lot_found [] lot kept found is_lot = absurd cc
+lot_found (first ∷ entries) lot kept found is_lot =
     by_bool (same_position lot first.0)
-    (λ here.
-    found_first entries first lot kept here
-    (sym (ap (λ b. cond b (Some first.1) (lookup (same_position lot) entries)) here) ∙ found) is_lot some)
+    (λ here. found_first entries first lot here is_lot)
     (λ apart.
     let later = lot_found entries lot kept
-    (sym (ap (λ b. cond b (Some first.1) (lookup (same_position lot) entries)) apart) ∙ found) is_lot some in
+    (sym (ap (λ b. cond b (Some first.1) (lookup (same_position lot) entries)) apart) ∙ found) is_lot in
     by (row_of first) later)
   where
     by : (o : Option LotOpening) → Contains (lots_in entries) lot
@@ -162,11 +151,11 @@ lot_found (first ∷ entries) lot kept found is_lot some =
 
 -- ---- What they list.
 
--- a lot in which legs leave some units is kept with them
+-- a lot in which legs leave some units is kept
 some_kept : (legs : List Leg) (lot : Position) (kept : Option OpenLot) → IsKept legs lot kept → sum_at legs lot ≢ pos 0
-    → (open_lot : OpenLot) × (kept ≡ Some open_lot) × (open_lot.units ≢ pos 0)
+    → (open_lot : OpenLot) × (kept ≡ Some open_lot)
 some_kept legs lot None h some = absurd (some h)
-some_kept legs lot (Some open_lot) h some = (open_lot, refl, λ zero. some (sym h.0 ∙ zero))
+some_kept legs lot (Some open_lot) h some = (open_lot, refl)
 
 pub lists-rows : (legs : List Leg) (lots : BTreeMap Position OpenLot) → IsOrdered position_cmp lots → KeepsLots legs lots
     → ListsOpenings legs (filter_map row_of lots.entries)
@@ -176,6 +165,6 @@ lists-rows legs lots sorted keeps = record {
       subst (IsKept legs entry.0) (All-found positions_total lots sorted k d within) (keeps entry.0 is_lot));
   every_lot = λ lot is_lot some.
       let found = some_kept legs lot (get position_cmp lots lot) (keeps lot is_lot) some in
-      lot_found lots.entries lot found.0 found.1 is_lot found.2;
+      lot_found lots.entries lot found.0 found.1 is_lot;
   in_order = sorted_rows lots.entries sorted;
 }

@@ -19,4 +19,4 @@ pub use lot_book::{
     Verdict,
 };
 pub use lot_view::{Touched, View, touches};
-pub use opening_numbers::{LotOpening, openings};
+pub use opening_numbers::{LegFault, LotOpening, OpenLots, openings};

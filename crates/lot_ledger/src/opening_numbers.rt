@@ -1,10 +1,9 @@
-ghost use Rattle.std.specs.Prelude.{◌≡◌, ◌≢◌, [], ◌∷◌, ◌++◌, All, Any, IfOk, IsSome, List, OnErr, OnOk, pos, ◌+ℤ◌};
-ghost use Rattle.std.specs.BTreeMap.{get};
+ghost use Rattle.std.specs.Prelude.{◌≡◌, ◌↔◌, [], ◌∷◌, ◌++◌, All, Any, Err, IfOk, IsSome, List, OnErr, OnOk, SomeIff, ◌+ℤ◌};
 ghost use Rattle.lot_num.specs.Amount.{IsUnits};
 ghost use Rattle.lot_book.specs.declared.leg.Leg.{Leg};
-ghost use Rattle.lot_book.specs.Leg.{position_cmp};
-ghost use Rattle.lot_book.specs.OpeningNumber.{IsNumbered, StayInRange, posting_number};
-ghost use Rattle.lot_ledger.specs.LotOpenings.{KeepsLots, ListsOpenings, row_of, units_kept};
+ghost use Rattle.lot_book.specs.OpeningNumber.{IsNumbered, StayInRange};
+ghost use Rattle.lot_ledger.specs.LotOpenings.{Keeps, LeavesRange, ListsOpenings, lot_with, row_of};
+ghost use Rattle.lot_ledger.specs.declared.opening_numbers.LegFault.TheVariants.{Memory, Range};
 
 use lot_base::{Account, Commodity};
 use lot_book::{Leg, Position};
@@ -35,16 +34,98 @@ pub fn openings(alloc: Global, legs: &[Leg]) -> Result<Vec<LotOpening>, AllocErr
     ensures lists { IfOk result (λ rows. ListsOpenings legs.now rows.items) }
     ensures memory { OnErr result (Any (λ leg. IsSome leg.position.lot) legs.now) }
 {
-    let mut lots = BTreeMap::new(alloc);
+    let mut lots = OpenLots::new(alloc);
     for leg in legs {
-        if leg.position.lot.is_some() {
-            post(&mut lots, leg)?;
+        match lots.post(leg) {
+            Ok(()) => {}
+            Err(LegFault::Memory) => return Err(AllocError),
+            Err(LegFault::Range) => unreachable!(),
         }
     }
-    rows_of(alloc, lots)
+    lots.into_openings(alloc)
 }
 
-/// What legs leave in a lot, and the number of the posting that opened it last.
+/// What legs leave in each lot, and the number of the posting that opened it last. The legs are given
+/// one after another, in the order of their book. Memory is taken for each lot that is held, and not
+/// for each leg or for a lot that was emptied.
+#[derive(Drop)]
+pub struct OpenLots {
+    lots: BTreeMap<Position, OpenLot>,
+}
+
+/// Why a leg is not added to the lots.
+#[derive(Clone, Copy, Debug, PartialEq, Eq)]
+pub enum LegFault {
+    /// The leg takes the units of its lot out of their range.
+    Range,
+    /// Out of memory.
+    Memory,
+}
+
+impl OpenLots {
+    /// Returns what no legs leave.
+    pub fn new(alloc: Global) -> OpenLots
+        ensures { Keeps [] result }
+    {
+        OpenLots {
+            lots: BTreeMap::new(alloc),
+        }
+    }
+
+    /// Adds one more leg, behind those so far. A leg at a plain position leaves the lots as they were,
+    /// and so does an error. The range is that of the leg's lot: sums at plain positions are not kept,
+    /// and not tested. Out of memory comes only for a leg at a lot.
+    pub fn post(&mut self, leg: &Leg) -> Result<(), LegFault>
+        requires numbered { IsNumbered leg.now }
+        ensures adds { OnOk result ((legs : List Leg) → Keeps legs self.old
+            → Keeps (legs ++ leg.now ∷ []) self.new) }
+        ensures range { (legs : List Leg) → Keeps legs self.old
+            → (result ≡ Err Range) ↔ LeavesRange legs leg.now }
+        ensures memory { result ≡ Err Memory → IsSome leg.now.position.lot }
+        ensures unchanged { OnErr result ((legs : List Leg) → Keeps legs self.old
+            → Keeps legs self.new) }
+    {
+        if leg.position.lot.is_none() {
+            return Ok(());
+        }
+        let before = self.lots.get(&leg.position).copied();
+        let Some(after) = before.unwrap_or(OpenLot::EMPTY).with(leg) else {
+            return Err(LegFault::Range);
+        };
+        if after.units == Units::ZERO {
+            self.lots.remove(&leg.position);
+            return Ok(());
+        }
+        let Ok(position) = leg.position.copy() else {
+            return Err(LegFault::Memory);
+        };
+        match self.lots.insert(position, after) {
+            Ok(_) => Ok(()),
+            Err(_) => Err(LegFault::Memory),
+        }
+    }
+
+    /// Returns each lot in which the legs leave some units, with its opening number, in the order of
+    /// account, commodity and key. The only error is out of memory, and comes only where a leg was at
+    /// a lot.
+    pub fn into_openings(self, alloc: Global) -> Result<Vec<LotOpening>, AllocError>
+        ensures lists { IfOk result (λ rows. (legs : List Leg) → Keeps legs self
+            → ListsOpenings legs rows.items) }
+        ensures memory { OnErr result ((legs : List Leg) → Keeps legs self
+            → Any (λ leg. IsSome leg.position.lot) legs) }
+    {
+        let mut rows = Vec::new(alloc);
+        for (position, lot) in self.lots {
+            if let Some(row) = row_of(position, lot) {
+                rows.push(row)?;
+            }
+        }
+        Ok(rows)
+    }
+}
+
+/// The units that legs leave in a lot, and the number of the posting that opened it last. Those that
+/// are kept hold some units.
 #[derive(Clone, Copy)]
 struct OpenLot {
     units: Units,
@@ -52,78 +133,32 @@ struct OpenLot {
 }
 
 impl OpenLot {
-    /// Returns the lot that a leg opens.
-    fn opened_by(leg: &Leg) -> OpenLot
+    /// A lot that no leg is at.
+    const EMPTY: OpenLot = OpenLot {
+        units: Units::ZERO,
+        opening: 0,
+    };
+
+    /// Returns the lot with one more leg, which opens it where it holds nothing, or `None` where the
+    /// sum is out of range.
+    fn with(self, leg: &Leg) -> Option<OpenLot>
         requires { IsNumbered leg.now }
-        ensures units { result.units ≡ leg.now.units }
-        ensures opening { result.opening ≡ posting_number leg.now }
+        ensures { SomeIff result (IsUnits (self.units +ℤ leg.now.units)) (lot_with self leg.now) }
     {
-        OpenLot {
-            units: leg.units,
-            opening: leg.number(),
-        }
-    }
-
-    /// Returns the lot with one more leg, which opens it where it holds nothing.
-    fn with(self, leg: &Leg) -> OpenLot
-        requires numbered { IsNumbered leg.now }
-        requires in_range { IsUnits (self.units +ℤ leg.now.units) }
-        ensures units { result.units ≡ self.units +ℤ leg.now.units }
-        ensures opened { self.units ≡ pos 0 → result.opening ≡ posting_number leg.now }
-        ensures kept { self.units ≢ pos 0 → result.opening ≡ self.opening }
-    {
-        if self.units == Units::ZERO {
-            return OpenLot::opened_by(leg);
-        }
-        match self.units.checked_add(leg.units) {
-            Some(units) => OpenLot {
-                units,
-                opening: self.opening,
-            },
-            None => unreachable!(),
-        }
+        let units = self.units.checked_add(leg.units)?;
+        let opening = if self.units == Units::ZERO {
+            leg.number()
+        } else {
+            self.opening
+        };
+        Some(OpenLot { units, opening })
     }
 }
 
-/// Adds one more leg to what is kept of the lots. The only error is out of memory.
-fn post(lots: &mut BTreeMap<Position, OpenLot>, leg: &Leg) -> Result<(), AllocError>
-    requires numbered { IsNumbered leg.now }
-    requires in_range { IsUnits
-        (units_kept (get position_cmp lots.old leg.now.position) +ℤ leg.now.units) }
-    ensures { OnOk result ((legs : List Leg) → KeepsLots legs lots.old
-        → KeepsLots (legs ++ leg.now ∷ []) lots.new) }
-{
-    match lots.get_mut(&leg.position) {
-        Some(lot) => *lot = lot.with(leg),
-        None => {
-            lots.insert(leg.position.copy()?, OpenLot::opened_by(leg))?;
-        }
-    }
-    Ok(())
-}
-
-/// Returns the rows of the lots that hold some units. The only error is out of memory.
-fn rows_of(alloc: Global, lots: BTreeMap<Position, OpenLot>) -> Result<Vec<LotOpening>, AllocError>
-    ensures lists { IfOk result (λ rows. (legs : List Leg) → KeepsLots legs lots
-        → ListsOpenings legs rows.items) }
-    ensures memory { OnErr result (lots.entries ≢ []) }
-{
-    let mut rows = Vec::new(alloc);
-    for (position, lot) in lots {
-        if let Some(row) = row_of(position, lot) {
-            rows.push(row)?;
-        }
-    }
-    Ok(rows)
-}
-
-/// Returns the row of a lot, unless it holds nothing.
+/// Returns the row of what is kept of a position, where that is a lot.
 fn row_of(position: Position, lot: OpenLot) -> Option<LotOpening>
     ensures { result ≡ row_of (position, lot) }
 {
-    if lot.units == Units::ZERO {
-        return None;
-    }
     Some(LotOpening {
         account: position.account,
         commodity: position.commodity,

@@ -1,21 +1,16 @@
 -- A text under a key that is the canonical text of no command is that of no book.
-use Rattle.std.specs.Prelude.{◌≡◌, ◌≢◌, Bool, true, false, cond, List, ℕ, [], ◌∷◌, find, Option, None, Some, option_map, slice_get, Err}
+use Rattle.std.specs.Prelude.{◌≡◌, Bool, true, false, cond, List, ℕ, [], ◌∷◌, find, Option, None, Some, option_map, slice_get}
 use Rattle.std.specs.List.{AllByRecursion}
-use Rattle.std.proofs.Common.{refl, sym, ap, subst, ◌∙◌}
-use Rattle.sqlite.specs.State.{State}
+use Rattle.std.proofs.Common.{sym, ap, subst, ◌∙◌}
 use Rattle.lot_command.specs.Canonical.{canonical}
 use Rattle.lot_command.specs.Sayable.{IsSayable}
 use Rattle.lot_command.specs.declared.key.Key.{Key}
 use Rattle.lot_book.specs.Facts.{Entry, same_key, text_under}
 use Rattle.lot_load.specs.Damage.{HasDamagedText, HasText}
-use Rattle.lot_load.specs.Tells.{Tells}
-use Rattle.lot_load.proofs.ReadLemmas.{HasRead, denies, reads_as, stops}
 use Rattle.lot_print.specs.Canonical.{IsCanonical}
 use Rattle.lot_rows.specs.Entry.{named}
 use Rattle.lot_rows.specs.Tables.{Tables}
 use Rattle.lot_rows.specs.declared.entry.EntryRow.{EntryRow}
-use Rattle.lot_table.specs.declared.fault.Fault.{Fault}
-use Rattle.lot_table.specs.declared.fault.Fault.TheVariants.{Damaged, Device, Memory}
 
 -- ---- the text of a book
 
@@ -58,12 +53,3 @@ module _ (tables : Tables) (key : Key) (found : Option EntryRow) (is : found ≡
   -- where there is no row no text is had
   pub no_row_has_none : found ≡ None → HasText tables key None
   no_row_has_none absent = (ap (option_map (λ (r : EntryRow). r.body)) (sym is ∙ absent), tt)
-
--- ---- a text that is refused
-
--- a fault of the text is out of memory, or damage where it is the canonical text of no command
-pub text_refused : {T : Type 0} (Is : Type 0) (says : T → List Entry → Type 0) (old new : State) (fault : Fault) → fault ≢ Device → (fault ≡ Damaged → ¬ Is)
-    → HasRead (λ entries. Is) old new → Tells says old new (Err fault)
-text_refused Is says old new Device apart isnt read = absurd (apart refl)
-text_refused Is says old new Damaged apart isnt read = denies says old new (reads_as (λ entries. Is) (λ entries. ⊥) old new read (λ tables entries book stand before. isnt refl before))
-text_refused Is says old new Memory apart isnt read = stops (λ entries. Is) says old new Memory refl read

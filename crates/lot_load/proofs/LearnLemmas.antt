@@ -4,8 +4,9 @@ use Rattle.std.proofs.Common.{refl, ◌∙◌, inl, inr}
 use Rattle.lot_inv.specs.Inventory.{Position}
 use Rattle.lot_cost.specs.declared.lot_key.LotKey.{LotKey}
 use Rattle.lot_book.specs.Facts.{Facts}
+use Rattle.lot_book.specs.Openings.{FactsWithOpenings}
 use Rattle.lot_book.specs.declared.change.Pair.{Pair}
-use Rattle.lot_load.specs.Known.{Fills, IsKept, IsPart, KnowsAt, KnowsDeclared, KnowsEach, KnowsHead, KnowsLots, KnowsPair, KnowsPlain, KnowsStanding, Learns}
+use Rattle.lot_load.specs.Known.{Fills, IsKept, IsPart, KnowsAt, KnowsDeclared, KnowsEach, KnowsHead, KnowsLots, KnowsOpenings, KnowsPair, KnowsPlain, KnowsStanding, Learns}
 
 -- ---- facts that are kept
 
@@ -73,59 +74,67 @@ each_stays Knows stay (key ∷ keys) book known later fills knows =
 -- ---- steps
 
 -- what is known of some is known of others
-pub learns_as : (Knows Others : Facts → Facts → Type 0) (book before after : Facts)
-    → (IsPart book before → IsPart book after → Knows book after → Others book after) → Learns Knows book before after → Learns Others book before after
+pub learns_as : (Knows Others : Facts → Facts → Type 0) (book before after : FactsWithOpenings)
+    → (IsPart book.facts before.facts → IsPart book.facts after.facts → Knows book.facts after.facts → Others book.facts after.facts) → Learns Knows book before after → Learns Others book before after
 learns_as Knows Others book before after more step = record {
   entries = step.entries;
   text = step.text;
   fills = step.fills;
-  knows = λ part. more part (fills_then book _ before after part step.fills) (step.knows part);
+  openings = step.openings;
+  knows = λ part. more part (fills_then book.facts _ before.facts after.facts part step.fills) (step.knows part);
 }
 
-pub learns_both : (Knows Others : Facts → Facts → Type 0) (book a b c : Facts) → Stays Knows → Learns Knows book a b → Learns Others book b c
+pub learns_both : (Knows Others : Facts → Facts → Type 0) (book a b c : FactsWithOpenings) → Stays Knows → Learns Knows book a b → Learns Others book b c
     → Learns (λ what known. Knows what known × Others what known) book a c
 learns_both Knows Others book a b c stay one two = record {
   entries = two.entries ∙ one.entries;
   text = two.text ∙ one.text;
-  fills = fills_then book a b c one.fills two.fills;
-  knows = λ part. (stay book b c two.fills (one.knows part), two.knows (fills_then book _ a b part one.fills));
+  fills = fills_then book.facts a.facts b.facts c.facts one.fills two.fills;
+  openings = λ had. two.openings (one.openings had);
+  knows = λ part.
+      (stay book.facts b.facts c.facts two.fills (one.knows part), two.knows (fills_then book.facts _ a.facts b.facts part one.fills));
 }
 
 -- ---- loops
 
 -- once those that are left are known, all are
-pub record IsLeft {K : Type 0} (Knows : K → Facts → Facts → Type 0) (keys left : List K) (book before now : Facts) : Type 0 where
-  pub entries : now.entries ≡ before.entries
-  pub text : now.text ≡ before.text
-  pub fills : Fills book before now
-  pub rest : IsPart book before → (later : Facts) → Fills book now later → KnowsEach Knows left book later → KnowsEach Knows keys book later
+pub record IsLeft {K : Type 0} (Knows : K → Facts → Facts → Type 0) (keys left : List K) (book before now : FactsWithOpenings) : Type 0 where
+  pub entries : now.facts.entries ≡ before.facts.entries
+  pub text : now.facts.text ≡ before.facts.text
+  pub fills : Fills book.facts before.facts now.facts
+  pub openings : KnowsOpenings book before → KnowsOpenings book now
+  pub rest : IsPart book.facts before.facts → (later : Facts) → Fills book.facts now.facts later → KnowsEach Knows left book.facts later
+      → KnowsEach Knows keys book.facts later
 
 module _ {K : Type 0} (Knows : K → Facts → Facts → Type 0) where
-  pub left_all : (keys : List K) (book before : Facts) → IsLeft Knows keys keys book before before
+  pub left_all : (keys : List K) (book before : FactsWithOpenings) → IsLeft Knows keys keys book before before
   left_all keys book before = record {
     entries = refl;
     text = refl;
-    fills = fills_none book before;
+    fills = fills_none book.facts before.facts;
+    openings = λ had. had;
     rest = λ part later fills all. all;
   }
 
-  pub left_more : ((key : K) → Stays (Knows key)) → (keys rest : List K) (key : K) (book before now next : Facts)
+  pub left_more : ((key : K) → Stays (Knows key)) → (keys rest : List K) (key : K) (book before now next : FactsWithOpenings)
       → IsLeft Knows keys (key ∷ rest) book before now → Learns (Knows key) book now next → IsLeft Knows keys rest book before next
   left_more stay keys rest key book before now next was step = record {
     entries = step.entries ∙ was.entries;
     text = step.text ∙ was.text;
-    fills = fills_then book before now next was.fills step.fills;
+    fills = fills_then book.facts before.facts now.facts next.facts was.fills step.fills;
+    openings = λ had. step.openings (was.openings had);
     rest = λ part later fills all.
-        was.rest part later (fills_then book now next later step.fills fills)
-        (stay key book next later fills (step.knows (fills_then book _ before now part was.fills)), all);
+        was.rest part later (fills_then book.facts now.facts next.facts later step.fills fills)
+        (stay key book.facts next.facts later fills (step.knows (fills_then book.facts _ before.facts now.facts part was.fills)), all);
   }
 
-  pub left_none : (keys : List K) (book before now : Facts) → IsLeft Knows keys [] book before now → Learns (KnowsEach Knows keys) book before now
+  pub left_none : (keys : List K) (book before now : FactsWithOpenings) → IsLeft Knows keys [] book before now → Learns (KnowsEach Knows keys) book before now
   left_none keys book before now was = record {
     entries = was.entries;
     text = was.text;
     fills = was.fills;
-    knows = λ part. was.rest part now (fills_none book now) tt;
+    openings = was.openings;
+    knows = λ part. was.rest part now.facts (fills_none book.facts now.facts) tt;
   }
 
 -- ---- an account and a commodity

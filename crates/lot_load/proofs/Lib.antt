@@ -3,6 +3,8 @@ pub mod LearnLemmas
 pub mod PutLemmas
 pub mod RowLemmas
 pub mod UnitLemmas
+pub mod LotLemmas
+pub mod PairedLemmas
 pub mod WholeLemmas
 pub mod KeptLemmas
 pub mod RecordLemmas

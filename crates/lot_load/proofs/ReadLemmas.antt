@@ -1,7 +1,7 @@
 -- Calls one after another, each of which leaves the connection as it was, tell together what each of them told.
-use Rattle.std.specs.Prelude.{◌≡◌, List, Ok, Err, Result, IfErr, IsTrue, OnOk}
+use Rattle.std.specs.Prelude.{◌≡◌, ◌≢◌, List, Ok, Err, Result, IfErr, IsTrue, OnOk}
 use Rattle.std.specs.Result.{IsErrAnd}
-use Rattle.std.proofs.Common.{sym, ap, subst, ◌∙◌, inl}
+use Rattle.std.proofs.Common.{refl, sym, ap, subst, ◌∙◌, inl}
 use Rattle.sqlite.specs.State.{HasCleanDisk, IsUnchanged, State, Survives}
 use Rattle.sqlite.proofs.StateLemmas.{unchanged}
 use Rattle.lot_book.specs.Book.{IsBook}
@@ -102,6 +102,28 @@ module _ {R : Type 0} (Says : R → Tables → Type 0) (Good : R → Type 0) (Is
     crash = a.crash;
   }
 
+-- two calls one after the other, which tell of the same tables
+pub reads_two : {R T : Type 0} (SaysOne : R → Tables → Type 0) (GoodOne : R → Type 0) (IsSoundOne : Tables → Type 0)
+    (SaysTwo : T → Tables → Type 0) (GoodTwo : T → Type 0) (IsSoundTwo : Tables → Type 0)
+    (says : List Entry → Type 0) (old mid new : State) (one : R) (two : T)
+    → Answers layout SaysOne GoodOne IsSoundOne old mid (Ok one) → Answers layout SaysTwo GoodTwo IsSoundTwo mid new (Ok two)
+    → ((tables : Tables) (entries : List Entry) → IsBook entries → StandFor tables entries → GoodOne one → SaysOne one tables
+    → GoodTwo two → SaysTwo two tables → says entries)
+    → HasRead says old new
+reads_two SaysOne GoodOne IsSoundOne SaysTwo GoodTwo IsSoundTwo says old mid new one two a b law = record {
+  told = λ clean tables has entries book stand.
+      let before : HasCleanDisk mid = early mid new b.crash clean in
+      law tables entries book stand a.good (a.says before tables has) b.good
+      (b.says clean tables (has_still old mid tables (a.same before) has));
+  same = λ clean. same_then old mid new (a.same (early mid new b.crash clean)) (b.same clean);
+  survives = survives_both old mid new a.crash b.crash;
+}
+
+-- what follows of an answer
+pub on_ok : {T : Type 0} {One Other : Type 0} (result : Result T Fault) → (One → Other) → OnOk result One → OnOk result Other
+on_ok (Ok answer) more one = more one
+on_ok (Err fault) more one = tt
+
 -- ---- the answer
 
 pub tells : {T : Type 0} (says : T → List Entry → Type 0) (old new : State) (answer : T) → HasRead (says answer) old new
@@ -141,6 +163,14 @@ denies says old new read = record {
   crash = read.survives;
 }
 
+-- a fault is out of memory, or damage where this isn't so
+pub refuses : {T : Type 0} (Is : Type 0) (says : T → List Entry → Type 0) (old new : State) (fault : Fault) → fault ≢ Device
+    → (fault ≡ Damaged → ¬ Is) → HasRead (λ entries. Is) old new → Tells says old new (Err fault)
+refuses Is says old new Device apart isnt read = absurd (apart refl)
+refuses Is says old new Damaged apart isnt read =
+    denies says old new (reads_as (λ entries. Is) (λ entries. ⊥) old new read (λ tables entries book stand before. isnt refl before))
+refuses Is says old new Memory apart isnt read = stops (λ entries. Is) says old new Memory refl read
+
 -- a fault that is passed on
 pub passes : {T : Type 0} (says : T → List Entry → Type 0) (old new : State) (fault : Fault) (result : Result T Fault) → IsErrAnd result (λ e. e ≡ fault)
     → Tells says old new (Err fault) → Tells says old new result
@@ -164,3 +194,15 @@ pub tells_done : {T : Type 0} (Done : Type 0) (was : List Entry → Type 0) (say
 tells_done Done was says old new (Ok answer) read done memory law =
     tells says old new answer (reads_as was (says answer) old new read (λ tables entries book stand before. law done entries answer before))
 tells_done Done was says old new (Err fault) read done memory law = stops was says old new fault memory read
+
+-- what is done without the connection, which can run out of memory, and finds damage only where this isn't so
+pub tells_checked : {T : Type 0} (Done Is : Type 0) (was : List Entry → Type 0) (says : T → List Entry → Type 0) (old new : State)
+    (result : Result T Fault) → HasRead (λ entries. Is × was entries) old new → OnOk result Done → result ≢ Err Device
+    → (result ≡ Err Damaged → ¬ Is) → (Done → (entries : List Entry) (answer : T) → was entries → says answer entries)
+    → Tells says old new result
+tells_checked Done Is was says old new (Ok answer) read done apart isnt law =
+    tells says old new answer
+    (reads_as (λ entries. Is × was entries) (says answer) old new read (λ tables entries book stand before. law done entries answer before.1))
+tells_checked Done Is was says old new (Err fault) read done apart isnt law =
+    refuses Is says old new fault (λ e. apart (ap Err e)) (λ e. isnt (ap Err e))
+    (reads_as (λ entries. Is × was entries) (λ entries. Is) old new read (λ tables entries book stand before. before.0))

@@ -1,15 +1,16 @@
 -- What is known of a book, once an accepted command is recorded, is known of the book with its entry.
-use Rattle.std.specs.Prelude.{◌≡◌, ◌⊎◌, ℕ, suc, Bool, true, false, cond, ◌||◌, List, [], ◌∷◌, ◌++◌, length, Option, None, Some, ℤ, pos, ◌+ℤ◌}
+use Rattle.std.specs.Prelude.{◌≡◌, ◌≢◌, ◌⊎◌, ℕ, suc, Bool, true, false, cond, ◌&&◌, ◌||◌, List, [], ◌∷◌, ◌++◌, length, Option, None, Some, ℤ, pos, ◌+ℤ◌}
 use Rattle.std.specs.FinMap as finite
 use Rattle.std.specs.List.{AllByRecursion}
 use Rattle.std.specs.Option.{option_or, unwrap_or}
-use Rattle.std.specs.Ordering.{eq_by_cmp}
+use Rattle.std.specs.Ordering.{eq_by_cmp, int_eq}
 use Rattle.std.proofs.Common.{refl, sym, ap, subst, ◌∙◌, inl, inr}
 use Rattle.sqlite_keyed.proofs.ListLemmas.{all_weaker}
 use Rattle.lot_base.specs.Text.{same_text}
 use Rattle.lot_base.proofs.TextLemmas.{one_text}
 use Rattle.lot_inv.specs.Inventory.{Held, Position as Place, added, non_zero, position_cmp as place_cmp, units_at}
 use Rattle.lot_inv.specs.Zeros.{HasNoZeros}
+use Rattle.lot_cost.specs.declared.lot_key.LotKey.{LotKey}
 use Rattle.lot_cost.proofs.OrderLemmas.{is_equal}
 use Rattle.lot_inv.proofs.LotLemmas.{get-with_units}
 use Rattle.lot_inv.proofs.OrderLemmas.{exact_positions}
@@ -18,27 +19,34 @@ use Rattle.lot_command.specs.declared.command.Command.TheVariants.{Opening, Clos
 use Rattle.lot_command.specs.declared.key.Key.{Key}
 use Rattle.lot_book.specs.Agree.{Agrees}
 use Rattle.lot_book.specs.Book.{IsBook, entry_of}
-use Rattle.lot_book.specs.Change.{IsAcceptedWith, day_listed}
+use Rattle.lot_book.specs.Booking.{TieRule}
+use Rattle.lot_book.specs.Change.{day_listed}
+use Rattle.lot_book.specs.Edition.{After}
 use Rattle.lot_book.specs.Facts.{Entry, Facts, declares, facts_of, legs_of}
-use Rattle.lot_book.specs.Leg.{with_leg, with_legs}
+use Rattle.lot_book.specs.Leg.{inventory_of, same_position, with_leg, with_legs}
 use Rattle.lot_book.specs.Recorded.{facts_in, recorded, standing_after}
-use Rattle.lot_book.specs.Step.{Accept, Judges, first_conditions, first_of}
+use Rattle.lot_book.specs.OpeningNumber.{opening_in, opening_with_leg, opening_with_legs, posting_number}
+use Rattle.lot_book.specs.Openings.{AgreesWithOpenings, FactsWithOpenings, HaveSameOpenings, IsAcceptedWith, facts_with_openings, ties_on, with_listed}
+use Rattle.lot_book.specs.Step.{Accept, JudgesUnder, first_conditions, first_of}
 use Rattle.lot_book.specs.declared.change.Change.{Change}
 use Rattle.lot_book.specs.declared.change.Pair.{Pair}
 use Rattle.lot_book.specs.declared.leg.Leg.{Leg}
+use Rattle.lot_book.specs.declared.leg.Position.{Position}
 use Rattle.lot_book.specs.declared.standing.Standing.{Standing}
 use Rattle.lot_book.proofs.CaseLemmas.{by_bool}
 use Rattle.lot_book.proofs.HeldLemmas.{get-with_legs, get-with_rows, no_zeros-empty, no_zeros-legs}
-use Rattle.lot_laws.proofs.RecordedBook.{closes_opened, declared-recorded, inventory_of-append, key_was_new, standing-recorded}
+use Rattle.lot_laws.proofs.RecordedBook.{closes_opened, declared-recorded, inventory_of-append, key_was_new, legs_of-append, standing-recorded}
 use Rattle.lot_laws.proofs.RecordedDays.{latest-recorded}
+use Rattle.lot_laws.proofs.SameOpenings.{same_after_legs}
 use Rattle.lot_laws.proofs.StepAgree.{alike_all}
-use Rattle.lot_laws.proofs.StepHeld.{same_with_legs}
+use Rattle.lot_laws.proofs.StepHeld.{same_with_leg, same_with_legs}
 use Rattle.lot_laws.proofs.StepLooks.{same_decision}
+use Rattle.lot_laws.proofs.StepOpenings.{numbers_after}
 use Rattle.lot_stored.proofs.BookedLemmas.{booked_as}
 use Rattle.lot_stored.proofs.KnownLemmas.{IsSameAt, same_at_legs}
 use Rattle.lot_stored.proofs.NumberLemmas.{legs_for, one_longer}
 use Rattle.lot_view.specs.declared.touched.Touched.{Touched}
-use Rattle.lot_load.specs.Known.{IsKept, IsPart, KnowsDeclared, KnowsPair, KnowsPlain, KnowsStanding, KnowsTouched}
+use Rattle.lot_load.specs.Known.{IsKept, IsPart, KnowsDeclared, KnowsOpenings, KnowsPair, KnowsPlain, KnowsStanding, KnowsTouched, said_by}
 
 -- ---- one fact
 
@@ -110,10 +118,36 @@ module _ (a b : Facts) (account : List ℕ) (place : Place) where
       ∙ ap (λ t. cond t (non_zero (units_at held there +ℤ leg.units)) (finite.get held place)) apart) rest))
       (λ other. leg_apart leg legs (λ held. ap (λ t. finite.get (cond t (added held there leg.units) held) place) other) rest)
 
+-- ---- the opening number of a lot
+
+module _ (account commodity : List ℕ) (lot : LotKey) where
+  abbrev at_lot : Place
+  at_lot = (commodity, Some lot)
+
+  -- it depends on what is held in the lot alone
+  same_number : (a b : Held) (f g : LotKey → ℕ) (legs : List Leg) → finite.get a at_lot ≡ finite.get b at_lot → f lot ≡ g lot
+      → opening_with_legs account commodity a f legs lot ≡ opening_with_legs account commodity b g legs lot
+  same_number a b f g [] same number = number
+  same_number a b f g (leg ∷ legs) same number =
+      let position : Position = record { account = account; commodity = commodity; lot = Some lot } in
+      let Is : Place → Type 0 = λ place. place ≡ at_lot in
+      same_number (with_leg account a leg) (with_leg account b leg) (opening_with_leg account commodity a f leg)
+      (opening_with_leg account commodity b g leg) legs
+      (same_with_leg Is account a b leg
+      (λ place is. ap (finite.get a) is ∙ same ∙ ap (finite.get b) (sym is)) at_lot refl)
+      (λ i. cond (same_position position leg.position && int_eq (unwrap_or (same i) (pos 0)) (pos 0)) (posting_number leg) (number i))
+
 -- ---- all facts
 
-module _ (entries : List Entry) (key : Key) (command : Command) (change : Change) (facts : Facts) (is_book : IsBook entries)
-    (agrees : Agrees facts (facts_of entries key) command) (comes : IsAcceptedWith facts command change) (part : IsPart (facts_in entries) facts) where
+module _ (entries : List Entry) (key : Key) (command : Command) (change : Change) (known : FactsWithOpenings) (is_book : IsBook entries)
+    (agrees : AgreesWithOpenings known (facts_with_openings entries key) command) (comes : IsAcceptedWith known command change)
+    (part : IsPart (facts_in entries) known.facts) where
+  abbrev facts : Facts
+  facts = known.facts
+
+  abbrev ties : TieRule
+  ties = ties_on known
+
   abbrev book : Facts
   book = facts_in entries
 
@@ -126,15 +160,16 @@ module _ (entries : List Entry) (key : Key) (command : Command) (change : Change
   abbrev after : Facts
   after = recorded facts command change
 
-  judges : Judges (facts_of entries key) command (Accept change.legs)
+  judges : JudgesUnder (ties_on (facts_with_openings entries key)) (facts_of entries key) command (Accept change.legs)
   judges =
-      (key_was_new (facts_of entries key) command change.legs (facts_of entries key).text
-      (same_decision facts (facts_of entries key) command (Accept change.legs) agrees comes.0)).1
+      (key_was_new (ties_on (facts_with_openings entries key)) (facts_of entries key) command change.legs (facts_of entries key).text
+      (same_decision known (facts_with_openings entries key) command (Accept change.legs) agrees comes.0)).1
 
   -- ---- how accounts stand, what is declared, and the latest days
 
   stands : (account : List ℕ) → standing_after account command (book.standing account) ≡ now.standing account
-  stands = standing-recorded entries key command change.legs (closes_opened entries is_book) judges
+  stands = standing-recorded (ties_on (facts_with_openings entries key)) entries key command change.legs
+      (closes_opened (After is_book.place) entries is_book.is) judges
 
   is_declared : (commodity : List ℕ) → (declares commodity command || book.is_declared commodity) ≡ now.is_declared commodity
   is_declared = declared-recorded entries (entry_of key command change.legs)
@@ -142,7 +177,7 @@ module _ (entries : List Entry) (key : Key) (command : Command) (change : Change
   latest : (account commodity : List ℕ)
       → option_or (day_listed change.heads account commodity) (book.latest_at_cost account commodity) ≡ now.latest_at_cost account commodity
   latest account commodity =
-      latest-recorded entries key (entry_of key command change.legs) account commodity (day_listed change.heads account commodity) judges
+      latest-recorded (ties_on (facts_with_openings entries key)) entries key (entry_of key command change.legs) account commodity (day_listed change.heads account commodity) judges
       (comes.1.heads account commodity)
 
   -- ---- what is held
@@ -158,18 +193,18 @@ module _ (entries : List Entry) (key : Key) (command : Command) (change : Change
 
   -- all legs are of places that the facts know
   known_legs : AllByRecursion (IsSameAt facts (facts_of entries key)) change.legs
-  known_legs = by command agrees (key_was_new facts command change.legs facts.text comes.0).1
+  known_legs = by command agrees.facts (key_was_new ties facts command change.legs facts.text comes.0).1
     where
-      by : (c : Command) → Agrees facts (facts_of entries key) c → Judges facts c (Accept change.legs)
+      by : (c : Command) → Agrees facts (facts_of entries key) c → JudgesUnder ties facts c (Accept change.legs)
           → AllByRecursion (IsSameAt facts (facts_of entries key)) change.legs
-      by (Opening o) agree judged = subst (AllByRecursion (IsSameAt facts (facts_of entries key))) (sym (legs_for facts (Opening o) change.legs judged)) tt
-      by (Closing c) agree judged = subst (AllByRecursion (IsSameAt facts (facts_of entries key))) (sym (legs_for facts (Closing c) change.legs judged)) tt
-      by (Declaring d) agree judged = subst (AllByRecursion (IsSameAt facts (facts_of entries key))) (sym (legs_for facts (Declaring d) change.legs judged)) tt
-      by (Quoting q) agree judged = subst (AllByRecursion (IsSameAt facts (facts_of entries key))) (sym (legs_for facts (Quoting q) change.legs judged)) tt
+      by (Opening o) agree judged = subst (AllByRecursion (IsSameAt facts (facts_of entries key))) (sym (legs_for ties facts (Opening o) change.legs judged)) tt
+      by (Closing c) agree judged = subst (AllByRecursion (IsSameAt facts (facts_of entries key))) (sym (legs_for ties facts (Closing c) change.legs judged)) tt
+      by (Declaring d) agree judged = subst (AllByRecursion (IsSameAt facts (facts_of entries key))) (sym (legs_for ties facts (Declaring d) change.legs judged)) tt
+      by (Quoting q) agree judged = subst (AllByRecursion (IsSameAt facts (facts_of entries key))) (sym (legs_for ties facts (Quoting q) change.legs judged)) tt
       by (Transaction t) agree judged =
-          same_at_legs facts (facts_of entries key) t change.legs
+          same_at_legs ties facts (facts_of entries key) t change.legs
           (alike_all facts (facts_of entries key) t.postings agree.standing agree.latest_at_cost agree.held agree.plain_units)
-          (booked_as facts t (first_of (first_conditions facts t)) change.legs judged)
+          (booked_as ties facts t (first_of (first_conditions facts t)) change.legs judged)
 
   held_after : (account : List ℕ) (place : Place)
       → finite.get (after.held account) place ≡ finite.get (with_legs account (facts.held account) change.legs) place
@@ -196,6 +231,60 @@ module _ (entries : List Entry) (key : Key) (command : Command) (change : Change
           → IsKept (finite.get (now.held account) place) (finite.get nothing place) (finite.get (after.held account) place)
       by (inl same) = inr (same_held account place same)
       by (inr apart) = inl (held_after account place ∙ apart (facts.held account) ∙ none)
+
+  -- ---- opening numbers
+
+  -- the number of a lot that the facts know, once those that the change lists are put in
+  number_now : (account commodity : List ℕ) (lot : LotKey) → KnowsOpenings (said_by entries) known
+      → finite.get (facts.held account) (commodity, Some lot) ≡ finite.get (book.held account) (commodity, Some lot)
+      → units_at (after.held account) (commodity, Some lot) ≢ pos 0
+      → with_listed change.openings known.opening account commodity lot ≡ opening_in (legs_of grown) account commodity lot
+  number_now account commodity lot numbers same some =
+      let place : Place = (commodity, Some lot) in
+      let here = facts.held account in
+      let there = book.held account in
+      let mine = known.opening account commodity in
+      let theirs = opening_in (legs_of entries) account commodity in
+      let left : (held : Held) → finite.get held place ≡ finite.get (after.held account) place → units_at held place ≢ pos 0 =
+      λ held is zero. some (ap (λ (o : Option ℤ). unwrap_or o (pos 0)) (sym is) ∙ zero) in
+      sym (comes.1.openings account commodity lot mine)
+      ∙ same_after_legs account commodity here here mine theirs change.legs (λ at is. refl) (numbers account commodity) lot
+      (left (with_legs account here change.legs) (sym (held_after account place)))
+      ∙ same_number account commodity lot here there theirs theirs change.legs same refl
+      ∙ numbers_after (facts_with_openings entries key) entries key change.legs account commodity refl (λ a c l held. refl) lot
+      (left (inventory_of (legs_of entries ++ change.legs) account)
+      (ap (λ (legs : List Leg). finite.get (inventory_of legs account) place) (sym (legs_of-append entries (entry_of key command change.legs)))
+      ∙ sym (same_held account place same)))
+      ∙ ap (λ (legs : List Leg). opening_in legs account commodity lot) (sym (legs_of-append entries (entry_of key command change.legs)))
+
+  -- a lot that the facts don't know is held by none of theirs after the legs
+  kept_number : (account commodity : List ℕ) (lot : LotKey) → KnowsOpenings (said_by entries) known
+      → IsKept (finite.get (book.held account) (commodity, Some lot)) (finite.get nothing (commodity, Some lot))
+      (finite.get (facts.held account) (commodity, Some lot))
+      → units_at (after.held account) (commodity, Some lot) ≢ pos 0
+      → with_listed change.openings known.opening account commodity lot ≡ opening_in (legs_of grown) account commodity lot
+  kept_number account commodity lot numbers (inr same) some = number_now account commodity lot numbers same some
+  kept_number account commodity lot numbers (inl none) some =
+      by (same_or_apart facts (facts_of entries key) account (commodity, Some lot) change.legs known_legs)
+    where
+      by : IsSame facts (facts_of entries key) account (commodity, Some lot)
+          ⊎ AreApart facts (facts_of entries key) account (commodity, Some lot) change.legs
+          → with_listed change.openings known.opening account commodity lot ≡ opening_in (legs_of grown) account commodity lot
+      by (inl same) = number_now account commodity lot numbers same some
+      by (inr apart) =
+          absurd (some (ap (λ (o : Option ℤ). unwrap_or o (pos 0))
+          (held_after account (commodity, Some lot) ∙ apart (facts.held account) ∙ none
+          ∙ finite.get-empty place_cmp (commodity, Some lot))))
+
+  -- whatever numbers agree with these on the lots that are held then are the book's
+  pub recorded_openings : (later : FactsWithOpenings) → later.facts ≡ after → KnowsOpenings (said_by entries) known
+      → ((account commodity : List ℕ) → HaveSameOpenings commodity (later.facts.held account)
+      (with_listed change.openings known.opening account commodity) (later.opening account commodity))
+      → KnowsOpenings (said_by grown) later
+  recorded_openings later is numbers listed account commodity lot some =
+      sym (listed account commodity lot some)
+      ∙ kept_number account commodity lot numbers (part.held account (commodity, Some lot))
+      (subst (λ (f : Facts). units_at (f.held account) (commodity, Some lot) ≢ pos 0) is some)
 
   -- ---- all of it
 

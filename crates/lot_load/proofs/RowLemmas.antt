@@ -1,12 +1,11 @@
 -- What the rows of a book say: entries, accounts with their currencies, commodities and heads.
-use Rattle.std.specs.Prelude.{◌≡◌, ℕ, suc, ◌+◌, ◌≤◌, Bool, true, false, cond, ◌&&◌, List, [], ◌∷◌, ◌++◌, length, map, find, filter, reverse, slice_get, Option, None, Some, is_some, option_map, ℤ, All}
+use Rattle.std.specs.Prelude.{◌≡◌, ℕ, suc, ◌+◌, ◌≤◌, Bool, true, false, cond, ◌&&◌, List, [], ◌∷◌, ◌++◌, length, map, find, filter, slice_get, Option, None, Some, is_some, option_map, ℤ, All}
 use Rattle.std.specs.List.{AllByRecursion}
 use Rattle.std.specs.Option.{option_or}
 use Rattle.std.specs.Ordering.{is_eq, ordering_then}
 use Rattle.std.specs.declared.cmp.Ordering.TheVariants.{Equal}
 use Rattle.std.proofs.Common.{refl, ap, ◌∙◌, arith}
 use Rattle.std.proofs.Math.Bool.{and-true}
-use Rattle.std.proofs.lemmas.List.{reverse-append}
 use Rattle.std.proofs.lemmas.List.Elements.{All-from_recursion, recursion_from_All}
 use Rattle.sqlite_keyed.proofs.ListLemmas.{all-filter, all_weaker}
 use Rattle.sqlite.specs.declared.types.Value.TheVariants.{Text}
@@ -20,17 +19,19 @@ use Rattle.lot_command.specs.declared.command.Command.TheVariants.{Opening, Clos
 use Rattle.lot_command.specs.declared.command.Opening.{Opening as OpeningOf}
 use Rattle.lot_command.specs.declared.key.Key.{Key}
 use Rattle.lot_book.specs.Facts.{Entry, Facts, facts_of, opening_by, opening_of, same_key, standing_by, text_under}
+use Rattle.lot_book.specs.Openings.{AgreesOnOpenings, FactsWithOpenings, HaveSameOpenings}
 use Rattle.lot_book.specs.Recorded.{facts_in}
-use Rattle.lot_load.specs.Known.{KnowsPair, KnowsTouched}
+use Rattle.lot_load.specs.Known.{KnowsOpenings, KnowsPair, KnowsTouched, said_by}
 use Rattle.std.specs.BTreeSet.{IsFromIterResult}
 use Rattle.lot_book.specs.Agree.{Agrees, HaveSameOf}
 use Rattle.lot_book.specs.Change.{pair_cmp}
 use Rattle.lot_book.specs.Touched.{accounts_in, declared_in, pairs_in, plain_in}
 use Rattle.lot_book.specs.declared.change.Pair.{Pair}
+use Rattle.lot_laws.proofs.StepAgree.{all_of}
 use Rattle.lot_view.proofs.TouchedLemmas.{agrees_from_touched}
 use Rattle.lot_view.specs.declared.touched.Touched.{Touched}
 use Rattle.lot_command.specs.Sayable.{IsSayable}
-use Rattle.lot_rows.specs.Entry.{entry_cells, greatest_number, is_named, named}
+use Rattle.lot_rows.specs.Entry.{entry_cells, is_named, named}
 use Rattle.lot_rows.specs.declared.account.AccountRow.{AccountRow}
 use Rattle.lot_rows.specs.declared.allowed.AllowedRow.{AllowedRow}
 use Rattle.lot_rows.specs.declared.entry.EntryRow.{EntryRow}
@@ -39,38 +40,6 @@ use Rattle.lot_stored.specs.Rows.{account_row, allowed_rows, entry_row, entry_ro
 use Rattle.lot_stored.proofs.KeyLemmas.{text_tie}
 
 -- ---- entries
-
-first_behind : (rows : List EntryRow) (last row : EntryRow) → slice_get rows 0 ≡ Some row → slice_get (rows ++ last ∷ []) 0 ≡ Some row
-first_behind [] last row e = cc
-first_behind (x ∷ rows) last row e = e
-
--- the last row of entries has the number of the last entry
-last_row : (number : ℕ) (entry : Entry) (entries : List Entry)
-    → (row : EntryRow) × (slice_get (reverse (entry_rows number (entry ∷ entries))) 0 ≡ Some row) × (row.number ≡ number + length entries)
-last_row number entry [] = (entry_row number entry, refl, omega arith)
-last_row number entry (next ∷ entries) =
-    let more = last_row (suc number) next entries in
-    let rows = entry_rows (suc number) (next ∷ entries) in (
-      more.0,
-      ap (λ (xs : List EntryRow). slice_get xs 0) (reverse-append (entry_row number entry ∷ []) rows)
-          ∙ first_behind (reverse rows) (entry_row number entry) more.0 more.1,
-      more.2 ∙ omega arith,
-    )
-
-pub greatest_some : (entries : List Entry) (number : ℕ) → Some number ≡ greatest_number (entry_rows 1 entries) → number ≡ length entries
-greatest_some [] number e = cc
-greatest_some (entry ∷ entries) number e =
-    let last = last_row 1 entry entries in
-    let is : Some number ≡ Some last.0.number = e ∙ ap (option_map (λ (row : EntryRow). row.number)) last.1 in
-    let same : number ≡ last.0.number = cc in
-    same ∙ last.2 ∙ omega arith
-
-pub greatest_none : (entries : List Entry) → None ≡ greatest_number (entry_rows 1 entries) → 0 ≡ length entries
-greatest_none [] e = refl
-greatest_none (entry ∷ entries) e =
-    let last = last_row 1 entry entries in
-    let is : None ≡ Some last.0.number = e ∙ ap (option_map (λ (row : EntryRow). row.number)) last.1 in
-    cc
 
 named_as : (key : Key) (number : ℕ) (entry : Entry) → is_named key.source key.name (entry_cells (entry_row number entry)) ≡ same_key key entry.key
 named_as key number entry =
@@ -166,3 +135,11 @@ looked entries key command t facts accounts declared pairs plain count text know
           (λ pair known. known.1) t.pairs.keys knows.2;
       plain_units = knows.3;
     })
+
+-- so do the numbers of the lots that are held
+pub numbers_looked : (entries : List Entry) (command : Command) (known : FactsWithOpenings) → KnowsOpenings (said_by entries) known
+    → AgreesOnOpenings known (said_by entries) (pairs_in command)
+numbers_looked entries command known numbers =
+    all_of (λ (pair : Pair). HaveSameOpenings pair.commodity (known.facts.held pair.account) (known.opening pair.account pair.commodity)
+    ((said_by entries).opening pair.account pair.commodity))
+    (λ pair. numbers pair.account pair.commodity) (pairs_in command)

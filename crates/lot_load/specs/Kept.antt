@@ -1,21 +1,27 @@
 -- What is known of a book between commands.
 use Rattle.std.specs.Prelude.{◌≡◌, IfSome, List, length, Option}
 use Rattle.lot_book.specs.Facts.{Entry, Facts}
+use Rattle.lot_book.specs.Openings.{FactsWithOpenings}
 use Rattle.lot_book.specs.Recorded.{facts_in}
-use Rattle.lot_load.specs.Known.{IsPart, KnowsTouched}
+use Rattle.lot_load.specs.Known.{IsPart, KnowsOpenings, KnowsTouched, said_by}
 use Rattle.lot_load.specs.declared.kept.Kept.{Kept}
-use Rattle.lot_view.specs.View.{known}
+use Rattle.lot_view.specs.View.{known, known_with_openings}
 use Rattle.lot_view.specs.declared.touched.Touched.{Touched}
 
 -- the facts that are known
 abbrev pub seen : Kept → Facts
 seen kept = known kept.view
 
--- What is known is the book's: the number of its entries, nothing but what it says, and of what is known whole all that it
--- says. The text isn't spoken of: it is that of the last command's key.
+-- the same, and the opening numbers of the lots that are held
+abbrev pub seen_with_openings : Kept → FactsWithOpenings
+seen_with_openings kept = known_with_openings kept.view
+
+-- What is known is the book's: the number of its entries, nothing but what it says, the opening number of each lot that is
+-- held, and of what is known whole all that it says. The text isn't spoken of: it is that of the last command's key.
 pub record Keeps (kept : Kept) (entries : List Entry) : Type 0 where
   pub count : (seen kept).entries ≡ length entries
   pub part : IsPart (facts_in entries) (seen kept)
+  pub openings : KnowsOpenings (said_by entries) (seen_with_openings kept)
   pub whole : KnowsTouched kept.whole (facts_in entries) (seen kept)
 
 -- so is what is kept, if anything is

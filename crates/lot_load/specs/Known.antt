@@ -5,11 +5,14 @@ use Rattle.std.specs.List.{AllByRecursion}
 use Rattle.lot_inv.specs.Inventory.{Position}
 use Rattle.lot_cost.specs.declared.lot_key.LotKey.{LotKey}
 use Rattle.lot_book.specs.Agree.{HaveSameOf, HaveSamePlain}
-use Rattle.lot_book.specs.Facts.{Facts}
-use Rattle.lot_book.specs.Recorded.{nothing_but}
+use Rattle.lot_book.specs.Facts.{Entry, Facts, legs_of}
+use Rattle.lot_book.specs.OpeningNumber.{opening_in}
+use Rattle.lot_book.specs.Openings.{FactsWithOpenings, HaveSameOpenings}
+use Rattle.lot_book.specs.Recorded.{facts_in, nothing_but}
 use Rattle.lot_book.specs.declared.change.Pair.{Pair}
 use Rattle.lot_view.specs.declared.touched.Touched.{Touched}
 use Rattle.lot_rows.specs.declared.lot.LotRow.{LotRow}
+use Rattle.lot_rows.specs.declared.opening.OpeningRow.{OpeningRow}
 use Rattle.lot_rows.specs.declared.plain.PlainRow.{PlainRow}
 
 -- a fact is what it was, or what the book says
@@ -29,12 +32,26 @@ pub record Fills (book before after : Facts) : Type 0 where
 abbrev pub IsPart : Facts → Facts → Type 0
 IsPart book known = Fills book (nothing_but 0) known
 
--- more is known, and now this too
-pub record Learns (Knows : Facts → Facts → Type 0) (book before after : Facts) : Type 0 where
-  pub entries : after.entries ≡ before.entries
-  pub text : after.text ≡ before.text
-  pub fills : Fills book before after
-  pub knows : IsPart book before → Knows book after
+-- ---- opening numbers
+
+-- what a book says to a command with a key that it doesn't have, and its opening numbers
+abbrev pub said_by : List Entry → FactsWithOpenings
+said_by entries = record { facts = facts_in entries; opening = opening_in (legs_of entries) }
+
+-- each lot that is known to hold something is known with the book's number
+abbrev pub KnowsOpenings : FactsWithOpenings → FactsWithOpenings → Type 0
+KnowsOpenings book known = (account commodity : List ℕ)
+    → HaveSameOpenings commodity (known.facts.held account) (known.opening account commodity) (book.opening account commodity)
+
+-- ---- a step
+
+-- More is known, and now this too. Where each lot had the book's opening number before, each has it after.
+pub record Learns (Knows : Facts → Facts → Type 0) (book before after : FactsWithOpenings) : Type 0 where
+  pub entries : after.facts.entries ≡ before.facts.entries
+  pub text : after.facts.text ≡ before.facts.text
+  pub fills : Fills book.facts before.facts after.facts
+  pub openings : KnowsOpenings book before → KnowsOpenings book after
+  pub knows : IsPart book.facts before.facts → Knows book.facts after.facts
 
 -- ---- what is known
 
@@ -80,16 +97,21 @@ KnowsAt account position book known = finite.get (known.held account) position �
 abbrev pub KnowsLots : List ℕ → List ℕ → Facts → Facts → Type 0
 KnowsLots account commodity book known = (lot : LotKey) → KnowsAt account (commodity, Some lot) book known
 
-abbrev pub KnowsLot : LotRow → Facts → Facts → Type 0
-KnowsLot row = KnowsAt row.account (row.commodity, Some row.lot)
+-- a lot of an account and a commodity
+abbrev pub KnowsLot : Pair → LotRow → Facts → Facts → Type 0
+KnowsLot pair row = KnowsAt pair.account (pair.commodity, Some row.lot)
 
 abbrev pub KnowsUnits : PlainRow → Facts → Facts → Type 0
 KnowsUnits row = KnowsAt row.account (row.commodity, None)
 
 -- ---- rows that say what the book says
 
-abbrev pub IsTrueLot : Facts → LotRow → Type 0
-IsTrueLot book row = finite.get (book.held row.account) (row.commodity, Some row.lot) ≡ Some row.units
+-- of an account and a commodity: the units of a lot, and its opening number
+abbrev pub IsTrueLot : Pair → Facts → LotRow → Type 0
+IsTrueLot pair book row = finite.get (book.held pair.account) (pair.commodity, Some row.lot) ≡ Some row.units
+
+abbrev pub IsTrueOpening : Pair → FactsWithOpenings → OpeningRow → Type 0
+IsTrueOpening pair book row = book.opening pair.account pair.commodity row.lot ≡ row.opening
 
 abbrev pub IsTruePlain : Facts → PlainRow → Type 0
 IsTruePlain book row = finite.get (book.held row.account) (row.commodity, None) ≡ Some row.units

@@ -1,4 +1,5 @@
 pub mod Known
+pub mod Paired
 pub mod Tells
 pub mod Kept
 pub mod Damage

@@ -3,9 +3,9 @@ use Rattle.std.specs.Prelude.{List, Result}
 use Rattle.sqlite.specs.State.{State}
 use Rattle.lot_book.specs.Book.{IsBook}
 use Rattle.lot_book.specs.Facts.{Entry, Facts}
-use Rattle.lot_book.specs.Recorded.{facts_in}
+use Rattle.lot_book.specs.Openings.{FactsWithOpenings}
 use Rattle.lot_stored.specs.StandFor.{AreOfBook, StandFor}
-use Rattle.lot_load.specs.Known.{Learns}
+use Rattle.lot_load.specs.Known.{Learns, said_by}
 use Rattle.lot_rows.specs.Tables.{Tables, layout}
 use Rattle.lot_table.specs.Book.{always}
 use Rattle.lot_table.specs.Call.{Answers}
@@ -20,5 +20,5 @@ abbrev pub Tells : {R : Type 0} → (R → List Entry → Type 0) → State → 
 Tells {R} says = Answers layout (λ (answer : R) tables. OfBook (says answer) tables) always AreOfBook
 
 -- more is known of the book, and now this too
-abbrev pub Teaches : {R : Type 0} → (Facts → Facts → Type 0) → Facts → Facts → State → State → Result R Fault → Type 0
-Teaches {R} Knows before after = Tells (λ (answer : R) entries. Learns Knows (facts_in entries) before after)
+abbrev pub Teaches : {R : Type 0} → (Facts → Facts → Type 0) → FactsWithOpenings → FactsWithOpenings → State → State → Result R Fault → Type 0
+Teaches {R} Knows before after = Tells (λ (answer : R) entries. Learns Knows (said_by entries) before after)

@@ -4,7 +4,7 @@ ghost use Rattle.lot_stored.specs.Kept.{currencies_of};
 ghost use Rattle.lot_load.specs.Known.{KnowsEach, KnowsStanding};
 ghost use Rattle.lot_load.specs.Tells.{Teaches, Tells};
 ghost use Rattle.lot_rows.specs.declared.allowed.AllowedRow.{AllowedRow};
-ghost use Rattle.lot_view.specs.View.{known};
+ghost use Rattle.lot_view.specs.View.{known_with_openings};
 ghost use Rattle.sqlite.specs.Held.{state};
 ghost use Rattle.sqlite.specs.State.{HasCleanDisk};
 
@@ -27,7 +27,8 @@ pub(crate) fn learn_accounts<S: Alter>(
     view: &mut View,
 ) -> Result<(), Fault>
     requires { HasCleanDisk (state S.Store conn.old) → IsTrue (state S.Store conn.old).is_open }
-    ensures teaches { Teaches (KnowsEach KnowsStanding accounts.now.keys) (known view.old) (known view.new)
+    ensures teaches { Teaches (KnowsEach KnowsStanding accounts.now.keys)
+        (known_with_openings view.old) (known_with_openings view.new)
         (state S.Store conn.old) (state S.Store conn.new) result }
 {
     for account in accounts {
@@ -43,7 +44,8 @@ fn learn_account<S: Alter>(
     account: &Account,
     view: &mut View,
 ) -> Result<(), Fault>
-    ensures teaches { Teaches (KnowsStanding account.now) (known view.old) (known view.new)
+    ensures teaches { Teaches (KnowsStanding account.now)
+        (known_with_openings view.old) (known_with_openings view.new)
         (state S.Store conn.old) (state S.Store conn.new) result }
 {
     if let Some(standing) = find_standing(alloc, conn, account)? {

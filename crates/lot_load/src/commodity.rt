@@ -1,7 +1,7 @@
 ghost use Rattle.std.specs.Prelude.{◌≡◌, IsTrue};
 ghost use Rattle.lot_load.specs.Known.{KnowsDeclared, KnowsEach};
 ghost use Rattle.lot_load.specs.Tells.{Teaches};
-ghost use Rattle.lot_view.specs.View.{known};
+ghost use Rattle.lot_view.specs.View.{known_with_openings};
 ghost use Rattle.sqlite.specs.Held.{state};
 ghost use Rattle.sqlite.specs.State.{HasCleanDisk};
 
@@ -21,7 +21,8 @@ pub(crate) fn learn_commodities<S: Alter>(
     view: &mut View,
 ) -> Result<(), Fault>
     requires { HasCleanDisk (state S.Store conn.old) → IsTrue (state S.Store conn.old).is_open }
-    ensures teaches { Teaches (KnowsEach KnowsDeclared commodities.now.keys) (known view.old) (known view.new)
+    ensures teaches { Teaches (KnowsEach KnowsDeclared commodities.now.keys)
+        (known_with_openings view.old) (known_with_openings view.new)
         (state S.Store conn.old) (state S.Store conn.new) result }
 {
     for commodity in commodities {
@@ -37,7 +38,8 @@ fn learn_commodity<S: Alter>(
     commodity: &Commodity,
     view: &mut View,
 ) -> Result<(), Fault>
-    ensures teaches { Teaches (KnowsDeclared commodity.now) (known view.old) (known view.new)
+    ensures teaches { Teaches (KnowsDeclared commodity.now)
+        (known_with_openings view.old) (known_with_openings view.new)
         (state S.Store conn.old) (state S.Store conn.new) result }
 {
     if find(alloc, conn, commodity)?.is_some() {

@@ -1,12 +1,11 @@
 ghost use Rattle.std.specs.Prelude.{◌≡◌, ◌<◌, [], ◌∷◌, ◌++◌, IfOk, List, length, option_map};
 ghost use Rattle.std.specs.String.{string_bytes};
-ghost use Rattle.lot_book.specs.Agree.{Agrees};
 ghost use Rattle.lot_book.specs.Book.{IsBook, entry_of};
-ghost use Rattle.lot_book.specs.Change.{IsAcceptedWith};
-ghost use Rattle.lot_book.specs.Facts.{Entry, facts_of};
+ghost use Rattle.lot_book.specs.Facts.{Entry};
+ghost use Rattle.lot_book.specs.Openings.{AgreesWithOpenings, IsAcceptedWith, facts_with_openings};
 ghost use Rattle.lot_book.specs.Refusals.{most_entries};
 ghost use Rattle.lot_command.specs.declared.key.Key.{Key};
-ghost use Rattle.lot_load.specs.Kept.{Keeps, seen};
+ghost use Rattle.lot_load.specs.Kept.{Keeps, seen, seen_with_openings};
 ghost use Rattle.lot_load.specs.Known.{turned_to};
 
 use lot_book::Change;
@@ -46,6 +45,8 @@ impl Kept {
     /// Puts the text that stands under the next command's key, or that there is none.
     pub(crate) fn turn_to(&mut self, text: Option<String>)
         ensures seen { seen self.new ≡ turned_to (option_map string_bytes text) (seen self.old) }
+        ensures openings { (seen_with_openings self.new).opening
+            ≡ (seen_with_openings self.old).opening }
         ensures whole { self.new.whole ≡ self.old.whole }
     {
         match text {
@@ -64,8 +65,11 @@ impl Kept {
     /// Records an accepted command and what it changes. The error is out of memory; what was known is then lost.
     pub fn record(self, command: &Command, change: &Change) -> Result<Kept, AllocError>
         requires { (seen self).entries < most_entries }
-        ensures { IfOk result (λ after. (entries : List Entry) (key : Key) → IsBook entries → Keeps self entries
-            → Agrees (seen self) (facts_of entries key) command.now → IsAcceptedWith (seen self) command.now change.now
+        ensures { IfOk result (λ after. (entries : List Entry) (key : Key) → IsBook entries
+            → Keeps self entries
+            → AgreesWithOpenings (seen_with_openings self) (facts_with_openings entries key)
+            command.now
+            → IsAcceptedWith (seen_with_openings self) command.now change.now
             → Keeps after (entries ++ entry_of key command.now change.now.legs ∷ [])) }
     {
         let Kept { view, whole } = self;

@@ -2,7 +2,7 @@ ghost use Rattle.std.specs.Prelude.{IsTrue};
 ghost use Rattle.lot_load.specs.Kept.{Covers, Keeps};
 ghost use Rattle.lot_load.specs.Known.{KnowsTouched};
 ghost use Rattle.lot_load.specs.Tells.{Teaches, Tells};
-ghost use Rattle.lot_view.specs.View.{known};
+ghost use Rattle.lot_view.specs.View.{known_with_openings};
 ghost use Rattle.sqlite.specs.Held.{state};
 ghost use Rattle.sqlite.specs.State.{HasCleanDisk};
 
@@ -42,7 +42,8 @@ fn learn_touched<S: Alter>(
     view: &mut View,
 ) -> Result<(), Fault>
     requires { HasCleanDisk (state S.Store conn.old) → IsTrue (state S.Store conn.old).is_open }
-    ensures teaches { Teaches (KnowsTouched touched.now) (known view.old) (known view.new)
+    ensures teaches { Teaches (KnowsTouched touched.now)
+        (known_with_openings view.old) (known_with_openings view.new)
         (state S.Store conn.old) (state S.Store conn.new) result }
 {
     learn_accounts(alloc, conn, &touched.accounts, view)?;

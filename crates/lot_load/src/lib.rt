@@ -8,7 +8,7 @@
 //! - `commodity`: which commodities are declared.
 //! - `pair`: what there is of an account and a commodity.
 //! - `plain`: all plain units of an account.
-//! - `held`: rows of units.
+//! - `held`: rows of lots with their opening numbers, and of plain units.
 //! - `whole`: sets of what is known whole.
 #![tactic(auto)]
 

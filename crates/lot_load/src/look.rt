@@ -1,10 +1,10 @@
 ghost use Rattle.std.specs.Prelude.{IsTrue, List};
-ghost use Rattle.lot_book.specs.Agree.{Agrees};
 ghost use Rattle.lot_book.specs.Book.{IsBook};
-ghost use Rattle.lot_book.specs.Facts.{Entry, facts_of};
+ghost use Rattle.lot_book.specs.Facts.{Entry};
+ghost use Rattle.lot_book.specs.Openings.{AgreesWithOpenings, facts_with_openings};
 ghost use Rattle.lot_stored.specs.StandFor.{AreOfBook, StandFor};
 ghost use Rattle.lot_load.specs.Damage.{FindsDamage, FindsText};
-ghost use Rattle.lot_load.specs.Kept.{IsOf, Keeps, seen};
+ghost use Rattle.lot_load.specs.Kept.{IsOf, Keeps, seen, seen_with_openings};
 ghost use Rattle.lot_load.specs.Tells.{Tells};
 ghost use Rattle.lot_rows.specs.Tables.{layout};
 ghost use Rattle.lot_table.specs.Book.{always};
@@ -36,7 +36,9 @@ pub fn look_on<S: Alter>(
 ) -> Result<Kept, Fault>
     ensures looks { Answers layout
         (λ now tables. (entries : List Entry) → IsBook entries → StandFor tables entries → IsOf kept entries
-        → Keeps now entries × Agrees (seen now) (facts_of entries key.now) command.now)
+        → Keeps now entries
+        × AgreesWithOpenings (seen_with_openings now) (facts_with_openings entries key.now)
+        command.now)
         always AreOfBook (state S.Store conn.old) (state S.Store conn.new) result }
     ensures damage { FindsDamage key.now (state S.Store conn.old) (state S.Store conn.new) result }
     ensures text { FindsText (λ now. (seen now).text) key.now

@@ -1,13 +1,15 @@
-ghost use Rattle.std.specs.Prelude.{◌≡◌, IsTrue, None};
+ghost use Rattle.std.specs.Prelude.{◌≡◌, IsTrue, None, OnOk};
 ghost use Rattle.lot_load.specs.Known.{KnowsAt, KnowsEach, KnowsHead, KnowsLots, KnowsPair};
+ghost use Rattle.lot_load.specs.Paired.{HavePaired};
 ghost use Rattle.lot_load.specs.Tells.{Teaches};
-ghost use Rattle.lot_view.specs.View.{known};
+ghost use Rattle.lot_rows.specs.Tables.{Has, Tables};
+ghost use Rattle.lot_view.specs.View.{known_with_openings};
 ghost use Rattle.sqlite.specs.Held.{state};
 ghost use Rattle.sqlite.specs.State.{HasCleanDisk};
 
 use crate::held::{hold, hold_lots};
 use lot_book::Pair;
-use lot_rows::{head, lot, plain};
+use lot_rows::{head, lot, opening, plain};
 use lot_table::Fault;
 use lot_view::View;
 use sqlite::{Alter, Connection};
@@ -22,7 +24,8 @@ pub(crate) fn learn_pairs<S: Alter>(
     view: &mut View,
 ) -> Result<(), Fault>
     requires { HasCleanDisk (state S.Store conn.old) → IsTrue (state S.Store conn.old).is_open }
-    ensures teaches { Teaches (KnowsEach KnowsPair pairs.now.keys) (known view.old) (known view.new)
+    ensures teaches { Teaches (KnowsEach KnowsPair pairs.now.keys)
+        (known_with_openings view.old) (known_with_openings view.new)
         (state S.Store conn.old) (state S.Store conn.new) result }
 {
     for pair in pairs {
@@ -38,7 +41,8 @@ fn learn_pair<S: Alter>(
     pair: &Pair,
     view: &mut View,
 ) -> Result<(), Fault>
-    ensures teaches { Teaches (KnowsPair pair.now) (known view.old) (known view.new)
+    ensures teaches { Teaches (KnowsPair pair.now)
+        (known_with_openings view.old) (known_with_openings view.new)
         (state S.Store conn.old) (state S.Store conn.new) result }
 {
     learn_head(alloc, conn, pair, view)?;
@@ -53,7 +57,8 @@ fn learn_head<S: Alter>(
     pair: &Pair,
     view: &mut View,
 ) -> Result<(), Fault>
-    ensures teaches { Teaches (KnowsHead pair.now.account pair.now.commodity) (known view.old) (known view.new)
+    ensures teaches { Teaches (KnowsHead pair.now.account pair.now.commodity)
+        (known_with_openings view.old) (known_with_openings view.new)
         (state S.Store conn.old) (state S.Store conn.new) result }
 {
     if let Some(row) = head::find(alloc, conn, &pair.account, &pair.commodity)? {
@@ -62,18 +67,24 @@ fn learn_head<S: Alter>(
     Ok(())
 }
 
-/// Puts the lots.
+/// Puts the lots, each with its units and its opening number.
+///
+/// The error is `Damaged` also where the tables of lots and of opening numbers don't have the same lots there.
 fn learn_lots<S: Alter>(
     alloc: Global,
     conn: &mut Connection<S>,
     pair: &Pair,
     view: &mut View,
 ) -> Result<(), Fault>
-    ensures teaches { Teaches (KnowsLots pair.now.account pair.now.commodity) (known view.old) (known view.new)
+    ensures teaches { Teaches (KnowsLots pair.now.account pair.now.commodity)
+        (known_with_openings view.old) (known_with_openings view.new)
         (state S.Store conn.old) (state S.Store conn.new) result }
+    ensures paired { HasCleanDisk (state S.Store conn.new) → OnOk result ((tables : Tables)
+        → Has (state S.Store conn.old) tables → HavePaired pair.now tables) }
 {
-    let rows = lot::list_of(alloc, conn, &pair.account, &pair.commodity)?;
-    hold_lots(view, &rows)
+    let lots = lot::list_of(alloc, conn, &pair.account, &pair.commodity)?;
+    let openings = opening::list_of(alloc, conn, &pair.account, &pair.commodity)?;
+    hold_lots(view, pair, &lots, &openings)
 }
 
 /// Puts the plain units, if there are any.
@@ -83,11 +94,12 @@ fn learn_units<S: Alter>(
     pair: &Pair,
     view: &mut View,
 ) -> Result<(), Fault>
-    ensures teaches { Teaches (KnowsAt pair.now.account (pair.now.commodity, None)) (known view.old) (known view.new)
+    ensures teaches { Teaches (KnowsAt pair.now.account (pair.now.commodity, None))
+        (known_with_openings view.old) (known_with_openings view.new)
         (state S.Store conn.old) (state S.Store conn.new) result }
 {
     if let Some(row) = plain::find(alloc, conn, &pair.account, &pair.commodity)? {
-        hold(view, &pair.account, &pair.commodity, None, row.units)?;
+        hold(view, &pair.account, &pair.commodity, None, row.units, 0)?;
     }
     Ok(())
 }

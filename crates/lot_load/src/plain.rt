@@ -1,7 +1,7 @@
 ghost use Rattle.std.specs.Prelude.{◌≡◌, IsTrue};
 ghost use Rattle.lot_load.specs.Known.{KnowsEach, KnowsPlain};
 ghost use Rattle.lot_load.specs.Tells.{Teaches};
-ghost use Rattle.lot_view.specs.View.{known};
+ghost use Rattle.lot_view.specs.View.{known_with_openings};
 ghost use Rattle.sqlite.specs.Held.{state};
 ghost use Rattle.sqlite.specs.State.{HasCleanDisk};
 
@@ -22,7 +22,8 @@ pub(crate) fn learn_all_plain<S: Alter>(
     view: &mut View,
 ) -> Result<(), Fault>
     requires { HasCleanDisk (state S.Store conn.old) → IsTrue (state S.Store conn.old).is_open }
-    ensures teaches { Teaches (KnowsEach KnowsPlain accounts.now.keys) (known view.old) (known view.new)
+    ensures teaches { Teaches (KnowsEach KnowsPlain accounts.now.keys)
+        (known_with_openings view.old) (known_with_openings view.new)
         (state S.Store conn.old) (state S.Store conn.new) result }
 {
     for account in accounts {
@@ -38,7 +39,8 @@ fn learn_plain<S: Alter>(
     account: &Account,
     view: &mut View,
 ) -> Result<(), Fault>
-    ensures teaches { Teaches (KnowsPlain account.now) (known view.old) (known view.new)
+    ensures teaches { Teaches (KnowsPlain account.now)
+        (known_with_openings view.old) (known_with_openings view.new)
         (state S.Store conn.old) (state S.Store conn.new) result }
 {
     let rows = list_of(alloc, conn, account)?;

@@ -1,6 +1,7 @@
 pub mod BehindLemmas
 pub mod CallLemmas
 pub mod EntryLemmas
+pub mod LegLemmas
 pub mod LevelLemmas
 pub mod LotLemmas
 pub mod NextLemmas

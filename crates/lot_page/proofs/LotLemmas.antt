@@ -1,12 +1,12 @@
 -- The pages of the table `lot`.
-use Rattle.std.proofs.Common.{inl, inr, Err, IfErr, IfOk, OnErr, OnOk, ◌⊎◌, ◌≡◌, ◌≤◌, ℕ, zero, suc, Bool, false, true, not, None, Result, Vec, filter, length, map, ◌+ℤ◌, pos, List, [], ◌∷◌, ◌++◌, ◌&&◌, codes, refl, ap, ◌∙◌, arith, is_eq}
+use Rattle.std.proofs.Common.{inl, inr, ◌⊎◌, ◌≡◌, ◌≤◌, ℕ, zero, suc, Bool, false, true, not, None, Result, Vec, filter, length, map, ◌+ℤ◌, pos, List, [], ◌∷◌, ◌++◌, ◌&&◌, codes, refl, ap, ◌∙◌, arith, is_eq}
 use Rattle.std.specs.List.{list_all}
 use Rattle.std.specs.declared.alloc.Global.{Global}
 use Rattle.sqlite.specs.Collation.TheVariants.{Binary}
 use Rattle.sqlite.specs.Command.TheVariants.{Select}
 use Rattle.sqlite.specs.Listing.{reads_listing, understood}
 use Rattle.sqlite.specs.Order.{Row}
-use Rattle.sqlite.specs.State.{HasCleanDisk, IsUnchanged, Shown, State, Survives}
+use Rattle.sqlite.specs.State.{State}
 use Rattle.sqlite.specs.Term.{Term, col, holds}
 use Rattle.sqlite.specs.Tree.{Trees}
 use Rattle.sqlite.specs.declared.types.Value.TheVariants.{Int, Text}
@@ -18,20 +18,19 @@ use Rattle.sqlite_tied.specs.Compute.{everything}
 use Rattle.sqlite_value.specs.Keys.{ascending, rising}
 use Rattle.sqlite_value.specs.Order.{value_cmp}
 use Rattle.sqlite_value.specs.declared.keys.Key.{Key}
-use Rattle.lot_page.specs.Page.{Pages, PagesOf, page_rows, Takes, is_from, level}
+use Rattle.lot_page.specs.Page.{Pages, PagesOf, page_rows, is_from, level}
 use Rattle.lot_page.specs.Rise.{lots_rise}
 use Rattle.lot_page.proofs.LevelLemmas.{Mounts, mounts, terms, terms_level, terms_reach}
 use Rattle.lot_page.proofs.NextLemmas.{not_shorter, past_number, past_text}
-use Rattle.lot_page.proofs.PageLemmas.{Asks, answers, asking, paged}
+use Rattle.lot_page.proofs.PageLemmas.{Asks, TakesBy, answers, asking, paged}
 use Rattle.lot_page.proofs.WalkLemmas.{from_all, pages_so}
 use Rattle.lot_rows.specs.Lot.{lot_cells}
 use Rattle.lot_rows.specs.Tables.{Tables, layout, lot_table}
 use Rattle.lot_rows.specs.declared.lot.LotRow.{LotRow}
-use Rattle.lot_table.specs.Book.{Holds, IsUndone}
-use Rattle.lot_table.specs.Statement.{DiskFailed, IsSelect, Refused}
+use Rattle.lot_table.specs.Book.{Holds}
+use Rattle.lot_table.specs.Statement.{IsSelect}
 use Rattle.lot_table.proofs.RefusalLemmas.{IsWhole}
 use Rattle.lot_table.specs.declared.fault.Fault.{Fault}
-use Rattle.lot_table.specs.declared.fault.Fault.TheVariants.{Device}
 use Rattle.lot_table.specs.Cell.{label_text}
 
 abbrev pub shows : List Term
@@ -111,10 +110,8 @@ asks_from (suc (suc (suc (suc zero)))) _ =
     (λ k v x. terms_reach (Int (pos page_rows)) v (lot_cells x) (next_key 4 k) 4 0 (refl, (refl, (refl, (refl, (refl, tt))))) (refl, (refl, (refl, (refl, (refl, tt))))) ∙ ap (λ b. (is_eq (value_cmp (Text x.account) (Text k.account)) && (is_eq (value_cmp (Text x.commodity) (Text k.commodity)) && (is_eq (value_cmp (Int x.lot.day) (Int k.lot.day)) && (is_eq (value_cmp (Text x.lot.currency) (Text k.lot.currency)) && b))))) (past_number (pos x.lot.number) (pos k.lot.number))) (λ _. refl)
 asks_from (suc (suc (suc (suc (suc n))))) few = absurd (omega (arith, few))
 
-pub level_takes : (n : ℕ) → n ≤ 4 → (old new : State) (k : LotRow) (result : Result (Vec Row Global) Fault)
-    → (HasCleanDisk new → IfOk result (λ rows. Shown (from_text n) (asking page_rows (next_key n k)) old new rows.items)) → (HasCleanDisk new → OnOk result (IsUnchanged old new))
-    → (HasCleanDisk new → IfErr result (Refused (from_text n) (asking page_rows (next_key n k)) old new)) → (HasCleanDisk new → result ≡ Err Device → DiskFailed old new)
-    → (HasCleanDisk new → OnErr result (IsUndone old new)) → Survives old new (λ _. ⊥) → Takes lot_cells (λ b. b.lot) page_rows (level n 0 (lot_cells k)) old new result
+pub level_takes : (n : ℕ) → n ≤ 4 → (old new : State) (k : LotRow)
+    → TakesBy lot_table (next_key n) (λ k. level n 0 (lot_cells k)) page_rows (from_text n) old new k
 level_takes n few = answers lot_table (next_key n) (λ k. level n 0 (lot_cells k)) page_rows (terms Ge n 0) shows order names (from_text n) (asks_from n few)
 
 -- each of these numbers of columns

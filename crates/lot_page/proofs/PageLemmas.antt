@@ -80,6 +80,20 @@ always_ok (Err fault) = tt
 
 -- ---- the page
 
+-- the call with that text takes those of the table's rows that pass
+abbrev pub TakesBy : {X K : Type 0} → BookTable Tables X → (K → Row) → (K → Row → Bool) → ℕ → List ℕ
+    → State → State → K → Type 0
+TakesBy t key passes most text old new k =
+    (result : Result (Vec Row Global) Fault)
+    → (HasCleanDisk new
+    → IfOk result (λ rows. Shown text (asking most (key k)) old new rows.items))
+    → (HasCleanDisk new → OnOk result (IsUnchanged old new))
+    → (HasCleanDisk new → IfErr result (Refused text (asking most (key k)) old new))
+    → (HasCleanDisk new → result ≡ Err Device → DiskFailed old new)
+    → (HasCleanDisk new → OnErr result (IsUndone old new))
+    → Survives old new (λ _. ⊥)
+    → Takes t.encode t.rows most (passes k) old new result
+
 module _ {X K : Type 0} (t : BookTable Tables X) (key : K → Row) (passes : K → Row → Bool) (most : ℕ) (tests shows : List Term) (order : List (Term × Key)) (names : List (List ℕ)) (text : List ℕ)
     (is : Asks t key passes most tests shows order names text) (old new : State) (k : K) where
   abbrev tree : ℕ
@@ -106,9 +120,7 @@ module _ {X K : Type 0} (t : BookTable Tables X) (key : K → Row) (passes : K �
   if_damaged (Ok found) Why told is = absurd cc
   if_damaged (Err fault) Why told is = let same : fault ≡ Damaged = cc in subst Why same told
 
-  pub answers : (result : Result (Vec Row Global) Fault) → (HasCleanDisk new → IfOk result (λ rows. Shown text params old new rows.items)) → (HasCleanDisk new → OnOk result (IsUnchanged old new))
-      → (HasCleanDisk new → IfErr result (Refused text params old new)) → (HasCleanDisk new → result ≡ Err Device → DiskFailed old new) → (HasCleanDisk new → OnErr result (IsUndone old new)) → Survives old new (λ _. ⊥)
-      → Takes t.encode t.rows most (passes k) old new result
+  pub answers : TakesBy t key passes most text old new k
   answers result shown same refused device undone crash = record {
     says = λ clean. if_ok result _ _ (λ rows told b has. rows_shown rows.items told b has) (shown clean);
     good = always_ok result;

@@ -2,11 +2,12 @@
 //!
 //! - `paged`: `PagedRow`, a row of a table that is read so, and the numbers of rows of a page.
 //! - `cursor`: `Cursor`, a place in the table, which borrows nothing: the connection is passed beside it.
-//! - `entry`, `sale`, `lot`, `price`: one table each, with its cursor.
+//! - `entry`, `leg`, `sale`, `lot`, `price`: one table each, with its cursor.
 #![tactic(auto)]
 
 mod cursor;
 mod entry;
+mod leg;
 mod lot;
 mod paged;
 mod price;
@@ -14,6 +15,7 @@ mod sale;
 
 pub use cursor::Cursor;
 pub use entry::EntryCursor;
+pub use leg::LegCursor;
 pub use lot::LotCursor;
 pub use paged::PagedRow;
 pub use price::PriceCursor;

@@ -7,6 +7,8 @@ pub mod HeadLemmas
 pub mod LegLemmas
 pub mod LotLemmas
 pub mod MakeLemmas
+pub mod MigrationLemmas
+pub mod OpeningLemmas
 pub mod PlainLemmas
 pub mod PriceLemmas
 pub mod SaleLemmas

@@ -4,7 +4,7 @@ use Rattle.sqlite.specs.Collation.TheVariants.{Binary}
 use Rattle.sqlite.specs.Listing.{understood}
 use Rattle.sqlite.specs.State.{State}
 use Rattle.sqlite.specs.Term.{Term, col, lit}
-use Rattle.sqlite.specs.declared.types.Value.TheVariants.{Int, Null, Text}
+use Rattle.sqlite.specs.declared.types.Value.TheVariants.{Null, Text}
 use Rattle.sqlite_tied.specs.Compute.{everything}
 use Rattle.sqlite_value.specs.Keys.{ascending}
 use Rattle.sqlite_value.specs.declared.keys.Key.{Key}
@@ -12,10 +12,10 @@ use Rattle.lot_table.specs.Rows.{has_key, with_key}
 use Rattle.lot_table.proofs.ReadLemmas.{key_terms}
 use Rattle.lot_table.proofs.WriteLemmas.{cast_int}
 use Rattle.lot_rows.specs.Lot.{IsLotRow, lot_cells}
+use Rattle.lot_rows.specs.LotKey.{lot_key}
 use Rattle.lot_rows.specs.Tables.{lot_table, shapes, layout}
 use Rattle.lot_rows.specs.declared.lot.LotRow.{LotRow}
 use Rattle.lot_cost.specs.declared.lot_key.LotKey.{LotKey}
-use Rattle.lot_table.specs.Cell.{label_text}
 use Rattle.lot_table.specs.Call.{Deletes, ListsColumns, Puts, Runs, Selects}
 use Rattle.lot_table.specs.declared.fault.Fault.{Fault}
 use Rattle.lot_table.proofs.ShapeLemmas.{free}
@@ -59,12 +59,12 @@ puts_row old new x = puts layout lot_table is_table old new put_text x (put_is x
 abbrev delete_text : List ℕ
 delete_text = codes "DELETE FROM lot WHERE account = ?1 AND commodity = ?2 AND cost_day = ?3 AND cost_currency = ?4 AND cost_number = ?5 AND cost_label = ?6"
 
-delete_is : (account commodity : List ℕ) (lot : LotKey) → IsDelete layout lot_table is_table (Text account ∷ Text commodity ∷ Int lot.day ∷ Text lot.currency ∷ Int (pos lot.number) ∷ Text (label_text lot.label) ∷ []) delete_text
+delete_is : (account commodity : List ℕ) (lot : LotKey) → IsDelete layout lot_table is_table (lot_key account commodity lot) delete_text
 unfolding understood everything
 delete_is account commodity lot = record { means = refl; bare = (refl, refl); whole = (omega arith, refl); some = (refl, (refl, (refl, (refl, (refl, (refl, tt)))))); typed = refl }
 
-pub deletes_row : (old new : State) (account commodity : List ℕ) (lot : LotKey) {A : Type 0} (result : Result A Fault) → Runs delete_text (Text account ∷ Text commodity ∷ Int lot.day ∷ Text lot.currency ∷ Int (pos lot.number) ∷ Text (label_text lot.label) ∷ []) old new result → Deletes layout lot_table (Text account ∷ Text commodity ∷ Int lot.day ∷ Text lot.currency ∷ Int (pos lot.number) ∷ Text (label_text lot.label) ∷ []) old new result
-deletes_row old new account commodity lot = deletes_key layout lot_table is_table old new delete_text (Text account ∷ Text commodity ∷ Int lot.day ∷ Text lot.currency ∷ Int (pos lot.number) ∷ Text (label_text lot.label) ∷ []) (delete_is account commodity lot)
+pub deletes_row : (old new : State) (account commodity : List ℕ) (lot : LotKey) {A : Type 0} (result : Result A Fault) → Runs delete_text (lot_key account commodity lot) old new result → Deletes layout lot_table (lot_key account commodity lot) old new result
+deletes_row old new account commodity lot = deletes_key layout lot_table is_table old new delete_text (lot_key account commodity lot) (delete_is account commodity lot)
 
 -- ---- list_of
 

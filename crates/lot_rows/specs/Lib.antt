@@ -7,6 +7,8 @@ pub mod Head
 pub mod Leg
 pub mod Lot
 pub mod LotKey
+pub mod Migration
+pub mod Opening
 pub mod Plain
 pub mod Price
 pub mod Sale

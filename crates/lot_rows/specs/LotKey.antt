@@ -1,5 +1,6 @@
--- The cost of a lot in columns.
-use Rattle.std.specs.Prelude.{pos, Option, Some, None, ⊤}
+-- A lot in columns: its key, and the cost of a leg.
+use Rattle.std.specs.Prelude.{ℕ, pos, List, [], ◌∷◌, Option, Some, None, ⊤}
+use Rattle.sqlite.specs.Order.{Row}
 use Rattle.sqlite.specs.Values.{or_null}
 use Rattle.sqlite.specs.declared.types.Value.TheVariants.{Int, Text}
 use Rattle.sqlite.specs.declared.types.Value.{Value}
@@ -14,6 +15,16 @@ pub record IsLotKey (lot : LotKey) : Type 0 where
   pub currency : IsName is_commodity lot.currency
   pub number : IsRate lot.number
   pub label : IsLabelOrNone lot.label
+
+-- ---- the key of a lot: its account, its commodity, and its cost
+
+-- a row that begins with the key
+abbrev pub lot_columns : List ℕ → List ℕ → LotKey → Row → Row
+lot_columns account commodity lot rest =
+    Text account ∷ Text commodity ∷ Int lot.day ∷ Text lot.currency ∷ Int (pos lot.number) ∷ Text (label_text lot.label) ∷ rest
+
+abbrev pub lot_key : List ℕ → List ℕ → LotKey → Row
+lot_key account commodity lot = lot_columns account commodity lot []
 
 -- ---- the cost of a leg, which is null throughout for plain units
 

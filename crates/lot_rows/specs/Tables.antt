@@ -1,5 +1,5 @@
 -- The tables of a book, as the lists of their rows in the order of their keys (docs/FORMATS.md, Tables).
-use Rattle.std.specs.Prelude.{ℕ, ◌+◌, List, [], ◌∷◌, map, take, codes}
+use Rattle.std.specs.Prelude.{ℕ, ◌+◌, List, [], ◌∷◌, ◌++◌, map, take, codes}
 use Rattle.sqlite.specs.State.{State}
 use Rattle.sqlite.specs.Table.{Table}
 use Rattle.sqlite_schema.specs.declared.schema.Column.{Column}
@@ -13,6 +13,8 @@ use Rattle.lot_rows.specs.Entry.{entry_cells}
 use Rattle.lot_rows.specs.Head.{head_cells}
 use Rattle.lot_rows.specs.Leg.{leg_cells}
 use Rattle.lot_rows.specs.Lot.{lot_cells}
+use Rattle.lot_rows.specs.Migration.{migration_cells}
+use Rattle.lot_rows.specs.Opening.{opening_cells}
 use Rattle.lot_rows.specs.Plain.{plain_cells}
 use Rattle.lot_rows.specs.Price.{price_cells}
 use Rattle.lot_rows.specs.Sale.{sale_cells}
@@ -24,6 +26,8 @@ use Rattle.lot_rows.specs.declared.entry.EntryRow.{EntryRow}
 use Rattle.lot_rows.specs.declared.head.HeadRow.{HeadRow}
 use Rattle.lot_rows.specs.declared.leg.LegRow.{LegRow}
 use Rattle.lot_rows.specs.declared.lot.LotRow.{LotRow}
+use Rattle.lot_rows.specs.declared.migration.MigrationRow.{MigrationRow}
+use Rattle.lot_rows.specs.declared.opening.OpeningRow.{OpeningRow}
 use Rattle.lot_rows.specs.declared.plain.PlainRow.{PlainRow}
 use Rattle.lot_rows.specs.declared.price.PriceRow.{PriceRow}
 use Rattle.lot_rows.specs.declared.sale.SaleRow.{SaleRow}
@@ -42,6 +46,8 @@ pub record Tables : Type 0 where
   pub lot : List LotRow
   pub plain : List PlainRow
   pub head : List HeadRow
+  pub opening : List OpeningRow
+  pub migration : List MigrationRow
 
 -- ---- the shapes
 
@@ -80,12 +86,16 @@ sale_shape =
     ∷ number (codes "kind") ∷ maybe_number (codes "amount") ∷ maybe_text (codes "currency") ∷ [])
     ((1 ∷ 2 ∷ []) ∷ [])
 
-abbrev pub lot_shape : Shape
-lot_shape =
-    shape (codes "lot")
+-- a table of lots: the key of each, and a number
+abbrev pub of_lots : List ℕ → List ℕ → Shape
+of_lots name value =
+    shape name
     (text (codes "account") ∷ text (codes "commodity") ∷ number (codes "cost_day") ∷ text (codes "cost_currency") ∷ number (codes "cost_number") ∷ text (codes "cost_label")
-    ∷ number (codes "units") ∷ [])
+    ∷ number value ∷ [])
     ((1 ∷ 2 ∷ 3 ∷ 4 ∷ 5 ∷ 6 ∷ []) ∷ [])
+
+abbrev pub lot_shape : Shape
+lot_shape = of_lots (codes "lot") (codes "units")
 
 abbrev pub plain_shape : Shape
 plain_shape = shape (codes "plain") (text (codes "account") ∷ text (codes "commodity") ∷ number (codes "units") ∷ []) ((1 ∷ 2 ∷ []) ∷ [])
@@ -93,13 +103,28 @@ plain_shape = shape (codes "plain") (text (codes "account") ∷ text (codes "com
 abbrev pub head_shape : Shape
 head_shape = shape (codes "head") (text (codes "account") ∷ text (codes "commodity") ∷ number (codes "day") ∷ []) ((1 ∷ 2 ∷ []) ∷ [])
 
--- in the order of their making
-abbrev pub shapes : List Shape
-shapes =
+abbrev pub opening_shape : Shape
+opening_shape = of_lots (codes "opening") (codes "opening")
+
+abbrev pub migration_shape : Shape
+migration_shape = shape (codes "migration") (number (codes "entries") ∷ []) ((1 ∷ []) ∷ [])
+
+-- in the order of their making: those of edition 1, and those behind them
+abbrev pub first_shapes : List Shape
+first_shapes =
     book_shape ∷ account_shape ∷ allowed_shape ∷ commodity_shape ∷ price_shape ∷ entry_shape ∷ leg_shape ∷ sale_shape ∷ lot_shape ∷ plain_shape ∷ head_shape ∷ []
+
+abbrev pub later_shapes : List Shape
+later_shapes = opening_shape ∷ migration_shape ∷ []
+
+abbrev pub shapes : List Shape
+shapes = first_shapes ++ later_shapes
 
 abbrev pub table_names : List (List ℕ)
 table_names = map (λ s. s.name) shapes
+
+abbrev pub later_names : List (List ℕ)
+later_names = map (λ s. s.name) later_shapes
 
 -- ---- the tables, each in its tree; its indexes are in the trees after it
 
@@ -145,22 +170,39 @@ plain_table = record { table = made 9 plain_shape; encode = plain_cells; width =
 abbrev pub head_table : BookTable Tables HeadRow
 head_table = record { table = made 10 head_shape; encode = head_cells; width = 2; rows = λ b. b.head; with_rows = λ rows b. record b { head = rows } }
 
+abbrev pub opening_table : BookTable Tables OpeningRow
+opening_table = record { table = made 11 opening_shape; encode = opening_cells; width = 6; rows = λ b. b.opening; with_rows = λ rows b. record b { opening = rows } }
+
+abbrev pub migration_table : BookTable Tables MigrationRow
+migration_table = record { table = made 12 migration_shape; encode = migration_cells; width = 1; rows = λ b. b.migration; with_rows = λ rows b. record b { migration = rows } }
+
 -- ---- the layout
 
 abbrev slot : {X : Type 0} → BookTable Tables X → Tables → Slot
 slot t b = record { tree = t.table.tree; width = t.width; rows = map t.encode (t.rows b) }
 
-abbrev slots : Tables → List Slot
-slots b =
+abbrev first_slots : Tables → List Slot
+first_slots b =
     slot book_table b ∷ slot account_table b ∷ slot allowed_table b ∷ slot commodity_table b ∷ slot price_table b ∷ slot entry_table b
     ∷ slot leg_table b ∷ slot sale_table b ∷ slot lot_table b ∷ slot plain_table b ∷ slot head_table b ∷ []
 
+abbrev later_slots : Tables → List Slot
+later_slots b = slot opening_table b ∷ slot migration_table b ∷ []
+
+-- a book of edition 1: it has the lists of its tables, and says nothing of the two others
+abbrev pub first_layout : Layout Tables
+first_layout = record { schema = schema_of first_shapes; slots = first_slots }
+
 abbrev pub layout : Layout Tables
-layout = record { schema = schema_of shapes; slots = slots }
+layout = record { schema = schema_of shapes; slots = λ b. first_slots b ++ later_slots b }
 
 -- a connection to this book, whose lists are these
 abbrev pub Has : State → Tables → Type 0
 Has = HasLists layout
+
+-- the same of a book of edition 1
+abbrev pub HasFirst : State → Tables → Type 0
+HasFirst = HasLists first_layout
 
 -- a book with no rows
 abbrev pub no_rows_yet : Tables
@@ -176,4 +218,6 @@ no_rows_yet = record {
   lot = [];
   plain = [];
   head = [];
+  opening = [];
+  migration = [];
 }

@@ -1,8 +1,9 @@
-//! The tables of a book of edition 1: a row type for each, and one call for each statement.
+//! The tables of a book of edition 2: a row type for each, and one call for each statement.
 //!
-//! - `tables`: `make` makes all of them.
-//! - `book`, `account`, `allowed`, `commodity`, `price`, `entry`, `leg`, `sale`, `lot`, `plain`, `head`: one table each, with
-//!   its row type, `put`, and what a book needs of `delete`, `find`, `greatest`, `list_of` and `list`.
+//! - `tables`: `make` makes all of them, and `add_later` adds those that edition 1 had not.
+//! - `book`, `account`, `allowed`, `commodity`, `price`, `entry`, `leg`, `sale`, `lot`, `plain`, `head`, `opening`,
+//!   `migration`: one table each, with its row type, `put`, and what a book needs of `delete`, `find`, `greatest`, `list_of`
+//!   and `list`.
 #![tactic(auto)]
 
 pub mod account;
@@ -14,6 +15,9 @@ pub mod entry;
 pub mod head;
 pub mod leg;
 pub mod lot;
+mod lot_key;
+pub mod migration;
+pub mod opening;
 pub mod plain;
 pub mod price;
 pub mod sale;

@@ -1,13 +1,14 @@
-ghost use Rattle.std.specs.Prelude.{◌≡◌, ◌∷◌, [], IsTrue, pos};
+ghost use Rattle.std.specs.Prelude.{◌≡◌, ◌∷◌, [], IsTrue};
 ghost use Rattle.lot_rows.specs.Lot.{IsLotRow, lot_cells};
+ghost use Rattle.lot_rows.specs.LotKey.{lot_key};
 ghost use Rattle.lot_rows.specs.Tables.{layout, lot_table};
 ghost use Rattle.lot_table.specs.Call.{Deletes, ListsColumns, Puts};
-ghost use Rattle.lot_table.specs.Cell.{label_text};
 ghost use Rattle.lot_table.specs.Rows.{with_key};
 ghost use Rattle.sqlite.specs.Held.{state};
 ghost use Rattle.sqlite.specs.State.{HasCleanDisk};
-ghost use Rattle.sqlite.specs.declared.types.Value.TheVariants.{Int, Text};
+ghost use Rattle.sqlite.specs.declared.types.Value.TheVariants.{Text};
 
+use crate::lot_key;
 use lot_base::{Account, Commodity};
 use lot_cost::LotKey;
 use lot_table::{Cell, Fault, Sum, TableRow, change, column, select};
@@ -56,15 +57,7 @@ pub fn put<S: Alter>(tx: &mut Transaction<'_, S>, row: &LotRow) -> Result<(), Fa
     change(
         tx,
         "INSERT OR REPLACE INTO lot (account, commodity, cost_day, cost_currency, cost_number, cost_label, units) VALUES (?1, ?2, ?3, ?4, ?5, ?6, ?7)",
-        &[
-            row.account.to_cell(),
-            row.commodity.to_cell(),
-            row.lot.day.to_cell(),
-            row.lot.currency.to_cell(),
-            row.lot.number.to_cell(),
-            row.lot.label.to_cell(),
-            row.units.to_cell(),
-        ],
+        &lot_key::cells_with(&row.account, &row.commodity, &row.lot, row.units.to_cell()),
     )
 }
 
@@ -77,20 +70,13 @@ pub fn delete<S: Alter>(
 ) -> Result<(), Fault>
     requires { HasCleanDisk (state S.Store tx.old.conn.now) → IsTrue (state S.Store tx.old.conn.now).in_transaction }
     ensures same_reference { tx.new.conn.ghost_name ≡ tx.old.conn.ghost_name }
-    ensures deletes { Deletes layout lot_table (Text account.now ∷ Text commodity.now ∷ Int lot.now.day ∷ Text lot.now.currency ∷ Int (pos lot.now.number) ∷ Text (label_text lot.now.label) ∷ [])
+    ensures deletes { Deletes layout lot_table (lot_key account.now commodity.now lot.now)
         (state S.Store tx.old.conn.now) (state S.Store tx.new.conn.now) result }
 {
     change(
         tx,
         "DELETE FROM lot WHERE account = ?1 AND commodity = ?2 AND cost_day = ?3 AND cost_currency = ?4 AND cost_number = ?5 AND cost_label = ?6",
-        &[
-            account.to_cell(),
-            commodity.to_cell(),
-            lot.day.to_cell(),
-            lot.currency.to_cell(),
-            lot.number.to_cell(),
-            lot.label.to_cell(),
-        ],
+        &lot_key::cells(account, commodity, lot),
     )
 }
 

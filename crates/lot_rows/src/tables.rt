@@ -1,5 +1,13 @@
 ghost use Rattle.std.specs.Prelude.{◌≡◌, ◌≢◌, [], false, true, IsTrue, OnOk};
-ghost use Rattle.lot_rows.specs.Tables.{Has, no_rows_yet, table_names};
+ghost use Rattle.lot_rows.specs.Tables.{
+  Has,
+  HasFirst,
+  Tables,
+  first_shapes,
+  later_names,
+  no_rows_yet,
+  table_names,
+};
 ghost use Rattle.lot_table.specs.Make.{is_taken};
 ghost use Rattle.lot_table.specs.Shape.{schema_of};
 ghost use Rattle.lot_table.specs.Statement.{DiskFailed};
@@ -10,7 +18,13 @@ ghost use Rattle.sqlite_catalog.specs.Listing.{IsSound};
 use lot_table::{Fault, MakeFault, make_each};
 use sqlite::{Alter, Transaction};
 
-/// Makes the eleven tables of a book.
+const OPENING: &str =
+    "CREATE TABLE opening (account TEXT NOT NULL, commodity TEXT NOT NULL, cost_day INTEGER NOT NULL, cost_currency TEXT NOT NULL, cost_number INTEGER NOT NULL, cost_label TEXT NOT NULL, opening INTEGER NOT NULL, UNIQUE (account, commodity, cost_day, cost_currency, cost_number, cost_label)) STRICT";
+
+const MIGRATION: &str =
+    "CREATE TABLE migration (entries INTEGER NOT NULL, UNIQUE (entries)) STRICT";
+
+/// Makes the thirteen tables of a book.
 ///
 /// None is made where a table, an index or a view has the name of one, without regard to the case of ASCII letters. The error
 /// is `Taken` only there. In a file without tables it is `Memory`, or `Device` where the disk failed or had failed before. After
@@ -42,6 +56,46 @@ pub fn make<S: Alter>(tx: &mut Transaction<'_, S>) -> Result<(), MakeFault>
             "CREATE TABLE lot (account TEXT NOT NULL, commodity TEXT NOT NULL, cost_day INTEGER NOT NULL, cost_currency TEXT NOT NULL, cost_number INTEGER NOT NULL, cost_label TEXT NOT NULL, units INTEGER NOT NULL, UNIQUE (account, commodity, cost_day, cost_currency, cost_number, cost_label)) STRICT",
             "CREATE TABLE plain (account TEXT NOT NULL, commodity TEXT NOT NULL, units INTEGER NOT NULL, UNIQUE (account, commodity)) STRICT",
             "CREATE TABLE head (account TEXT NOT NULL, commodity TEXT NOT NULL, day INTEGER NOT NULL, UNIQUE (account, commodity)) STRICT",
+            OPENING,
+            MIGRATION,
         ],
     )
+}
+
+/// Adds the two tables of edition 2 to the eleven of edition 1, whose rows stay as they are.
+///
+/// A book that had the tables of edition 1 then has the schema of one that `make` made. It fails
+/// where a table, an index or a view has the name of one of the two, without regard to the case of
+/// ASCII letters. The error is `Taken` only there. In a book of edition 1 it is `Memory`, or `Device`
+/// where the disk failed or had failed before. After an error the last commit stands, and the caller
+/// drops the transaction, which rolls back a table that was added.
+pub fn add_later<S: Alter>(tx: &mut Transaction<'_, S>) -> Result<(), MakeFault>
+    requires { HasCleanDisk (state S.Store tx.old.conn.now)
+        → IsTrue (state S.Store tx.old.conn.now).in_transaction }
+    ensures same_reference { tx.new.conn.ghost_name ≡ tx.old.conn.ghost_name }
+    ensures inside { HasCleanDisk (state S.Store tx.new.conn.now)
+        → OnOk result (IsTrue (state S.Store tx.new.conn.now).in_transaction) }
+    ensures made { HasCleanDisk (state S.Store tx.new.conn.now)
+        → OnOk result ((tables : Tables) → HasFirst (state S.Store tx.old.conn.now) tables
+        → Has (state S.Store tx.new.conn.now) (record tables { opening = []; migration = [] })) }
+    ensures free { HasCleanDisk (state S.Store tx.new.conn.now)
+        → OnOk result (is_taken later_names (state S.Store tx.old.conn.now).now.schema ≡ false) }
+    ensures taken { HasCleanDisk (state S.Store tx.new.conn.now)
+        → result ≡ Err MakeFault.Taken
+        → is_taken later_names (state S.Store tx.old.conn.now).now.schema ≡ true }
+    ensures untaken { HasCleanDisk (state S.Store tx.new.conn.now)
+        → result ≡ Err MakeFault.Taken
+        → (state S.Store tx.old.conn.now).now.schema ≢ schema_of first_shapes }
+    ensures damaged { HasCleanDisk (state S.Store tx.new.conn.now)
+        → result ≡ Err (MakeFault.Failed Fault.Damaged)
+        → (state S.Store tx.old.conn.now).now.schema ≢ schema_of first_shapes }
+    ensures device { HasCleanDisk (state S.Store tx.new.conn.now)
+        → result ≡ Err (MakeFault.Failed Fault.Device)
+        → (state S.Store tx.old.conn.now).now.schema ≡ schema_of first_shapes
+        → DiskFailed (state S.Store tx.old.conn.now) (state S.Store tx.new.conn.now) }
+    ensures kept { HasCleanDisk (state S.Store tx.new.conn.now)
+        → KeepsCommit (state S.Store tx.old.conn.now) (state S.Store tx.new.conn.now) }
+    ensures crash { Survives (state S.Store tx.old.conn.now) (state S.Store tx.new.conn.now) (λ _. ⊥) }
+{
+    make_each(tx, &[OPENING, MIGRATION])
 }

@@ -41,6 +41,7 @@ pub(crate) fn act<S: Alter>(
         let served = serve(alloc, action, &mut reader, &mut written, conn);
         let Served {
             status: _,
+            halt: _,
             conn: left,
         } = served;
         conn = left;

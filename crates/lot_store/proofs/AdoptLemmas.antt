@@ -60,6 +60,7 @@ module _ (old new : State) where
       → TellsBook tables.book result
   tells_book result (inl (rows, shown, tells)) unlimited apart tables has = subst (λ (rs : List Row). TellsColumns rs result) (list_rows old new rows shown tables has) tells
   tells_book (Ok done) (inr none) unlimited apart tables has = absurd none
+  tells_book (Err adopt.OlderEdition) (inr none) unlimited apart tables has = absurd none
   tells_book (Err adopt.NewerEdition) (inr none) unlimited apart tables has = absurd none
   tells_book (Err adopt.NotABook) (inr refused) unlimited apart tables has = absurd (list_refused old new refused unlimited tables has)
   tells_book (Err adopt.Device) (inr failed) unlimited apart tables has = absurd (apart refl)

@@ -6,20 +6,21 @@ use Rattle.sqlite.proofs.StateLemmas.{survives_then, survives_weaker}
 use Rattle.sqlite.specs.Tree.{Trees}
 use Rattle.lot_command.specs.declared.command.Command.{Command}
 use Rattle.lot_command.specs.declared.key.Key.{Key}
-use Rattle.lot_book.specs.Agree.{Agrees}
 use Rattle.lot_book.specs.Book.{IsBook, entry_of}
-use Rattle.lot_book.specs.Facts.{Entry, Facts, facts_of}
+use Rattle.lot_book.specs.Edition.{Second}
+use Rattle.lot_book.specs.Facts.{Entry}
 use Rattle.lot_book.specs.Judged.{JudgesOn}
-use Rattle.lot_book.specs.Step.{Accept, Decides, Refuse, Repeat, Step}
+use Rattle.lot_book.specs.Openings.{AgreesWithOpenings, DecidesByOpening, FactsWithOpenings, IsAcceptedWith, facts_with_openings, ties_on}
+use Rattle.lot_book.specs.Step.{Accept, Refuse, Repeat, Step}
 use Rattle.lot_book.specs.declared.refusal.Refusal.{Refusal}
 use Rattle.lot_book.specs.declared.change.Change.{Change}
 use Rattle.lot_book.specs.declared.verdict.Verdict.{Verdict}
 use Rattle.lot_book.specs.declared.verdict.Verdict.TheVariants.{Accepted}
 use Rattle.lot_stored.specs.StandFor.{AreOfBook, StandFor, Stands}
 use Rattle.lot_laws.proofs.RecordedBook.{book-grows, key_was_new}
-use Rattle.lot_laws.proofs.StepLooks.{same_decision}
+use Rattle.lot_laws.proofs.StepOpenings.{step_where_agreed}
 use Rattle.lot_command.specs.Sayable.{IsSayable}
-use Rattle.lot_book.specs.Change.{IsAcceptedWith, Lists}
+use Rattle.lot_book.specs.Change.{ListsUnder}
 use Rattle.lot_write.specs.Call.{Stops}
 use Rattle.lot_write.specs.Write.{AreFit, IsGood, written_all}
 use Rattle.lot_write.specs.Writes.{AreNumbered, ListsInOrder, writes_of}
@@ -55,65 +56,65 @@ of_book s entries stands = (entries, stands.book, stands.stand)
 -- what is written stands for the book
 abbrev pub KeepsBook : Type 0
 KeepsBook =
-    (tables : Tables) (entries : List Entry) (known : Facts) (key : Key) (command : Command) (change : Change) → IsBook entries → StandFor tables entries
-    → Agrees known (facts_of entries key) command → known.text ≡ None → IsAcceptedWith known command change → ListsInOrder command change → IsSayable command
-    → All IsGood (writes_of known key command change)
-    → AreFit (writes_of known key command change) tables
-    × StandFor (written_all (writes_of known key command change) tables) (entries ++ entry_of key command change.legs ∷ [])
+    (tables : Tables) (entries : List Entry) (known : FactsWithOpenings) (key : Key) (command : Command) (change : Change) → IsBook entries → StandFor tables entries
+    → AgreesWithOpenings known (facts_with_openings entries key) command → known.facts.text ≡ None → IsAcceptedWith known command change → ListsInOrder command change → IsSayable command
+    → All IsGood (writes_of known.facts key command change)
+    → AreFit (writes_of known.facts key command change) tables
+    × StandFor (written_all (writes_of known.facts key command change) tables) (entries ++ entry_of key command change.legs ∷ [])
 
-module _ (law : KeepsBook) (entries : List Entry) (key : Key) (command : Command) (known : Facts) (change : Change) (is_book : IsBook entries)
-    (agrees : Agrees known (facts_of entries key) command) (decides : Decides known command (Accept change.legs)) (lists : Lists known command change)
-    (ordered : ListsInOrder command change) (sayable : IsSayable command) (good : All IsGood (writes_of known key command change)) where
+module _ (law : KeepsBook) (entries : List Entry) (key : Key) (command : Command) (known : FactsWithOpenings) (change : Change) (is_book : IsBook entries)
+    (agrees : AgreesWithOpenings known (facts_with_openings entries key) command) (decides : DecidesByOpening known command (Accept change.legs)) (lists : ListsUnder (ties_on known) known.facts command change)
+    (ordered : ListsInOrder command change) (sayable : IsSayable command) (good : All IsGood (writes_of known.facts key command change)) where
   entry : Entry
   entry = entry_of key command change.legs
 
   pub step : Step entries key command (Accept change.legs)
-  step = same_decision known (facts_of entries key) command (Accept change.legs) agrees decides
+  step = step_where_agreed Second known entries key command (Accept change.legs) agrees decides
 
   pub kept : (tables : Tables) → StandFor tables entries
-      → AreFit (writes_of known key command change) tables × StandFor (written_all (writes_of known key command change) tables) (entries ++ entry_of key command change.legs ∷ [])
+      → AreFit (writes_of known.facts key command change) tables × StandFor (written_all (writes_of known.facts key command change) tables) (entries ++ entry_of key command change.legs ∷ [])
   kept tables stand =
-      law tables entries known key command change is_book stand agrees (key_was_new known command change.legs known.text decides).0 (decides, lists) ordered sayable good
+      law tables entries known key command change is_book stand agrees (key_was_new (ties_on known) known.facts command change.legs known.facts.text decides).0 (decides, lists) ordered sayable good
 
   pub grown : IsBook (entries ++ entry_of key command change.legs ∷ [])
   grown = book-grows entries key command change.legs is_book step
 
   pub leaves : (trees : Trees) (tables : Tables) → StandFor tables entries
-      → (AreFit (writes_of known key command change) tables → Holds layout trees (written_all (writes_of known key command change) tables))
+      → (AreFit (writes_of known.facts key command change) tables → Holds layout trees (written_all (writes_of known.facts key command change) tables))
       → LeavesEntry entries key command trees
   leaves trees tables stand holds = (
     entries ++ entry_of key command change.legs ∷ [],
     (change.legs, step, refl),
-    record { book = grown; tables = written_all (writes_of known key command change) tables; holds = holds (kept tables stand).0; stand = (kept tables stand).1 },
+    record { book = grown; tables = written_all (writes_of known.facts key command change) tables; holds = holds (kept tables stand).0; stand = (kept tables stand).1 },
   )
 
   pub stands_on : (s : State) (tables : Tables) → StandFor tables entries
-      → (AreFit (writes_of known key command change) tables → Has s (written_all (writes_of known key command change) tables))
+      → (AreFit (writes_of known.facts key command change) tables → Has s (written_all (writes_of known.facts key command change) tables))
       → JudgesOn entries key command Accepted (entries ++ entry_of key command change.legs ∷ []) × Stands s (entries ++ entry_of key command change.legs ∷ [])
   stands_on s tables stand has = (
     (change.legs, step, refl),
-    record { book = grown; tables = written_all (writes_of known key command change) tables; has = has (kept tables stand).0; stand = (kept tables stand).1 },
+    record { book = grown; tables = written_all (writes_of known.facts key command change) tables; has = has (kept tables stand).0; stand = (kept tables stand).1 },
   )
 
 -- ---- what was looked at, with what was kept
 
 -- What is known of a book that the tables stand for, of which was what was kept: it agrees with the book on what the command
 -- looks at, and what was looked at is of the book.
-abbrev pub LooksOn : (Kept Looked : List Entry → Type 0) → Facts → Key → Command → State → Type 0
+abbrev pub LooksOn : (Kept Looked : List Entry → Type 0) → FactsWithOpenings → Key → Command → State → Type 0
 LooksOn Kept Looked known key command old =
     (tables : Tables) → Has old tables → (entries : List Entry) → IsBook entries → StandFor tables entries → Kept entries
-    → Looked entries × Agrees known (facts_of entries key) command
+    → Looked entries × AgreesWithOpenings known (facts_with_openings entries key) command
 
 -- ---- a command that changes nothing, after what it looks at was read
 
-module _ (Kept Looked : List Entry → Type 0) (key : Key) (command : Command) (known : Facts) (old new : State) (same : HasCleanDisk new → IsUnchanged old new)
+module _ (Kept Looked : List Entry → Type 0) (key : Key) (command : Command) (known : FactsWithOpenings) (old new : State) (same : HasCleanDisk new → IsUnchanged old new)
     (looks : HasCleanDisk new → LooksOn Kept Looked known key command old)
     (settled : HasCleanDisk new → IsTrue old.is_open → old.now ≡ old.committed) (crash : Survives old new (λ _. ⊥)) where
   stays : HasCleanDisk new → (entries : List Entry) → StandsWith Kept old entries → StandsWith Looked new entries
   stays clean entries there =
       (stands_along old new entries (same clean).0.now_is there.0, (looks clean there.0.tables there.0.has entries there.0.book there.0.stand there.1).0)
 
-  agrees : HasCleanDisk new → (entries : List Entry) → StandsWith Kept old entries → Agrees known (facts_of entries key) command
+  agrees : HasCleanDisk new → (entries : List Entry) → StandsWith Kept old entries → AgreesWithOpenings known (facts_with_openings entries key) command
   agrees clean entries there = (looks clean there.0.tables there.0.has entries there.0.book there.0.stand there.1).1
 
   keeps : HasCleanDisk new → KeepsCommit old new
@@ -123,20 +124,20 @@ module _ (Kept Looked : List Entry → Type 0) (key : Key) (command : Command) (
   committed clean =
       let it = (same clean).0 in (it.is_open, it.committed_is ∙ sym (settled clean it.was_open) ∙ sym it.now_is)
 
-  pub repeats : Decides known command Repeat → AppliesWith Kept Looked key command old new (Ok ack.Repeat)
+  pub repeats : DecidesByOpening known command Repeat → AppliesWith Kept Looked key command old new (Ok ack.Repeat)
   repeats decides = record {
     judged = λ clean entries there.
-        (entries, (same_decision known (facts_of entries key) command Repeat (agrees clean entries there) decides, refl), stays clean entries there);
+        (entries, (step_where_agreed Second known entries key command Repeat (agrees clean entries there) decides, refl), stays clean entries there);
     settled = committed;
     rest = same;
     damaged = λ clean is. cc;
     crash = leaves_none old new (MayAdd (StandsWith Kept old) key command (Ok ack.Repeat)) crash;
   }
 
-  pub refuses : (refusal : Refusal) → Decides known command (Refuse refusal) → AppliesWith Kept Looked key command old new (Err (Refused refusal))
+  pub refuses : (refusal : Refusal) → DecidesByOpening known command (Refuse refusal) → AppliesWith Kept Looked key command old new (Err (Refused refusal))
   refuses refusal decides = record {
     judged = λ clean entries there.
-        (entries, (same_decision known (facts_of entries key) command (Refuse refusal) (agrees clean entries there) decides, refl), stays clean entries there);
+        (entries, (step_where_agreed Second known entries key command (Refuse refusal) (agrees clean entries there) decides, refl), stays clean entries there);
     settled = committed;
     rest = same;
     damaged = λ clean is. cc;
@@ -145,19 +146,19 @@ module _ (Kept Looked : List Entry → Type 0) (key : Key) (command : Command) (
 
 -- ---- a command that is accepted, after what it looks at was read, with its writes committed or not
 
-module _ (law : KeepsBook) (Kept Looked : List Entry → Type 0) (key : Key) (command : Command) (known : Facts) (change : Change) (writes : List Write)
-    (are : writes ≡ writes_of known key command change) (comes : IsAcceptedWith known command change) (ordered : ListsInOrder command change)
+module _ (law : KeepsBook) (Kept Looked : List Entry → Type 0) (key : Key) (command : Command) (known : FactsWithOpenings) (change : Change) (writes : List Write)
+    (are : writes ≡ writes_of known.facts key command change) (comes : IsAcceptedWith known command change) (ordered : ListsInOrder command change)
     (sayable : IsSayable command) (good : All IsGood writes) (old mid new : State) (same : HasCleanDisk mid → IsUnchanged old mid)
     (looks : HasCleanDisk mid → LooksOn Kept Looked known key command old)
     (settled : HasCleanDisk mid → IsTrue old.is_open → old.now ≡ old.committed) (looked : Survives old mid (λ _. ⊥)) where
-  all_good : All IsGood (writes_of known key command change)
+  all_good : All IsGood (writes_of known.facts key command change)
   all_good = subst (All IsGood) are good
 
   -- the tables that were looked at are those that are written
   has_then : HasCleanDisk mid → (tables : Tables) → Has old tables → Has mid tables
   has_then clean tables has = subst (λ (db : Database). (db.schema ≡ layout.schema) × Holds layout db.trees tables) (sym (same clean).0.now_is) has
 
-  told : HasCleanDisk mid → (entries : List Entry) → (there : StandsWith Kept old entries) → Looked entries × Agrees known (facts_of entries key) command
+  told : HasCleanDisk mid → (entries : List Entry) → (there : StandsWith Kept old entries) → Looked entries × AgreesWithOpenings known (facts_with_openings entries key) command
   told clean entries there = looks clean there.0.tables there.0.has entries there.0.book there.0.stand there.1
 
   fit : HasCleanDisk mid → (entries : List Entry) → (there : StandsWith Kept old entries) → AreFit writes there.0.tables
@@ -175,7 +176,7 @@ module _ (law : KeepsBook) (Kept Looked : List Entry → Type 0) (key : Key) (co
 
   -- what is kept then is of the book with the entry
   pub accepts : (KeptThen : List Entry → Type 0)
-      → ((entries : List Entry) → IsBook entries → Looked entries → Agrees known (facts_of entries key) command → KeptThen (entries ++ entry_of key command change.legs ∷ []))
+      → ((entries : List Entry) → IsBook entries → Looked entries → AgreesWithOpenings known (facts_with_openings entries key) command → KeptThen (entries ++ entry_of key command change.legs ∷ []))
       → (HasCleanDisk new → WritesDown writes mid new) → Survives mid new (MayWrite {A = Unit {0}} writes mid (Ok tt))
       → AppliesWith Kept KeptThen key command old new (Ok ack.Accepted)
   accepts KeptThen records done crash = record {
@@ -257,7 +258,7 @@ fails_unwritten Kept KeptThen key command old new fault apart same crash = recor
 }
 
 -- a number of what is accepted doesn't fit its column
-pub refused_number : (Kept Looked : List Entry → Type 0) (key : Key) (command : Command) (known : Facts) (change : Change) (old mid : State) → IsAcceptedWith known command change
+pub refused_number : (Kept Looked : List Entry → Type 0) (key : Key) (command : Command) (known : FactsWithOpenings) (change : Change) (old mid : State) → IsAcceptedWith known command change
     → LooksOn Kept Looked known key command old → ¬ AreNumbered change
     → RefusedByDeviceWith Kept key command old mid
 refused_number Kept Looked key command known change old mid comes looks numbers entries stands is_kept = inr (record {

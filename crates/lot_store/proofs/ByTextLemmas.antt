@@ -17,8 +17,8 @@ use Rattle.lot_command.specs.Sayable.{IsSayable}
 use Rattle.lot_command.specs.declared.command.Command.{Command}
 use Rattle.lot_command.specs.declared.key.Key.{Key}
 use Rattle.lot_book.specs.Book.{entry_of}
-use Rattle.lot_book.specs.Change.{IsAcceptedWith}
 use Rattle.lot_book.specs.Facts.{Facts}
+use Rattle.lot_book.specs.Openings.{FactsWithOpenings, IsAcceptedWith, ties_on}
 use Rattle.lot_book.specs.declared.change.Change.{Change}
 use Rattle.lot_book.specs.declared.verdict.Verdict.{Verdict}
 use Rattle.lot_book.specs.declared.verdict.Verdict.TheVariants.{Accepted}
@@ -125,18 +125,18 @@ module _ (known : Facts) (key : Key) (command : Command) (change : Change) (tabl
       (all_filtered (λ (e : EntryRow). not (has_key 1 (entry_cells row) (entry_cells e))) (λ (e : EntryRow). p e ≡ false) tables.entry unnamed))
 
 -- its writes are made, and its text stands there
-pub turns_accepted : (known : Facts) (key : Key) (command : Command) (change : Change) (writes : List Write) → writes ≡ writes_of known key command change
-    → IsAcceptedWith known command change → IsSayable command → (tables : Tables) → HasText tables key known.text → (new : State)
+pub turns_accepted : (known : FactsWithOpenings) (key : Key) (command : Command) (change : Change) (writes : List Write) → writes ≡ writes_of known.facts key command change
+    → IsAcceptedWith known command change → IsSayable command → (tables : Tables) → HasText tables key known.facts.text → (new : State)
     → (AreFit writes tables → Has new (written_all writes tables)) → HasTurned tables key command new Accepted
 turns_accepted known key command change writes are accepted sayable tables text new has =
-    let none = (key_was_new known command change.legs known.text accepted.0).0 in
+    let none = (key_was_new (ties_on known) known.facts command change.legs known.facts.text accepted.0).0 in
     let absent : text_in tables key ≡ None = text.0 ∙ none in
-    let fit = subst (λ w. AreFit w tables) (sym are) (fits_new known key command change tables absent) in (
-      written_all (writes_of known key command change) tables,
+    let fit = subst (λ w. AreFit w tables) (sym are) (fits_new known.facts key command change tables absent) in (
+      written_all (writes_of known.facts key command change) tables,
       (
         known,
         text,
-        (change, accepted, refl, (text_written known key command change tables absent, (command, sayable, refl))),
+        (change, accepted, refl, (text_written known.facts key command change tables absent, (command, sayable, refl))),
       ),
       subst (λ w. Has new (written_all w tables)) are (has fit),
     )

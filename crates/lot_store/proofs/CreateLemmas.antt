@@ -6,9 +6,10 @@ use Rattle.sqlite.specs.Store.{Ghosts}
 use Rattle.sqlite.specs.Tree.{Trees}
 use Rattle.sqlite.specs.declared.error.Error.{Error}
 use Rattle.sqlite_catalog.specs.Listing.{IsSound}
-use Rattle.lot_stored.specs.Rows.{this_edition}
+use Rattle.lot_book.specs.Book.{IsBook}
+use Rattle.lot_stored.specs.Rows.{migration_row, this_edition}
 use Rattle.lot_stored.specs.StandFor.{Left, StandFor, Stands}
-use Rattle.lot_rows.specs.Tables.{Has, Tables, book_table, layout, no_rows_yet}
+use Rattle.lot_rows.specs.Tables.{Has, Tables, book_table, layout, migration_table, no_rows_yet}
 use Rattle.lot_rows.specs.declared.book.BookRow.{BookRow}
 use Rattle.lot_table.specs.Book.{Holds, Turns, always}
 use Rattle.lot_table.specs.Rows.{put_in}
@@ -31,6 +32,7 @@ empty_stand = record {
     lot = none _;
     plain = none _;
     head = none _;
+    opening = none _;
   };
   ordered = record {
     account = tt;
@@ -43,9 +45,14 @@ empty_stand = record {
     lot = tt;
     plain = tt;
     head = tt;
+    opening = tt;
   };
   said = none _;
   book = refl;
+  place = 0;
+  placed = omega arith;
+  judged = tt;
+  migration = refl;
   account = λ name. refl;
   allowed = λ account. refl;
   commodity = λ name. refl;
@@ -57,21 +64,34 @@ empty_stand = record {
   sale = refl;
   lot = λ account commodity lot good. refl;
   plain = λ account commodity. refl;
+  opening = λ account commodity lot good. refl;
   head = λ account commodity. refl;
 }
 
+empty_book : IsBook []
+empty_book = record { place = 0; placed = omega arith; is = tt }
+
 pub none_stands : (s : State) → StandsForNone s → Stands s []
-none_stands s has = record { book = tt; tables = no_entries_yet; has = has; stand = empty_stand }
+none_stands s has = record { book = empty_book; tables = no_entries_yet; has = has; stand = empty_stand }
 
 pub none_left : (trees : Trees) → Holds layout trees no_entries_yet → Left trees []
-none_left trees holds = record { book = tt; tables = no_entries_yet; holds = holds; stand = empty_stand }
+none_left trees holds = record { book = empty_book; tables = no_entries_yet; holds = holds; stand = empty_stand }
 
--- the row of the edition is the one row
+-- the tables with the row of the edition alone
+abbrev pub only_marked : Tables
+only_marked = record no_rows_yet { book = this_edition ∷ [] }
+
+-- the row of the edition is put first
 pub marked : (a b : State) (row : BookRow) → row ≡ this_edition → Has a no_rows_yet
-    → Turns layout always (λ (tables : Tables). book_table.with_rows (put_in book_table.encode book_table.width row (book_table.rows tables)) tables) a b → StandsForNone b
+    → Turns layout always (λ (tables : Tables). book_table.with_rows (put_in book_table.encode book_table.width row (book_table.rows tables)) tables) a b → Has b only_marked
 marked a b row is has turns =
     let made : Has b (record no_rows_yet { book = row ∷ [] }) = (turns.book has.0, turns.lists has.0 no_rows_yet has.1 tt) in
     subst (λ (r : BookRow). Has b (record no_rows_yet { book = r ∷ [] })) is made
+
+-- then that of the place of migration
+pub placed : (a b : State) → Has a only_marked
+    → Turns layout always (λ (tables : Tables). migration_table.with_rows (put_in migration_table.encode migration_table.width (migration_row 0) (migration_table.rows tables)) tables) a b → StandsForNone b
+placed a b has turns = (turns.book has.0, turns.lists has.0 only_marked has.1 tt)
 
 -- the tables are made in a database that was open and had none
 pub made_in : {S : Type 0} (g : Ghosts S) (old begun last : Held S) → begun ≡ record old { in_transaction = true } → IsLive (state g old) → KeepsCommit (state g begun) (state g last)

@@ -4,10 +4,9 @@ use Rattle.sqlite.specs.State.{HasCleanDisk, IsUnchanged, KeepsCommit, State, Su
 use Rattle.sqlite.specs.Tree.{Trees}
 use Rattle.lot_command.specs.declared.command.Command.{Command}
 use Rattle.lot_command.specs.declared.key.Key.{Key}
-use Rattle.lot_book.specs.Agree.{Agrees}
-use Rattle.lot_book.specs.Change.{IsAcceptedWith}
-use Rattle.lot_book.specs.Facts.{Entry, Facts, facts_of}
+use Rattle.lot_book.specs.Facts.{Entry}
 use Rattle.lot_book.specs.Judged.{JudgesOn}
+use Rattle.lot_book.specs.Openings.{AgreesWithOpenings, FactsWithOpenings, IsAcceptedWith, facts_with_openings}
 use Rattle.lot_book.specs.declared.change.Change.{Change}
 use Rattle.lot_book.specs.declared.verdict.Verdict.{Verdict}
 use Rattle.lot_book.specs.declared.verdict.Verdict.TheVariants as verdict
@@ -115,7 +114,7 @@ LeavesAlone None old new = KeepsCommit old new × (IsTrue new.is_open → new.no
 
 -- what applying a command comes to, where `Before` tells which book is there before it, and `After` which one after it
 pub record AppliesOn (Before After : List Entry → Type 0) (key : Key) (command : Command) (old new : State) (result : Result Ack ApplyFault) : Type 0 where
-  -- where a book is there, the verdict is that of a step on it, and the book after the step is there then
+  -- where a book is there, the verdict is that of a step of edition 2 on it, and the book after the step is there then
   pub judged : HasCleanDisk new → (entries : List Entry) → Before entries
       → IfSome (verdict_of result) (λ verdict. (after : List Entry) × JudgesOn entries key command verdict after × After after)
   -- with the verdict all is committed
@@ -140,14 +139,14 @@ AppliesWith Kept KeptThen key command old new = AppliesOn (StandsWith Kept old) 
 
 -- ---- a device that refuses
 
--- The database has no room for what a command writes that is accepted on facts which agree with the book's: a number of it
--- doesn't fit its column, or a row its table.
+-- The database has no room for what a command writes that is accepted on facts which agree with the book's, and so do the
+-- opening numbers that they say: a number of it doesn't fit its column, or a row its table.
 pub record HasNoRoomFor (key : Key) (command : Command) (entries : List Entry) (tables : Tables) (new : State) : Type 0 where
-  pub known : Facts
+  pub known : FactsWithOpenings
   pub change : Change
-  pub agrees : Agrees known (facts_of entries key) command
+  pub agrees : AgreesWithOpenings known (facts_with_openings entries key) command
   pub accepted : IsAcceptedWith known command change
-  pub lacks : (¬ AreNumbered change) ⊎ StopsWriting (writes_of known key command change) tables new
+  pub lacks : (¬ AreNumbered change) ⊎ StopsWriting (writes_of known.facts key command change) tables new
 
 -- the device refuses a command of a book only where the disk failed, or the database has no room
 abbrev pub RefusedByDevice : Key → Command → State → State → Type 0

@@ -4,9 +4,8 @@ use Rattle.sqlite.specs.State.{HasCleanDisk, State}
 use Rattle.lot_command.specs.Canonical.{canonical}
 use Rattle.lot_command.specs.declared.command.Command.{Command}
 use Rattle.lot_command.specs.declared.key.Key.{Key}
-use Rattle.lot_book.specs.Change.{IsAcceptedWith}
-use Rattle.lot_book.specs.Facts.{Facts}
-use Rattle.lot_book.specs.Step.{Decides, Refuse, Repeat}
+use Rattle.lot_book.specs.Openings.{DecidesByOpening, FactsWithOpenings, IsAcceptedWith}
+use Rattle.lot_book.specs.Step.{Refuse, Repeat}
 use Rattle.lot_book.specs.declared.change.Change.{Change}
 use Rattle.lot_book.specs.declared.verdict.Verdict.{Verdict}
 use Rattle.lot_book.specs.declared.verdict.Verdict.TheVariants.{Accepted, Repeated, Refused}
@@ -24,20 +23,20 @@ use Rattle.lot_store.specs.declared.run.Ending.TheVariants.{Complete, Output, St
 
 -- ---- one command
 
--- What a command comes to on these facts, and which tables it leaves. Where it is accepted its writes are made, and its
--- canonical text stands under its key then; else nothing changes.
-abbrev pub TurnsOn : Facts → Tables → Key → Command → Verdict → Tables → Type 0
+-- What a command comes to by edition 2 on these facts and opening numbers, and which tables it leaves. Where it is accepted
+-- its writes are made, and its canonical text stands under its key then; else nothing changes.
+abbrev pub TurnsOn : FactsWithOpenings → Tables → Key → Command → Verdict → Tables → Type 0
 TurnsOn known tables key command Accepted after =
     (change : Change) × IsAcceptedWith known command change
-    × (after ≡ written_all (writes_of known key command change) tables) × HasText after key (Some (canonical command))
-TurnsOn known tables key command Repeated after = Decides known command Repeat × (after ≡ tables)
-TurnsOn known tables key command (Refused refusal) after = Decides known command (Refuse refusal) × (after ≡ tables)
+    × (after ≡ written_all (writes_of known.facts key command change) tables) × HasText after key (Some (canonical command))
+TurnsOn known tables key command Repeated after = DecidesByOpening known command Repeat × (after ≡ tables)
+TurnsOn known tables key command (Refused refusal) after = DecidesByOpening known command (Refuse refusal) × (after ≡ tables)
 
 -- The same on facts with the text that the tables have under the key. Where there is one it is canonical, and the verdict is
 -- `Repeated` or `Refused KeyReused` by it; else it is that of a command whose key is new.
 abbrev pub TurnsByText : Tables → Key → Command → Verdict → Tables → Type 0
 TurnsByText tables key command verdict after =
-    (known : Facts) × HasText tables key known.text × TurnsOn known tables key command verdict after
+    (known : FactsWithOpenings) × HasText tables key known.facts.text × TurnsOn known tables key command verdict after
 
 -- the database has the tables that the command leaves with that verdict
 abbrev pub HasTurned : Tables → Key → Command → State → Verdict → Type 0

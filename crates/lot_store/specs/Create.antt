@@ -6,7 +6,7 @@ use Rattle.sqlite.specs.declared.error.Error.{Error}
 use Rattle.sqlite.specs.declared.error.Error.TheVariants.{SqliteFailure}
 use Rattle.sqlite.specs.declared.error.ErrorCode.TheVariants as code
 use Rattle.sqlite_disk.specs.Disk.{MoreFaults}
-use Rattle.lot_stored.specs.Rows.{current_edition, marked, this_edition}
+use Rattle.lot_stored.specs.Rows.{current_edition, marked, migration_row, this_edition}
 use Rattle.lot_rows.specs.Book.{book_cells}
 use Rattle.lot_rows.specs.Tables.{Has, Tables, no_rows_yet}
 use Rattle.lot_rows.specs.declared.book.BookRow.{BookRow}
@@ -56,9 +56,9 @@ RefusedFor old new create.Device = old.now.schema ≡ schema_of [] → DiskFaile
 RefusedFor old new create.InDoubt = MoreFaults old.faults new.faults
 RefusedFor old new create.Memory = Unit {0}
 
--- the tables of a book without entries
+-- the tables of a book without entries, whose place of migration is 0
 abbrev pub no_entries_yet : Tables
-no_entries_yet = record no_rows_yet { book = this_edition ∷ [] }
+no_entries_yet = record no_rows_yet { book = this_edition ∷ []; migration = migration_row 0 ∷ [] }
 
 abbrev pub StandsForNone : State → Type 0
 StandsForNone s = Has s no_entries_yet
@@ -74,9 +74,11 @@ adopt_fault_of table.TheVariants.Device = adopt.Device
 adopt_fault_of table.TheVariants.Damaged = adopt.NotABook
 adopt_fault_of table.TheVariants.Memory = adopt.Memory
 
--- what is told of these columns: this program's edition, a newer one, or that they are no book's
+-- what is told of these columns: this program's edition, an older one, a newer one, or that they are no book's
 abbrev pub TellsColumns : List Row → Result (Unit {0}) AdoptFault → Type 0
 TellsColumns rows (Ok done) = AreMarked current_edition rows
+TellsColumns rows (Err adopt.OlderEdition) =
+    (edition : ℤ) × (pos 1 ≤ℤ edition) × (edition <ℤ current_edition) × AreMarked edition rows
 TellsColumns rows (Err adopt.NewerEdition) = (edition : ℤ) × (current_edition <ℤ edition) × AreMarked edition rows
 TellsColumns rows (Err adopt.NotABook) = (edition : ℤ) → pos 1 ≤ℤ edition → ¬ AreMarked edition rows
 TellsColumns rows (Err adopt.Device) = ⊥
@@ -93,6 +95,7 @@ marks_text = codes "SELECT mark, edition FROM book ORDER BY mark"
 -- why the question isn't answered: the database refuses it, as one without such a table does, or the disk failed
 abbrev pub IsUnanswered : State → State → Result (Unit {0}) AdoptFault → Type 0
 IsUnanswered old new (Ok done) = ⊥
+IsUnanswered old new (Err adopt.OlderEdition) = ⊥
 IsUnanswered old new (Err adopt.NewerEdition) = ⊥
 IsUnanswered old new (Err adopt.NotABook) = Refused marks_text [] old new table.TheVariants.Damaged
 IsUnanswered old new (Err adopt.Device) = DiskFailed old new

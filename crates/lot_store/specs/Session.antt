@@ -1,4 +1,4 @@
--- Sessions: commands with their keys, judged one after another on a book, and what a crash may leave of them
+-- Sessions: commands with their keys, judged one after another on a book by edition 2, and what a crash may leave of them
 -- (docs/PROMISES.md, Definitions).
 use Rattle.std.specs.Prelude.{◌≡◌, ◌⊎◌, List, [], ◌∷◌, ◌++◌}
 use Rattle.sqlite.specs.Tree.{Trees}

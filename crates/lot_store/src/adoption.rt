@@ -16,9 +16,9 @@ use std::alloc::Global;
 /// Returns the book that is in a file, and changes nothing.
 ///
 /// The error is `NotABook` where the table `book` isn't one row with the mark of a book and, as edition, a whole number of at
-/// least 1, or there is no such table; `NewerEdition` where the edition is newer than this program; and `Device` only where the
-/// disk failed or had failed before. No other table is looked at. After an error the connection is outside a transaction, and
-/// every row is as it was.
+/// least 1, or there is no such table; `OlderEdition` where the edition is older than this program, and `NewerEdition` where it
+/// is newer; and `Device` only where the disk failed or had failed before. No other table is looked at. After an error the
+/// connection is outside a transaction, and every row is as it was.
 pub fn adopt<S: Alter>(
     alloc: Global,
     conn: Connection<S>,
@@ -80,6 +80,9 @@ fn tell_row(book: &BookRow) -> Result<(), AdoptFault>
 {
     if book.mark.as_str() != "lot-book" || book.edition < 1 {
         return Err(AdoptFault::NotABook);
+    }
+    if book.edition < EDITION {
+        return Err(AdoptFault::OlderEdition);
     }
     if book.edition > EDITION {
         return Err(AdoptFault::NewerEdition);

@@ -50,8 +50,8 @@ pub struct Book<S: Alter> {
 }
 
 impl<S: Alter> Book<S> {
-    /// Applies a command under a key: judges it on the book, and makes it an entry in one commit where it is accepted. Returns
-    /// whether it was accepted or repeats an entry.
+    /// Applies a command under a key: judges it on the book by edition 2, and makes it an entry in one commit where it is
+    /// accepted. Returns whether it was accepted or repeats an entry.
     ///
     /// It reads and writes only the rows that the command touches. On a book `Device` comes only where the disk failed, or
     /// the database has no room for what the command writes. After `Device` and `InDoubt`, and only then, the book
@@ -207,7 +207,7 @@ fn apply_to<S: Alter>(
     // Outside a transaction the tables are those of the last commit.
     let _settled = conn.is_autocommit();
     let looked = look_on(alloc, conn, kept.take(), key, command)?;
-    match decide(alloc, Edition::First, looked.view(), command) {
+    match decide(alloc, Edition::Second, looked.view(), command) {
         Ok(Outcome::Accept(change)) => {
             let writes = writes(alloc, looked.view(), key, command, &change)?;
             commit(conn, &writes)?;

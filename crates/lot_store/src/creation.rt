@@ -10,6 +10,7 @@ ghost use Rattle.sqlite_catalog.specs.Listing.{IsSound};
 use crate::book::{Book, Condition};
 use crate::fault::{CreateFault, HandedBack};
 use lot_rows::book::{self, BookRow};
+use lot_rows::migration::{self, MigrationRow};
 use lot_rows::tables;
 use lot_stored::EDITION;
 use lot_table::AnyText;
@@ -17,7 +18,7 @@ use sqlite::{Alter, Connection, Error, ErrorCode, Transaction};
 use sqlite_schema::schema::Schema;
 use std::alloc::{AllocError, Global};
 
-/// Makes the tables of a book in one commit, and returns the book, which is empty.
+/// Makes the tables of a book of this edition in one commit, and returns the book, which is empty.
 ///
 /// The error is `NotABook` where the database has a table already, and nowhere else while it is open: a book stands in a file
 /// of its own. After `InDoubt` the tables were made or not. After any error the connection is outside a transaction, and every
@@ -88,7 +89,7 @@ fn make<S: Alter>(alloc: Global, conn: &mut Connection<S>) -> Result<(), CreateF
 }
 
 /// Returns the row by which a database is told to be a book of this edition.
-fn edition_row(alloc: Global) -> Result<BookRow, AllocError>
+pub fn edition_row(alloc: Global) -> Result<BookRow, AllocError>
     ensures { IfOk result (λ row. row ≡ this_edition) }
 {
     Ok(BookRow {
@@ -97,7 +98,8 @@ fn edition_row(alloc: Global) -> Result<BookRow, AllocError>
     })
 }
 
-/// Makes the tables in the open transaction, with the one row of a book that is empty.
+/// Makes the tables in the open transaction, with the two rows of a book that is empty: that of its edition, and its place of
+/// migration, 0.
 fn make_tables<S: Alter>(tx: &mut Transaction<'_, S>, row: &BookRow) -> Result<(), CreateFault>
     requires inside { HasCleanDisk (state S.Store tx.old.conn.now) → IsTrue (state S.Store tx.old.conn.now).in_transaction }
     requires unlimited { tx.old.conn.now.step_limit ≡ None }
@@ -114,6 +116,7 @@ fn make_tables<S: Alter>(tx: &mut Transaction<'_, S>, row: &BookRow) -> Result<(
 {
     tables::make(tx)?;
     book::put(tx, row)?;
+    migration::put(tx, &MigrationRow { entries: 0 })?;
     Ok(())
 }
 

@@ -154,6 +154,9 @@ pub enum AdoptFault {
     /// The table `book` isn't one row with the mark of a book and an edition.
     #[error("the database is no book")]
     NotABook,
+    /// The edition of the book is older than this program, and the book wasn't migrated.
+    #[error("the book is of an older edition")]
+    OlderEdition,
     /// The edition of the book is newer than this program.
     #[error("the book is of a newer edition")]
     NewerEdition,

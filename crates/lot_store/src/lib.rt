@@ -18,7 +18,7 @@ mod walk;
 
 pub use adoption::adopt;
 pub use book::{Ack, Book};
-pub use creation::create;
+pub use creation::{create, edition_row};
 pub use fault::{AdoptFault, ApplyFault, CreateFault, HandedBack, StoreFault};
 pub use lot_walk::{PairPrice, laws};
 pub use run::{Ending, RunEnd};

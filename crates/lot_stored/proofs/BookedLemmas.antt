@@ -12,10 +12,10 @@ use Rattle.lot_command.specs.declared.transaction.Transaction.{Transaction as Tr
 use Rattle.lot_book.specs.declared.leg.Leg.{Leg}
 use Rattle.lot_book.specs.declared.refusal.Refusal.{Refusal}
 use Rattle.lot_book.specs.Balance.{elided_postings, fill_from, fill_of, left_over, residuals, weights_in}
-use Rattle.lot_book.specs.Booking.{All, Booked, Booking, Bookings, Books, BooksAll, BooksTo, BooksWith, Continue, Fails, HasLegs, IsBooked, Line, Stopped, follow, legs_in, line_of}
+use Rattle.lot_book.specs.Booking.{All, Booked, Booking, Bookings, Books, BooksAllUnder, BooksTo, BooksWithUnder, Continue, Fails, HasLegs, IsBooked, Line, Stopped, TieRule, follow, legs_in, line_under}
 use Rattle.lot_book.specs.Facts.{Facts}
 use Rattle.lot_book.specs.Leg.{legs_at_lots}
-use Rattle.lot_book.specs.Step.{Accept, JudgesTransaction, all_legs, concluded, first_of, last_conditions}
+use Rattle.lot_book.specs.Step.{Accept, JudgesTransactionUnder, all_legs, concluded, first_of, last_conditions}
 use Rattle.lot_laws.proofs.LawBooks.{none_holds}
 
 -- ---- the legs of one posting
@@ -80,34 +80,34 @@ Walks entry place [] booked = booked ≡ []
 Walks entry place (posting ∷ postings) booked =
     WalksOn (Walks entry (suc place) postings) entry place posting.account posting.amount booked
 
-booked_at : (facts : Facts) (day : ℤ) (before : List Leg) (place : ℕ) (account : List ℕ) (amount : Amount) (booked : Booked)
-    → IsBooked (line_of facts day before place account amount) booked → IsAt (suc facts.entries) place account amount booked
-booked_at facts day before place account amount booked is =
-    let line = line_of facts day before place account amount in
+booked_at : (ties : TieRule) (facts : Facts) (day : ℤ) (before : List Leg) (place : ℕ) (account : List ℕ) (amount : Amount) (booked : Booked)
+    → IsBooked (line_under ties facts day before place account amount) booked → IsAt (suc facts.entries) place account amount booked
+booked_at ties facts day before place account amount booked is =
+    let line = line_under ties facts day before place account amount in
     record {
       place = is.place;
       numbered = numbered_posting line line.amount.cost booked.reduces booked.legs is.legs;
       of = of_posting line line.amount.cost booked.reduces booked.legs is.legs;
     }
 
-module _ (facts : Facts) (day : ℤ) where
+module _ (ties : TieRule) (facts : Facts) (day : ℤ) where
   abbrev Goes : ℕ → List Posting → Type 0
-  Goes place postings = (before : List Leg) (booked : List Booked) → BooksAll facts day before place postings (All booked)
+  Goes place postings = (before : List Leg) (booked : List Booked) → BooksAllUnder ties facts day before place postings (All booked)
       → Walks (suc facts.entries) place postings booked
 
   goes_followed : (before : List Leg) (place : ℕ) (account : List ℕ) (amount : Amount) (postings : List Posting)
       (booked : List Booked) (first : Booked) (others : Bookings)
-      → Goes (suc place) postings → IsBooked (line_of facts day before place account amount) first
-      → BooksAll facts day (before ++ first.legs) (suc place) postings others → All booked ≡ follow first others
+      → Goes (suc place) postings → IsBooked (line_under ties facts day before place account amount) first
+      → BooksAllUnder ties facts day (before ++ first.legs) (suc place) postings others → All booked ≡ follow first others
       → WalksOn (Walks (suc facts.entries) (suc place) postings) (suc facts.entries) place account (Some amount) booked
   goes_followed before place account amount postings booked first (Stopped refused) rest is books e = absurd cc
   goes_followed before place account amount postings booked first (All more) rest is books e =
-      (first, more, cc, booked_at facts day before place account amount first is, rest (before ++ first.legs) more books)
+      (first, more, cc, booked_at ties facts day before place account amount first is, rest (before ++ first.legs) more books)
 
   goes_on : (before : List Leg) (place : ℕ) (account : List ℕ) (amount : Amount) (postings : List Posting) (booked : List Booked)
       (booking : Booking)
-      → Goes (suc place) postings → BooksTo (line_of facts day before place account amount) booking
-      → Continue (λ legs others. BooksAll facts day legs (suc place) postings others) before (All booked) booking
+      → Goes (suc place) postings → BooksTo (line_under ties facts day before place account amount) booking
+      → Continue (λ legs others. BooksAllUnder ties facts day legs (suc place) postings others) before (All booked) booking
       → WalksOn (Walks (suc facts.entries) (suc place) postings) (suc facts.entries) place account (Some amount) booked
   goes_on before place account amount postings booked (Fails refused) rest books h = absurd cc
   goes_on before place account amount postings booked (Books first) rest books h =
@@ -116,7 +116,7 @@ module _ (facts : Facts) (day : ℤ) where
   goes_with : (before : List Leg) (place : ℕ) (account : List ℕ) (amount : Option Amount) (postings : List Posting)
       (booked : List Booked)
       → Goes (suc place) postings
-      → BooksWith (λ legs others. BooksAll facts day legs (suc place) postings others) facts day before place account amount (All booked)
+      → BooksWithUnder ties (λ legs others. BooksAllUnder ties facts day legs (suc place) postings others) facts day before place account amount (All booked)
       → WalksOn (Walks (suc facts.entries) (suc place) postings) (suc facts.entries) place account amount booked
   goes_with before place account None postings booked rest books = rest before booked books
   goes_with before place account (Some amount) postings booked rest books =
@@ -289,19 +289,19 @@ with_fill entry legs (elided ∷ more) rs of up apart =
 
 -- ---- an accepted transaction
 
--- the postings with amounts of an accepted transaction, and its legs
-pub record IsBookedAs (facts : Facts) (t : TransactionOf) (legs : List Leg) : Type 0 where
+-- the postings with amounts of an accepted transaction, and its legs, where ties are decided so
+pub record IsBookedAs (ties : TieRule) (facts : Facts) (t : TransactionOf) (legs : List Leg) : Type 0 where
   pub booked : List Booked
-  pub all : BooksAll facts t.day [] 1 t.postings (All booked)
+  pub all : BooksAllUnder ties facts t.day [] 1 t.postings (All booked)
   pub same : legs ≡ all_legs facts t booked
 
-pub booked_as : (facts : Facts) (t : TransactionOf) (refused : Option Refusal) (legs : List Leg)
-    → JudgesTransaction facts t refused (Accept legs) → IsBookedAs facts t legs
-booked_as facts t (Some refusal) legs e = absurd cc
-booked_as facts t None legs judges = by judges.0 judges.1 judges.2
+pub booked_as : (ties : TieRule) (facts : Facts) (t : TransactionOf) (refused : Option Refusal) (legs : List Leg)
+    → JudgesTransactionUnder ties facts t refused (Accept legs) → IsBookedAs ties facts t legs
+booked_as ties facts t (Some refusal) legs e = absurd cc
+booked_as ties facts t None legs judges = by judges.0 judges.1 judges.2
   where
-    by : (bookings : Bookings) → BooksAll facts t.day [] 1 t.postings bookings → Accept legs ≡ concluded facts t bookings
-        → IsBookedAs facts t legs
+    by : (bookings : Bookings) → BooksAllUnder ties facts t.day [] 1 t.postings bookings → Accept legs ≡ concluded facts t bookings
+        → IsBookedAs ties facts t legs
     by (Stopped refusal) books e = absurd cc
     by (All booked) books e = record {
       booked = booked;
@@ -310,11 +310,11 @@ booked_as facts t None legs judges = by judges.0 judges.1 judges.2
     }
 
 -- the legs of an accepted transaction bear the number of its entry, and those of each posting rise
-pub transaction_legs : (facts : Facts) (t : TransactionOf) (legs : List Leg) → IsBookedAs facts t legs
+pub transaction_legs : (ties : TieRule) (facts : Facts) (t : TransactionOf) (legs : List Leg) → IsBookedAs ties facts t legs
     → AllByRecursion (λ (leg : Leg). leg.entry ≡ suc facts.entries) legs × IsAscending Precedes legs
-transaction_legs facts t legs is =
+transaction_legs ties facts t legs is =
     let entry = suc facts.entries in
-    let walk = walks facts t.day 1 t.postings [] is.booked is.all in
+    let walk = walks ties facts t.day 1 t.postings [] is.booked is.all in
     let both = with_fill entry (legs_in is.booked) (elided_postings 1 t.postings) (residuals (weights_in is.booked))
     (all_weaker (IsFrom entry 1) (λ (leg : Leg). leg.entry ≡ entry) (λ leg from. from.0) (legs_in is.booked)
     (legs_from entry 1 t.postings is.booked walk))

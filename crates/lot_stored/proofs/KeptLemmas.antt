@@ -1,12 +1,13 @@
 -- What a book with one more entry says beside the facts that commands are judged on, and the rows of its entries.
-use Rattle.std.specs.Prelude.{◌≡◌, ℕ, suc, ◌+◌, ◌≤◌, Bool, true, false, ◌&&◌, ◌||◌, cond, List, [], ◌∷◌, ◌++◌, length, find, pos, ℤ, Option, None, Some, is_some}
+use Rattle.std.specs.Prelude.{◌≡◌, ℕ, suc, ◌+◌, ◌≤◌, Bool, true, false, ◌&&◌, ◌||◌, cond, List, [], ◌∷◌, ◌++◌, length, find, reverse, slice_get, pos, ℤ, Option, None, Some, is_some}
 use Rattle.std.specs.List.{AllByRecursion}
-use Rattle.std.specs.Option.{option_map, option_or}
+use Rattle.std.specs.Option.{option_map, option_or, unwrap_or}
 use Rattle.std.specs.Ordering.{is_eq, ordering_then}
 use Rattle.std.specs.declared.cmp.Ordering.TheVariants.{Less, Equal}
 use Rattle.std.proofs.Common.{refl, sym, ap, ◌∙◌, arith}
 use Rattle.std.proofs.Math.Bool.{and-true}
 use Rattle.std.proofs.lemmas.Bool.{true≢false}
+use Rattle.std.proofs.lemmas.List.{reverse-append}
 use Rattle.sqlite.specs.Order.{Row}
 use Rattle.sqlite.specs.declared.types.Value.TheVariants.{Int, Text}
 use Rattle.sqlite_value.specs.Order.{value_cmp}
@@ -18,7 +19,7 @@ use Rattle.lot_command.specs.declared.command.Command.TheVariants.{Opening, Clos
 use Rattle.lot_command.specs.declared.key.Key.{Key}
 use Rattle.lot_cost.proofs.OrderLemmas.{eq_then}
 use Rattle.lot_book.specs.Facts.{Entry, declares, is_declared, same_key, text_under}
-use Rattle.lot_rows.specs.Entry.{IsUnnamed, entry_cells, is_named}
+use Rattle.lot_rows.specs.Entry.{IsUnnamed, entry_cells, greatest_number, is_named}
 use Rattle.lot_rows.specs.declared.entry.EntryRow.{EntryRow}
 use Rattle.lot_stored.specs.Kept.{declared_on, declaring_by, rate_by, rate_on}
 use Rattle.lot_stored.specs.Rows.{entry_row, entry_rows}
@@ -88,6 +89,46 @@ entry_rows-below number (entry ∷ entries) new within = (
   number_below 0 number new.number (told (entry_row number entry)) (told new) (omega arith),
   entry_rows-below (suc number) entries new (omega arith),
 )
+
+first_behind : (rows : List EntryRow) (last row : EntryRow) → slice_get rows 0 ≡ Some row → slice_get (rows ++ last ∷ []) 0 ≡ Some row
+first_behind [] last row e = cc
+first_behind (x ∷ rows) last row e = e
+
+-- the last row of entries has the number of the last entry
+last_row : (number : ℕ) (entry : Entry) (entries : List Entry)
+    → (row : EntryRow) × (slice_get (reverse (entry_rows number (entry ∷ entries))) 0 ≡ Some row) × (row.number ≡ number + length entries)
+last_row number entry [] = (entry_row number entry, refl, omega arith)
+last_row number entry (next ∷ entries) =
+    let more = last_row (suc number) next entries in
+    let rows = entry_rows (suc number) (next ∷ entries) in (
+      more.0,
+      ap (λ (xs : List EntryRow). slice_get xs 0) (reverse-append (entry_row number entry ∷ []) rows)
+          ∙ first_behind (reverse rows) (entry_row number entry) more.0 more.1,
+      more.2 ∙ omega arith,
+    )
+
+pub greatest_some : (entries : List Entry) (number : ℕ) → Some number ≡ greatest_number (entry_rows 1 entries) → number ≡ length entries
+greatest_some [] number e = cc
+greatest_some (entry ∷ entries) number e =
+    let last = last_row 1 entry entries in
+    let is : Some number ≡ Some last.0.number = e ∙ ap (option_map (λ (row : EntryRow). row.number)) last.1 in
+    let same : number ≡ last.0.number = cc in
+    same ∙ last.2 ∙ omega arith
+
+pub greatest_none : (entries : List Entry) → None ≡ greatest_number (entry_rows 1 entries) → 0 ≡ length entries
+greatest_none [] e = refl
+greatest_none (entry ∷ entries) e =
+    let last = last_row 1 entry entries in
+    let is : None ≡ Some last.0.number = e ∙ ap (option_map (λ (row : EntryRow). row.number)) last.1 in
+    cc
+
+-- the greatest number, or 0 where there is none, counts the entries
+pub greatest_counts : (entries : List Entry) → unwrap_or (greatest_number (entry_rows 1 entries)) 0 ≡ length entries
+greatest_counts entries = by (greatest_number (entry_rows 1 entries)) refl
+  where
+    by : (o : Option ℕ) → greatest_number (entry_rows 1 entries) ≡ o → unwrap_or o 0 ≡ length entries
+    by None is = greatest_none entries (sym is)
+    by (Some number) is = greatest_some entries number (sym is)
 
 -- ---- keys
 

@@ -1,12 +1,13 @@
 -- When a row of a table has a key: exactly where their texts and numbers are the same.
 use Rattle.std.specs.Prelude.{◌≡◌, ℕ, suc, ◌<◌, ◌==◌, true, ◌&&◌, List, [], ◌∷◌, Option, Some, None, ℤ, pos}
 use Rattle.std.specs.Cmp.{Equal-is}
-use Rattle.std.specs.Ordering.{int_cmp, int_eq, is_eq, ordering_then}
+use Rattle.std.specs.Option.{option_cmp}
+use Rattle.std.specs.Ordering.{int_cmp, int_eq, is_eq, nat_cmp, ordering_then}
 use Rattle.std.specs.declared.cmp.Ordering.TheVariants.{Less, Equal}
 use Rattle.std.proofs.Common.{refl, sym, ap, subst, ◌∙◌, arith, IsTrue}
 use Rattle.std.proofs.Math.Bool.{and-true}
 use Rattle.std.proofs.lemmas.Bool.{and_parts, true≢false}
-use Rattle.std.proofs.lemmas.Bool.Decides.{Decides-eqb, Decides-int_eq, same_from_decides}
+use Rattle.std.proofs.lemmas.Bool.Decides.{Decides-eqb, Decides-int_eq, nat_tests, same_from_decides}
 use Rattle.std.proofs.lemmas.Cmp.{int_eq_equiv, tied_itself}
 use Rattle.std.proofs.lemmas.Int.{ints}
 use Rattle.sqlite.specs.Order.{Row}
@@ -14,13 +15,13 @@ use Rattle.sqlite.specs.declared.types.Value.TheVariants.{Int, Text}
 use Rattle.sqlite.specs.declared.types.Value.{Value}
 use Rattle.sqlite_sql.proofs.QueryLemmas.{key_cmp_shift}
 use Rattle.sqlite_sql.specs.Query.{key_cmp}
-use Rattle.sqlite_value.proofs.OrderLemmas.{value_cmp-Int, value_cmp-Text, value_cmp_total}
+use Rattle.sqlite_value.proofs.OrderLemmas.{then-Equal, value_cmp-Int, value_cmp-Text, value_cmp_total}
 use Rattle.sqlite_value.specs.Keys.{rising}
 use Rattle.sqlite_value.specs.Order.{value_cmp}
 use Rattle.lot_base.specs.Name.{is_label}
-use Rattle.lot_base.specs.Text.{same_text}
+use Rattle.lot_base.specs.Text.{same_text, text_cmp}
 use Rattle.lot_base.proofs.TextLemmas.{one_text, same_text-ordered}
-use Rattle.lot_book.specs.Leg.{same_position}
+use Rattle.lot_book.specs.Leg.{position_cmp, same_position}
 use Rattle.lot_book.specs.declared.leg.Position.{Position}
 use Rattle.lot_book.proofs.OrderLemmas.{exact_positions, positions_total}
 use Rattle.lot_cost.specs.declared.lot_key.LotKey.{LotKey}
@@ -150,6 +151,33 @@ has_lot account commodity other what lot there rest labelled labelled_there =
       (λ same. ap (λ (p : Position). same_position p (at_lot other what there)) same
           ∙ ap is_eq (tied_itself positions_total (at_lot other what there))),
     )
+
+-- ---- the order of lots
+
+label_order : (a b : Option (List ℕ)) → IsLabelOrNone a → IsLabelOrNone b → text_cmp (label_text a) (label_text b) ≡ option_cmp text_cmp a b
+label_order None None p q = refl
+label_order None (Some []) p q = absurd (label_is_some [] q.1 refl)
+label_order None (Some (x ∷ xs)) p q = refl
+label_order (Some []) None p q = absurd (label_is_some [] p.1 refl)
+label_order (Some (x ∷ xs)) None p q = refl
+label_order (Some a) (Some b) p q = refl
+
+number_order : (m n : ℕ) → int_cmp (pos m) (pos n) ≡ nat_cmp m n
+number_order m n = grind (arith, nat_tests)
+
+-- rows of lots are in the order of their positions
+pub lot_rows_order : (account commodity other what : List ℕ) (lot there : LotKey) (rest more : Row) → IsLabelOrNone lot.label → IsLabelOrNone there.label
+    → key_order 6 (Text account ∷ Text commodity ∷ lot_columns (Some lot) rest) (Text other ∷ Text what ∷ lot_columns (Some there) more)
+    ≡ position_cmp (at_lot account commodity lot) (at_lot other what there)
+lot_rows_order account commodity other what lot there rest more labelled labelled_there =
+    let numbers = value_cmp-Int (pos lot.number) (pos there.number) ∙ number_order lot.number there.number in
+    let labels =
+    then-Equal _ ∙ value_cmp-Text (label_text lot.label) (label_text there.label)
+    ∙ label_order lot.label there.label labelled labelled_there in
+    λ i. ordering_then (value_cmp-Text account other i)
+    (ordering_then (value_cmp-Text commodity what i)
+    (ordering_then (value_cmp-Int lot.day there.day i)
+    (ordering_then (value_cmp-Text lot.currency there.currency i) (ordering_then (numbers i) (labels i)))))
 
 -- ---- the order of rows
 

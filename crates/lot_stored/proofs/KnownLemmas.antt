@@ -12,7 +12,7 @@ use Rattle.lot_command.specs.declared.transaction.Posting.{Posting}
 use Rattle.lot_command.specs.declared.transaction.Transaction.{Transaction as TransactionOf}
 use Rattle.lot_book.specs.Agree.{HaveSameOf, HaveSamePlain}
 use Rattle.lot_book.specs.Balance.{elided_postings, fill_from, fill_of, left_over, residuals, weights_in}
-use Rattle.lot_book.specs.Booking.{Booked, legs_in}
+use Rattle.lot_book.specs.Booking.{Booked, TieRule, legs_in}
 use Rattle.lot_book.specs.Book.{entry_of}
 use Rattle.lot_book.specs.Change.{ListsSums, units_after, units_before}
 use Rattle.lot_book.specs.Facts.{Entry, Facts, facts_of, legs_of}
@@ -69,16 +69,6 @@ module _ (a b : Facts) where
       all_weaker (IsPlainOf elided.1) IsSameAt (same_plain elided.1 alike.0.1)
       (fill_from entry elided.0 elided.1 0 (left_over rs)) (fill_plain entry elided.0 elided.1 0 (left_over rs))
 
-  pub same_at_legs : (t : TransactionOf) (legs : List Leg) → AllByRecursion (Alike a b) t.postings → IsBookedAs a t legs
-      → AllByRecursion IsSameAt legs
-  same_at_legs t legs alike is =
-      let elided = elided_postings 1 t.postings in
-      let rs = residuals (weights_in is.booked) in
-      subst (AllByRecursion IsSameAt) (sym is.same)
-      (all-append IsSameAt (legs_in is.booked) (fill_of (suc a.entries) elided rs)
-      (same_booked (suc a.entries) 1 t.postings is.booked alike (walks a t.day 1 t.postings [] is.booked is.all))
-      (same_fill (suc a.entries) elided rs (alike_elided a b 1 t.postings alike)))
-
   -- what it holds after legs, they say alike
   same_after : (legs : List Leg) (leg : Leg) → IsSameAt leg → units_after a legs leg.position ≡ units_after b legs leg.position
   same_after legs leg same =
@@ -89,6 +79,17 @@ module _ (a b : Facts) where
       λ at is. ap (finite.get (a.held account)) is ∙ same ∙ ap (finite.get (b.held account)) (sym is) in
       ap (λ found. unwrap_or found (pos 0))
       (same_with_legs IsHere account (a.held account) (b.held account) legs start here refl)
+
+-- where a transaction is booked on facts that agree with others on what it looks at, its legs stand where both say the same
+pub same_at_legs : (ties : TieRule) (a b : Facts) (t : TransactionOf) (legs : List Leg) → AllByRecursion (Alike a b) t.postings
+    → IsBookedAs ties a t legs → AllByRecursion (IsSameAt a b) legs
+same_at_legs ties a b t legs alike is =
+    let elided = elided_postings 1 t.postings in
+    let rs = residuals (weights_in is.booked) in
+    subst (AllByRecursion (IsSameAt a b)) (sym is.same)
+    (all-append (IsSameAt a b) (legs_in is.booked) (fill_of (suc a.entries) elided rs)
+    (same_booked a b (suc a.entries) 1 t.postings is.booked alike (walks ties a t.day 1 t.postings [] is.booked is.all))
+    (same_fill a b (suc a.entries) elided rs (alike_elided a b 1 t.postings alike)))
 
 -- what the book with one more entry has at a position is what it held after the entry's legs
 after_is_sum : (entries : List Entry) (key : Key) (command : Command) (legs : List Leg) (p : Position)

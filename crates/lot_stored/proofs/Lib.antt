@@ -1,10 +1,12 @@
 pub mod OrderLemmas
 pub mod LookupLemmas
 pub mod KeyLemmas
+pub mod LegLemmas
 pub mod KeptLemmas
 pub mod SalesLemmas
 pub mod OneTablesLemmas
 pub mod BookedLemmas
 pub mod HeldLemmas
+pub mod PairLemmas
 pub mod KnownLemmas
 pub mod NumberLemmas

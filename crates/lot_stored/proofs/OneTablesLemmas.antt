@@ -1,4 +1,4 @@
--- A book has one list of rows in each table: what stands for it has no row more, and none less.
+-- A book with its place of migration has one list of rows in each table: what stands for it has no row more, and none less.
 use Rattle.std.specs.Prelude.{◌≡◌, ℕ, true, List, [], ◌∷◌, map}
 use Rattle.std.specs.Cmp.{IsTotalOrder}
 use Rattle.std.specs.Ordering.{is_lt}
@@ -12,6 +12,7 @@ use Rattle.sqlite.specs.Order.{Row}
 use Rattle.sqlite.specs.Tree.{IsAscending}
 use Rattle.sqlite_rules.specs.Lists.{Has}
 use Rattle.sqlite_rules.proofs.ListLemmas.{all_has, has_filtered, has_kept}
+use Rattle.lot_book.specs.Edition.{After}
 use Rattle.lot_book.specs.Facts.{Entry}
 use Rattle.lot_table.specs.Rows.{has_key, with_key}
 use Rattle.lot_rows.specs.Account.{account_cells}
@@ -20,10 +21,12 @@ use Rattle.lot_rows.specs.Commodity.{commodity_cells}
 use Rattle.lot_rows.specs.Head.{head_cells}
 use Rattle.lot_rows.specs.Leg.{leg_cells}
 use Rattle.lot_rows.specs.Lot.{IsLotRow, lot_cells}
+use Rattle.lot_rows.specs.Opening.{IsOpeningRow, opening_cells}
 use Rattle.lot_rows.specs.Plain.{plain_cells}
 use Rattle.lot_rows.specs.Price.{price_cells}
 use Rattle.lot_rows.specs.Tables.{Tables}
-use Rattle.lot_stored.specs.Rows.{lot_key, name_key, pair_key, posting_key, price_key, sale_row}
+use Rattle.lot_stored.specs.Rows.{lot_key, migration_row, name_key, pair_key, posting_key, price_key, sale_row}
+use Rattle.lot_stored.specs.Kept.{SalesOf}
 use Rattle.lot_stored.specs.StandFor.{StandFor}
 use Rattle.lot_stored.proofs.LookupLemmas.{first_with_key, has_own_key, row-only, row-there}
 use Rattle.lot_stored.proofs.OrderLemmas.{IsRising, row_order, row_order-total}
@@ -70,7 +73,7 @@ module _ {X : Type 0} (cmp : X → X → Ordering) (total : IsTotalOrder cmp) wh
 
 module _ {X : Type 0} (encode : X → Row) (width : ℕ) (key_of : X → Row) (xs ys : List X) where
   -- each row has its key, under which the other list has the same
-  abbrev LooksUp : List X → List X → Type 0
+  abbrev pub LooksUp : List X → List X → Type 0
   LooksUp these those = (x : X) → Has these x
       → (has_key width (key_of x) (encode x) ≡ true) × (first_with_key encode width (key_of x) these ≡ first_with_key encode width (key_of x) those)
 
@@ -79,7 +82,7 @@ module _ {X : Type 0} (encode : X → Row) (width : ℕ) (key_of : X → Row) (x
       let look = looks x has in
       (row-there encode width (key_of x) those x (sym look.1 ∙ row-only encode width (key_of x) these x up has look.0)).0
 
-  same_rows : IsRising encode width xs → IsRising encode width ys → LooksUp xs ys → LooksUp ys xs → xs ≡ ys
+  pub same_rows : IsRising encode width xs → IsRising encode width ys → LooksUp xs ys → LooksUp ys xs → xs ≡ ys
   same_rows up other looks back =
       same_list (row_order encode width) (row_order-total encode width) xs ys up other (found_within xs ys up looks) (found_within ys xs other back)
 
@@ -100,7 +103,8 @@ module _ {X : Type 0} (encode : X → Row) (shorter width : ℕ) (key_of : X →
 
 -- ---- all tables
 
-module _ (a b : Tables) (entries : List Entry) (stand : StandFor a entries) (other : StandFor b entries) where
+module _ (a b : Tables) (entries : List Entry) (stand : StandFor a entries) (other : StandFor b entries)
+    (one_place : stand.place ≡ other.place) where
   one_account : a.account ≡ b.account
   one_account =
       same_rows account_cells 1 (λ row. name_key row.name) a.account b.account stand.ordered.account other.ordered.account
@@ -130,7 +134,11 @@ module _ (a b : Tables) (entries : List Entry) (stand : StandFor a entries) (oth
       (λ row. stand.leg row.entry row.posting ∙ sym (other.leg row.entry row.posting)) stand.ordered.leg other.ordered.leg
 
   one_sale : a.sale ≡ b.sale
-  one_sale = stand.sale ∙ ap (map sale_row) (one_sales entries stand.sales other.sales stand.sold other.sold) ∙ sym other.sale
+  one_sale =
+      stand.sale
+      ∙ ap (map sale_row) (one_sales (After stand.place) entries stand.sales other.sales stand.sold
+      (subst (λ (place : ℕ). SalesOf (After place) entries other.sales) (sym one_place) other.sold))
+      ∙ sym other.sale
 
   one_lot : a.lot ≡ b.lot
   one_lot =
@@ -154,6 +162,19 @@ module _ (a b : Tables) (entries : List Entry) (stand : StandFor a entries) (oth
       (λ row has. (has_own_key 2 (head_cells row), stand.head row.account row.commodity ∙ sym (other.head row.account row.commodity)))
       (λ row has. (has_own_key 2 (head_cells row), other.head row.account row.commodity ∙ sym (stand.head row.account row.commodity)))
 
+  one_opening : a.opening ≡ b.opening
+  one_opening =
+      same_rows opening_cells 6 (λ row. lot_key row.account row.commodity row.lot) a.opening b.opening stand.ordered.opening other.ordered.opening
+      (λ row has.
+      let good = (all_has IsOpeningRow a.opening row (recursion_from_All IsOpeningRow a.opening stand.good.opening) has).lot in
+      (has_own_key 6 (opening_cells row), stand.opening row.account row.commodity row.lot good ∙ sym (other.opening row.account row.commodity row.lot good)))
+      (λ row has.
+      let good = (all_has IsOpeningRow b.opening row (recursion_from_All IsOpeningRow b.opening other.good.opening) has).lot in
+      (has_own_key 6 (opening_cells row), other.opening row.account row.commodity row.lot good ∙ sym (stand.opening row.account row.commodity row.lot good)))
+
+  one_migration : a.migration ≡ b.migration
+  one_migration = stand.migration ∙ ap (λ place. migration_row place ∷ []) one_place ∙ sym other.migration
+
   pub one_tables : a ≡ b
   one_tables = λ i. record {
     book = (stand.book ∙ sym other.book) i;
@@ -167,4 +188,6 @@ module _ (a b : Tables) (entries : List Entry) (stand : StandFor a entries) (oth
     lot = one_lot i;
     plain = one_plain i;
     head = one_head i;
+    opening = one_opening i;
+    migration = one_migration i;
   }

@@ -8,8 +8,9 @@ use Rattle.lot_command.specs.declared.command.Command.{Command}
 use Rattle.lot_command.specs.declared.command.Command.TheVariants.{Opening, Closing, Declaring, Quoting, Transaction}
 use Rattle.lot_command.specs.declared.command.Opening.{Opening as OpeningOf}
 use Rattle.lot_book.specs.declared.leg.Leg.{Leg}
+use Rattle.lot_book.specs.Edition.{Migration, edition_on, ties_in}
 use Rattle.lot_book.specs.Facts.{Entry, facts_of, opening_of}
-use Rattle.lot_book.specs.Sale.{SaleParts, AreSales}
+use Rattle.lot_book.specs.Sale.{SaleParts, AreSalesUnder}
 use Rattle.lot_laws.specs.Collects.{Collects}
 
 -- ---- currencies
@@ -68,13 +69,15 @@ legs_of_posting entry posting legs = filter (is_of_posting entry posting) legs
 abbrev pub numbered : ℕ → List (ℕ × SaleParts) → List (ℕ × (ℕ × SaleParts))
 numbered number sales = map (λ (sale : ℕ × SaleParts). (number, sale)) sales
 
--- the sales of an entry behind those before it, each with the number of the entry and the place of
--- its posting
-abbrev pub AreSalesOfEntry : List Entry → Entry → List (ℕ × (ℕ × SaleParts)) → Type 0
-AreSalesOfEntry before entry sales =
-    (own : List (ℕ × SaleParts)) × AreSales (facts_of before entry.key) entry.command own
+-- the sales of an entry behind those before it, by the edition that judged it, each with the number of
+-- the entry and the place of its posting
+abbrev pub AreSalesOfEntry : Migration → List Entry → Entry → List (ℕ × (ℕ × SaleParts)) → Type 0
+AreSalesOfEntry migration before entry sales =
+    (own : List (ℕ × SaleParts))
+    × AreSalesUnder (ties_in (edition_on migration before) before) (facts_of before entry.key)
+    entry.command own
     × (sales ≡ numbered (suc (length before)) own)
 
--- the sales of a book
-abbrev pub SalesOf : List Entry → List (ℕ × (ℕ × SaleParts)) → Type 0
-SalesOf entries sales = Collects AreSalesOfEntry [] entries sales
+-- the sales of a book with that migration
+abbrev pub SalesOf : Migration → List Entry → List (ℕ × (ℕ × SaleParts)) → Type 0
+SalesOf migration entries sales = Collects (AreSalesOfEntry migration) [] entries sales

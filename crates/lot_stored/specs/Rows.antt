@@ -20,6 +20,8 @@ use Rattle.lot_rows.specs.declared.entry.EntryRow.{EntryRow}
 use Rattle.lot_rows.specs.declared.head.HeadRow.{HeadRow}
 use Rattle.lot_rows.specs.declared.leg.LegRow.{LegRow}
 use Rattle.lot_rows.specs.declared.lot.LotRow.{LotRow}
+use Rattle.lot_rows.specs.declared.migration.MigrationRow.{MigrationRow}
+use Rattle.lot_rows.specs.declared.opening.OpeningRow.{OpeningRow}
 use Rattle.lot_rows.specs.declared.plain.PlainRow.{PlainRow}
 use Rattle.lot_rows.specs.declared.price.PriceRow.{PriceRow}
 use Rattle.lot_rows.specs.declared.sale.SaleRow.{SaleRow}
@@ -38,6 +40,7 @@ name_key name = Text name ∷ []
 abbrev pub pair_key : List ℕ → List ℕ → Row
 pair_key account commodity = Text account ∷ Text commodity ∷ []
 
+-- the key of a lot, and of its opening number
 abbrev pub lot_key : List ℕ → List ℕ → LotKey → Row
 lot_key account commodity lot =
     Text account ∷ Text commodity ∷ Int lot.day ∷ Text lot.currency ∷ Int (pos lot.number) ∷ Text (label_text lot.label) ∷ []
@@ -57,7 +60,7 @@ marked edition = record { mark = codes "lot-book"; edition = edition }
 
 -- the edition of these tables
 abbrev pub current_edition : ℤ
-current_edition = pos 1
+current_edition = pos 2
 
 abbrev pub this_edition : BookRow
 this_edition = marked current_edition
@@ -117,3 +120,11 @@ plain_row account commodity units = record { account = account; commodity = comm
 
 abbrev pub head_row : List ℕ → List ℕ → ℤ → HeadRow
 head_row account commodity day = record { account = account; commodity = commodity; day = day }
+
+abbrev pub opening_row : List ℕ → List ℕ → LotKey → ℕ → OpeningRow
+opening_row account commodity lot opening =
+    record { account = account; commodity = commodity; lot = lot; opening = opening }
+
+-- the place of migration: as many entries as the migration found
+abbrev pub migration_row : ℕ → MigrationRow
+migration_row place = record { entries = place }

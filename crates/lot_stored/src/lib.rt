@@ -6,4 +6,4 @@
 pub mod laws;
 
 /// The edition of the tables of a book. Editions are counted from 1, and each has tables of its own.
-pub const EDITION: i64 = 1;
+pub const EDITION: i64 = 2;

@@ -8,11 +8,11 @@ use Rattle.std.proofs.lemmas.Str.{IsUtf8-from_ascii}
 use Rattle.std.specs.List.{AllByRecursion, list_all, list_any}
 use Rattle.std.specs.Str.{IsAscii}
 use Rattle.lot_table.proofs.CreateLemmas.{Creates, CreatesEach, Making, all_in, bare_in, making_halts, making_stops, means, table_is, texts_of}
-use Rattle.lot_table.proofs.MakeLemmas.{IsEmpty, Makes, makes_one}
+use Rattle.lot_table.proofs.MakeLemmas.{Makes, Stores, adds_one, makes_one}
 use Rattle.lot_table.proofs.StatementLemmas.{failed_as}
 use Rattle.lot_table.proofs.WriteLemmas.{fails_here}
 use Rattle.lot_table.specs.Fault.{fault_of}
-use Rattle.lot_table.specs.Make.{AreEmpty, HaltedIn, RanEach, RefusedMaking, make_fault_of}
+use Rattle.lot_table.specs.Make.{HaltedIn, RanEach, RefusedMaking, make_fault_of}
 use Rattle.lot_table.specs.Statement.{DiskFailed}
 use Rattle.lot_table.specs.declared.fault.Fault.TheVariants.{Damaged, Device}
 use Rattle.lot_table.specs.declared.fault.Fault.{Fault}
@@ -26,6 +26,7 @@ use Rattle.sqlite.specs.Schema.{Schema}
 use Rattle.sqlite.specs.State.{Executes, State, mode_of}
 use Rattle.sqlite.specs.Store.{Ghosts}
 use Rattle.sqlite.specs.Table.{Table}
+use Rattle.sqlite.specs.Tree.{Trees}
 use Rattle.sqlite.specs.declared.error.Error.TheVariants.{SqlInputError}
 use Rattle.sqlite.specs.declared.error.Error.{Error}
 use Rattle.sqlite.specs.declared.types.Value.TheVariants.{Text}
@@ -157,38 +158,46 @@ abbrev pub FitsEach : (ℕ → Schema) → ℕ → List (List ℕ × Table) → 
 FitsEach upto n [] = Unit {0}
 FitsEach upto n (step ∷ more) = Fits (upto n) (upto (n + 1)) step.0 step.1 × FitsEach upto (n + 1) more
 
+-- none of these rows is in the tree of one that is made
+abbrev pub AreNew : Trees → (ℕ → Schema) → ℕ → List (List ℕ × Table) → Type 0
+AreNew rows upto n [] = Unit {0}
+AreNew rows upto n (step ∷ more) = (rows (next_tree (upto n)) ≡ []) × AreNew rows upto (n + 1) more
+
 module _ {S : Type 0} (g : Ghosts S) (upto : ℕ → Schema) where
   fresh_halts : (n : ℕ) (steps : List (List ℕ × Table)) (done left : List (List ℕ)) (text : List ℕ) (old mid new : Held S) (fault : MakeFault) → CreatesEach steps → FitsEach upto n steps
-      → texts_of steps ≡ done ++ text ∷ left → RanEach g done old mid → (state g old).now.schema ≡ upto n → AreEmpty (upto n).tables (state g old).now.trees
+      → texts_of steps ≡ done ++ text ∷ left → RanEach g done old mid → (state g old).now.schema ≡ upto n
       → RefusedMaking text (state g mid) (state g new) fault → (fault ≢ Failed Damaged) × (fault ≡ Failed Device → MoreFaults (state g mid).faults (state g new).faults ⊎ ((state g old).is_open ≡ false))
-  fresh_halts n [] [] left text old mid new fault each fit order ran had empty refused = absurd cc
-  fresh_halts n [] (t ∷ done) left text old mid new fault each fit order ran had empty refused = absurd cc
-  fresh_halts n (step ∷ more) [] left text old mid new fault each fit order ran had empty refused =
+  fresh_halts n [] [] left text old mid new fault each fit order ran had refused = absurd cc
+  fresh_halts n [] (t ∷ done) left text old mid new fault each fit order ran had refused = absurd cc
+  fresh_halts n (step ∷ more) [] left text old mid new fault each fit order ran had refused =
       let here : step.0 ≡ text = cc in
       let first : RefusedMaking step.0 (state g mid) (state g new) fault = subst (λ t. RefusedMaking t (state g mid) (state g new) fault) (sym here) refused in
       let it = refused_as (upto n) (upto (n + 1)) step.0 step.1 each.0 fit.0 (state g mid) (state g new) (subst (λ h. (state g h).now.schema ≡ upto n) ran had) fault first in
       (it.0, λ device. subst (λ h. MoreFaults (state g mid).faults (state g new).faults ⊎ ((state g h).is_open ≡ false)) (sym ran) (it.1 device))
-  fresh_halts n (step ∷ more) (t ∷ done) left text old mid new fault each fit order ran had empty refused =
+  fresh_halts n (step ∷ more) (t ∷ done) left text old mid new fault each fit order ran had refused =
       let here : step.0 ≡ t = cc in
       let rest : texts_of more ≡ done ++ text ∷ left = cc in
       let first : Executes step.0 [] (state g old) (state g ran.0) (Ok ran.1) = subst (λ t. Executes t [] (state g old) (state g ran.0) (Ok ran.1)) (sym here) ran.2 in
-      let made = makes_one (state g old) (state g ran.0) (upto n) (upto (n + 1)) step.0 (makes_of (upto n) (upto (n + 1)) step.0 step.1 each.0 fit.0) ran.1 had empty first in
-      let it = fresh_halts (n + 1) more done left text ran.0 mid new fault each.2 fit.1 rest ran.3 made.tables made.empty refused in
+      let made = adds_one (state g old) (state g ran.0) (upto n) (upto (n + 1)) step.0 (makes_of (upto n) (upto (n + 1)) step.0 step.1 each.0 fit.0) ran.1 had first in
+      let it = fresh_halts (n + 1) more done left text ran.0 mid new fault each.2 fit.1 rest ran.3 made.tables refused in
       let is_open : IsTrue (state g ran.0).is_open =
       (runs_as step.0 [] (state g old) (state g ran.0) (upto n) had CreateTable (means step.0 step.1 each.0 (upto n) fit.0.free) (bare_in step.0 step.1 each.0 (upto n) fit.0.free) ran.1 first).shown.is_open in
       (it.0, λ device. elim (it.1 device) [ inl more ↦ inl more | inr shut ↦ absurd (true≢false (sym is_open ∙ shut)) ])
 
   -- where one is refused, the disk failed, or memory ran out
   pub excused : (n : ℕ) (steps : List (List ℕ × Table)) (old new : Held S) (fault : MakeFault) → CreatesEach steps → FitsEach upto n steps → (state g old).now.schema ≡ upto n
-      → AreEmpty (upto n).tables (state g old).now.trees → HaltedIn g (texts_of steps) old new fault → Excused (state g old) (state g new) fault
-  excused n steps old new fault each fit had empty halted =
-      let why = fresh_halts n steps halted.done halted.left halted.text old halted.mid new fault each fit halted.order halted.ran had empty halted.refused in
+      → HaltedIn g (texts_of steps) old new fault → Excused (state g old) (state g new) fault
+  excused n steps old new fault each fit had halted =
+      let why = fresh_halts n steps halted.done halted.left halted.text old halted.mid new fault each fit halted.order halted.ran had halted.refused in
       (why.0, λ device. elim (why.1 device) [ inl more ↦ inl (let counts = halted.counts in omega (arith, counts, more)) | inr shut ↦ inr shut ])
 
-  -- each is made
-  pub makes_all : (n : ℕ) (steps : List (List ℕ × Table)) (old new : Held S) → CreatesEach steps → FitsEach upto n steps → RanEach g (texts_of steps) old new → IsEmpty (upto n) (state g old)
-      → IsEmpty (upto (length steps + n)) (state g new)
-  makes_all n [] old new each fit ran had = subst (λ k. IsEmpty (upto k) (state g new)) (omega arith) (subst (λ h. IsEmpty (upto n) (state g h)) ran had)
-  makes_all n (step ∷ more) old new each fit ran had =
-      let made = makes_one (state g old) (state g ran.0) (upto n) (upto (n + 1)) step.0 (makes_of (upto n) (upto (n + 1)) step.0 step.1 each.0 fit.0) ran.1 had.tables had.empty ran.2 in
-      subst (λ k. IsEmpty (upto k) (state g new)) (omega arith) (makes_all (n + 1) more ran.0 new each.2 fit.1 ran.3 made)
+  -- each is made: the tables have these stored rows, those that are new none
+  pub makes_all : (rows : Trees) (n : ℕ) (steps : List (List ℕ × Table)) (old new : Held S) → CreatesEach steps
+      → FitsEach upto n steps → AreNew rows upto n steps → RanEach g (texts_of steps) old new
+      → Stores rows (upto n) (state g old) → Stores rows (upto (length steps + n)) (state g new)
+  makes_all rows n [] old new each fit none ran had =
+      subst (λ k. Stores rows (upto k) (state g new)) (omega arith) (subst (λ h. Stores rows (upto n) (state g h)) ran had)
+  makes_all rows n (step ∷ more) old new each fit none ran had =
+      let is = makes_of (upto n) (upto (n + 1)) step.0 step.1 each.0 fit.0 in
+      let made = makes_one rows (state g old) (state g ran.0) (upto n) (upto (n + 1)) step.0 is ran.1 had none.0 ran.2 in
+      subst (λ k. Stores rows (upto k) (state g new)) (omega arith) (makes_all rows (n + 1) more ran.0 new each.2 fit.1 none.1 ran.3 made)

@@ -1,4 +1,4 @@
--- CREATE TABLE adds an empty table to those that are there, whatever its shape.
+-- CREATE TABLE adds an empty table to those that are there, whatever its shape, and they keep their rows.
 use Rattle.std.proofs.Common.{◌≡◌, ◌<◌, ◌+◌, Bool, inl, inr, add-one, drop, suc, false, get_or, length, map, take, ℕ, None, Option, Result, Ok, Err, IfErr, IsErrAnd, List, [], ◌∷◌, ◌++◌, refl, sym, ap, subst, ◌∙◌}
 use Rattle.std.proofs.Math.Seq.{drop-cons, take-suc}
 use Rattle.std.proofs.lemmas.List.Sorted.{IsPermutation-refl}
@@ -6,7 +6,7 @@ use Rattle.std.proofs.lemmas.List.{map-append, take-append-drop}
 use Rattle.std.specs.List.{AllByRecursion}
 use Rattle.lot_table.proofs.WriteLemmas.{same_value, went}
 use Rattle.lot_table.specs.Book.{IsUndone}
-use Rattle.lot_table.specs.Make.{AreEmpty, RanEach}
+use Rattle.lot_table.specs.Make.{RanEach}
 use Rattle.lot_table.specs.Rows.{HasRows}
 use Rattle.sqlite.proofs.Callers.{IsPlain, command_of, runs_as, statement_of}
 use Rattle.sqlite.specs.Change.{created, next_tree}
@@ -23,6 +23,7 @@ use Rattle.sqlite.specs.Store.{Ghosts}
 use Rattle.sqlite.specs.Table.{Table}
 use Rattle.sqlite.specs.Tree.{Trees}
 use Rattle.sqlite.specs.declared.error.Error.{Error}
+use Rattle.sqlite_catalog.proofs.AlterLemmas.{rows_trans}
 use Rattle.sqlite_catalog.specs.Change.{KeepsRows}
 
 -- ---- what a transaction keeps of the last commit
@@ -60,10 +61,6 @@ pub all_push : {X : Type 0} (P : X → Type 0) (xs : List X) (x : X) → AllByRe
 all_push P [] x all last = (last, tt)
 all_push P (y ∷ ys) x all last = (all.0, all_push P ys x all.1 last)
 
-still_empty : (tables : List Table) (old new : Trees) → KeepsRows tables old new → AreEmpty tables old → AreEmpty tables new
-still_empty [] old new kept all = tt
-still_empty (t ∷ more) old new kept all = (kept.0 ∙ all.0, still_empty more old new kept.1 all.1)
-
 -- the text makes a table of this schema, and that is the schema afterwards
 pub record Makes (before after : Schema) (text : List ℕ) : Type 0 where
   pub table : Table
@@ -74,14 +71,17 @@ pub record Makes (before after : Schema) (text : List ℕ) : Type 0 where
   pub made : created before table ≡ after
   pub uncounted : lacks_sequence after ≡ false
 
-pub record IsEmpty (schema : Schema) (s : State) : Type 0 where
-  pub tables : s.now.schema ≡ schema
-  pub empty : AreEmpty schema.tables s.now.trees
-  pub sound : IsDatabase s.now
+-- after it: the table has no row, and those before it have theirs
+pub record Adds (before after : Schema) (old new : State) : Type 0 where
+  pub tables : new.now.schema ≡ after
+  pub kept : KeepsRows before.tables old.now.trees new.now.trees
+  pub empty : new.now.trees (next_tree before) ≡ []
+  pub sound : IsDatabase new.now
 
-pub makes_one : (old new : State) (before after : Schema) (text : List ℕ) → Makes before after text → (changed : ℕ) → old.now.schema ≡ before → AreEmpty before.tables old.now.trees
-    → Executes text [] old new (Ok changed) → IsEmpty after new
-makes_one old new before after text is changed had empty ran =
+pub adds_one : (old new : State) (before after : Schema) (text : List ℕ) → Makes before after text
+    → (changed : ℕ) → old.now.schema ≡ before → Executes text [] old new (Ok changed)
+    → Adds before after old new
+adds_one old new before after text is changed had ran =
     let w = subst (λ t. Writes old new None CreateTable t [] changed) is.whole (runs_as text [] old new before had CreateTable is.means is.bare changed ran) in
     let all = went w.changed in
     let first = went all.1 in
@@ -93,12 +93,32 @@ makes_one old new before after text is changed had empty ran =
     let now : new.now ≡ first.0 = ap (λ (o : Tally × Database). o.1) (same_value {E = Option Error} all.2) ∙ same_value {E = Option Error} (rw counted at first.2) in
     let last : first.0.trees (next_tree before) ≡ [] = subst (λ s. first.0.trees (next_tree s) ≡ []) had made.empty in
     let others : KeepsRows before.tables old.now.trees first.0.trees = subst (λ (s : Schema). KeepsRows s.tables old.now.trees first.0.trees) had made.others in
-    let new_table : Table = record is.table { tree = next_tree before } in
-    let pushed : AreEmpty (created before is.table).tables first.0.trees = all_push (λ t. first.0.trees t.tree ≡ []) before.tables new_table (still_empty before.tables old.now.trees first.0.trees others empty) last in
     record {
       tables = ap (λ (d : Database). d.schema) now ∙ schema;
-      empty = subst (λ (d : Database). AreEmpty after.tables d.trees) (sym now) (subst (λ (s : Schema). AreEmpty s.tables first.0.trees) is.made pushed);
+      kept = subst (λ (d : Database). KeepsRows before.tables old.now.trees d.trees) (sym now) others;
+      empty = subst (λ (d : Database). d.trees (next_tree before) ≡ []) (sym now) last;
       sound = w.sound;
+    }
+
+-- a database of these tables and no others, with these stored rows
+pub record Stores (rows : Trees) (schema : Schema) (s : State) : Type 0 where
+  pub tables : s.now.schema ≡ schema
+  pub stored : KeepsRows schema.tables rows s.now.trees
+  pub sound : IsDatabase s.now
+
+pub makes_one : (rows : Trees) (old new : State) (before after : Schema) (text : List ℕ)
+    → Makes before after text → (changed : ℕ) → Stores rows before old → rows (next_tree before) ≡ []
+    → Executes text [] old new (Ok changed) → Stores rows after new
+makes_one rows old new before after text is changed had none ran =
+    let it = adds_one old new before after text is changed had.tables ran in
+    let new_table : Table = record is.table { tree = next_tree before } in
+    let others : KeepsRows before.tables rows new.now.trees = rows_trans before.tables rows old.now.trees new.now.trees had.stored it.kept in
+    let pushed : KeepsRows (created before is.table).tables rows new.now.trees =
+    all_push (λ t. new.now.trees t.tree ≡ rows t.tree) before.tables new_table others (it.empty ∙ sym none) in
+    record {
+      tables = it.tables;
+      stored = subst (λ (s : Schema). KeepsRows s.tables rows new.now.trees) is.made pushed;
+      sound = it.sound;
     }
 
 -- a table with no stored row has no row

@@ -7,7 +7,7 @@ use Rattle.sqlite.specs.Effect.{Database, RefusesToRead}
 use Rattle.sqlite.specs.Listing.{understood, reads_listing, IsSourceOf}
 use Rattle.sqlite.specs.Order.{Row}
 use Rattle.sqlite.specs.Schema.{Schema}
-use Rattle.sqlite.specs.State.{State, Fails, FailsToQuery, IsNoStatement, IsNotRun, Shown, store_error}
+use Rattle.sqlite.specs.State.{State, Fails, FailsToQuery, IsNoStatement, IsNotRun, IsTooLate, Shown, store_error}
 use Rattle.sqlite.specs.Term.{Term}
 use Rattle.sqlite.specs.declared.error.Error.{Error}
 use Rattle.sqlite_resolve.specs.declared.compiled.Compiled.{Compiled}
@@ -115,6 +115,13 @@ device_failed text params old new e selects (inr (c, it, fails)) device =
     let none = silent_text text selects.0 selects.1 selects.2 old.now.schema c it.is in
     let read = rw none at fails in
     absurd (device_read old.step_limit c.command read.0 (timed params c.formats it.now) e read.2 device)
+
+-- a query is refused in a transaction as it is outside of one
+pub never_late : (text : List ℕ) (params : Row) (old new : State) (e : Error) → IsSelect text
+    → FailsToQuery text params old new e ⊎ IsTooLate text params old new e → FailsToQuery text params old new e
+never_late text params old new e selects (inl fails) = fails
+never_late text params old new e selects (inr (c, it, some, out, code, same)) =
+    absurd (let none = subst IsSome (silent_text text selects.0 selects.1 selects.2 old.now.schema c it.is) some in cc)
 
 -- a query answers what it should of a table, so that only rows that no book has are damage
 pub undamaged : {X : Type 0} (encode : X → Row) (good : X → Type 0) (text : List ℕ) (params : Row) (old new : State) (xs : List X) → (Refused text params old new Damaged → ⊥)

@@ -31,3 +31,7 @@ IsPlace n = n < 2 ^ 32
 
 abbrev pub IsOrdinal : ℕ → Type 0
 IsOrdinal n = (1 ≤ n) × (n < 2 ^ 32)
+
+-- numbers of postings in a book, which count from one and fit an integer of SQL
+abbrev pub IsOpeningNumber : ℕ → Type 0
+IsOpeningNumber n = (1 ≤ n) × (n < 2 ^ 63)

@@ -1,6 +1,6 @@
 -- The tables of a book are made, one statement after another.
 use Rattle.std.specs.Prelude.{◌≡◌, ◌≤◌, ℕ, Bool, List, [], ◌∷◌, ◌++◌, Ok, Err}
-use Rattle.std.specs.List.{AllByRecursion, list_any}
+use Rattle.std.specs.List.{list_any}
 use Rattle.lot_table.specs.Fault.{fault_of}
 use Rattle.lot_table.specs.declared.make.MakeFault.TheVariants.{Failed, Taken}
 use Rattle.lot_table.specs.declared.make.MakeFault.{MakeFault}
@@ -8,8 +8,6 @@ use Rattle.sqlite.specs.Held.{Held, state}
 use Rattle.sqlite.specs.Schema.{Schema}
 use Rattle.sqlite.specs.State.{Executes, ExecutesInside, State}
 use Rattle.sqlite.specs.Store.{Ghosts}
-use Rattle.sqlite.specs.Table.{Table}
-use Rattle.sqlite.specs.Tree.{Trees}
 use Rattle.sqlite.specs.declared.error.Error.TheVariants.{SqlInputError}
 use Rattle.sqlite.specs.declared.error.Error.{Error}
 use Rattle.sqlite_catalog.specs.Change.{is_used}
@@ -23,9 +21,6 @@ make_fault_of error = Failed (fault_of error)
 -- the database refused the text, in a transaction, and that is the fault
 abbrev pub RefusedMaking : List ℕ → State → State → MakeFault → Type 0
 RefusedMaking text old new fault = (error : Error) × (fault ≡ make_fault_of error) × ExecutesInside 0 text [] old new (Err error)
-
-abbrev pub AreEmpty : List Table → Trees → Type 0
-AreEmpty tables trees = AllByRecursion (λ table. trees table.tree ≡ []) tables
 
 -- a table, an index or a view of the database has one of these names, without regard to the case of ASCII letters
 abbrev pub is_taken : List (List ℕ) → Schema → Bool

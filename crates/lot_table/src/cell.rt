@@ -10,10 +10,11 @@ ghost use Rattle.lot_base.specs.Day.{IsDayNumber};
 ghost use Rattle.lot_num.specs.Amount.{IsRate, IsUnits};
 ghost use Rattle.lot_cost.specs.Method.{word_of};
 ghost use Rattle.lot_base.specs.Name.{IsName, is_account, is_commodity, is_label};
-ghost use Rattle.lot_table.specs.Cell.{IsLabelOrNone, IsDayOrNone, IsOrdinal, IsPlace, IsSum, label_text};
+ghost use Rattle.lot_table.specs.Cell.{IsLabelOrNone, IsDayOrNone, IsOpeningNumber, IsOrdinal, IsPlace, IsSum, label_text};
 
 use crate::any_text::AnyText;
 use crate::fault::Fault;
+use crate::opening_number::OpeningNumber;
 use crate::ordinal::Ordinal;
 use crate::sum::Sum;
 use lot_base::{Account, Commodity, Day, Label};
@@ -279,6 +280,23 @@ impl Cell for Ordinal {
 
     fn of_cell(alloc: Global, column: ValueRef<'_>) -> Result<Ordinal, Fault> {
         Ordinal::new(u32::of_cell(alloc, column)?).ok_or(Fault::Damaged)
+    }
+}
+
+impl Cell for OpeningNumber {
+    ghost cell = { λ n. Int (pos n) };
+
+    ghost IsGood = { IsOpeningNumber };
+
+    fn to_cell(&self) -> ValueRef<'_> {
+        ValueRef::Int(self.number() as i64)
+    }
+
+    fn of_cell(_alloc: Global, column: ValueRef<'_>) -> Result<OpeningNumber, Fault> {
+        let Ok(number) = u64::try_from(number(column)?) else {
+            return Err(Fault::Damaged);
+        };
+        OpeningNumber::new(number).ok_or(Fault::Damaged)
     }
 }
 

@@ -46,3 +46,30 @@ pub fn ask<S: Alter>(
     let rows = conn.query_all(text, params)?;
     Ok(rows)
 }
+
+/// The same in an open transaction, whose changes the query sees.
+pub fn ask_within<S: Alter>(
+    tx: &mut Transaction<'_, S>,
+    text: &str,
+    params: &[ValueRef<'_>],
+) -> Result<Vec<Row>, Fault>
+    requires { IsSelect text.now }
+    ensures same_reference { tx.new.conn.ghost_name ≡ tx.old.conn.ghost_name }
+    ensures shown { HasCleanDisk (state S.Store tx.new.conn.now)
+        → IfOk result (λ rows. Shown text.now (bound params.now)
+        (state S.Store tx.old.conn.now) (state S.Store tx.new.conn.now) rows.items) }
+    ensures same { HasCleanDisk (state S.Store tx.new.conn.now)
+        → OnOk result (IsUnchanged (state S.Store tx.old.conn.now) (state S.Store tx.new.conn.now)) }
+    ensures refused { HasCleanDisk (state S.Store tx.new.conn.now)
+        → IfErr result (Refused text.now (bound params.now)
+        (state S.Store tx.old.conn.now) (state S.Store tx.new.conn.now)) }
+    ensures device { HasCleanDisk (state S.Store tx.new.conn.now) → result ≡ Err Fault.Device
+        → DiskFailed (state S.Store tx.old.conn.now) (state S.Store tx.new.conn.now) }
+    ensures err { HasCleanDisk (state S.Store tx.new.conn.now)
+        → OnErr result (IsUndone (state S.Store tx.old.conn.now) (state S.Store tx.new.conn.now)) }
+    ensures crash { Survives (state S.Store tx.old.conn.now) (state S.Store tx.new.conn.now)
+        (λ _. ⊥) }
+{
+    let rows = tx.query_all(text, params)?;
+    Ok(rows)
+}

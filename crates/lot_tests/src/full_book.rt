@@ -149,7 +149,7 @@ pub(crate) fn change_of(decided: Result<Outcome, Stop>) -> Option<Change> {
 
 /// The view of a book with the entry of a command, which has to be accepted.
 fn recorded(rt: &(impl Abort + AllocGlobal), view: View, command: &Command) -> View {
-    let decided = decide(rt.alloc(), Edition::First, &view, command);
+    let decided = decide(rt.alloc(), Edition::Second, &view, command);
     let change = change_of(decided).expect(rt, "accepted");
     assert!(rt; view.entries() < MOST_ENTRIES);
     view.record(command, &change).expect(rt, "recorded")
@@ -189,7 +189,7 @@ fn verdict_of(decided: Result<Outcome, Stop>) -> Option<Verdict> {
 
 /// Asserts the reply to a command, as the seventh.
 fn assert_reply(rt: &(impl Abort + AllocGlobal), view: &View, command: &Command, want: &str) {
-    let decided = decide(rt.alloc(), Edition::First, view, command);
+    let decided = decide(rt.alloc(), Edition::Second, view, command);
     let verdict = verdict_of(decided).expect(rt, want);
     let mut written = Vec::new(rt.alloc());
     let done = print_reply(&mut written, 7, &verdict);

@@ -61,14 +61,18 @@ impl View {
 
     /// Puts the canonical text that stands under the command's key.
     pub fn put_text(&mut self, text: String)
-        ensures { known self.new ≡ with_text (string_bytes text) (known self.old) }
+        ensures facts { known self.new ≡ with_text (string_bytes text) (known self.old) }
+        ensures openings { (known_with_openings self.new).opening
+            ≡ (known_with_openings self.old).opening }
     {
         self.text = Some(text);
     }
 
     /// Forgets the text, before a command with another key.
     pub fn clear_text(&mut self)
-        ensures { known self.new ≡ without_text (known self.old) }
+        ensures facts { known self.new ≡ without_text (known self.old) }
+        ensures openings { (known_with_openings self.new).opening
+            ≡ (known_with_openings self.old).opening }
     {
         self.text = None;
     }
@@ -76,6 +80,8 @@ impl View {
     /// Puts how an account stands. The error is out of memory; nothing changes then.
     pub fn put_account(&mut self, account: &Account, standing: Standing) -> Result<(), AllocError>
         ensures ok { OnOk result (known self.new ≡ with_standing account.now standing (known self.old)) }
+        ensures openings { (known_with_openings self.new).opening
+            ≡ (known_with_openings self.old).opening }
         ensures err { OnErr result (known self.new ≡ known self.old) }
     {
         self.standings.insert(account.copy()?, standing)?;
@@ -91,6 +97,8 @@ impl View {
         day: Day,
     ) -> Result<(), AllocError>
         ensures ok { OnOk result (known self.new ≡ with_head account.now commodity.now day (known self.old)) }
+        ensures openings { (known_with_openings self.new).opening
+            ≡ (known_with_openings self.old).opening }
         ensures err { OnErr result (known self.new ≡ known self.old) }
     {
         set_day(&mut self.heads, self.alloc, account, commodity, day)
@@ -99,6 +107,8 @@ impl View {
     /// Puts that a commodity is declared. The error is out of memory; nothing changes then.
     pub fn put_declared(&mut self, commodity: &Commodity) -> Result<(), AllocError>
         ensures ok { OnOk result (known self.new ≡ with_declared commodity.now (known self.old)) }
+        ensures openings { (known_with_openings self.new).opening
+            ≡ (known_with_openings self.old).opening }
         ensures err { OnErr result (known self.new ≡ known self.old) }
     {
         self.declared.insert(commodity.copy()?)?;

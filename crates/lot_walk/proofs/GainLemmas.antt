@@ -5,6 +5,7 @@ use Rattle.std.proofs.lemmas.List.Elements.{filter-append}
 use Rattle.sqlite.specs.State.{HasCleanDisk, State}
 use Rattle.sqlite_rules.proofs.ListLemmas.{all_has, has_right}
 use Rattle.lot_book.specs.Book.{IsBook}
+use Rattle.lot_book.specs.Edition.{After}
 use Rattle.lot_book.specs.Facts.{Entry}
 use Rattle.lot_book.specs.Sale.{AreLegsOf, SaleParts}
 use Rattle.lot_table.specs.declared.fault.Fault.{Fault}
@@ -54,7 +55,7 @@ within_all range sold others =
 prefix_of : (place : GainsPlace) (tables : Tables) (range : Range) (entries : List Entry) (given : List SaleParts) → IsBehindSales place tables range entries given
     → IsPrefix AreSalesWithin range entries given
 prefix_of place tables range entries given b =
-    (sold_within range b.others, (b.sold ++ b.others, b.of_book, ap (λ l. l ++ sold_within range b.others) b.within ∙ sym (within_all range b.sold b.others)))
+    (sold_within range b.others, (b.book, b.sold ++ b.others, b.of_book, ap (λ l. l ++ sold_within range b.others) b.within ∙ sym (within_all range b.sold b.others)))
 
 -- ---- a row more
 
@@ -64,7 +65,8 @@ record HasRead (after : GainsPlace) (tables : Tables) (range : Range) (entries :
   is : row ≡ sale_row next
   sold : List Sold
   others : List Sold
-  of_book : SalesOf entries (sold ++ next ∷ others)
+  book : IsBook entries
+  of_book : SalesOf (After book.place) entries (sold ++ next ∷ others)
   behind : (more : List SaleParts) → given ++ cond (is_within range next.1.1.day) (next.1.1 ∷ []) [] ≡ more → IsBehindSales after tables range entries more
 
 -- the rows that were read, and those that are left
@@ -86,13 +88,15 @@ module _ (before after : GainsPlace) (first : after.first ≡ before.first) (las
         is = is;
         sold = b.sold;
         others = n.1;
-        of_book = subst (SalesOf entries) (ap (λ l. b.sold ++ l) n.2) b.of_book;
+        book = b.book;
+        of_book = subst (SalesOf (After b.book.place) entries) (ap (λ l. b.sold ++ l) n.2) b.of_book;
         behind = λ more grows. record {
           first = first ∙ b.first;
           last = last ∙ b.last;
           sold = b.sold ++ n.0 ∷ [];
           others = n.1;
-          of_book = subst (SalesOf entries) all b.of_book;
+          book = b.book;
+          of_book = subst (SalesOf (After b.book.place) entries) all b.of_book;
           rows = b.rows ∙ ap (map sale_row) all;
           read = subst (λ (l : List SaleRow). IsBehind sale_cells l tables.sale after.cursor) rows behind;
           within = sym grows ∙ ap (λ l. l ++ cond (is_within range n.0.1.1.day) (n.0.1.1 ∷ []) []) b.within ∙ sym (within_next range b.sold n.0);
@@ -100,10 +104,10 @@ module _ (before after : GainsPlace) (first : after.first ≡ before.first) (las
       }
 
 -- the legs of the sale of a row are in the table `leg`
-has_rows : (after : GainsPlace) (tables : Tables) (range : Range) (entries : List Entry) (given : List SaleParts) (row : SaleRow) → IsBook entries → StandFor tables entries
+has_rows : (after : GainsPlace) (tables : Tables) (range : Range) (entries : List Entry) (given : List SaleParts) (row : SaleRow) → StandFor tables entries
     → (n : HasRead after tables range entries given row) → AreLegsOf row.units n.next.1.1.legs × HasRowsOf row tables n.next.1.1.legs
-has_rows after tables range entries given row book stand n =
-    let its = all_has _ (n.sold ++ n.next ∷ n.others) n.next (sale_legs entries (n.sold ++ n.next ∷ n.others) book n.of_book) (has_right n.sold (n.next ∷ n.others) n.next (inl refl)) in
+has_rows after tables range entries given row stand n =
+    let its = all_has _ (n.sold ++ n.next ∷ n.others) n.next (sale_legs (After n.book.place) entries (n.sold ++ n.next ∷ n.others) n.book.is n.of_book) (has_right n.sold (n.next ∷ n.others) n.next (inl refl)) in
     let legs : HasRowsOf (sale_row n.next) tables n.next.1.1.legs = record {
       account = n.next.1.1.account;
       commodity = n.next.1.1.commodity;
@@ -134,7 +138,7 @@ module _ (before after : GainsPlace) (old new : State) where
     gives = λ clean tables entries has book stand range given b.
         let all = reads.gives clean tables has (map sale_row b.sold) b.read in
         let none = none_sold b.others (none_left sale_cells (map sale_row b.sold) (map sale_row b.others) tables.sale (rows_split before tables range entries given b) all) in
-        (b.sold ++ b.others, b.of_book, b.within ∙ ap (sold_within range) (sym (append-nil b.sold) ∙ ap (λ l. b.sold ++ l) (sym none)));
+        (b.book, b.sold ++ b.others, b.of_book, b.within ∙ ap (sold_within range) (sym (append-nil b.sold) ∙ ap (λ l. b.sold ++ l) (sym none)));
     good = tt;
     same = reads.same;
     damaged = λ clean is. cc;
@@ -181,7 +185,7 @@ module _ (before after : GainsPlace) (old new : State) where
         gives = λ clean tables entries has book stand range given b.
             let was = early new end tells.crash clean in
             let n = sale_next was tables entries has range given b in
-            let its = has_rows after tables range entries given row book stand n in
+            let its = has_rows after tables range entries given row stand n in
             let legs : sale ≡ sale_with row n.next.1.1.legs = tells.says clean tables (has_still old new tables (reads.same was) has) n.next.1.1.legs its.1 in
             let is : sale ≡ n.next.1.1 = legs ∙ ap (λ (r : SaleRow). sale_with r n.next.1.1.legs) n.is in
             let behind = n.behind (given ++ sale ∷ [])
@@ -203,7 +207,7 @@ module _ (before after : GainsPlace) (old new : State) where
             let was = early new end tells.crash clean in
             let of : untold fault ≡ Err Damaged = cc in
             let n = sale_next was tables entries has range given b in
-            let its = has_rows after tables range entries given row book stand n in
+            let its = has_rows after tables range entries given row stand n in
             tells.damaged clean of (reads.crash.limit ∙ limit) tables (has_still old new tables (reads.same was) has) n.next.1.1.legs its.0 its.1;
         failed = λ clean is.
             let of : untold fault ≡ Err Device = cc in
@@ -225,6 +229,10 @@ went_then before mid after old now new one two = record {
   survives = survives_both old now new one.survives two.survives;
 }
 
+-- tables that stand for entries say their place of migration
+abbrev book_of : (tables : Tables) (entries : List Entry) → StandFor tables entries → IsBook entries
+book_of tables entries stand = record { place = stand.place; placed = stand.placed; is = stand.judged }
+
 -- before the first row nothing was given
 pub sold_none : (place : GainsPlace) (tables : Tables) (range : Range) (entries : List Entry) → place.first ≡ range.0 → place.last ≡ range.1 → StandFor tables entries
     → IsBehind sale_cells [] tables.sale place.cursor → IsBehindSales place tables range entries []
@@ -233,6 +241,7 @@ sold_none place tables range entries first last stand start = record {
   last = last;
   sold = [];
   others = stand.sales;
+  book = book_of tables entries stand;
   of_book = stand.sold;
   rows = stand.sale;
   read = start;
@@ -240,4 +249,4 @@ sold_none place tables range entries first last stand start = record {
 }
 
 pub sold_prefix : (tables : Tables) (range : Range) (entries : List Entry) → StandFor tables entries → IsPrefix AreSalesWithin range entries []
-sold_prefix tables range entries stand = (sold_within range stand.sales, (stand.sales, stand.sold, refl))
+sold_prefix tables range entries stand = (sold_within range stand.sales, (book_of tables entries stand, stand.sales, stand.sold, refl))

@@ -1,24 +1,21 @@
 -- The rows of plain units and of lots of tables that stand for a book are together what the book holds.
-use Rattle.std.specs.Prelude.{◌≡◌, ◌⊎◌, ℕ, true, false, List, [], ◌∷◌, drop, Option, None, Some, ℤ, pos}
+use Rattle.std.specs.Prelude.{◌≡◌, ◌⊎◌, ℕ, false, List, [], ◌∷◌, drop, Option, None, Some, ℤ, pos}
 use Rattle.std.specs.Cmp.{Equal-is}
 use Rattle.std.specs.FinMap as finite
 use Rattle.std.specs.List.{AllByRecursion, list_any}
-use Rattle.std.specs.Option.{option_cmp}
-use Rattle.std.specs.Ordering.{int_cmp, is_eq, nat_cmp, ordering_then}
+use Rattle.std.specs.Ordering.{is_eq, ordering_then}
 use Rattle.std.specs.declared.cmp.Ordering.TheVariants.{Less, Equal}
-use Rattle.std.proofs.Common.{refl, sym, ap, subst, ◌∙◌, arith, inl, inr, IsTrue}
+use Rattle.std.proofs.Common.{refl, sym, ap, subst, ◌∙◌, inl, inr}
 use Rattle.std.proofs.lemmas.Bool.{and_parts, cases_Bool, true≢false}
-use Rattle.std.proofs.lemmas.Bool.Decides.{nat_tests}
 use Rattle.std.proofs.lemmas.Cmp.{tied_itself}
 use Rattle.std.proofs.lemmas.List.Elements.{recursion_from_All}
 use Rattle.sqlite.specs.Order.{Row}
 use Rattle.sqlite.specs.Tree.{IsAscending}
+use Rattle.sqlite.specs.declared.types.Value.TheVariants.{Int}
 use Rattle.sqlite_keyed.proofs.ListLemmas.{ascending_weaker, none_from_any}
 use Rattle.sqlite_rules.specs.Lists.{Has}
 use Rattle.sqlite_rules.proofs.ListLemmas.{all_from, all_has, has_filtered, has_kept, some_has}
-use Rattle.sqlite_value.proofs.OrderLemmas.{then-Equal, value_cmp-Int, value_cmp-Text}
-use Rattle.lot_base.specs.Name.{is_label}
-use Rattle.lot_base.specs.Text.{text_cmp}
+use Rattle.sqlite_value.proofs.OrderLemmas.{value_cmp-Text}
 use Rattle.lot_base.proofs.TextLemmas.{one_text}
 use Rattle.lot_inv.specs.Inventory.{Position as Place, non_zero, position_cmp as place_cmp}
 use Rattle.lot_cost.specs.declared.lot_key.LotKey.{LotKey}
@@ -32,7 +29,7 @@ use Rattle.lot_book.specs.declared.holding.Holding.{Holding}
 use Rattle.lot_book.specs.declared.leg.Position.{Position}
 use Rattle.lot_book.proofs.HeldLemmas.{no_zeros-empty, no_zeros-legs}
 use Rattle.lot_book.proofs.OrderLemmas.{exact_positions, positions_total}
-use Rattle.lot_table.specs.Cell.{IsLabelOrNone, label_text}
+use Rattle.lot_table.specs.Cell.{IsLabelOrNone}
 use Rattle.lot_table.specs.Rows.{has_key, key_order, with_key}
 use Rattle.lot_rows.specs.Lot.{IsLotRow, lot_cells}
 use Rattle.lot_rows.specs.Plain.{plain_cells}
@@ -41,7 +38,7 @@ use Rattle.lot_rows.specs.declared.lot.LotRow.{LotRow}
 use Rattle.lot_rows.specs.declared.plain.PlainRow.{PlainRow}
 use Rattle.lot_stored.specs.Rows.{lot_row, pair_key, plain_row, row_at}
 use Rattle.lot_stored.specs.StandFor.{StandFor, sum_in}
-use Rattle.lot_stored.proofs.KeyLemmas.{has_pair}
+use Rattle.lot_stored.proofs.KeyLemmas.{has_pair, lot_rows_order}
 use Rattle.lot_stored.proofs.LookupLemmas.{has_own_key, row-there}
 use Rattle.lot_stored.proofs.HeldLemmas.{by_option, held_in_book, lot_there, lot_true, mapped_some, plain_missing, plain_true}
 use Rattle.lot_walk.specs.Holdings.{IsHoldings, holding_cmp, lot_holding, merged, plain_holding}
@@ -58,30 +55,10 @@ plain_up =
     same : (a b : PlainRow) → key_order 2 (plain_cells a) (plain_cells b) ≡ holding_cmp (plain_holding a) (plain_holding b)
     same a b = λ i. ordering_then (value_cmp-Text a.account b.account i) (ordering_then (value_cmp-Text a.commodity b.commodity i) Equal)
 
-no_label : IsTrue (is_label []) → ⊥
-unfolding is_label
-no_label e = true≢false (sym e)
-
-label_order : (a b : Option (List ℕ)) → IsLabelOrNone a → IsLabelOrNone b → text_cmp (label_text a) (label_text b) ≡ option_cmp text_cmp a b
-label_order None None p q = refl
-label_order None (Some []) p q = absurd (no_label q.1)
-label_order None (Some (x ∷ xs)) p q = refl
-label_order (Some []) None p q = absurd (no_label p.1)
-label_order (Some (x ∷ xs)) None p q = refl
-label_order (Some a) (Some b) p q = refl
-
-number_order : (m n : ℕ) → int_cmp (pos m) (pos n) ≡ nat_cmp m n
-number_order m n = grind (arith, nat_tests)
-
 pub lot_order : (a b : LotRow) → IsLabelOrNone a.lot.label → IsLabelOrNone b.lot.label
     → key_order 6 (lot_cells a) (lot_cells b) ≡ holding_cmp (lot_holding a) (lot_holding b)
-lot_order a b p q =
-    let numbers = value_cmp-Int (pos a.lot.number) (pos b.lot.number) ∙ number_order a.lot.number b.lot.number in
-    let labels = then-Equal _ ∙ value_cmp-Text (label_text a.lot.label) (label_text b.lot.label) ∙ label_order a.lot.label b.lot.label p q in
-    λ i. ordering_then (value_cmp-Text a.account b.account i)
-    (ordering_then (value_cmp-Text a.commodity b.commodity i)
-    (ordering_then (value_cmp-Int a.lot.day b.lot.day i)
-    (ordering_then (value_cmp-Text a.lot.currency b.lot.currency i) (ordering_then (numbers i) (labels i)))))
+lot_order a b =
+    lot_rows_order a.account a.commodity b.account b.commodity a.lot b.lot (Int a.units ∷ []) (Int b.units ∷ [])
 
 pub lots_up : (rows : List LotRow) → AllByRecursion IsLotRow rows → IsAscending (λ a b. key_order 6 (lot_cells a) (lot_cells b) ≡ Less) rows
     → AreLotsUp rows

@@ -12,6 +12,7 @@ pub mod LookLemmas
 pub mod LotLaws
 pub mod MergeLemmas
 pub mod OneBookLemmas
+pub mod OneSalesLemmas
 pub mod PlaceLemmas
 pub mod PriceLemmas
 pub mod PriceStepLemmas

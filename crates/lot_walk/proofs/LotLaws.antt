@@ -14,10 +14,11 @@ use Rattle.lot_command.specs.declared.transaction.Posting.{Posting}
 use Rattle.lot_book.specs.declared.holding.Holding.{Holding}
 use Rattle.lot_book.specs.declared.leg.Leg.{Leg}
 use Rattle.lot_book.specs.declared.leg.Position.{Position}
-use Rattle.lot_book.specs.Booking.{All, Booked, BooksAll, IsBooked, Line, line_of}
+use Rattle.lot_book.specs.Booking.{All, Booked, BooksAllUnder, IsBooked, Line, TieRule, line_under}
+use Rattle.lot_book.specs.Edition.{Migration, edition_on, ties_in}
 use Rattle.lot_book.specs.Facts.{Entry, Facts, facts_of, legs_of}
 use Rattle.lot_book.specs.Leg.{legs_at_lots, leg_at, same_position, sum_at}
-use Rattle.lot_book.specs.Sale.{SaleParts, AreSales, lots_in_legs, sales_in, sales_of}
+use Rattle.lot_book.specs.Sale.{SaleParts, AreSalesUnder, lots_in_legs, sales_in, sales_of}
 use Rattle.lot_book.proofs.CaseLemmas.{by_bool}
 use Rattle.lot_book.proofs.SumLemmas.{sum_where-cons}
 use Rattle.lot_laws.specs.Collects.{Collects}
@@ -75,15 +76,15 @@ module _ (lot : Position) where
 
   -- ---- A transaction.
 
-  sales_take : (facts : Facts) (day : ℤ) (postings : List Posting) (booked : List Booked) → BooksAll facts day [] 1 postings (All booked)
+  sales_take : (ties : TieRule) (facts : Facts) (day : ℤ) (postings : List Posting) (booked : List Booked) → BooksAllUnder ties facts day [] 1 postings (All booked)
       → sold_of booked lot ≡ total taken (sales_in day booked)
-  sales_take facts day postings booked books =
-      over_booked facts day (λ before postings booked. sold_of booked lot ≡ total taken (sales_in day booked))
+  sales_take ties facts day postings booked books =
+      over_booked ties facts day (λ before postings booked. sold_of booked lot ≡ total taken (sales_in day booked))
       (λ before. refl)
       (λ before other postings booked rest. rest)
       (λ before place other amount postings first more is rest.
       sum_if first.reduces first (filter (λ (b : Booked). b.reduces) more) lot
-      ∙ ap (λ z. z +ℤ sold_of more lot) (posting_takes day (line_of facts day before place other amount) first is)
+      ∙ ap (λ z. z +ℤ sold_of more lot) (posting_takes day (line_under ties facts day before place other amount) first is)
       ∙ ap (λ z. total taken (sales_of day first) +ℤ z) rest
       ∙ sym (total-append taken (sales_of day first) (sales_in day more)))
       1 postings [] booked books
@@ -91,15 +92,15 @@ module _ (lot : Position) where
   none_takes : (booked : List Booked) (sales : List (ℕ × SaleParts)) → booked ≡ [] → sales ≡ [] → sold_of booked lot ≡ total taken sales
   none_takes booked sales e g = ap (λ (bs : List Booked). sold_of bs lot) e ∙ sym (ap (total taken) g)
 
-  command_takes : (facts : Facts) (command : Command) (legs : List Leg) (booked : List Booked) (sales : List (ℕ × SaleParts))
-      → BooksCommand facts command legs booked → AreSales facts command sales → sold_of booked lot ≡ total taken sales
-  command_takes facts (Opening o) legs booked sales h are = none_takes booked sales h.1 are
-  command_takes facts (Closing c) legs booked sales h are = none_takes booked sales h.1 are
-  command_takes facts (Declaring d) legs booked sales h are = none_takes booked sales h.1 are
-  command_takes facts (Quoting q) legs booked sales h are = none_takes booked sales h.1 are
-  command_takes facts (Transaction t) legs booked sales h are =
-      let same = all_booked booked are.0 (books_one facts t.day [] 1 t.postings (All booked) (All are.0) h.1 are.1) in
-      sales_take facts t.day t.postings booked h.1
+  command_takes : (ties : TieRule) (facts : Facts) (command : Command) (legs : List Leg) (booked : List Booked) (sales : List (ℕ × SaleParts))
+      → BooksCommand ties facts command legs booked → AreSalesUnder ties facts command sales → sold_of booked lot ≡ total taken sales
+  command_takes ties facts (Opening o) legs booked sales h are = none_takes booked sales h.1 are
+  command_takes ties facts (Closing c) legs booked sales h are = none_takes booked sales h.1 are
+  command_takes ties facts (Declaring d) legs booked sales h are = none_takes booked sales h.1 are
+  command_takes ties facts (Quoting q) legs booked sales h are = none_takes booked sales h.1 are
+  command_takes ties facts (Transaction t) legs booked sales h are =
+      let same = all_booked booked are.0 (books_one ties facts t.day [] 1 t.postings (All booked) (All are.0) h.1 are.1) in
+      sales_take ties facts t.day t.postings booked h.1
       ∙ ap (λ (bs : List Booked). total taken (sales_in t.day bs)) same
       ∙ sym (ap (total taken) are.2)
 
@@ -109,22 +110,22 @@ module _ (lot : Position) where
   numbered_take number [] = refl
   numbered_take number (sale ∷ sales) = ap (λ z. taken sale +ℤ z) (numbered_take number sales)
 
-  entry_takes : (before : List Entry) (entry : Entry) (booked : List Booked) (sales : List (ℕ × (ℕ × SaleParts)))
-      → BooksEntry before entry booked → AreSalesOfEntry before entry sales → sold_of booked lot ≡ taken_of sales lot
-  entry_takes before entry booked sales is are =
-      command_takes (facts_of before entry.key) entry.command entry.legs booked are.0 is are.1
+  entry_takes : (migration : Migration) (before : List Entry) (entry : Entry) (booked : List Booked) (sales : List (ℕ × (ℕ × SaleParts)))
+      → BooksEntry migration before entry booked → AreSalesOfEntry migration before entry sales → sold_of booked lot ≡ taken_of sales lot
+  entry_takes migration before entry booked sales is are =
+      command_takes (ties_in (edition_on migration before) before) (facts_of before entry.key) entry.command entry.legs booked are.0 is are.1
       ∙ numbered_take (suc (length before)) are.0
       ∙ sym (ap (λ ss. taken_of ss lot) are.2)
 
-  book_takes : (before entries : List Entry) (booked : List Booked) → BooksEntries before entries booked
-      → (sales : List (ℕ × (ℕ × SaleParts))) → Collects AreSalesOfEntry before entries sales → sold_of booked lot ≡ taken_of sales lot
-  book_takes = over_collected BooksEntry
-      (λ before entries booked. (sales : List (ℕ × (ℕ × SaleParts))) → Collects AreSalesOfEntry before entries sales
+  book_takes : (migration : Migration) (before entries : List Entry) (booked : List Booked) → BooksEntries migration before entries booked
+      → (sales : List (ℕ × (ℕ × SaleParts))) → Collects (AreSalesOfEntry migration) before entries sales → sold_of booked lot ≡ taken_of sales lot
+  book_takes migration = over_collected (BooksEntry migration)
+      (λ before entries booked. (sales : List (ℕ × (ℕ × SaleParts))) → Collects (AreSalesOfEntry migration) before entries sales
       → sold_of booked lot ≡ taken_of sales lot)
       (λ before sales are. sym (ap (λ ss. taken_of ss lot) are))
       (λ before entry entries first more is rest sales are.
       sold-append first more lot
-      ∙ ap (λ z. z +ℤ sold_of more lot) (entry_takes before entry first are.0 is are.2)
+      ∙ ap (λ z. z +ℤ sold_of more lot) (entry_takes migration before entry first are.0 is are.2)
       ∙ ap (λ z. taken_of are.0 lot +ℤ z) (rest are.1 are.3)
       ∙ sym (ap (λ ss. taken_of ss lot) are.4 ∙ total-append (λ (sold : ℕ × (ℕ × SaleParts)). taken_by lot sold.1.1) are.0 are.1))
 
@@ -133,14 +134,14 @@ kept_units : (units : ℤ) → unwrap_or (non_zero units) (pos 0) ≡ units
 kept_units units =
     sym (ap (λ (found : Option ℤ). unwrap_or found (pos 0)) (get-with_units_here empty ([], None) units)) ∙ units_at-set empty ([], None) units
 
-pub bought_is_taken_or_left : (entries : List Entry) (booked : List Booked) (sales : List (ℕ × (ℕ × SaleParts))) (rows : List Holding)
+pub bought_is_taken_or_left : (migration : Migration) (entries : List Entry) (booked : List Booked) (sales : List (ℕ × (ℕ × SaleParts))) (rows : List Holding)
     (account commodity : List ℕ) (lot : LotKey)
-    → BooksEntries [] entries booked → SalesOf entries sales → IsHoldings entries rows
+    → BooksEntries migration [] entries booked → SalesOf migration entries sales → IsHoldings entries rows
     → left_of rows (lot_at account commodity lot)
     ≡ bought_into booked (lot_at account commodity lot) +ℤ taken_of sales (lot_at account commodity lot)
-bought_is_taken_or_left entries booked sales rows account commodity lot h are held =
+bought_is_taken_or_left migration entries booked sales rows account commodity lot h are held =
     let there = lot_at account commodity lot in
     ap (λ (found : Option ℤ). unwrap_or found (pos 0)) (holding_is_sum entries rows there held)
     ∙ kept_units (sum_at (legs_of entries) there)
-    ∙ sum_is_bought_and_sold entries booked account commodity lot h
-    ∙ ap (λ z. bought_into booked there +ℤ z) (book_takes there [] entries booked h sales are)
+    ∙ sum_is_bought_and_sold migration entries booked account commodity lot h
+    ∙ ap (λ z. bought_into booked there +ℤ z) (book_takes there migration [] entries booked h sales are)

@@ -2,15 +2,20 @@
 use Rattle.std.proofs.Common.{◌≡◌, ◌∙◌, ◌&&◌, [], ◌∷◌, ℕ, ℤ, Bool, true, false, not, List, Some, refl, sym, ap, arith}
 use Rattle.std.specs.Prelude.{◌<ℤ◌, int_lt}
 use Rattle.std.proofs.lemmas.Int.{ints}
+use Rattle.lot_book.specs.Edition.{After}
 use Rattle.lot_book.specs.Facts.{Entry}
 use Rattle.lot_book.specs.Sale.{SaleParts}
-use Rattle.lot_stored.proofs.SalesLemmas.{one_sales}
 use Rattle.lot_walk.specs.Gains.{AreSalesWithin, Range, is_within, sold_within}
+use Rattle.lot_walk.proofs.OneSalesLemmas.{one_sales_of_book}
 
 -- ---- one list
 
 pub one_within : (entries : List Entry) (range : Range) (a b : List SaleParts) → AreSalesWithin range entries a → AreSalesWithin range entries b → a ≡ b
-one_within entries range a b is other = is.2 ∙ ap (sold_within range) (one_sales entries is.0 other.0 is.1 other.1) ∙ sym other.2
+one_within entries range a b is other =
+    is.3
+    ∙ ap (sold_within range)
+    (one_sales_of_book (After is.0.place) (After other.0.place) entries is.1 other.1 is.0.is other.0.is is.2 other.2)
+    ∙ sym other.3
 
 -- ---- an empty range
 
@@ -26,4 +31,4 @@ no_sales first last [] less = refl
 no_sales first last (sold ∷ sales) less = rw (on_no_day first last sold.1.1.day less, no_sales first last sales less) refl
 
 pub none_within : (entries : List Entry) (first last : ℤ) (sales : List SaleParts) → last <ℤ first → AreSalesWithin (Some first, Some last) entries sales → sales ≡ []
-none_within entries first last sales less are = are.2 ∙ no_sales first last are.0 less
+none_within entries first last sales less are = are.3 ∙ no_sales first last are.1 less

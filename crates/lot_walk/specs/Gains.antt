@@ -1,6 +1,8 @@
 -- The walk over the sales of a book on the days of a range, each with its legs (docs/RULES.md, Gain).
 use Rattle.std.specs.Prelude.{◌≡◌, ℕ, ℤ, ◌&&◌, Bool, true, not, int_lt, filter, List, [], ◌++◌, map, Option, None, Some}
 use Rattle.lot_cost.specs.declared.lot_key.LotKey.{LotKey}
+use Rattle.lot_book.specs.Book.{IsBook}
+use Rattle.lot_book.specs.Edition.{After}
 use Rattle.lot_book.specs.Facts.{Entry}
 use Rattle.lot_book.specs.Leg.{legs_at_lots}
 use Rattle.lot_book.specs.Sale.{AreLegsOf, SaleParts}
@@ -39,7 +41,9 @@ sold_within range sales = filter (λ (sale : SaleParts). is_within range sale.da
 
 -- these are the sales of a book on the days of a range, all of them
 abbrev pub AreSalesWithin : Range → List Entry → List SaleParts → Type 0
-AreSalesWithin range entries given = (sales : List (ℕ × (ℕ × SaleParts))) × SalesOf entries sales × (given ≡ sold_within range sales)
+AreSalesWithin range entries given =
+    (book : IsBook entries) × (sales : List (ℕ × (ℕ × SaleParts))) × SalesOf (After book.place) entries sales
+    × (given ≡ sold_within range sales)
 
 -- the units of a sale are those of its legs
 abbrev pub HasLegs : SaleParts → Type 0
@@ -56,10 +60,11 @@ HasItsLegs legs sold =
 pub record IsBehindSales (place : GainsPlace) (tables : Tables) (range : Range) (entries : List Entry) (given : List SaleParts) : Type 0 where
   pub first : place.first ≡ range.0
   pub last : place.last ≡ range.1
+  pub book : IsBook entries
   -- those that were read, and the others
   pub sold : List (ℕ × (ℕ × SaleParts))
   pub others : List (ℕ × (ℕ × SaleParts))
-  pub of_book : SalesOf entries (sold ++ others)
+  pub of_book : SalesOf (After book.place) entries (sold ++ others)
   pub rows : tables.sale ≡ map sale_row (sold ++ others)
   pub read : IsBehind sale_cells (map sale_row sold) tables.sale place.cursor
   pub within : given ≡ sold_within range sold

@@ -5,8 +5,9 @@ ghost use Rattle.std.specs.List.{AllByRecursion};
 ghost use Rattle.std.specs.Map.{lookup};
 ghost use Rattle.lot_inv.specs.Inventory.{non_zero};
 ghost use Rattle.lot_cost.specs.declared.lot_key.LotKey.{LotKey};
-ghost use Rattle.lot_book.specs.Book.{IsBook};
+ghost use Rattle.lot_book.specs.Book.{IsBook, IsBookIn};
 ghost use Rattle.lot_book.specs.Booking.{Booked};
+ghost use Rattle.lot_book.specs.Edition.{Migration};
 ghost use Rattle.lot_book.specs.Facts.{Entry, legs_of};
 ghost use Rattle.lot_book.specs.Holding.{entry_of};
 ghost use Rattle.lot_book.specs.Leg.{same_position};
@@ -44,9 +45,10 @@ pub fn a_book_has_one_list_of_holdings()
 /// that was sold out and opened again under its key. Under NONE there are no sales: a posting of the other sign counts as
 /// bought, with its sign.
 pub fn what_was_bought_into_a_lot_was_sold_or_is_held()
-    ensures { (entries : List Entry) (booked : List Booked) (sales : List (ℕ × (ℕ × SaleParts))) (rows : List Holding)
+    ensures { (migration : Migration) (entries : List Entry) (booked : List Booked)
+        (sales : List (ℕ × (ℕ × SaleParts))) (rows : List Holding)
         (account commodity : List ℕ) (lot : LotKey)
-        → BooksEntries [] entries booked → SalesOf entries sales → IsHoldings entries rows
+        → BooksEntries migration [] entries booked → SalesOf migration entries sales → IsHoldings entries rows
         → left_of rows (lot_at account commodity lot)
         ≡ bought_into booked (lot_at account commodity lot) +ℤ taken_of sales (lot_at account commodity lot) }
 {}
@@ -73,7 +75,7 @@ pub fn last_rows_of_pairs_are_the_prices_at_a_day()
     ensures { (tables : Tables) (entries : List Entry) (day : ℤ) → StandFor tables entries → ArePrices entries day (prices_by day tables.price) }
 {}
 
-/// At most one list is the sales of a book on the days of a range.
+/// At most one list is the sales of a book on the days of a range, whatever its place of migration.
 pub fn a_book_has_one_list_of_sales_in_a_range()
     ensures { (entries : List Entry) (range : Range) (a b : List SaleParts) → AreSalesWithin range entries a → AreSalesWithin range entries b → a ≡ b }
 {}
@@ -86,6 +88,7 @@ pub fn a_range_that_ends_before_it_begins_has_no_sales()
 
 /// The legs of a sale of a book are all the legs of its posting, in the order in which they were booked.
 pub fn a_sale_has_the_legs_of_its_posting()
-    ensures { (entries : List Entry) (sales : List (ℕ × (ℕ × SaleParts))) → IsBook entries → SalesOf entries sales
+    ensures { (migration : Migration) (entries : List Entry) (sales : List (ℕ × (ℕ × SaleParts)))
+        → IsBookIn migration entries → SalesOf migration entries sales
         → AllByRecursion (HasItsLegs (legs_of entries)) sales }
 {}

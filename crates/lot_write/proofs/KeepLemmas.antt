@@ -1,20 +1,22 @@
 -- What the writes of a command leave as it was, and what each of its parts makes of a table.
 use Rattle.std.specs.Prelude.{◌≡◌, ℕ, true, false, cond, List, [], ◌∷◌, Option, None, Some, ℤ, pos}
+use Rattle.std.specs.BTreeMap.{get}
 use Rattle.std.specs.List.{AllByRecursion}
-use Rattle.std.specs.Map.{lookup}
 use Rattle.std.specs.Ordering.{int_eq}
 use Rattle.std.proofs.Common.{refl, ap, ◌∙◌}
 use Rattle.lot_cost.specs.declared.lot_key.LotKey.{LotKey}
-use Rattle.lot_book.specs.Leg.{same_position}
+use Rattle.lot_book.specs.Facts.{Facts}
+use Rattle.lot_book.specs.Leg.{position_cmp}
 use Rattle.lot_book.specs.Sale.{SaleParts}
+use Rattle.lot_book.specs.declared.change.Change.{Change}
 use Rattle.lot_book.specs.declared.change.Pair.{Pair}
 use Rattle.lot_book.specs.declared.leg.Leg.{Leg}
 use Rattle.lot_book.specs.declared.leg.Position.{Position}
 use Rattle.lot_rows.specs.Tables.{Tables}
-use Rattle.lot_stored.specs.Rows.{head_row, leg_row, lot_row, plain_row, sale_row}
+use Rattle.lot_stored.specs.Rows.{head_row, leg_row, lot_row, opening_row, plain_row, sale_row}
 use Rattle.lot_write.proofs.WrittenLemmas.{left-written_all, written_all-append}
 use Rattle.lot_write.specs.Write.{written, written_all}
-use Rattle.lot_write.specs.Writes.{heads_written, legs_written, listed_write, position_write, positions_written, sales_written}
+use Rattle.lot_write.specs.Writes.{heads_written, legs_written, listed_write, number_written, opening_written, position_write, positions_written, sales_written, units_listed}
 use Rattle.lot_write.specs.declared.write.Write.{Write}
 use Rattle.lot_write.specs.declared.write.Write.TheVariants as write
 
@@ -56,19 +58,44 @@ module _ {A : Type 0} (rows : Tables → A) where
         | false ↦ at_lot account commodity lot units
       ]
 
-  pub listed_keeps : ((account commodity : List ℕ) (lot : Option LotKey) (units : ℤ)
-      → Keeps rows (position_write account commodity lot units))
-      → (position : Position) (listed : Option ℤ) → AllByRecursion (Keeps rows) (listed_write position listed)
-  listed_keeps keeps position None = tt
-  listed_keeps keeps position (Some units) = (keeps position.account position.commodity position.lot units, tt)
+  pub opening_keeps : ((account commodity : List ℕ) (lot : LotKey) (number : ℕ)
+      → Keeps rows (write.Opening (opening_row account commodity lot number)))
+      → ((account commodity : List ℕ) (lot : LotKey) → Keeps rows (write.NoOpening account commodity lot))
+      → (account commodity : List ℕ) (lot : Option LotKey) (units : ℤ) (listed : Option ℕ)
+      → AllByRecursion (Keeps rows) (opening_written account commodity lot units listed)
+  opening_keeps opening no_opening account commodity None units listed = tt
+  opening_keeps opening no_opening account commodity (Some lot) units listed =
+      elim (int_eq units (pos 0)) as (λ b. AllByRecursion (Keeps rows) (cond b
+      (write.NoOpening account commodity lot ∷ []) (number_written account commodity lot listed))) [
+        | true ↦ (no_opening account commodity lot, tt)
+        | false ↦ number_keeps listed
+      ]
+    where
+      number_keeps : (number : Option ℕ) → AllByRecursion (Keeps rows) (number_written account commodity lot number)
+      number_keeps None = tt
+      number_keeps (Some number) = (opening account commodity lot number, tt)
 
-  pub positions_keep : ((account commodity : List ℕ) (lot : Option LotKey) (units : ℤ)
-      → Keeps rows (position_write account commodity lot units))
-      → (listed : List (Position × ℤ)) (legs : List Leg) (tables : Tables)
-      → rows (written_all (positions_written listed legs) tables) ≡ rows tables
-  positions_keep keeps listed [] tables = refl
-  positions_keep keeps listed (leg ∷ legs) tables =
-      let first = listed_write leg.position (lookup (same_position leg.position) listed) in
-      ap rows (written_all-append first (positions_written listed legs) tables)
-      ∙ positions_keep keeps listed legs (written_all first tables)
-      ∙ left-written_all rows first tables (listed_keeps keeps leg.position (lookup (same_position leg.position) listed))
+  pub listed_keeps : (facts : Facts) (change : Change)
+      → ((account commodity : List ℕ) (units : ℤ) → Keeps rows (write.Plain (plain_row account commodity units)))
+      → ((account commodity : List ℕ) → Keeps rows (write.NoPlain account commodity))
+      → ((account commodity : List ℕ) (lot : LotKey) (units : ℤ) → Keeps rows (write.Lot (lot_row account commodity lot units)))
+      → ((account commodity : List ℕ) (lot : LotKey) → Keeps rows (write.NoLot account commodity lot))
+      → ((account commodity : List ℕ) (lot : LotKey) (number : ℕ)
+      → Keeps rows (write.Opening (opening_row account commodity lot number)))
+      → ((account commodity : List ℕ) (lot : LotKey) → Keeps rows (write.NoOpening account commodity lot))
+      → (p : Position) → AllByRecursion (Keeps rows) (listed_write facts change p)
+  listed_keeps facts change plain no_plain at_lot no_lot opening no_opening p =
+      let units = units_listed facts change p in (
+        position_keeps plain no_plain at_lot no_lot p.account p.commodity p.lot units,
+        opening_keeps opening no_opening p.account p.commodity p.lot units (get position_cmp change.openings p),
+      )
+
+  pub positions_keep : (facts : Facts) (change : Change)
+      → ((p : Position) → AllByRecursion (Keeps rows) (listed_write facts change p)) → (legs : List Leg) (tables : Tables)
+      → rows (written_all (positions_written facts change legs) tables) ≡ rows tables
+  positions_keep facts change keeps [] tables = refl
+  positions_keep facts change keeps (leg ∷ legs) tables =
+      let first = listed_write facts change leg.position in
+      ap rows (written_all-append first (positions_written facts change legs) tables)
+      ∙ positions_keep facts change keeps legs (written_all first tables)
+      ∙ left-written_all rows first tables (keeps leg.position)

@@ -1,11 +1,12 @@
 -- Tables that stand for a book stand, after the writes of an accepted command, for the book with its entry.
 use Rattle.std.specs.Prelude.{suc, List, [], ◌∷◌, ◌++◌, All}
-use Rattle.std.proofs.Common.{refl, sym, subst, ◌∙◌}
+use Rattle.std.proofs.Common.{refl, sym, ap, subst, ◌∙◌, arith, length-append}
 use Rattle.std.proofs.lemmas.List.Elements.{All-from_recursion, recursion_from_All}
 use Rattle.sqlite_keyed.proofs.ListLemmas.{all-append}
 use Rattle.lot_command.specs.declared.command.Command.{Command}
 use Rattle.lot_command.specs.declared.key.Key.{Key}
 use Rattle.lot_book.specs.Book.{entry_of}
+use Rattle.lot_laws.proofs.MigrationLaws.{behind_place}
 use Rattle.lot_book.specs.Facts.{Entry, Facts}
 use Rattle.lot_book.specs.declared.change.Change.{Change}
 use Rattle.lot_command.specs.Sayable.{IsSayable}
@@ -14,8 +15,8 @@ use Rattle.lot_rows.specs.Tables.{Tables}
 use Rattle.lot_stored.specs.Rows.{entry_row}
 use Rattle.lot_stored.specs.StandFor.{StandFor}
 use Rattle.lot_stored.proofs.KeptLemmas.{entry_rows-unnamed}
-use Rattle.lot_write.proofs.NamedLemmas.{IsAccepted, account-after, allowed-after, book-written, commodity-after, entry-after, judged, own_no_entry, price-after}
-use Rattle.lot_write.proofs.TransactionLemmas.{heads_stand, legs_stand, lots_stand, plain_stands, sales_stand}
+use Rattle.lot_write.proofs.NamedLemmas.{IsAccepted, accepting_step, account-after, allowed-after, commodity-after, entry-after, judged, kind-written, own_no_entry, price-after}
+use Rattle.lot_write.proofs.TransactionLemmas.{heads_stand, legs_stand, lots_stand, openings_stand, plain_stands, sales_stand}
 use Rattle.lot_write.proofs.WrittenLemmas.{are_fit, kept-written_all}
 use Rattle.lot_write.specs.Write.{AreFit, IsGood, written, written_all}
 use Rattle.lot_write.specs.Writes.{ListsInOrder, own_writes, writes_of}
@@ -42,7 +43,12 @@ module _ (tables : Tables) (entries : List Entry) (known : Facts) (key : Key) (c
         said = All-from_recursion (λ (entry : Entry). IsSayable entry.command) (entries ++ entry_of key command change.legs ∷ [])
             (all-append (λ (entry : Entry). IsSayable entry.command) entries (entry_of key command change.legs ∷ [])
             (recursion_from_All (λ (entry : Entry). IsSayable entry.command) entries stand.said) (sayable, tt));
-        book = book-written (writes_of known key command change) tables ∙ stand.book;
+        book = ap (λ k. k.0) (kind-written (writes_of known key command change) tables) ∙ stand.book;
+        place = stand.place;
+        placed = omega (arith, stand.placed, length-append entries (entry_of key command change.legs ∷ []));
+        judged = (behind_place stand.place entries (entry_of key command change.legs) stand.placed stand.judged).1
+            (accepting_step entries known key change command is);
+        migration = ap (λ k. k.1) (kind-written (writes_of known key command change) tables) ∙ stand.migration;
         account = account-after tables entries known key change stand command is;
         allowed = allowed-after tables entries known key change stand command is;
         commodity = commodity-after tables entries known key change stand command is;
@@ -54,5 +60,6 @@ module _ (tables : Tables) (entries : List Entry) (known : Facts) (key : Key) (c
         sale = sold.2;
         lot = lots_stand tables entries known key change stand command is good;
         plain = plain_stands tables entries known key change stand command is;
+        opening = openings_stand tables entries known key change stand command is good;
         head = heads_stand tables entries known key change stand command is listed;
       }

@@ -1,53 +1,24 @@
 -- The table of legs once those of another entry are put.
-use Rattle.std.specs.Prelude.{◌≡◌, ℕ, pos, ◌<◌, ◌==◌, Bool, true, false, cond, List, [], ◌∷◌, ◌++◌, map}
+use Rattle.std.specs.Prelude.{◌≡◌, ℕ, Bool, true, false, cond, List, [], ◌∷◌, ◌++◌, map}
 use Rattle.std.specs.List.{AllByRecursion}
 use Rattle.std.specs.declared.cmp.Ordering.TheVariants.{Less}
 use Rattle.std.proofs.Common.{refl, sym, ap, subst, ◌∙◌, arith, append_assoc}
-use Rattle.std.proofs.lemmas.Bool.{and_parts}
-use Rattle.std.proofs.lemmas.Bool.Decides.{Decides-eqb}
 use Rattle.std.proofs.lemmas.List.{append-nil, map-append}
 use Rattle.std.proofs.lemmas.List.Elements.{filter-append}
-use Rattle.sqlite.specs.Order.{Row}
 use Rattle.sqlite.specs.Tree.{IsAscending}
-use Rattle.sqlite.specs.declared.types.Value.TheVariants.{Int, Text}
 use Rattle.sqlite_keyed.proofs.ListLemmas.{all-append, all_kept, all_map, all_weaker}
 use Rattle.sqlite_rules.proofs.ListLemmas.{all_from, all_has, has_filtered}
 use Rattle.lot_book.specs.declared.leg.Leg.{Leg}
 use Rattle.lot_rows.specs.Leg.{leg_cells}
-use Rattle.lot_rows.specs.LotKey.{cost_currency, cost_day, cost_label, cost_number}
 use Rattle.lot_rows.specs.declared.leg.LegRow.{LegRow}
-use Rattle.lot_table.specs.Rows.{has_key, key_order, put_in, with_key}
+use Rattle.lot_table.specs.Rows.{has_key, put_in, with_key}
 use Rattle.lot_stored.specs.Kept.{is_of_posting, legs_of_posting}
 use Rattle.lot_stored.specs.Rows.{leg_row, posting_key}
-use Rattle.lot_stored.proofs.KeyLemmas.{has_posting, number_below, same_first}
+use Rattle.lot_stored.proofs.LegLemmas.{below_by_place, has_its, its_parts}
 use Rattle.lot_stored.proofs.LookupLemmas.{with_key-put_last, with_key-put_other}
 use Rattle.lot_stored.proofs.OrderLemmas.{IsRising, rises-put_in, row_order}
 use Rattle.lot_stored.proofs.BookedLemmas.{Precedes}
 use Rattle.lot_write.proofs.PutLemmas.{put_each}
-
--- the columns behind the key
-abbrev behind : LegRow → Row
-behind row =
-    Text row.account ∷ Text row.commodity ∷ Int row.units ∷ cost_number row.lot ∷ cost_currency row.lot ∷ cost_day row.lot ∷ cost_label row.lot ∷ []
-
-row_below : (a b : Leg) → a.entry ≡ b.entry → a.posting ≡ b.posting → a.place < b.place
-    → row_order leg_cells 3 (leg_row a) (leg_row b) ≡ Less
-row_below a b entry posting below =
-    let here : Row = Int (pos a.place) ∷ behind (leg_row a) in
-    let there : Row = Int (pos b.place) ∷ behind (leg_row b) in
-    (λ i. key_order 3 (Int (pos (entry i)) ∷ Int (pos (posting i)) ∷ here) (Int (pos b.entry) ∷ Int (pos b.posting) ∷ there))
-    ∙ same_first 2 (Int (pos b.entry)) (Int (pos b.posting) ∷ here) (Int (pos b.posting) ∷ there)
-    ∙ same_first 1 (Int (pos b.posting)) here there
-    ∙ number_below 0 a.place b.place (behind (leg_row a)) (behind (leg_row b)) below
-
-has_its : (entry posting : ℕ) (leg : Leg) → has_key 2 (posting_key entry posting) (leg_cells (leg_row leg)) ≡ is_of_posting entry posting leg
-has_its entry posting leg =
-    has_posting entry posting leg.entry leg.posting (Int (pos leg.place) ∷ behind (leg_row leg))
-
-its_parts : (entry posting : ℕ) (leg : Leg) → is_of_posting entry posting leg ≡ true → (leg.entry ≡ entry) × (leg.posting ≡ posting)
-its_parts entry posting leg is =
-    let parts = and_parts (leg.entry == entry) (leg.posting == posting) is in
-    ((Decides-eqb leg.entry entry).0 parts.0, (Decides-eqb leg.posting posting).0 parts.1)
 
 -- rows stand for legs: those of each posting, in their order
 abbrev pub Shows : List LegRow → List Leg → Type 0
@@ -68,7 +39,7 @@ rows_below entry posting rows done leg shows precede own =
     let its = its_parts entry posting d found.1 in
     let same : d.entry ≡ leg.entry = its.0 ∙ sym mine.0 in
     let one : d.posting ≡ leg.posting = its.1 ∙ sym mine.1 in
-    row_below d leg same one (all_has (λ (c : Leg). Precedes c leg) done d precede found.0 same one)))))
+    below_by_place d leg same one (all_has (λ (c : Leg). Precedes c leg) done d precede found.0 same one)))))
 
 put_next : (rows : List LegRow) (done : List Leg) (leg : Leg) → IsRising leg_cells 3 rows → Shows rows done
     → AllByRecursion (λ (d : Leg). Precedes d leg) done

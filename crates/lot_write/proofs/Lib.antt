@@ -4,6 +4,7 @@ pub mod LegLemmas
 pub mod WrittenLemmas
 pub mod HeadLemmas
 pub mod PositionLemmas
+pub mod OpeningLemmas
 pub mod SaleLemmas
 pub mod NamedLemmas
 pub mod TransactionLemmas

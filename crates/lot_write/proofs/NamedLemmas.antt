@@ -1,7 +1,7 @@
--- The tables account, allowed, commodity, price, entry and book after what an accepted command writes.
+-- The tables account, allowed, commodity, price, entry, book and migration after what an accepted command writes.
 use Rattle.std.specs.Prelude.{◌≡◌, ℕ, suc, ◌<◌, ◌&&◌, Bool, true, false, cond, List, [], ◌∷◌, ◌++◌, length, map, Option, None, Some, ℤ, is_some, ⊤, pos}
+use Rattle.std.specs.BTreeMap.{get}
 use Rattle.std.specs.List.{AllByRecursion}
-use Rattle.std.specs.Map.{lookup}
 use Rattle.std.specs.Option.{is_none, option_map, option_or}
 use Rattle.std.specs.Ordering.{int_eq}
 use Rattle.std.specs.declared.cmp.Ordering.TheVariants.{Less}
@@ -25,13 +25,16 @@ use Rattle.lot_command.specs.declared.command.Declaring.{Declaring as DeclaringO
 use Rattle.lot_command.specs.declared.command.Opening.{Opening as OpeningOf}
 use Rattle.lot_command.specs.declared.key.Key.{Key}
 use Rattle.lot_book.specs.Agree.{Agrees}
-use Rattle.lot_book.specs.Book.{IsBook, entry_of}
+use Rattle.lot_book.specs.Book.{entry_of}
+use Rattle.lot_book.specs.Booking.{TieRule}
+use Rattle.lot_book.specs.Edition.{After, Second, ties_in}
 use Rattle.lot_book.specs.Facts.{Entry, Facts, closing_of, facts_of, is_declared, opening_by, opening_of, standing_by, standing_of, text_under}
-use Rattle.lot_book.specs.Leg.{same_position}
+use Rattle.lot_book.specs.Leg.{position_cmp}
 use Rattle.lot_book.specs.Recorded.{closed_on, standing_after}
 use Rattle.lot_book.specs.Refusals.{already_declared, book_full, closing_again, closing_too_early, closing_unknown, holds_as, was_closed}
-use Rattle.lot_book.specs.Step.{Accept, Judges, first_of}
-use Rattle.lot_book.specs.Change.{IsAcceptedWith}
+use Rattle.lot_book.specs.Step.{Accept, JudgesUnder, StepIn, first_of}
+use Rattle.lot_book.specs.Touched.{pairs_in}
+use Rattle.lot_book.specs.Change.{IsAcceptedUnder}
 use Rattle.lot_book.specs.declared.change.Change.{Change}
 use Rattle.lot_book.specs.declared.leg.Leg.{Leg}
 use Rattle.lot_book.specs.declared.leg.Position.{Position}
@@ -39,7 +42,8 @@ use Rattle.lot_book.specs.declared.refusal.Refusal.{Refusal}
 use Rattle.lot_book.specs.declared.standing.Standing.{Standing}
 use Rattle.lot_laws.proofs.LawBooks.{accepted, none_holds}
 use Rattle.lot_laws.proofs.RecordedBook.{closes_opened, closing_is_known, opening_is_new, opening_of-append, standing-recorded}
-use Rattle.lot_laws.proofs.StepLooks.{same_decision}
+use Rattle.lot_laws.proofs.StepAgree.{TiesAlike}
+use Rattle.lot_laws.proofs.StepLooks.{same_decision_under}
 use Rattle.lot_table.specs.Rows.{has_key, key_order, put_in, with_key}
 use Rattle.lot_rows.specs.Account.{account_cells}
 use Rattle.lot_rows.specs.Allowed.{allowed_cells}
@@ -49,7 +53,9 @@ use Rattle.lot_rows.specs.Price.{price_cells}
 use Rattle.lot_rows.specs.Tables.{Tables, account_table, allowed_table, commodity_table, entry_table, price_table}
 use Rattle.lot_rows.specs.declared.account.AccountRow.{AccountRow}
 use Rattle.lot_rows.specs.declared.allowed.AllowedRow.{AllowedRow}
+use Rattle.lot_rows.specs.declared.book.BookRow.{BookRow}
 use Rattle.lot_rows.specs.declared.commodity.CommodityRow.{CommodityRow}
+use Rattle.lot_rows.specs.declared.migration.MigrationRow.{MigrationRow}
 use Rattle.lot_rows.specs.declared.price.PriceRow.{PriceRow}
 use Rattle.lot_stored.specs.Kept.{currencies_in, currencies_of, declared_on, declaring_by, rate_by, rate_on}
 use Rattle.lot_stored.specs.Rows.{account_row, allowed_rows, commodity_row, entry_row, entry_rows, name_key, price_key, price_row, row_at}
@@ -60,24 +66,30 @@ use Rattle.lot_stored.proofs.LookupLemmas.{first_with_key, put_in-last, row-put,
 use Rattle.lot_stored.proofs.OrderLemmas.{IsRising, all-put_in, rises-put_in, row_order}
 use Rattle.lot_write.proofs.WrittenLemmas.{IsNoEntry, left-written_all}
 use Rattle.lot_write.specs.Write.{with_put, written, written_all}
-use Rattle.lot_write.specs.Writes.{closing_written, heads_written, legs_written, listed_write, own_writes, position_write, positions_written, sales_written, writes_of}
+use Rattle.lot_write.specs.Writes.{closing_written, heads_written, legs_written, listed_write, number_written, opening_written, own_writes, position_write, positions_written, sales_written, units_listed, writes_of}
 use Rattle.lot_write.specs.declared.write.Write.{Write}
 use Rattle.lot_write.specs.declared.write.Write.TheVariants as write
 
 -- ---- an accepted command
 
--- it was accepted on what a book says
+-- it was accepted on what a book says, where ties are decided as edition 2 does on it
 pub record IsAccepted (entries : List Entry) (known : Facts) (key : Key) (command : Command) (change : Change) : Type 0 where
-  pub book : IsBook entries
   pub agrees : Agrees known (facts_of entries key) command
-  pub comes : IsAcceptedWith known command change
+  pub ties : TieRule
+  pub alike : AllByRecursion (TiesAlike ties (ties_in Second entries) known) (pairs_in command)
+  pub comes : IsAcceptedUnder ties known command change
 
 module _ (entries : List Entry) (known : Facts) (key : Key) (change : Change) where
+  pub accepting_step : (command : Command) → IsAccepted entries known key command change
+      → StepIn Second entries key command (Accept change.legs)
+  accepting_step command is =
+      same_decision_under is.ties (ties_in Second entries) known (facts_of entries key) command (Accept change.legs)
+      is.agrees is.alike is.comes.0
+
   pub judged : (command : Command) → IsAccepted entries known key command change
-      → (text_under entries key ≡ None) × Judges (facts_of entries key) command (Accept change.legs)
-  judged command is =
-      accepted entries key command change.legs
-      (same_decision known (facts_of entries key) command (Accept change.legs) is.agrees is.comes.0)
+      → (text_under entries key ≡ None)
+      × JudgesUnder (ties_in Second entries) (facts_of entries key) command (Accept change.legs)
+  judged command is = accepted Second entries key command change.legs (accepting_step command is)
 
 -- ---- writes of a transaction
 
@@ -101,9 +113,26 @@ position_is account commodity (Some lot) units =
       | false ↦ tt
     ]
 
-listed_is : (position : Position) (units : Option ℤ) → AllByRecursion IsOfTransaction (listed_write position units)
-listed_is position None = tt
-listed_is position (Some units) = (position_is position.account position.commodity position.lot units, tt)
+opening_is : (account commodity : List ℕ) (lot : Option LotKey) (units : ℤ) (listed : Option ℕ)
+    → AllByRecursion IsOfTransaction (opening_written account commodity lot units listed)
+opening_is account commodity None units listed = tt
+opening_is account commodity (Some lot) units listed =
+    elim (int_eq units (pos 0)) as (λ b. AllByRecursion IsOfTransaction
+    (cond b (write.NoOpening account commodity lot ∷ []) (number_written account commodity lot listed))) [
+      | true ↦ (tt, tt)
+      | false ↦ number_is listed
+    ]
+  where
+    number_is : (number : Option ℕ) → AllByRecursion IsOfTransaction (number_written account commodity lot number)
+    number_is None = tt
+    number_is (Some number) = (tt, tt)
+
+listed_is : (facts : Facts) (change : Change) (p : Position) → AllByRecursion IsOfTransaction (listed_write facts change p)
+listed_is facts change p =
+    let units = units_listed facts change p in (
+      position_is p.account p.commodity p.lot units,
+      opening_is p.account p.commodity p.lot units (get position_cmp change.openings p),
+    )
 
 all_of : {A X : Type 0} (P : X → Type 0) (f : A → List X) → ((a : A) → AllByRecursion P (f a)) → (xs : List A)
     → AllByRecursion (λ a. AllByRecursion P (f a)) xs
@@ -112,16 +141,15 @@ all_of P f each (x ∷ xs) = (each x, all_of P f each xs)
 
 pub transaction_is : (facts : Facts) (change : Change)
     → AllByRecursion IsOfTransaction (legs_written change.legs ++ (sales_written (suc facts.entries) change.sales
-    ++ (positions_written change.positions.entries change.legs ++ heads_written change.heads.entries)))
+    ++ (positions_written facts change change.legs ++ heads_written change.heads.entries)))
 transaction_is facts change =
-    let written_at : Leg → List Write =
-    λ leg. listed_write leg.position (lookup (same_position leg.position) change.positions.entries) in
+    let written_at : Leg → List Write = λ leg. listed_write facts change leg.position in
     all-append IsOfTransaction (legs_written change.legs) _ (all-map IsOfTransaction _ (λ leg. tt) change.legs)
     (all-append IsOfTransaction (sales_written (suc facts.entries) change.sales) _
     (all-map IsOfTransaction _ (λ sale. tt) change.sales)
-    (all-append IsOfTransaction (positions_written change.positions.entries change.legs) _
+    (all-append IsOfTransaction (positions_written facts change change.legs) _
     (all-flat_map IsOfTransaction written_at change.legs
-    (all_of IsOfTransaction written_at (λ leg. listed_is leg.position (lookup (same_position leg.position) change.positions.entries)) change.legs))
+    (all_of IsOfTransaction written_at (λ leg. listed_is facts change leg.position) change.legs))
     (all-map IsOfTransaction _ (λ head. tt) change.heads.entries)))
 
 -- the tables that it leaves
@@ -138,11 +166,11 @@ named_left _ is old = refl
 
 transaction_leaves : (facts : Facts) (change : Change) (tables : Tables)
     → named (written_all (legs_written change.legs ++ (sales_written (suc facts.entries) change.sales
-    ++ (positions_written change.positions.entries change.legs ++ heads_written change.heads.entries))) tables) ≡ named tables
+    ++ (positions_written facts change change.legs ++ heads_written change.heads.entries))) tables) ≡ named tables
 transaction_leaves facts change tables =
     left-written_all named _ tables (all_weaker IsOfTransaction _ named_left _ (transaction_is facts change))
 
--- ---- the tables entry and book
+-- ---- the tables entry, book and migration
 
 no_entry_of : (one : Write) → IsOfTransaction one → IsNoEntry one
 no_entry_of (write.Entry row) is = is
@@ -163,16 +191,20 @@ entry_left : (one : Write) → IsNoEntry one → (old : Tables) → (written one
 entry_left (write.Entry row) is old = absurd is
 entry_left _ is old = refl
 
-book_left : (one : Write) (old : Tables) → (written one old).book ≡ old.book
-book_left (write.Entry row) old = refl
-book_left _ old = refl
+-- what it is marked with, and its place of migration
+abbrev kind : Tables → List BookRow × List MigrationRow
+kind tables = (tables.book, tables.migration)
+
+kind_left : (one : Write) (old : Tables) → kind (written one old) ≡ kind old
+kind_left (write.Entry row) old = refl
+kind_left _ old = refl
 
 all_so : (P : Write → Type 0) → ((one : Write) → P one) → (writes : List Write) → AllByRecursion P writes
 all_so P each [] = tt
 all_so P each (one ∷ more) = (each one, all_so P each more)
 
-pub book-written : (writes : List Write) (tables : Tables) → (written_all writes tables).book ≡ tables.book
-book-written writes tables = left-written_all (λ (t : Tables). t.book) writes tables (all_so _ book_left writes)
+pub kind-written : (writes : List Write) (tables : Tables) → kind (written_all writes tables) ≡ kind tables
+kind-written writes tables = left-written_all kind writes tables (all_so _ kind_left writes)
 
 -- ---- rows of currencies, one put in after another
 
@@ -289,7 +321,8 @@ module _ (tables : Tables) (entries : List Entry) (known : Facts) (key : Key) (c
   standing_so : (command : Command) → IsAccepted entries known key command change → (name : List ℕ)
       → standing_after name command (standing_of entries name) ≡ standing_of (entries ++ entry_for command ∷ []) name
   standing_so command is name =
-      standing-recorded entries key command change.legs (closes_opened entries is.book) (judged entries known key change command is).1 name
+      standing-recorded (ties_in Second entries) entries key command change.legs
+      (closes_opened (After stand.place) entries stand.judged) (judged entries known key change command is).1 name
 
   -- an account's row, where another's or its own is written
   account_put : (account : List ℕ) (standing : Standing) (old : Option Standing) (name : List ℕ) (b : Bool) → same_text name account ≡ b
@@ -336,7 +369,7 @@ module _ (tables : Tables) (entries : List Entry) (known : Facts) (key : Key) (c
       facts : Facts
       facts = facts_of entries key
 
-      judges : Judges facts (Closing c) (Accept change.legs)
+      judges : JudgesUnder (ties_in Second entries) facts (Closing c) (Accept change.legs)
       judges = (judged entries known key change (Closing c) is).1
 
       open_still : was_closed (facts.standing c.account) ≡ false
@@ -349,7 +382,7 @@ module _ (tables : Tables) (entries : List Entry) (known : Facts) (key : Key) (c
 
       by : (standing : Option Standing) → standing_of entries c.account ≡ standing
           → (found : Standing) × (known.standing c.account ≡ Some found) × (standing_of entries c.account ≡ Some found) × (found.closed ≡ None)
-      by None e = absurd (true≢false (sym (ap is_none e) ∙ closing_is_known facts c change.legs judges))
+      by None e = absurd (true≢false (sym (ap is_none e) ∙ closing_is_known (ties_in Second entries) facts c change.legs judges))
       by (Some found) e = (found, is.agrees.standing.0 ∙ e, e, not_closed (standing_of entries c.account) found e open_still)
 
   pub account-after : (command : Command) → IsAccepted entries known key command change → (name : List ℕ)
@@ -496,7 +529,7 @@ module _ (tables : Tables) (entries : List Entry) (known : Facts) (key : Key) (c
       opened = with_put account_table (account_row o.account (standing_by None o)) (with_entry (Opening o))
 
       new : standing_of entries o.account ≡ None
-      new = opening_is_new (facts_of entries key) o change.legs (judged entries known key change (Opening o) is).1
+      new = opening_is_new (ties_in Second entries) (facts_of entries key) o change.legs (judged entries known key change (Opening o) is).1
 
       unopened : opening_of entries o.account ≡ None
       unopened = not_mapped (standing_by (closing_of entries o.account)) (opening_of entries o.account) new

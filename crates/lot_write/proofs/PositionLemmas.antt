@@ -1,9 +1,9 @@
--- The rows of lots and of plain units once what is listed of the position of each leg is written.
+-- The rows of lots, of their opening numbers and of plain units once the position of each leg is written.
 use Rattle.std.specs.Prelude.{◌≡◌, ◌⊎◌, ℕ, ◌&&◌, ◌||◌, Bool, true, false, cond, List, [], ◌∷◌, Option, None, Some, ℤ, pos}
+use Rattle.std.specs.BTreeMap.{get}
 use Rattle.std.specs.Cmp.Lexicographic.{texts_ties}
 use Rattle.std.specs.List.{AllByRecursion, list_any}
-use Rattle.std.specs.Map.{lookup}
-use Rattle.std.specs.Option.{option_map, unwrap_or}
+use Rattle.std.specs.Option.{option_map, option_or}
 use Rattle.std.specs.Ordering.{int_eq, is_eq, ordering_then}
 use Rattle.std.specs.declared.cmp.Ordering.TheVariants.{Equal}
 use Rattle.std.proofs.Common.{refl, sym, ap, ◌∙◌, inl, inr}
@@ -13,94 +13,83 @@ use Rattle.lot_base.specs.Text.{same_text, text_cmp}
 use Rattle.lot_cost.proofs.OrderLemmas.{eq_then}
 use Rattle.lot_inv.specs.Inventory.{non_zero}
 use Rattle.lot_cost.specs.declared.lot_key.LotKey.{LotKey}
-use Rattle.lot_book.specs.Leg.{same_position}
+use Rattle.lot_book.specs.Facts.{Facts}
+use Rattle.lot_book.specs.Leg.{position_cmp, same_position}
+use Rattle.lot_book.specs.declared.change.Change.{Change}
 use Rattle.lot_book.specs.declared.leg.Leg.{Leg}
 use Rattle.lot_book.specs.declared.leg.Position.{Position}
 use Rattle.lot_book.proofs.OrderLemmas.{one_position, same_position-turned}
 use Rattle.lot_rows.specs.Lot.{lot_cells}
 use Rattle.lot_rows.specs.LotKey.{IsLotKey, IsLotOrPlain}
+use Rattle.lot_rows.specs.Opening.{opening_cells}
 use Rattle.lot_rows.specs.Plain.{plain_cells}
-use Rattle.lot_rows.specs.Tables.{Tables, lot_table, plain_table}
+use Rattle.lot_rows.specs.Tables.{Tables, lot_table, opening_table, plain_table}
 use Rattle.lot_rows.specs.declared.lot.LotRow.{LotRow}
+use Rattle.lot_rows.specs.declared.opening.OpeningRow.{OpeningRow}
 use Rattle.lot_rows.specs.declared.plain.PlainRow.{PlainRow}
 use Rattle.sqlite.specs.declared.types.Value.TheVariants.{Int}
-use Rattle.lot_stored.specs.Rows.{lot_key, lot_row, pair_key, plain_row, row_at}
+use Rattle.lot_stored.specs.Rows.{lot_key, lot_row, opening_row, pair_key, plain_row, row_at}
 use Rattle.lot_stored.proofs.KeyLemmas.{at_lot, has_lot, has_pair}
 use Rattle.lot_stored.proofs.LookupLemmas.{row-put, row-without}
-use Rattle.lot_write.proofs.WrittenLemmas.{written_all-append}
+use Rattle.lot_write.proofs.KeepLemmas.{opening_keeps, position_keeps}
+use Rattle.lot_write.proofs.WrittenLemmas.{left-written_all, written_all-append}
 use Rattle.lot_write.specs.Write.{written, written_all}
-use Rattle.lot_write.specs.Writes.{listed_write, position_write, positions_written}
+use Rattle.lot_write.specs.Writes.{listed_write, number_written, opening_written, position_write, positions_written, units_listed}
 use Rattle.lot_write.specs.declared.write.Write.TheVariants as write
-
--- what is there once units are written, or nothing is
-abbrev pub settled : {X : Type 0} → (ℤ → X) → Option ℤ → Option X → Option X
-settled row None had = had
-settled row (Some units) had = option_map row (non_zero units)
 
 -- ---- all legs
 
-module _ {X : Type 0} (at : Tables → Option X) (row : ℤ → X) (q : Position) (IsGood : Position → Type 0)
-    (step : (p : Position) (listed : Option ℤ) (tables : Tables) → IsGood p
-    → at (written_all (listed_write p listed) tables) ≡ cond (same_position q p) (settled row listed (at tables)) (at tables)) where
-  abbrev Stands : ℤ → Tables → Type 0
-  Stands units tables = at tables ≡ option_map row (non_zero units)
-
+module _ {X : Type 0} (at : Tables → Option X) (q : Position) (facts : Facts) (change : Change) (IsFine : Position → Type 0)
+    (settled : Position → Option X → Option X)
+    (step : (p : Position) (tables : Tables) → IsFine p
+    → at (written_all (listed_write facts change p) tables) ≡ cond (same_position q p) (settled p (at tables)) (at tables)) where
   abbrev is_here : Leg → Bool
   is_here leg = same_position q leg.position
 
-  -- either the position is right, or it is as it was and a leg is there
-  abbrev IsOnTheWay : ℤ → ℤ → List Leg → Tables → Type 0
-  IsOnTheWay before after legs tables = Stands after tables ⊎ (Stands before tables × (list_any is_here legs ≡ true))
+  -- either what is there is right, or it is as it was and a leg is there
+  abbrev IsOnTheWay : Option X → Option X → List Leg → Tables → Type 0
+  IsOnTheWay before after legs tables = (at tables ≡ after) ⊎ ((at tables ≡ before) × (list_any is_here legs ≡ true))
 
-  -- what is listed of a leg's position is what it has after all of them
-  abbrev IsListed : List (Position × ℤ) → ℤ → ℤ → Leg → Type 0
-  IsListed listed before after leg =
-      same_position q leg.position ≡ true → unwrap_or (lookup (same_position leg.position) listed) before ≡ after
+  -- what is written of a leg's position makes it right
+  abbrev pub Settles : Option X → Option X → Leg → Type 0
+  Settles before after leg =
+      same_position q leg.position ≡ true → (settled leg.position before ≡ after) × (settled leg.position after ≡ after)
 
-  one_leg : (listed : Option ℤ) (before after : ℤ) (tables : Tables) → unwrap_or listed before ≡ after
-      → Stands after tables ⊎ Stands before tables → settled row listed (at tables) ≡ option_map row (non_zero after)
-  one_leg None before after tables is (inl right) = right
-  one_leg None before after tables is (inr old) = old ∙ ap (λ units. option_map row (non_zero units)) is
-  one_leg (Some units) before after tables is either = ap (λ n. option_map row (non_zero n)) is
+  one_leg : (p : Position) (before after : Option X) (legs : List Leg) (tables : Tables) → settled p before ≡ after
+      → settled p after ≡ after → IsOnTheWay before after legs tables → settled p (at tables) ≡ after
+  one_leg p before after legs tables first again (inl right) = ap (settled p) right ∙ again
+  one_leg p before after legs tables first again (inr old) = ap (settled p) old.0 ∙ first
 
-  abbrev as_it_was : (before after : ℤ) (legs : List Leg) (tables : Tables) → IsOnTheWay before after legs tables
-      → Stands after tables ⊎ Stands before tables
-  as_it_was before after legs tables (inl right) = inl right
-  as_it_was before after legs tables (inr old) = inr old.0
-
-  next_leg : (listed : List (Position × ℤ)) (leg : Leg) (legs : List Leg) (tables : Tables) (before after : ℤ) → IsGood leg.position
-      → IsListed listed before after leg → IsOnTheWay before after (leg ∷ legs) tables
-      → IsOnTheWay before after legs (written_all (listed_write leg.position (lookup (same_position leg.position) listed)) tables)
-  next_leg listed leg legs tables before after good is way = by (same_position q leg.position) refl way
+  next_leg : (leg : Leg) (legs : List Leg) (tables : Tables) (before after : Option X) → IsFine leg.position
+      → Settles before after leg → IsOnTheWay before after (leg ∷ legs) tables
+      → IsOnTheWay before after legs (written_all (listed_write facts change leg.position) tables)
+  next_leg leg legs tables before after fine settles way = by (same_position q leg.position) refl way
     where
       by : (b : Bool) → same_position q leg.position ≡ b → IsOnTheWay before after (leg ∷ legs) tables
-          → IsOnTheWay before after legs (written_all (listed_write leg.position (lookup (same_position leg.position) listed)) tables)
+          → IsOnTheWay before after legs (written_all (listed_write facts change leg.position) tables)
       by true here either =
-          let found = lookup (same_position leg.position) listed in
-          inl (step leg.position found tables good
-          ∙ ap (λ b. cond b (settled row found (at tables)) (at tables)) here
-          ∙ one_leg found before after tables (is here) (as_it_was before after (leg ∷ legs) tables either))
+          inl (step leg.position tables fine
+          ∙ ap (λ b. cond b (settled leg.position (at tables)) (at tables)) here
+          ∙ one_leg leg.position before after (leg ∷ legs) tables (settles here).0 (settles here).1 either)
       by false apart (inl right) =
-          let found = lookup (same_position leg.position) listed in
-          inl (step leg.position found tables good ∙ ap (λ b. cond b (settled row found (at tables)) (at tables)) apart ∙ right)
+          inl (step leg.position tables fine ∙ ap (λ b. cond b (settled leg.position (at tables)) (at tables)) apart ∙ right)
       by false apart (inr old) =
-          let found = lookup (same_position leg.position) listed in
           inr (
-            step leg.position found tables good ∙ ap (λ b. cond b (settled row found (at tables)) (at tables)) apart ∙ old.0,
+            step leg.position tables fine ∙ ap (λ b. cond b (settled leg.position (at tables)) (at tables)) apart ∙ old.0,
             ap (λ b. b || list_any is_here legs) (sym apart) ∙ old.1,
           )
 
-  pub positions_stand : (listed : List (Position × ℤ)) (legs : List Leg) (tables : Tables) (before after : ℤ)
-      → AllByRecursion (λ (leg : Leg). IsGood leg.position) legs → AllByRecursion (IsListed listed before after) legs
+  pub positions_stand : (legs : List Leg) (tables : Tables) (before after : Option X)
+      → AllByRecursion (λ (leg : Leg). IsFine leg.position) legs → AllByRecursion (Settles before after) legs
       → IsOnTheWay before after legs tables
-      → at (written_all (positions_written listed legs) tables) ≡ option_map row (non_zero after)
-  positions_stand listed [] tables before after good are (inl right) = right
-  positions_stand listed [] tables before after good are (inr old) = absurd (true≢false (sym old.1))
-  positions_stand listed (leg ∷ legs) tables before after good are way =
-      let first = listed_write leg.position (lookup (same_position leg.position) listed) in
-      ap at (written_all-append first (positions_written listed legs) tables)
-      ∙ positions_stand listed legs (written_all first tables) before after good.1 are.1
-      (next_leg listed leg legs tables before after good.0 are.0 way)
+      → at (written_all (positions_written facts change legs) tables) ≡ after
+  positions_stand [] tables before after fine settle (inl right) = right
+  positions_stand [] tables before after fine settle (inr old) = absurd (true≢false (sym old.1))
+  positions_stand (leg ∷ legs) tables before after fine settle way =
+      let first = listed_write facts change leg.position in
+      ap at (written_all-append first (positions_written facts change legs) tables)
+      ∙ positions_stand legs (written_all first tables) before after fine.1 settle.1
+      (next_leg leg legs tables before after fine.0 settle.0 way)
 
 -- ---- lots
 
@@ -159,26 +148,34 @@ module _ (account commodity : List ℕ) (lot : LotKey) (good : IsLotKey lot) whe
         | false ↦ refl
       ]
 
-  -- the row of a lot once what is listed of a position is written
-  pub lot_step : (p : Position) (listed : Option ℤ) (tables : Tables) → IsLotOrPlain p.lot
-      → lot_there (written_all (listed_write p listed) tables)
-      ≡ cond (same_position (at_lot account commodity lot) p) (settled (lot_row account commodity lot) listed (lot_there tables)) (lot_there tables)
-  lot_step p None tables good_there =
-      elim (same_position (at_lot account commodity lot) p) as (λ b. lot_there tables ≡ cond b (lot_there tables) (lot_there tables)) [
-        | true ↦ refl
-        | false ↦ refl
-      ]
-  lot_step p (Some units) tables good_there = by p.lot refl good_there
+  -- the row of a lot once units are written at a position
+  at_position : (p : Position) (units : ℤ) (tables : Tables) → IsLotOrPlain p.lot
+      → lot_there (written (position_write p.account p.commodity p.lot units) tables)
+      ≡ cond (same_position (at_lot account commodity lot) p) (option_map (lot_row account commodity lot) (non_zero units)) (lot_there tables)
+  at_position p units tables good_there = by p.lot good_there
     where
-      by : (there : Option LotKey) → p.lot ≡ there → IsLotOrPlain there
+      by : (there : Option LotKey) → IsLotOrPlain there
           → lot_there (written (position_write p.account p.commodity there units) tables)
           ≡ cond (same_position (at_lot account commodity lot) (record { account = p.account; commodity = p.commodity; lot = there }))
           (option_map (lot_row account commodity lot) (non_zero units)) (lot_there tables)
-      by None is tt_there =
+      by None tt_there =
           lot_kept p.account p.commodity units tables
           ∙ ap (λ b. cond b (option_map (lot_row account commodity lot) (non_zero units)) (lot_there tables))
           (sym (lot_or_plain (at_lot account commodity lot) (plain_at p.account p.commodity) lot refl refl))
-      by (Some there) is good_key = lot_written p.account p.commodity there units tables good_key
+      by (Some there) good_key = lot_written p.account p.commodity there units tables good_key
+
+  -- the row of a lot once a position is written
+  pub lot_step : (facts : Facts) (change : Change) (p : Position) (tables : Tables) → IsLotOrPlain p.lot
+      → lot_there (written_all (listed_write facts change p) tables)
+      ≡ cond (same_position (at_lot account commodity lot) p)
+      (option_map (lot_row account commodity lot) (non_zero (units_listed facts change p))) (lot_there tables)
+  lot_step facts change p tables good_there =
+      let units = units_listed facts change p in
+      let number = get position_cmp change.openings p in
+      left-written_all lot_there (opening_written p.account p.commodity p.lot units number)
+      (written (position_write p.account p.commodity p.lot units) tables)
+      (opening_keeps lot_there (λ a c l n s. refl) (λ a c l s. refl) p.account p.commodity p.lot units number)
+      ∙ at_position p units tables good_there
 
 -- ---- plain units
 
@@ -230,16 +227,11 @@ module _ (account commodity : List ℕ) where
         | false ↦ refl
       ]
 
-  -- the row of plain units once what is listed of a position is written
-  pub plain_step : (p : Position) (listed : Option ℤ) (tables : Tables) → Unit {0}
-      → plain_there (written_all (listed_write p listed) tables)
-      ≡ cond (same_position (plain_at account commodity) p) (settled (plain_row account commodity) listed (plain_there tables)) (plain_there tables)
-  plain_step p None tables good =
-      elim (same_position (plain_at account commodity) p) as (λ b. plain_there tables ≡ cond b (plain_there tables) (plain_there tables)) [
-        | true ↦ refl
-        | false ↦ refl
-      ]
-  plain_step p (Some units) tables good = by p.lot
+  -- the row of plain units once units are written at a position
+  plain_at_position : (p : Position) (units : ℤ) (tables : Tables)
+      → plain_there (written (position_write p.account p.commodity p.lot units) tables)
+      ≡ cond (same_position (plain_at account commodity) p) (option_map (plain_row account commodity) (non_zero units)) (plain_there tables)
+  plain_at_position p units tables = by p.lot
     where
       by : (there : Option LotKey)
           → plain_there (written (position_write p.account p.commodity there units) tables)
@@ -251,3 +243,91 @@ module _ (account commodity : List ℕ) where
           ∙ ap (λ b. cond b (option_map (plain_row account commodity) (non_zero units)) (plain_there tables))
           (sym (same_position-turned (plain_at account commodity) (at_lot p.account p.commodity there)
           ∙ lot_or_plain (at_lot p.account p.commodity there) (plain_at account commodity) there refl refl))
+
+  -- the row of plain units once a position is written
+  pub plain_step : (facts : Facts) (change : Change) (p : Position) (tables : Tables) → Unit {0}
+      → plain_there (written_all (listed_write facts change p) tables)
+      ≡ cond (same_position (plain_at account commodity) p)
+      (option_map (plain_row account commodity) (non_zero (units_listed facts change p))) (plain_there tables)
+  plain_step facts change p tables fine =
+      let units = units_listed facts change p in
+      let number = get position_cmp change.openings p in
+      left-written_all plain_there (opening_written p.account p.commodity p.lot units number)
+      (written (position_write p.account p.commodity p.lot units) tables)
+      (opening_keeps plain_there (λ a c l n s. refl) (λ a c l s. refl) p.account p.commodity p.lot units number)
+      ∙ plain_at_position p units tables
+
+-- ---- opening numbers
+
+-- the row of the opening number of a lot's position
+abbrev number_in : Position → ℕ → Option OpeningRow
+number_in p number = option_map (λ (l : LotKey). opening_row p.account p.commodity l number) p.lot
+
+-- what is there once the opening number of a lot with those units is written: where none is listed of it, what was there
+abbrev pub numbered_row : List ℕ → List ℕ → LotKey → ℤ → Option ℕ → Option OpeningRow → Option OpeningRow
+numbered_row account commodity lot units listed had =
+    cond (int_eq units (pos 0)) None (option_or (option_map (opening_row account commodity lot) listed) had)
+
+module _ (account commodity : List ℕ) (lot : LotKey) (good : IsLotKey lot) where
+  abbrev opening_there : Tables → Option OpeningRow
+  opening_there = row_at opening_table (lot_key account commodity lot)
+
+  number_at : (other what : List ℕ) (there : LotKey) (listed : Option ℕ) (tables : Tables) → IsLotKey there
+      → opening_there (written_all (number_written other what there listed) tables)
+      ≡ cond (same_position (at_lot account commodity lot) (at_lot other what there))
+      (option_or (option_map (opening_row account commodity lot) listed) (opening_there tables)) (opening_there tables)
+  number_at other what there None tables good_there =
+      elim (same_position (at_lot account commodity lot) (at_lot other what there))
+      as (λ b. opening_there tables ≡ cond b (opening_there tables) (opening_there tables)) [
+        | true ↦ refl
+        | false ↦ refl
+      ]
+  number_at other what there (Some number) tables good_there =
+      row-put opening_cells 6 (lot_key account commodity lot) (opening_row other what there number) tables.opening
+      ∙ ap (λ b. cond b (Some (opening_row other what there number)) (opening_there tables))
+      (has_lot account commodity other what lot there (Int (pos number) ∷ []) good.label good_there.label)
+      ∙ row_of (same_position (at_lot account commodity lot) (at_lot other what there)) refl
+    where
+      row_of : (b : Bool) → same_position (at_lot account commodity lot) (at_lot other what there) ≡ b
+          → cond b (Some (opening_row other what there number)) (opening_there tables)
+          ≡ cond b (Some (opening_row account commodity lot number)) (opening_there tables)
+      row_of true here = sym (ap (λ (p : Position). number_in p number) (one_position (at_lot account commodity lot) (at_lot other what there) here))
+      row_of false apart = refl
+
+  opening_at : (other what : List ℕ) (there : LotKey) (units : ℤ) (listed : Option ℕ) (tables : Tables) → IsLotKey there
+      → opening_there (written_all (opening_written other what (Some there) units listed) tables)
+      ≡ cond (same_position (at_lot account commodity lot) (at_lot other what there))
+      (numbered_row account commodity lot units listed (opening_there tables)) (opening_there tables)
+  opening_at other what there units listed tables good_there = by (int_eq units (pos 0))
+    where
+      by : (zero : Bool)
+          → opening_there (written_all (cond zero (write.NoOpening other what there ∷ []) (number_written other what there listed)) tables)
+          ≡ cond (same_position (at_lot account commodity lot) (at_lot other what there))
+          (cond zero None (option_or (option_map (opening_row account commodity lot) listed) (opening_there tables)))
+          (opening_there tables)
+      by true =
+          row-without opening_cells 6 (lot_key account commodity lot) (lot_key other what there) tables.opening
+          ∙ ap (λ b. cond b None (opening_there tables)) (has_lot account commodity other what lot there [] good.label good_there.label)
+      by false = number_at other what there listed tables good_there
+
+  -- the row of an opening number once a position is written
+  pub opening_step : (facts : Facts) (change : Change) (p : Position) (tables : Tables) → IsLotOrPlain p.lot
+      → opening_there (written_all (listed_write facts change p) tables)
+      ≡ cond (same_position (at_lot account commodity lot) p)
+      (numbered_row account commodity lot (units_listed facts change p) (get position_cmp change.openings p) (opening_there tables)) (opening_there tables)
+  opening_step facts change p tables good_there =
+      let units = units_listed facts change p in
+      let listed = get position_cmp change.openings p in
+      by units listed p.lot good_there (written (position_write p.account p.commodity p.lot units) tables)
+      ∙ ap (λ had. cond (same_position (at_lot account commodity lot) p) (numbered_row account commodity lot units listed had) had)
+      (position_keeps opening_there (λ a c u s. refl) (λ a c s. refl) (λ a c l u s. refl) (λ a c l s. refl)
+      p.account p.commodity p.lot units tables)
+    where
+      by : (units : ℤ) (listed : Option ℕ) (there : Option LotKey) → IsLotOrPlain there → (now : Tables)
+          → opening_there (written_all (opening_written p.account p.commodity there units listed) now)
+          ≡ cond (same_position (at_lot account commodity lot) (record { account = p.account; commodity = p.commodity; lot = there }))
+          (numbered_row account commodity lot units listed (opening_there now)) (opening_there now)
+      by units listed None tt_there now =
+          ap (λ b. cond b (numbered_row account commodity lot units listed (opening_there now)) (opening_there now))
+          (sym (lot_or_plain (at_lot account commodity lot) (plain_at p.account p.commodity) lot refl refl))
+      by units listed (Some there) good_key now = opening_at p.account p.commodity there units listed now good_key

@@ -1,8 +1,16 @@
--- Rows one after another.
+-- Rows one after another, and opening numbers that don't fit theirs.
 use Rattle.std.proofs.Common.{◌≡◌, ◌+◌, ◌<◌, ℕ, get_or, length, map, List, [], ◌∷◌, ◌++◌, sym, ap, suc, take, ◌∙◌, arith}
+use Rattle.std.proofs.lemmas.Bool.{true≢false}
 use Rattle.std.proofs.lemmas.List.{append_assoc, length-take-le, map-append}
+use Rattle.std.specs.Prelude.{IfSome, IsSome, None, Option, Some}
+use Rattle.std.specs.BTreeMap.{BTreeMap, get}
+use Rattle.lot_cost.specs.declared.lot_key.LotKey.{LotKey}
+use Rattle.lot_book.specs.Leg.{position_cmp}
+use Rattle.lot_book.specs.declared.leg.Position.{Position}
+use Rattle.lot_table.specs.Cell.{IsOpeningNumber}
 use Rattle.lot_stored.specs.Rows.{allowed_rows}
 use Rattle.lot_write.proofs.CallLemmas.{taken}
+use Rattle.lot_write.specs.Writes.{AreOpened}
 use Rattle.lot_write.specs.declared.write.Write.{Write}
 use Rattle.lot_write.specs.declared.write.Write.TheVariants as write
 use Rattle.lot_rows.specs.declared.allowed.AllowedRow.{AllowedRow}
@@ -36,3 +44,16 @@ allowed_next account currencies n place currency d before now new low is at was 
     ∙ ap (λ l. l ++ write.Allowed (row account place currency) ∷ []) was
     ∙ append_assoc before (map write.Allowed rows) (write.Allowed (row account place currency) ∷ [])
     ∙ ap (λ l. before ++ l) (sym (map-append write.Allowed rows (row account place currency ∷ [])) ∙ ap (map write.Allowed) (sym all))
+
+-- ---- an opening number
+
+-- an opening number that is listed of a lot, and doesn't fit its column, is one of the change's
+pub not_opened : (p : Position) (openings : BTreeMap Position ℕ) → IsSome p.lot
+    → (¬ IfSome (get position_cmp openings p) IsOpeningNumber) → ¬ AreOpened openings
+not_opened p openings some unfit opened = by p.lot some unfit
+  where
+    by : (lot : Option LotKey) → IsSome lot
+        → (¬ IfSome (get position_cmp openings (record { account = p.account; commodity = p.commodity; lot = lot })) IsOpeningNumber)
+        → ⊥
+    by None some unfit = true≢false (sym some)
+    by (Some lot) some unfit = unfit (opened p.account p.commodity lot)

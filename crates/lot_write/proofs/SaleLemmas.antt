@@ -10,8 +10,9 @@ use Rattle.sqlite.specs.declared.types.Value.TheVariants.{Int, Text}
 use Rattle.sqlite_keyed.proofs.ListLemmas.{all-append, all-map, all_map, all_weaker, ascending-map, ascending_weaker, map-map}
 use Rattle.lot_command.specs.declared.transaction.Posting.{Posting}
 use Rattle.lot_book.specs.Booking.{Booked}
+use Rattle.lot_book.specs.Edition.{Migration, edition_on, ties_in}
 use Rattle.lot_book.specs.Facts.{Entry, facts_of}
-use Rattle.lot_book.specs.Sale.{SaleParts, AreSales, sales_in}
+use Rattle.lot_book.specs.Sale.{SaleParts, AreSalesUnder, sales_in}
 use Rattle.lot_rows.specs.Sale.{amount_of, currency_of, kind_of, sale_cells}
 use Rattle.lot_rows.specs.declared.sale.SaleRow.{SaleRow}
 use Rattle.lot_laws.specs.Collects.{Collects}
@@ -67,37 +68,39 @@ sales_rise entry day place (posting ∷ postings) booked walk =
           (with_sale place _ all.0.reduces (sales_in day all.1) all.3.place both.0 both.1)
     ] walk
 
--- ---- the sales of a book
-
-pub sales_with : (entries : List Entry) (entry : Entry) (sales : List (ℕ × (ℕ × SaleParts))) (own : List (ℕ × SaleParts))
-    → SalesOf entries sales → AreSales (facts_of entries entry.key) entry.command own
-    → SalesOf (entries ++ entry ∷ []) (sales ++ numbered (suc (length entries)) own)
-sales_with entries entry sales own of are =
-    collected_next AreSalesOfEntry [] entries entry sales (numbered (suc (length entries)) own) of (own, are, refl)
+-- ---- the sales of a book, by its migration
 
 -- each sale is of some entry
 abbrev AreUpTo : ℕ → List (ℕ × (ℕ × SaleParts)) → Type 0
 AreUpTo most sales = AllByRecursion (λ (sale : ℕ × (ℕ × SaleParts)). sale.0 ≤ most) sales
 
-own_up_to : (most : ℕ) (before entries : List Entry) (entry : Entry) (sales : List (ℕ × (ℕ × SaleParts)))
-    → length (before ++ entry ∷ entries) ≤ most → AreSalesOfEntry before entry sales → AreUpTo most sales
-own_up_to most before entries entry sales within of =
-    let here : suc (length before) ≤ length (before ++ entry ∷ entries) =
-    subst (λ n. suc (length before) ≤ n) (sym (longer before entry entries)) (omega arith) in
-    subst (AreUpTo most) (sym of.2)
-    (all-map (λ (sale : ℕ × (ℕ × SaleParts)). sale.0 ≤ most) (λ (sale : ℕ × SaleParts). (suc (length before), sale))
-    (λ sale. omega (arith, here, within)) of.0)
-  where
-    longer : {X : Type 0} (xs : List X) (x : X) (ys : List X) → length (xs ++ x ∷ ys) ≡ suc (length xs + length ys)
-    longer xs x ys = length-append xs (x ∷ ys) ∙ omega arith
+module _ (migration : Migration) where
+  pub sales_with : (entries : List Entry) (entry : Entry) (sales : List (ℕ × (ℕ × SaleParts))) (own : List (ℕ × SaleParts))
+      → SalesOf migration entries sales
+      → AreSalesUnder (ties_in (edition_on migration entries) entries) (facts_of entries entry.key) entry.command own
+      → SalesOf migration (entries ++ entry ∷ []) (sales ++ numbered (suc (length entries)) own)
+  sales_with entries entry sales own of are =
+      collected_next (AreSalesOfEntry migration) [] entries entry sales (numbered (suc (length entries)) own) of (own, are, refl)
 
-up_to : (most : ℕ) (before entries : List Entry) (sales : List (ℕ × (ℕ × SaleParts))) → Collects AreSalesOfEntry before entries sales
-    → length (before ++ entries) ≤ most → AreUpTo most sales
-up_to most = over_collected AreSalesOfEntry (λ before entries sales. length (before ++ entries) ≤ most → AreUpTo most sales)
-    (λ before within. tt)
-    (λ before entry entries first more of rest within.
-    all-append (λ (sale : ℕ × (ℕ × SaleParts)). sale.0 ≤ most) first more (own_up_to most before entries entry first within of)
-    (rest (subst (λ (book : List Entry). length book ≤ most) (sym (append_assoc before (entry ∷ []) entries)) within)))
+  own_up_to : (most : ℕ) (before entries : List Entry) (entry : Entry) (sales : List (ℕ × (ℕ × SaleParts)))
+      → length (before ++ entry ∷ entries) ≤ most → AreSalesOfEntry migration before entry sales → AreUpTo most sales
+  own_up_to most before entries entry sales within of =
+      let here : suc (length before) ≤ length (before ++ entry ∷ entries) =
+      subst (λ n. suc (length before) ≤ n) (sym (longer before entry entries)) (omega arith) in
+      subst (AreUpTo most) (sym of.2)
+      (all-map (λ (sale : ℕ × (ℕ × SaleParts)). sale.0 ≤ most) (λ (sale : ℕ × SaleParts). (suc (length before), sale))
+      (λ sale. omega (arith, here, within)) of.0)
+    where
+      longer : {X : Type 0} (xs : List X) (x : X) (ys : List X) → length (xs ++ x ∷ ys) ≡ suc (length xs + length ys)
+      longer xs x ys = length-append xs (x ∷ ys) ∙ omega arith
+
+  up_to : (most : ℕ) (before entries : List Entry) (sales : List (ℕ × (ℕ × SaleParts))) → Collects (AreSalesOfEntry migration) before entries sales
+      → length (before ++ entries) ≤ most → AreUpTo most sales
+  up_to most = over_collected (AreSalesOfEntry migration) (λ before entries sales. length (before ++ entries) ≤ most → AreUpTo most sales)
+      (λ before within. tt)
+      (λ before entry entries first more of rest within.
+      all-append (λ (sale : ℕ × (ℕ × SaleParts)). sale.0 ≤ most) first more (own_up_to most before entries entry first within of)
+      (rest (subst (λ (book : List Entry). length book ≤ most) (sym (append_assoc before (entry ∷ []) entries)) within)))
 
 -- ---- their table
 
@@ -116,11 +119,11 @@ earlier_posting number a b below =
     ∙ number_below 0 a.0 b.0 (behind (sale_row (number, a))) (behind (sale_row (number, b))) below
 
 -- the sales of another entry come behind those of the entries before it
-pub sales_last : (entries : List Entry) (sales : List (ℕ × (ℕ × SaleParts))) (own : List (ℕ × SaleParts)) → SalesOf entries sales
-    → IsAscending IsEarlier own
+pub sales_last : (migration : Migration) (entries : List Entry) (sales : List (ℕ × (ℕ × SaleParts))) (own : List (ℕ × SaleParts))
+    → SalesOf migration entries sales → IsAscending IsEarlier own
     → put_each sale_cells 2 (map (λ (sale : ℕ × SaleParts). sale_row (suc (length entries), sale)) own) (map sale_row sales)
     ≡ map sale_row (sales ++ numbered (suc (length entries)) own)
-sales_last entries sales own of rise =
+sales_last migration entries sales own of rise =
     let number = suc (length entries) in
     let row : ℕ × SaleParts → SaleRow = λ sale. sale_row (number, sale) in
     let below : AllByRecursion (λ (x : SaleRow). AllByRecursion (λ (new : SaleRow). row_order sale_cells 2 x new ≡ Less) (map row own)) (map sale_row sales) =
@@ -129,7 +132,7 @@ sales_last entries sales own of rise =
     (λ (sale : ℕ × (ℕ × SaleParts)). AllByRecursion (λ (new : SaleRow). row_order sale_cells 2 (sale_row sale) new ≡ Less) (map row own))
     (λ sale within. all-map (λ (new : SaleRow). row_order sale_cells 2 (sale_row sale) new ≡ Less) row
     (λ other. earlier_entry sale (number, other) (omega (arith, within))) own)
-    sales (up_to (length entries) [] entries sales of (omega arith))) in
+    sales (up_to migration (length entries) [] entries sales of (omega arith))) in
     let up : IsRising sale_cells 2 (map row own) =
     ascending-map (λ (a b : SaleRow). row_order sale_cells 2 a b ≡ Less) row own
     (ascending_weaker IsEarlier (λ (a b : ℕ × SaleParts). row_order sale_cells 2 (row a) (row b) ≡ Less) (earlier_posting number) own rise) in

@@ -1,15 +1,16 @@
--- The tables leg, sale, lot, plain and head after what an accepted command writes.
+-- The tables leg, sale, lot, plain, opening and head after what an accepted command writes.
 use Rattle.std.specs.Prelude.{◌≡◌, ℕ, suc, Bool, true, false, cond, List, [], ◌∷◌, ◌++◌, length, map, Option, None, Some, All, ℤ, ◌+ℤ◌}
+use Rattle.std.specs.BTreeMap.{get}
+use Rattle.std.specs.FinMap as finite
 use Rattle.std.specs.List.{AllByRecursion, list_any}
-use Rattle.std.specs.Map.{lookup}
-use Rattle.std.specs.Option.{option_map, option_or, unwrap_or}
+use Rattle.std.specs.Option.{option_map, option_or}
 use Rattle.std.proofs.Common.{refl, sym, ap, subst, ◌∙◌, inl, inr}
 use Rattle.std.proofs.Math.IntN.{+ℤ_idr}
 use Rattle.std.proofs.lemmas.Bool.{cases_Bool}
 use Rattle.std.proofs.lemmas.List.{append-nil}
 use Rattle.std.proofs.lemmas.List.Elements.{recursion_from_All}
 use Rattle.sqlite.specs.Tree.{IsAscending}
-use Rattle.sqlite_keyed.proofs.ListLemmas.{all-map, all_of, all_unmap, all_weaker}
+use Rattle.sqlite_keyed.proofs.ListLemmas.{all-map, all_both, all_of, all_unmap, all_weaker}
 use Rattle.lot_command.specs.declared.command.Closing.{Closing as ClosingOf}
 use Rattle.lot_command.specs.declared.command.Command.{Command}
 use Rattle.lot_command.specs.declared.command.Command.TheVariants.{Opening, Closing, Declaring, Quoting, Transaction}
@@ -20,16 +21,19 @@ use Rattle.lot_cost.specs.declared.lot_key.LotKey.{LotKey}
 use Rattle.lot_book.specs.Book.{entry_of}
 use Rattle.lot_book.specs.Booking.{All as AllBooked}
 use Rattle.lot_book.specs.Change.{day_listed}
+use Rattle.lot_book.specs.Edition.{After, Edition, Second, edition_on, ties_in}
 use Rattle.lot_book.specs.Facts.{Entry, Facts, day_at_cost, facts_of, latest_at_cost, legs_of}
-use Rattle.lot_book.specs.Leg.{same_position, sum_at}
-use Rattle.lot_book.specs.Sale.{SaleParts, AreSales}
-use Rattle.lot_book.specs.Step.{Accept, Judges, first_conditions, first_of}
+use Rattle.lot_book.specs.Leg.{inventory_of, position_cmp, same_position, sum_at}
+use Rattle.lot_book.specs.OpeningNumber.{opening_number}
+use Rattle.lot_book.specs.Sale.{SaleParts, AreSalesUnder}
+use Rattle.lot_book.specs.Step.{Accept, JudgesUnder, first_conditions, first_of}
 use Rattle.lot_book.specs.declared.change.Change.{Change}
 use Rattle.lot_book.specs.declared.leg.Leg.{Leg}
 use Rattle.lot_book.specs.declared.leg.Position.{Position}
 use Rattle.lot_book.specs.declared.standing.Standing.{Standing}
 use Rattle.lot_book.proofs.OrderLemmas.{one_position}
 use Rattle.lot_book.proofs.SumLemmas.{sum_where-append, sum_where-none}
+use Rattle.lot_laws.proofs.LawBooks.{second_there}
 use Rattle.lot_laws.proofs.RecordedBook.{key_was_new, legs_of-append}
 use Rattle.lot_laws.proofs.RecordedDays.{latest-recorded}
 use Rattle.lot_laws.proofs.StepAgree.{Alike, alike_all, same_books}
@@ -37,32 +41,34 @@ use Rattle.lot_rows.specs.Head.{head_cells}
 use Rattle.lot_rows.specs.Leg.{IsLegRow, leg_cells}
 use Rattle.lot_rows.specs.LotKey.{IsLotKey, IsLotOrPlain}
 use Rattle.lot_rows.specs.Sale.{sale_cells}
-use Rattle.lot_rows.specs.Tables.{Tables, head_table, lot_table, plain_table}
+use Rattle.lot_rows.specs.Tables.{Tables, head_table, lot_table, opening_table, plain_table}
 use Rattle.lot_rows.specs.declared.account.AccountRow.{AccountRow}
 use Rattle.lot_rows.specs.declared.allowed.AllowedRow.{AllowedRow}
 use Rattle.lot_rows.specs.declared.commodity.CommodityRow.{CommodityRow}
 use Rattle.lot_rows.specs.declared.head.HeadRow.{HeadRow}
 use Rattle.lot_rows.specs.declared.leg.LegRow.{LegRow}
 use Rattle.lot_rows.specs.declared.lot.LotRow.{LotRow}
+use Rattle.lot_rows.specs.declared.opening.OpeningRow.{OpeningRow}
 use Rattle.lot_rows.specs.declared.plain.PlainRow.{PlainRow}
 use Rattle.lot_rows.specs.declared.price.PriceRow.{PriceRow}
 use Rattle.lot_table.specs.Rows.{with_key}
 use Rattle.lot_stored.specs.Kept.{SalesOf, legs_of_posting, numbered}
-use Rattle.lot_stored.specs.Rows.{allowed_rows, entry_row, head_row, leg_row, lot_key, lot_row, pair_key, plain_row, posting_key, row_at, sale_row}
+use Rattle.lot_stored.specs.Rows.{allowed_rows, entry_row, head_row, leg_row, lot_key, lot_row, opening_row, pair_key, plain_row, posting_key, row_at, sale_row}
 use Rattle.lot_stored.specs.StandFor.{StandFor, sum_in}
 use Rattle.lot_stored.proofs.KeyLemmas.{at_lot}
 use Rattle.lot_stored.proofs.LookupLemmas.{first_with_key}
 use Rattle.lot_write.specs.Write.{IsGood, written, written_all}
-use Rattle.lot_write.specs.Writes.{ListsInOrder, closing_written, heads_written, legs_written, listed_write, own_writes, positions_written, sales_written, writes_of}
+use Rattle.lot_write.specs.Writes.{ListsInOrder, closing_written, heads_written, legs_written, listed_write, own_writes, positions_written, sales_written, units_listed, writes_of}
 use Rattle.lot_write.specs.declared.write.Write.TheVariants as write
 use Rattle.lot_stored.proofs.BookedLemmas.{IsBookedAs, booked_as, walks}
 use Rattle.lot_write.proofs.HeadLemmas.{heads_row}
-use Rattle.lot_write.proofs.KeepLemmas.{Keeps, heads_keep, legs_keep, position_keeps, positions_keep, sales_keep}
-use Rattle.lot_stored.proofs.KnownLemmas.{IsSameAt, before_sum, listed_sum, same_at_legs}
+use Rattle.lot_write.proofs.KeepLemmas.{Keeps, heads_keep, legs_keep, listed_keeps, positions_keep, sales_keep}
+use Rattle.lot_stored.proofs.KnownLemmas.{IsSameAt, listed_sum, same_at_legs}
 use Rattle.lot_write.proofs.LegLemmas.{put_all}
 use Rattle.lot_write.proofs.NamedLemmas.{IsAccepted, judged}
 use Rattle.lot_stored.proofs.NumberLemmas.{legs_for, numbered_legs, own_legs, precede_next}
-use Rattle.lot_write.proofs.PositionLemmas.{lot_step, plain_at, plain_step, positions_stand, settled}
+use Rattle.lot_write.proofs.OpeningLemmas.{number_apart, or_mapped, row_settled}
+use Rattle.lot_write.proofs.PositionLemmas.{Settles, lot_step, numbered_row, opening_step, plain_at, plain_step, positions_stand}
 use Rattle.lot_write.proofs.PutLemmas.{head_of, heads_put, legs_put, put_each, sales_put}
 use Rattle.lot_write.proofs.SaleLemmas.{IsEarlier, sales_last, sales_rise, sales_with}
 use Rattle.lot_write.proofs.WrittenLemmas.{left-written_all, written_all-append}
@@ -107,7 +113,7 @@ module _ (tables : Tables) (known : Facts) (key : Key) (t : TransactionOf) (chan
   with_sales = written_all (sales_written (suc known.entries) change.sales) with_legs
 
   abbrev with_positions : Tables
-  with_positions = written_all (positions_written change.positions.entries change.legs) with_sales
+  with_positions = written_all (positions_written known change change.legs) with_sales
 
   abbrev with_heads : Tables
   with_heads = written_all (heads_written change.heads.entries) with_positions
@@ -115,7 +121,7 @@ module _ (tables : Tables) (known : Facts) (key : Key) (t : TransactionOf) (chan
   in_parts : written_all (writes_of known key (Transaction t) change) tables ≡ with_heads
   in_parts =
       let sales = sales_written (suc known.entries) change.sales in
-      let positions = positions_written change.positions.entries change.legs in
+      let positions = positions_written known change change.legs in
       let heads = heads_written change.heads.entries in
       written_all-append (legs_written change.legs) (sales ++ (positions ++ heads)) start
       ∙ written_all-append sales (positions ++ heads) with_legs
@@ -127,8 +133,8 @@ module _ (tables : Tables) (known : Facts) (key : Key) (t : TransactionOf) (chan
       let rows : Tables → List LegRow = λ (s : Tables). s.leg in
       ap rows in_parts
       ∙ left-written_all rows (heads_written change.heads.entries) with_positions (heads_keep rows (λ a c d s. refl) change.heads.entries)
-      ∙ positions_keep rows (position_keeps rows (λ a c u s. refl) (λ a c s. refl) (λ a c l u s. refl) (λ a c l s. refl))
-      change.positions.entries change.legs with_sales
+      ∙ positions_keep rows known change (listed_keeps rows known change (λ a c u s. refl) (λ a c s. refl) (λ a c l u s. refl)
+      (λ a c l s. refl) (λ a c l n s. refl) (λ a c l s. refl)) change.legs with_sales
       ∙ left-written_all rows (sales_written (suc known.entries) change.sales) with_legs
       (sales_keep rows (λ sold s. refl) (suc known.entries) change.sales)
       ∙ legs_put change.legs start
@@ -140,8 +146,8 @@ module _ (tables : Tables) (known : Facts) (key : Key) (t : TransactionOf) (chan
       let number = suc known.entries in
       ap rows in_parts
       ∙ left-written_all rows (heads_written change.heads.entries) with_positions (heads_keep rows (λ a c d s. refl) change.heads.entries)
-      ∙ positions_keep rows (position_keeps rows (λ a c u s. refl) (λ a c s. refl) (λ a c l u s. refl) (λ a c l s. refl))
-      change.positions.entries change.legs with_sales
+      ∙ positions_keep rows known change (listed_keeps rows known change (λ a c u s. refl) (λ a c s. refl) (λ a c l u s. refl)
+      (λ a c l s. refl) (λ a c l n s. refl) (λ a c l s. refl)) change.legs with_sales
       ∙ sales_put number change.sales with_legs
       ∙ ap (put_each sale_cells 2 (map (λ (sale : ℕ × SaleParts). sale_row (number, sale)) change.sales))
       (left-written_all rows (legs_written change.legs) start (legs_keep rows (λ leg s. refl) change.legs))
@@ -153,8 +159,8 @@ module _ (tables : Tables) (known : Facts) (key : Key) (t : TransactionOf) (chan
       ap rows in_parts
       ∙ heads_put change.heads.entries with_positions
       ∙ ap (put_each head_cells 2 (map head_of change.heads.entries))
-      (positions_keep rows (position_keeps rows (λ a c u s. refl) (λ a c s. refl) (λ a c l u s. refl) (λ a c l s. refl))
-      change.positions.entries change.legs with_sales
+      (positions_keep rows known change (listed_keeps rows known change (λ a c u s. refl) (λ a c s. refl) (λ a c l u s. refl)
+      (λ a c l s. refl) (λ a c l n s. refl) (λ a c l s. refl)) change.legs with_sales
       ∙ left-written_all rows (sales_written (suc known.entries) change.sales) with_legs
       (sales_keep rows (λ sold s. refl) (suc known.entries) change.sales)
       ∙ left-written_all rows (legs_written change.legs) start (legs_keep rows (λ leg s. refl) change.legs))
@@ -162,8 +168,8 @@ module _ (tables : Tables) (known : Facts) (key : Key) (t : TransactionOf) (chan
 -- ---- what is known of an accepted transaction
 
 accepted_known : (entries : List Entry) (known : Facts) (key : Key) (command : Command) (change : Change)
-    → IsAccepted entries known key command change → Judges known command (Accept change.legs)
-accepted_known entries known key command change is = (key_was_new known command change.legs known.text is.comes.0).1
+    → (is : IsAccepted entries known key command change) → JudgesUnder is.ties known command (Accept change.legs)
+accepted_known entries known key command change is = (key_was_new is.ties known command change.legs known.text is.comes.0).1
 
 module _ (entries : List Entry) (known : Facts) (key : Key) (t : TransactionOf) (change : Change)
     (is : IsAccepted entries known key (Transaction t) change) where
@@ -172,20 +178,21 @@ module _ (entries : List Entry) (known : Facts) (key : Key) (t : TransactionOf) 
       alike_all known (facts_of entries key) t.postings is.agrees.standing is.agrees.latest_at_cost is.agrees.held
       is.agrees.plain_units
 
-  booked : IsBookedAs known t change.legs
+  booked : IsBookedAs is.ties known t change.legs
   booked =
-      booked_as known t (first_of (first_conditions known t)) change.legs
+      booked_as is.ties known t (first_of (first_conditions known t)) change.legs
       (accepted_known entries known key (Transaction t) change is)
 
   same_legs : AllByRecursion (IsSameAt known (facts_of entries key)) change.legs
-  same_legs = same_at_legs known (facts_of entries key) t change.legs alike booked
+  same_legs = same_at_legs is.ties known (facts_of entries key) t change.legs alike booked
 
   -- the sales of the transaction are its sales on the book
-  same_sales : AreSales (facts_of entries key) (Transaction t) change.sales
+  same_sales : AreSalesUnder (ties_in Second entries) (facts_of entries key) (Transaction t) change.sales
   same_sales =
       let sales = is.comes.1.sales in (
         sales.0,
-        same_books known (facts_of entries key) is.agrees.entries t.day [] 1 t.postings (AllBooked sales.0) alike sales.1,
+        same_books is.ties (ties_in Second entries) known (facts_of entries key) is.agrees.entries t.day [] 1 t.postings
+            (AllBooked sales.0) alike is.alike sales.1,
         sales.2,
       )
 
@@ -193,26 +200,60 @@ module _ (entries : List Entry) (known : Facts) (key : Key) (t : TransactionOf) 
   own_rise =
       let sales = is.comes.1.sales in
       subst (IsAscending IsEarlier) (sym sales.2)
-      (sales_rise (suc known.entries) t.day 1 t.postings sales.0 (walks known t.day 1 t.postings [] sales.0 sales.1)).1
+      (sales_rise (suc known.entries) t.day 1 t.postings sales.0 (walks is.ties known t.day 1 t.postings [] sales.0 sales.1)).1
 
-  -- what is listed of a leg's position is the sum of the book with the entry
+  -- what the position of a leg holds is the sum of the book with the entry
   listed_there : (q : Position) → AllByRecursion
       (λ (leg : Leg). same_position q leg.position ≡ true
-      → unwrap_or (lookup (same_position leg.position) change.positions.entries) (sum_in entries q)
-      ≡ sum_in (entries ++ entry_of key (Transaction t) change.legs ∷ []) q) change.legs
+      → units_listed known change leg.position ≡ sum_in (entries ++ entry_of key (Transaction t) change.legs ∷ []) q) change.legs
   listed_there q =
       let book = entries ++ entry_of key (Transaction t) change.legs ∷ [] in
-      let listed = change.positions.entries in
       all_weaker (IsSameAt known (facts_of entries key))
-      (λ (leg : Leg). same_position q leg.position ≡ true
-      → unwrap_or (lookup (same_position leg.position) listed) (sum_in entries q) ≡ sum_in book q)
+      (λ (leg : Leg). same_position q leg.position ≡ true → units_listed known change leg.position ≡ sum_in book q)
       (λ leg same here.
-      let one : q ≡ leg.position = one_position q leg.position here in
-      ap (unwrap_or (lookup (same_position leg.position) listed)) (ap (sum_in entries) one ∙ sym (before_sum known entries key leg same))
-      ∙ is.comes.1.positions leg.position
-      ∙ listed_sum known entries key (Transaction t) change.legs listed leg is.comes.1.positions same
-      ∙ ap (sum_in book) (sym one))
+      is.comes.1.positions leg.position
+      ∙ listed_sum known entries key (Transaction t) change.legs change.positions.entries leg is.comes.1.positions same
+      ∙ ap (sum_in book) (sym (one_position q leg.position here)))
       change.legs same_legs
+
+  -- the row of a lot's opening number, once it is written at a leg there, is that of the book with the entry, and stays it
+  numbers_settle : (account commodity : List ℕ) (lot : LotKey)
+      → let q = at_lot account commodity lot in
+      let row = option_map (opening_row account commodity lot) in
+      let now = row (opening_number (legs_of (entries ++ entry_of key (Transaction t) change.legs ∷ [])) q) in
+      let put : Position → Option OpeningRow → Option OpeningRow =
+      λ p had. numbered_row account commodity lot (units_listed known change p) (get position_cmp change.openings p) had in
+      AllByRecursion (λ (leg : Leg). same_position q leg.position ≡ true
+      → (put leg.position (row (opening_number (legs_of entries) q)) ≡ now) × (put leg.position now ≡ now)) change.legs
+  numbers_settle account commodity lot =
+      let q = at_lot account commodity lot in
+      let row = option_map (opening_row account commodity lot) in
+      let book = entries ++ entry_of key (Transaction t) change.legs ∷ [] in
+      let before = row (opening_number (legs_of entries) q) in
+      let put : ℤ → Option ℕ → Option OpeningRow → Option OpeningRow = numbered_row account commodity lot in
+      let HaveSameAt : Position → Type 0 =
+      λ p. finite.get (known.held p.account) (p.commodity, p.lot)
+      ≡ finite.get (inventory_of (legs_of entries) p.account) (p.commodity, p.lot) in
+      all_both (IsSameAt known (facts_of entries key))
+      (λ (leg : Leg). same_position q leg.position ≡ true → units_listed known change leg.position ≡ sum_in book q)
+      (λ (leg : Leg). same_position q leg.position ≡ true
+      → (put (units_listed known change leg.position) (get position_cmp change.openings leg.position) before
+      ≡ row (opening_number (legs_of book) q))
+      × (put (units_listed known change leg.position) (get position_cmp change.openings leg.position) (row (opening_number (legs_of book) q))
+      ≡ row (opening_number (legs_of book) q)))
+      (λ leg same units here.
+      let one = one_position q leg.position here in
+      let as_there : (had : Option OpeningRow)
+      → put (units_listed known change leg.position) (get position_cmp change.openings leg.position) had
+      ≡ put (sum_in book q) (get position_cmp change.openings q) had =
+      λ had. λ i. put (units here i) (get position_cmp change.openings (sym one i)) had in
+      let settled = subst (λ (all : List Leg).
+      (put (sum_at all q) (get position_cmp change.openings q) before ≡ row (opening_number all q))
+      × (put (sum_at all q) (get position_cmp change.openings q) (row (opening_number all q)) ≡ row (opening_number all q)))
+      (sym (legs_of-append entries (entry_of key (Transaction t) change.legs)))
+      (row_settled known entries key change account commodity lot is.comes.1.openings (subst HaveSameAt (sym one) same)) in
+      (as_there before ∙ settled.0, as_there (row (opening_number (legs_of book) q)) ∙ settled.1))
+      change.legs same_legs (listed_there q)
 
 -- a position where no leg is keeps its sum
 sum_kept : (entries : List Entry) (entry : Entry) (q : Position)
@@ -228,25 +269,46 @@ sum_kept entries entry q none =
 
 -- ---- positions
 
-module _ {X : Type 0} (at : Tables → Option X) (row : ℤ → X) (q : Position) (IsFine : Position → Type 0)
-    (step : (p : Position) (listed : Option ℤ) (tables : Tables) → IsFine p
-    → at (written_all (listed_write p listed) tables) ≡ cond (same_position q p) (settled row listed (at tables)) (at tables)) where
-  position_stands : (entries : List Entry) (known : Facts) (key : Key) (t : TransactionOf) (change : Change) (tables : Tables)
-      → IsAccepted entries known key (Transaction t) change → AllByRecursion (λ (leg : Leg). IsFine leg.position) change.legs
-      → at tables ≡ option_map row (non_zero (sum_in entries q))
-      → at (written_all (positions_written change.positions.entries change.legs) tables)
-      ≡ option_map row (non_zero (sum_in (entries ++ entry_of key (Transaction t) change.legs ∷ []) q))
-  position_stands entries known key t change tables is fine had =
-      let entry = entry_of key (Transaction t) change.legs in
-      let before = sum_in entries q in
-      let after = sum_in (entries ++ entry ∷ []) q in
-      let here : Leg → Bool = λ leg. same_position q leg.position in
-      positions_stand at row q IsFine step change.positions.entries change.legs tables before after fine
-      (listed_there entries known key t change is q)
-      (elim (cases_Bool (list_any here change.legs)) [
+module _ {X : Type 0} (at : Tables → Option X) (q : Position) (IsFine : Position → Type 0) (settled : Position → Option X → Option X)
+    (entries : List Entry) (known : Facts) (key : Key) (t : TransactionOf) (change : Change)
+    (step : (p : Position) (tables : Tables) → IsFine p
+    → at (written_all (listed_write known change p) tables) ≡ cond (same_position q p) (settled p (at tables)) (at tables)) where
+  -- what stands for the book stands for the book with the entry, if what is written at each leg does so and no other leg is there
+  position_stands : (tables : Tables) (before after : Option X) → AllByRecursion (λ (leg : Leg). IsFine leg.position) change.legs
+      → AllByRecursion (Settles at q known change IsFine settled step before after) change.legs
+      → (list_any (λ (leg : Leg). same_position q leg.position) change.legs ≡ false → before ≡ after)
+      → at tables ≡ before
+      → at (written_all (positions_written known change change.legs) tables) ≡ after
+  position_stands tables before after fine settle kept had =
+      positions_stand at q known change IsFine settled step change.legs tables before after fine settle
+      (elim (cases_Bool (list_any (λ (leg : Leg). same_position q leg.position) change.legs)) [
         | inl some ↦ inr (had, some)
-        | inr none ↦ inl (had ∙ ap (λ n. option_map row (non_zero n)) (sym (sum_kept entries entry q none)))
+        | inr none ↦ inl (had ∙ kept none)
       ])
+
+-- the row of the units of a position, in the book and with the entry
+module _ {X : Type 0} (at : Tables → Option X) (row : ℤ → X) (q : Position) (IsFine : Position → Type 0)
+    (entries : List Entry) (known : Facts) (key : Key) (t : TransactionOf) (change : Change)
+    (step : (p : Position) (tables : Tables) → IsFine p
+    → at (written_all (listed_write known change p) tables)
+    ≡ cond (same_position q p) (option_map row (non_zero (units_listed known change p))) (at tables)) where
+  units_stand : (tables : Tables) → IsAccepted entries known key (Transaction t) change
+      → AllByRecursion (λ (leg : Leg). IsFine leg.position) change.legs
+      → at tables ≡ option_map row (non_zero (sum_in entries q))
+      → at (written_all (positions_written known change change.legs) tables)
+      ≡ option_map row (non_zero (sum_in (entries ++ entry_of key (Transaction t) change.legs ∷ []) q))
+  units_stand tables is fine had =
+      let entry = entry_of key (Transaction t) change.legs in
+      let of : ℤ → Option X = λ units. option_map row (non_zero units) in
+      let settled : Position → Option X → Option X = λ p had. of (units_listed known change p) in
+      let before = of (sum_in entries q) in
+      let after = of (sum_in (entries ++ entry ∷ []) q) in
+      position_stands at q IsFine settled entries known key t change step tables before after fine
+      (all_weaker
+      (λ (leg : Leg). same_position q leg.position ≡ true → units_listed known change leg.position ≡ sum_in (entries ++ entry ∷ []) q)
+      (Settles at q known change IsFine settled step before after)
+      (λ leg is here. (ap of (is here), ap of (is here))) change.legs (listed_there entries known key t change is q))
+      (λ none. ap of (sym (sum_kept entries entry q none))) had
 
 -- the lots of legs whose rows a book can have
 all_front : {X : Type 0} (P : X → Type 0) (xs ys : List X) → AllByRecursion P (xs ++ ys) → AllByRecursion P xs
@@ -257,7 +319,7 @@ fine_lots : (known : Facts) (key : Key) (t : TransactionOf) (change : Change) �
     → AllByRecursion (λ (leg : Leg). IsLotOrPlain leg.position.lot) change.legs
 fine_lots known key t change good =
     let writes = writes_of known key (Transaction t) change in
-    let others = sales_written (suc known.entries) change.sales ++ (positions_written change.positions.entries change.legs
+    let others = sales_written (suc known.entries) change.sales ++ (positions_written known change change.legs
     ++ heads_written change.heads.entries) in
     all_weaker (λ (leg : Leg). IsLegRow (leg_row leg)) (λ (leg : Leg). IsLotOrPlain leg.position.lot) (λ leg fine. fine.lot) change.legs
     (all_unmap IsGood (λ (leg : Leg). write.Leg (leg_row leg)) change.legs
@@ -289,17 +351,17 @@ module _ (tables : Tables) (entries : List Entry) (known : Facts) (key : Key) (c
       ≡ map leg_row (legs_of_posting entry posting (legs_of (book command)))
   legs_stand (Transaction t) is entry posting =
       let judges = accepted_known entries known key (Transaction t) change is in
-      let own = own_legs known (Transaction t) change.legs judges in
+      let own = own_legs is.ties known (Transaction t) change.legs judges in
       let numbered_own : AllByRecursion (λ (leg : Leg). leg.entry ≡ suc (length entries)) change.legs =
       subst (λ n. AllByRecursion (λ (leg : Leg). leg.entry ≡ suc n) change.legs) is.agrees.entries own.0 in
       ap (with_key leg_cells 2 (posting_key entry posting)) (changed_legs tables known key t change)
       ∙ put_all change.legs tables.leg (legs_of entries) stand.ordered.leg stand.leg
-      (precede_next entries change.legs (numbered_legs entries is.book) numbered_own) own.1 entry posting
+      (precede_next entries change.legs (numbered_legs (After stand.place) entries stand.judged) numbered_own) own.1 entry posting
       ∙ ap (λ (legs : List Leg). map leg_row (legs_of_posting entry posting legs))
       (sym (legs_of-append entries (entry_of key (Transaction t) change.legs)))
   legs_stand command is entry posting =
       let rows : Tables → List LegRow = λ (s : Tables). s.leg in
-      let none = legs_for known command change.legs (accepted_known entries known key command change is) in
+      let none = legs_for is.ties known command change.legs (accepted_known entries known key command change is) in
       ap (with_key leg_cells 2 (posting_key entry posting))
       (left-written_all rows (own_writes known command change) (entered command)
       (other_keeps rows (λ row s. refl) (λ row s. refl) (λ row s. refl) (λ row s. refl) known command change tt))
@@ -310,13 +372,23 @@ module _ (tables : Tables) (entries : List Entry) (known : Facts) (key : Key) (c
 
   -- the sales of the book with the entry
   abbrev pub Sold : Command → Type 0
-  Sold command = (sales : List (ℕ × (ℕ × SaleParts))) × SalesOf (book command) sales × ((after command).sale ≡ map sale_row sales)
+  Sold command =
+      (sales : List (ℕ × (ℕ × SaleParts))) × SalesOf (After stand.place) (book command) sales
+      × ((after command).sale ≡ map sale_row sales)
+
+  -- the sales of a command on the book, by the edition there
+  sold_by : (command : Command) (sales : List (ℕ × SaleParts))
+      → AreSalesUnder (ties_in Second entries) (facts_of entries key) command sales
+      → AreSalesUnder (ties_in (edition_on (After stand.place) entries) entries) (facts_of entries key) command sales
+  sold_by command sales are =
+      subst (λ (edition : Edition). AreSalesUnder (ties_in edition entries) (facts_of entries key) command sales)
+      (sym (second_there stand.place entries stand.placed)) are
 
   other_sold : (command : Command) → (after command).sale ≡ tables.sale → change.sales ≡ []
-      → AreSales (facts_of entries key) command [] → Sold command
+      → AreSalesUnder (ties_in Second entries) (facts_of entries key) command [] → Sold command
   other_sold command same none are = (
     stand.sales ++ [],
-    sales_with entries (entry_of key command change.legs) stand.sales [] stand.sold are,
+    sales_with (After stand.place) entries (entry_of key command change.legs) stand.sales [] stand.sold (sold_by command [] are),
     same ∙ stand.sale ∙ ap (map sale_row) (sym (append-nil stand.sales)),
   )
 
@@ -329,12 +401,12 @@ module _ (tables : Tables) (entries : List Entry) (known : Facts) (key : Key) (c
   pub sales_stand : (command : Command) → IsAccepted entries known key command change → Sold command
   sales_stand (Transaction t) is = (
     stand.sales ++ numbered (suc (length entries)) change.sales,
-    sales_with entries (entry_of key (Transaction t) change.legs) stand.sales change.sales stand.sold
-        (same_sales entries known key t change is),
+    sales_with (After stand.place) entries (entry_of key (Transaction t) change.legs) stand.sales change.sales stand.sold
+        (sold_by (Transaction t) change.sales (same_sales entries known key t change is)),
     changed_sales tables known key t change
         ∙ (λ i. put_each sale_cells 2
         (map (λ (sale : ℕ × SaleParts). sale_row (suc (is.agrees.entries i), sale)) change.sales) (stand.sale i))
-        ∙ sales_last entries stand.sales change.sales stand.sold (own_rise entries known key t change is),
+        ∙ sales_last (After stand.place) entries stand.sales change.sales stand.sold (own_rise entries known key t change is),
   )
   sales_stand (Opening o) is = other_sold (Opening o) (other_sales (Opening o) tt) is.comes.1.sales refl
   sales_stand (Closing c) is = other_sold (Closing c) (other_sales (Closing c) tt) is.comes.1.sales refl
@@ -364,11 +436,11 @@ module _ (tables : Tables) (entries : List Entry) (known : Facts) (key : Key) (c
       ap there (in_parts tables known key t change)
       ∙ left-written_all there (heads_written change.heads.entries) (with_positions tables known key t change)
       (heads_keep there (λ a c d s. refl) change.heads.entries)
-      ∙ position_stands there row (at_lot account commodity lot) (λ (p : Position). IsLotOrPlain p.lot)
-      (lot_step account commodity lot fine) entries known key t change sales is (fine_lots known key t change good) had
+      ∙ units_stand there row (at_lot account commodity lot) (λ (p : Position). IsLotOrPlain p.lot)
+      entries known key t change (lot_step account commodity lot fine known change) sales is (fine_lots known key t change good) had
   lots_stand command is good account commodity lot fine =
       let there : Tables → Option LotRow = row_at lot_table (lot_key account commodity lot) in
-      let none = legs_for known command change.legs (accepted_known entries known key command change is) in
+      let none = legs_for is.ties known command change.legs (accepted_known entries known key command change is) in
       left-written_all there (own_writes known command change) (entered command)
       (other_keeps there (λ row s. refl) (λ row s. refl) (λ row s. refl) (λ row s. refl) known command change tt)
       ∙ stand.lot account commodity lot fine
@@ -391,15 +463,60 @@ module _ (tables : Tables) (entries : List Entry) (known : Facts) (key : Key) (c
       ap there (in_parts tables known key t change)
       ∙ left-written_all there (heads_written change.heads.entries) (with_positions tables known key t change)
       (heads_keep there (λ a c d s. refl) change.heads.entries)
-      ∙ position_stands there row (plain_at account commodity) (λ (p : Position). Unit {0})
-      (plain_step account commodity) entries known key t change sales is (all_of (λ (leg : Leg). Unit {0}) (λ leg. tt) change.legs) had
+      ∙ units_stand there row (plain_at account commodity) (λ (p : Position). Unit {0})
+      entries known key t change (plain_step account commodity known change) sales is (all_of (λ (leg : Leg). Unit {0}) (λ leg. tt) change.legs) had
   plain_stands command is account commodity =
       let there : Tables → Option PlainRow = row_at plain_table (pair_key account commodity) in
-      let none = legs_for known command change.legs (accepted_known entries known key command change is) in
+      let none = legs_for is.ties known command change.legs (accepted_known entries known key command change is) in
       left-written_all there (own_writes known command change) (entered command)
       (other_keeps there (λ row s. refl) (λ row s. refl) (λ row s. refl) (λ row s. refl) known command change tt)
       ∙ stand.plain account commodity
       ∙ ap (λ n. option_map (plain_row account commodity) (non_zero n)) (other_sum command none (plain_at account commodity))
+
+  -- ---- opening numbers
+
+  -- the opening number of a lot in the book with the entry
+  abbrev number_after : Command → Position → Option ℕ
+  number_after command q = opening_number (legs_of (book command)) q
+
+  pub openings_stand : (command : Command) → IsAccepted entries known key command change → All IsGood (writes_of known key command change)
+      → (account commodity : List ℕ) (lot : LotKey) → IsLotKey lot
+      → row_at opening_table (lot_key account commodity lot) (after command)
+      ≡ option_map (opening_row account commodity lot) (number_after command (at_lot account commodity lot))
+  openings_stand (Transaction t) is good account commodity lot fine =
+      let there : Tables → Option OpeningRow = row_at opening_table (lot_key account commodity lot) in
+      let row = opening_row account commodity lot in
+      let q = at_lot account commodity lot in
+      let entry = entry_of key (Transaction t) change.legs in
+      let settled : Position → Option OpeningRow → Option OpeningRow =
+      λ p had. numbered_row account commodity lot (units_listed known change p) (get position_cmp change.openings p) had in
+      let before = option_map row (opening_number (legs_of entries) q) in
+      let now = option_map row (number_after (Transaction t) q) in
+      let legs = with_legs tables known key t change in
+      let sales = with_sales tables known key t change in
+      let IsFine : Position → Type 0 = λ (p : Position). IsLotOrPlain p.lot in
+      let step = opening_step account commodity lot fine known change in
+      let had : there sales ≡ before =
+      left-written_all there (sales_written (suc known.entries) change.sales) legs
+      (sales_keep there (λ sold s. refl) (suc known.entries) change.sales)
+      ∙ left-written_all there (legs_written change.legs) (start tables known key t change)
+      (legs_keep there (λ leg s. refl) change.legs)
+      ∙ stand.opening account commodity lot fine in
+      ap there (in_parts tables known key t change)
+      ∙ left-written_all there (heads_written change.heads.entries) (with_positions tables known key t change)
+      (heads_keep there (λ a c d s. refl) change.heads.entries)
+      ∙ position_stands there q IsFine settled entries known key t change step sales before now
+      (fine_lots known key t change good) (numbers_settle entries known key t change is account commodity lot)
+      (λ none. ap (option_map row) (sym (ap (λ (all : List Leg). opening_number all q) (legs_of-append entries entry)
+      ∙ number_apart (legs_of entries) change.legs q none))) had
+  openings_stand command is good account commodity lot fine =
+      let there : Tables → Option OpeningRow = row_at opening_table (lot_key account commodity lot) in
+      let none = legs_for is.ties known command change.legs (accepted_known entries known key command change is) in
+      left-written_all there (own_writes known command change) (entered command)
+      (other_keeps there (λ row s. refl) (λ row s. refl) (λ row s. refl) (λ row s. refl) known command change tt)
+      ∙ stand.opening account commodity lot fine
+      ∙ ap (λ (all : List Leg). option_map (opening_row account commodity lot) (opening_number all (at_lot account commodity lot)))
+      (sym (other_legs command none))
 
   -- ---- the latest days
 
@@ -408,12 +525,8 @@ module _ (tables : Tables) (entries : List Entry) (known : Facts) (key : Key) (c
       → listed ≡ day_at_cost account commodity command
       → option_or listed (latest_at_cost entries account commodity) ≡ latest_at_cost (book command) account commodity
   latest command is account commodity listed same =
-      latest-recorded entries key (entry_of key command change.legs) account commodity listed
+      latest-recorded (ties_in Second entries) entries key (entry_of key command change.legs) account commodity listed
       (judged entries known key change command is).1 same
-
-  or_mapped : {X Y : Type 0} (f : X → Y) (o p : Option X) → option_or (option_map f o) (option_map f p) ≡ option_map f (option_or o p)
-  or_mapped f None p = refl
-  or_mapped f (Some x) p = refl
 
   other_head : (command : Command) → IsOther command → IsAccepted entries known key command change → (account commodity : List ℕ)
       → day_at_cost account commodity command ≡ None

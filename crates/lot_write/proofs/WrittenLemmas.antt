@@ -12,6 +12,7 @@ use Rattle.lot_rows.specs.Entry.{IsEntryRow, entry_cells}
 use Rattle.lot_rows.specs.Head.{IsHeadRow, head_cells}
 use Rattle.lot_rows.specs.Leg.{IsLegRow, leg_cells}
 use Rattle.lot_rows.specs.Lot.{IsLotRow, lot_cells}
+use Rattle.lot_rows.specs.Opening.{IsOpeningRow, opening_cells}
 use Rattle.lot_rows.specs.Plain.{IsPlainRow, plain_cells}
 use Rattle.lot_rows.specs.Price.{IsPriceRow, price_cells}
 use Rattle.lot_rows.specs.Sale.{IsSaleRow, sale_cells}
@@ -41,6 +42,7 @@ AreKept tables =
     × Kept lot_cells 6 IsLotRow tables.lot
     × Kept plain_cells 2 IsPlainRow tables.plain
     × Kept head_cells 2 IsHeadRow tables.head
+    × Kept opening_cells 6 IsOpeningRow tables.opening
 
 put : {X : Type 0} (encode : X → Row) (width : ℕ) (Is : X → Type 0) (new : X) (rows : List X) → Is new → Kept encode width Is rows
     → Kept encode width Is (put_in encode width new rows)
@@ -54,29 +56,34 @@ deleted encode width Is key rows kept =
 -- a write changes the rows of one table
 kept_written : (one : Write) (t : Tables) → IsGood one → AreKept t → AreKept (written one t)
 kept_written (write.Account row) t is k =
-    (put account_cells 1 IsAccountRow row t.account is k.0, k.1, k.2, k.3, k.4, k.5, k.6, k.7, k.8, k.9)
+    (put account_cells 1 IsAccountRow row t.account is k.0, k.1, k.2, k.3, k.4, k.5, k.6, k.7, k.8, k.9, k.10)
 kept_written (write.Allowed row) t is k =
-    (k.0, put allowed_cells 2 IsAllowedRow row t.allowed is k.1, k.2, k.3, k.4, k.5, k.6, k.7, k.8, k.9)
+    (k.0, put allowed_cells 2 IsAllowedRow row t.allowed is k.1, k.2, k.3, k.4, k.5, k.6, k.7, k.8, k.9, k.10)
 kept_written (write.Commodity row) t is k =
-    (k.0, k.1, put commodity_cells 1 IsCommodityRow row t.commodity is k.2, k.3, k.4, k.5, k.6, k.7, k.8, k.9)
+    (k.0, k.1, put commodity_cells 1 IsCommodityRow row t.commodity is k.2, k.3, k.4, k.5, k.6, k.7, k.8, k.9, k.10)
 kept_written (write.Price row) t is k =
-    (k.0, k.1, k.2, put price_cells 3 IsPriceRow row t.price is k.3, k.4, k.5, k.6, k.7, k.8, k.9)
+    (k.0, k.1, k.2, put price_cells 3 IsPriceRow row t.price is k.3, k.4, k.5, k.6, k.7, k.8, k.9, k.10)
 kept_written (write.Entry row) t is k =
-    (k.0, k.1, k.2, k.3, put entry_cells 1 IsEntryRow row t.entry is k.4, k.5, k.6, k.7, k.8, k.9)
+    (k.0, k.1, k.2, k.3, put entry_cells 1 IsEntryRow row t.entry is k.4, k.5, k.6, k.7, k.8, k.9, k.10)
 kept_written (write.Leg row) t is k =
-    (k.0, k.1, k.2, k.3, k.4, put leg_cells 3 IsLegRow row t.leg is k.5, k.6, k.7, k.8, k.9)
+    (k.0, k.1, k.2, k.3, k.4, put leg_cells 3 IsLegRow row t.leg is k.5, k.6, k.7, k.8, k.9, k.10)
 kept_written (write.Sale row) t is k =
-    (k.0, k.1, k.2, k.3, k.4, k.5, put sale_cells 2 IsSaleRow row t.sale is k.6, k.7, k.8, k.9)
+    (k.0, k.1, k.2, k.3, k.4, k.5, put sale_cells 2 IsSaleRow row t.sale is k.6, k.7, k.8, k.9, k.10)
 kept_written (write.Lot row) t is k =
-    (k.0, k.1, k.2, k.3, k.4, k.5, k.6, put lot_cells 6 IsLotRow row t.lot is k.7, k.8, k.9)
+    (k.0, k.1, k.2, k.3, k.4, k.5, k.6, put lot_cells 6 IsLotRow row t.lot is k.7, k.8, k.9, k.10)
 kept_written (write.NoLot account commodity lot) t is k =
-    (k.0, k.1, k.2, k.3, k.4, k.5, k.6, deleted lot_cells 6 IsLotRow (lot_key account commodity lot) t.lot k.7, k.8, k.9)
+    (k.0, k.1, k.2, k.3, k.4, k.5, k.6, deleted lot_cells 6 IsLotRow (lot_key account commodity lot) t.lot k.7, k.8, k.9, k.10)
+kept_written (write.Opening row) t is k =
+    (k.0, k.1, k.2, k.3, k.4, k.5, k.6, k.7, k.8, k.9, put opening_cells 6 IsOpeningRow row t.opening is k.10)
+kept_written (write.NoOpening account commodity lot) t is k =
+    let left = deleted opening_cells 6 IsOpeningRow (lot_key account commodity lot) t.opening k.10 in
+    (k.0, k.1, k.2, k.3, k.4, k.5, k.6, k.7, k.8, k.9, left)
 kept_written (write.Plain row) t is k =
-    (k.0, k.1, k.2, k.3, k.4, k.5, k.6, k.7, put plain_cells 2 IsPlainRow row t.plain is k.8, k.9)
+    (k.0, k.1, k.2, k.3, k.4, k.5, k.6, k.7, put plain_cells 2 IsPlainRow row t.plain is k.8, k.9, k.10)
 kept_written (write.NoPlain account commodity) t is k =
-    (k.0, k.1, k.2, k.3, k.4, k.5, k.6, k.7, deleted plain_cells 2 IsPlainRow (pair_key account commodity) t.plain k.8, k.9)
+    (k.0, k.1, k.2, k.3, k.4, k.5, k.6, k.7, deleted plain_cells 2 IsPlainRow (pair_key account commodity) t.plain k.8, k.9, k.10)
 kept_written (write.Head row) t is k =
-    (k.0, k.1, k.2, k.3, k.4, k.5, k.6, k.7, k.8, put head_cells 2 IsHeadRow row t.head is k.9)
+    (k.0, k.1, k.2, k.3, k.4, k.5, k.6, k.7, k.8, put head_cells 2 IsHeadRow row t.head is k.9, k.10)
 
 kept_all : (writes : List Write) (tables : Tables) → AllByRecursion IsGood writes → AreKept tables → AreKept (written_all writes tables)
 kept_all [] tables are kept = kept
@@ -97,6 +104,7 @@ kept-written_all writes tables are g up =
       (g.lot, up.lot),
       (g.plain, up.plain),
       (g.head, up.head),
+      (g.opening, up.opening),
     ) in (
       record {
         account = k.0.0;
@@ -109,6 +117,7 @@ kept-written_all writes tables are g up =
         lot = k.7.0;
         plain = k.8.0;
         head = k.9.0;
+        opening = k.10.0;
       },
       record {
         account = k.0.1;
@@ -121,6 +130,7 @@ kept-written_all writes tables are g up =
         lot = k.7.1;
         plain = k.8.1;
         head = k.9.1;
+        opening = k.10.1;
       },
     )
 

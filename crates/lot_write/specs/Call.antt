@@ -7,7 +7,7 @@ use Rattle.lot_table.specs.Call.{LacksRoom}
 use Rattle.lot_table.specs.Statement.{DiskFailed}
 use Rattle.lot_table.specs.declared.fault.Fault.TheVariants.{Damaged, Device}
 use Rattle.lot_table.specs.declared.fault.Fault.{Fault}
-use Rattle.lot_rows.specs.Tables.{Has, Tables, layout, account_table, allowed_table, commodity_table, entry_table, head_table, leg_table, lot_table, plain_table, price_table, sale_table}
+use Rattle.lot_rows.specs.Tables.{Has, Tables, layout, account_table, allowed_table, commodity_table, entry_table, head_table, leg_table, lot_table, opening_table, plain_table, price_table, sale_table}
 use Rattle.lot_write.specs.Write.{AreFit, Fits, written, written_all}
 use Rattle.lot_write.specs.declared.write.Write.{Write}
 use Rattle.lot_write.specs.declared.write.Write.TheVariants as write
@@ -28,6 +28,8 @@ LacksRoomFor (write.Leg row) = LacksRoomIn leg_table row
 LacksRoomFor (write.Sale row) = LacksRoomIn sale_table row
 LacksRoomFor (write.Lot row) = LacksRoomIn lot_table row
 LacksRoomFor (write.NoLot account commodity lot) = λ trees. ⊥
+LacksRoomFor (write.Opening row) = LacksRoomIn opening_table row
+LacksRoomFor (write.NoOpening account commodity lot) = λ trees. ⊥
 LacksRoomFor (write.Plain row) = LacksRoomIn plain_table row
 LacksRoomFor (write.NoPlain account commodity) = λ trees. ⊥
 LacksRoomFor (write.Head row) = LacksRoomIn head_table row

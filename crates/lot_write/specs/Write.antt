@@ -11,10 +11,11 @@ use Rattle.lot_rows.specs.Head.{IsHeadRow}
 use Rattle.lot_rows.specs.Leg.{IsLegRow}
 use Rattle.lot_rows.specs.Lot.{IsLotRow}
 use Rattle.lot_rows.specs.LotKey.{IsLotKey}
+use Rattle.lot_rows.specs.Opening.{IsOpeningRow}
 use Rattle.lot_rows.specs.Plain.{IsPlainRow}
 use Rattle.lot_rows.specs.Price.{IsPriceRow}
 use Rattle.lot_rows.specs.Sale.{IsSaleRow}
-use Rattle.lot_rows.specs.Tables.{Tables, account_table, allowed_table, commodity_table, entry_table, head_table, leg_table, lot_table, plain_table, price_table, sale_table}
+use Rattle.lot_rows.specs.Tables.{Tables, account_table, allowed_table, commodity_table, entry_table, head_table, leg_table, lot_table, opening_table, plain_table, price_table, sale_table}
 use Rattle.lot_stored.specs.Rows.{lot_key, pair_key}
 use Rattle.lot_write.specs.declared.write.Write.{Write}
 use Rattle.lot_write.specs.declared.write.Write.TheVariants as write
@@ -37,6 +38,8 @@ written (write.Leg row) = with_put leg_table row
 written (write.Sale row) = with_put sale_table row
 written (write.Lot row) = with_put lot_table row
 written (write.NoLot account commodity lot) = with_deleted lot_table (lot_key account commodity lot)
+written (write.Opening row) = with_put opening_table row
+written (write.NoOpening account commodity lot) = with_deleted opening_table (lot_key account commodity lot)
 written (write.Plain row) = with_put plain_table row
 written (write.NoPlain account commodity) = with_deleted plain_table (pair_key account commodity)
 written (write.Head row) = with_put head_table row
@@ -52,6 +55,8 @@ Fits (write.Leg row) tables = Unit {0}
 Fits (write.Sale row) tables = Unit {0}
 Fits (write.Lot row) tables = Unit {0}
 Fits (write.NoLot account commodity lot) tables = Unit {0}
+Fits (write.Opening row) tables = Unit {0}
+Fits (write.NoOpening account commodity lot) tables = Unit {0}
 Fits (write.Plain row) tables = Unit {0}
 Fits (write.NoPlain account commodity) tables = Unit {0}
 Fits (write.Head row) tables = Unit {0}
@@ -67,6 +72,8 @@ IsGood (write.Leg row) = IsLegRow row
 IsGood (write.Sale row) = IsSaleRow row
 IsGood (write.Lot row) = IsLotRow row
 IsGood (write.NoLot account commodity lot) = IsLotKey lot
+IsGood (write.Opening row) = IsOpeningRow row
+IsGood (write.NoOpening account commodity lot) = IsLotKey lot
 IsGood (write.Plain row) = IsPlainRow row
 IsGood (write.NoPlain account commodity) = Unit {0}
 IsGood (write.Head row) = IsHeadRow row

@@ -1,7 +1,8 @@
 -- The writes of an accepted command: its entry, and what it changes (docs/FORMATS.md, Tables).
-use Rattle.std.specs.Prelude.{All, ℕ, ℤ, pos, suc, if◌then◌else◌, List, [], ◌∷◌, ◌++◌, flat_map, map, Option, Some, None}
-use Rattle.std.specs.BTreeMap.{IsOrdered}
+use Rattle.std.specs.Prelude.{All, ℕ, ℤ, pos, suc, if◌then◌else◌, List, [], ◌∷◌, ◌++◌, flat_map, map, IfSome, Option, Some, None}
+use Rattle.std.specs.BTreeMap.{BTreeMap, IsOrdered, get}
 use Rattle.std.specs.Map.{lookup}
+use Rattle.std.specs.Option.{unwrap_or}
 use Rattle.std.specs.Ordering.{int_eq}
 use Rattle.lot_cost.specs.declared.lot_key.LotKey.{LotKey}
 use Rattle.lot_command.specs.declared.command.Closing.{Closing as ClosingOf}
@@ -9,17 +10,17 @@ use Rattle.lot_command.specs.declared.command.Command.{Command}
 use Rattle.lot_command.specs.declared.command.Command.TheVariants.{Opening, Closing, Declaring, Quoting, Transaction}
 use Rattle.lot_command.specs.declared.key.Key.{Key}
 use Rattle.lot_book.specs.Book.{entry_of}
-use Rattle.lot_book.specs.Change.{pair_cmp}
+use Rattle.lot_book.specs.Change.{pair_cmp, units_before}
 use Rattle.lot_book.specs.Facts.{Facts, standing_by}
-use Rattle.lot_book.specs.Leg.{same_position}
+use Rattle.lot_book.specs.Leg.{position_cmp, same_position}
 use Rattle.lot_book.specs.Sale.{SaleParts}
 use Rattle.lot_book.specs.declared.change.Change.{Change}
 use Rattle.lot_book.specs.declared.change.Pair.{Pair}
 use Rattle.lot_book.specs.declared.leg.Leg.{Leg}
 use Rattle.lot_book.specs.declared.leg.Position.{Position}
 use Rattle.lot_book.specs.declared.standing.Standing.{Standing}
-use Rattle.lot_stored.specs.Rows.{account_row, allowed_rows, commodity_row, entry_row, head_row, leg_row, lot_row, plain_row, price_row, sale_row}
-use Rattle.lot_table.specs.Cell.{IsOrdinal, IsPlace}
+use Rattle.lot_stored.specs.Rows.{account_row, allowed_rows, commodity_row, entry_row, head_row, leg_row, lot_row, opening_row, plain_row, price_row, sale_row}
+use Rattle.lot_table.specs.Cell.{IsOpeningNumber, IsOrdinal, IsPlace}
 use Rattle.lot_write.specs.declared.write.Write.{Write}
 use Rattle.lot_write.specs.declared.write.Write.TheVariants as write
 
@@ -32,14 +33,33 @@ position_write account commodity None units =
 position_write account commodity (Some lot) units =
     if int_eq units (pos 0) then write.NoLot account commodity lot else write.Lot (lot_row account commodity lot units)
 
--- what a change lists of a position
-abbrev pub listed_write : Position → Option ℤ → List Write
-listed_write position None = []
-listed_write position (Some units) = position_write position.account position.commodity position.lot units ∷ []
+-- the opening number that is listed of a lot; one that is added to keeps its row
+abbrev pub number_written : List ℕ → List ℕ → LotKey → Option ℕ → List Write
+number_written account commodity lot None = []
+number_written account commodity lot (Some number) = write.Opening (opening_row account commodity lot number) ∷ []
 
--- what a change lists of the position of each leg
-abbrev pub positions_written : List (Position × ℤ) → List Leg → List Write
-positions_written listed legs = flat_map (λ (leg : Leg). listed_write leg.position (lookup (same_position leg.position) listed)) legs
+-- the opening number of a lot with those units, which has none where they are zero
+abbrev pub opening_written : List ℕ → List ℕ → Option LotKey → ℤ → Option ℕ → List Write
+opening_written account commodity None units listed = []
+opening_written account commodity (Some lot) units listed =
+    if int_eq units (pos 0) then write.NoOpening account commodity lot ∷ []
+    else number_written account commodity lot listed
+
+-- what a position holds once a change is made: what is listed of it, or else what it held before
+abbrev pub units_listed : Facts → Change → Position → ℤ
+units_listed facts change position =
+    unwrap_or (lookup (same_position position) change.positions.entries) (units_before facts position)
+
+-- a position that a change touches: its units, and of a lot its opening number
+abbrev pub listed_write : Facts → Change → Position → List Write
+listed_write facts change position =
+    position_write position.account position.commodity position.lot (units_listed facts change position)
+    ∷ opening_written position.account position.commodity position.lot
+    (units_listed facts change position) (get position_cmp change.openings position)
+
+-- the position of each of these legs
+abbrev pub positions_written : Facts → Change → List Leg → List Write
+positions_written facts change legs = flat_map (λ (leg : Leg). listed_write facts change leg.position) legs
 
 abbrev pub legs_written : List Leg → List Write
 legs_written legs = map (λ (leg : Leg). write.Leg (leg_row leg)) legs
@@ -67,7 +87,7 @@ own_writes facts (Quoting q) change = write.Price (price_row q.base q.quote q.da
 own_writes facts (Transaction t) change =
     legs_written change.legs
     ++ (sales_written (suc facts.entries) change.sales
-    ++ (positions_written change.positions.entries change.legs ++ heads_written change.heads.entries))
+    ++ (positions_written facts change change.legs ++ heads_written change.heads.entries))
 
 -- an accepted command, by what was known of the book
 abbrev pub writes_of : Facts → Key → Command → Change → List Write
@@ -94,7 +114,14 @@ pub record IsNumbered (leg : Leg) : Type 0 where
 abbrev pub IsPlaced : ℕ × SaleParts → Type 0
 IsPlaced sale = IsOrdinal sale.0
 
+-- those of the lots that are opened
+abbrev pub AreOpened : BTreeMap Position ℕ → Type 0
+AreOpened openings = (account commodity : List ℕ) (lot : LotKey)
+    → IfSome (get position_cmp openings (record { account = account; commodity = commodity; lot = Some lot }))
+    IsOpeningNumber
+
 -- those of a change
 pub record AreNumbered (change : Change) : Type 0 where
   pub legs : All IsNumbered change.legs
   pub sales : All IsPlaced change.sales
+  pub openings : AreOpened change.openings

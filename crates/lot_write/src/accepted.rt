@@ -28,7 +28,7 @@ use std::alloc::{AllocError, Global};
 
 /// Returns what an accepted command writes: its entry under the next number, and the rows that it changes.
 ///
-/// The error is out of memory, or `Device` where a number of a leg or a sale doesn't fit its column.
+/// The error is out of memory, or `Device` where a number of a leg, a sale or a lot that is opened doesn't fit its column.
 pub fn writes(
     alloc: Global,
     view: &View,
@@ -53,7 +53,7 @@ pub fn writes(
         }
         Command::Declaring(declaring) => push_declaring(&mut writes, declaring)?,
         Command::Quoting(quoting) => push_quoting(&mut writes, quoting)?,
-        Command::Transaction(_) => push_change(&mut writes, number, change)?,
+        Command::Transaction(_) => push_change(&mut writes, number, view, change)?,
     }
     are_good(&writes);
     Ok(writes)

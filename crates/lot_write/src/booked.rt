@@ -1,13 +1,13 @@
-ghost use Rattle.std.specs.Prelude.{◌≡◌, ◌≢◌, ◌++◌, All, Err, IfOk, OnOk};
+ghost use Rattle.std.specs.Prelude.{◌≡◌, ◌≢◌, ◌++◌, All, Err, IfOk, IfSome, IsSome, OnOk};
 ghost use Rattle.std.specs.BTreeMap.{IsOrdered};
-ghost use Rattle.std.specs.Map.{lookup};
 ghost use Rattle.lot_book.specs.Change.{pair_cmp};
-ghost use Rattle.lot_book.specs.Leg.{same_position};
 ghost use Rattle.lot_stored.specs.Rows.{leg_row, sale_row};
-ghost use Rattle.lot_write.specs.Writes.{AreNumbered, IsNumbered, IsPlaced, heads_written, legs_written, listed_write, position_write, positions_written, sales_written};
+ghost use Rattle.lot_write.specs.Writes.{AreNumbered, AreOpened, IsNumbered, IsPlaced, heads_written, legs_written, listed_write, opening_written, position_write, positions_written, sales_written, units_listed};
+ghost use Rattle.lot_table.specs.Cell.{IsOpeningNumber};
 ghost use Rattle.lot_table.specs.declared.fault.Fault.TheVariants.{Damaged, Device};
+ghost use Rattle.lot_view.specs.View.{known};
 
-use crate::number::{ordinal, place};
+use crate::number::{opening_number, ordinal, place};
 use crate::write::Write;
 use lot_base::Day;
 use lot_book::{Change, Leg, Pair, Position, Sale};
@@ -15,22 +15,25 @@ use lot_num::Units;
 use lot_rows::head::HeadRow;
 use lot_rows::leg::LegRow;
 use lot_rows::lot::LotRow;
+use lot_rows::opening::OpeningRow;
 use lot_rows::plain::PlainRow;
 use lot_rows::sale::SaleRow;
 use lot_table::{Fault, Ordinal, Sum};
+use lot_view::View;
 use std::alloc::AllocError;
 use std::collections::BTreeMap;
 
 /// Adds what a transaction writes beside its entry, which has that number: its legs and sales, what the positions of its legs
-/// hold after them, and the latest days.
+/// hold after them, with the opening numbers of their lots, and the latest days. The view is of the book before it.
 pub(crate) fn push_change(
     writes: &mut Vec<Write>,
     number: Ordinal,
+    view: &View,
     change: &Change,
 ) -> Result<(), Fault>
     ensures writes { OnOk result (writes.new.items ≡ writes.old.items
         ++ (legs_written change.now.legs ++ (sales_written number change.now.sales
-        ++ (positions_written change.now.positions.entries change.now.legs ++ heads_written change.now.heads.entries)))) }
+        ++ (positions_written (known view.now) change.now change.now.legs ++ heads_written change.now.heads.entries)))) }
     ensures ordered { OnOk result (IsOrdered pair_cmp change.now.heads) }
     ensures fault { result ≢ Err Damaged }
     ensures device { result ≡ Err Device → ¬ AreNumbered change.now }
@@ -38,7 +41,7 @@ pub(crate) fn push_change(
     let legs = change.legs.as_slice();
     push_legs(writes, legs)?;
     push_sales(writes, number, change.sales.as_slice())?;
-    push_positions(writes, &change.positions, legs)?;
+    push_positions(writes, view, change, legs)?;
     push_heads(writes, &change.heads)?;
     Ok(())
 }
@@ -112,29 +115,84 @@ fn sale_row(entry: Ordinal, posting: Ordinal, sale: &Sale) -> Result<SaleRow, Al
     })
 }
 
-/// Adds what is listed of the position of each leg.
+/// Adds what is written of the position of each leg.
 fn push_positions(
     writes: &mut Vec<Write>,
-    listed: &BTreeMap<Position, Units>,
+    view: &View,
+    change: &Change,
     legs: &[Leg],
-) -> Result<(), AllocError>
-    ensures { OnOk result (writes.new.items ≡ writes.old.items ++ positions_written listed.now.entries legs.now) }
+) -> Result<(), Fault>
+    ensures writes { OnOk result (writes.new.items ≡ writes.old.items
+        ++ positions_written (known view.now) change.now legs.now) }
+    ensures fault { result ≢ Err Damaged }
+    ensures device { result ≡ Err Device → ¬ AreOpened change.now.openings }
 {
     for leg in legs {
-        push_position(writes, listed, &leg.position)?;
+        push_position(writes, view, change, &leg.position)?;
     }
     Ok(())
 }
 
+/// Adds what is written of a position: its units and, of a lot, its opening number.
 fn push_position(
     writes: &mut Vec<Write>,
-    listed: &BTreeMap<Position, Units>,
+    view: &View,
+    change: &Change,
     position: &Position,
-) -> Result<(), AllocError>
-    ensures { OnOk result (writes.new.items ≡ writes.old.items ++ listed_write position.now (lookup (same_position position.now) listed.now.entries)) }
+) -> Result<(), Fault>
+    ensures writes { OnOk result (writes.new.items ≡ writes.old.items
+        ++ listed_write (known view.now) change.now position.now) }
+    ensures fault { result ≢ Err Damaged }
+    ensures device { result ≡ Err Device → ¬ AreOpened change.now.openings }
 {
-    if let Some(units) = listed.get(position) {
-        writes.push(position_write(position, *units)?)?;
+    let units = units_listed(view, change, position);
+    let opening = change.openings.get(position).copied();
+    writes.push(position_write(position, units)?)?;
+    push_opening_number(writes, position, units, opening)
+}
+
+/// Returns what a position holds once the change is made: what is listed of it, or else what it held before.
+fn units_listed(view: &View, change: &Change, position: &Position) -> Units
+    ensures { result ≡ units_listed (known view.now) change.now position.now }
+{
+    match change.positions.get(position) {
+        Some(units) => *units,
+        None => view.units(
+            &position.account,
+            &position.commodity,
+            position.lot.as_ref(),
+        ),
+    }
+}
+
+/// Adds what is written of the opening number of a position with those units, of which that number is listed.
+fn push_opening_number(
+    writes: &mut Vec<Write>,
+    position: &Position,
+    units: Units,
+    listed: Option<u64>,
+) -> Result<(), Fault>
+    ensures writes { OnOk result (writes.new.items ≡ writes.old.items
+        ++ opening_written position.now.account position.now.commodity position.now.lot units listed) }
+    ensures fault { result ≢ Err Damaged }
+    ensures device { result ≡ Err Device → IsSome position.now.lot × ¬ IfSome listed IsOpeningNumber }
+{
+    let Some(lot) = &position.lot else {
+        return Ok(());
+    };
+    if Sum::new(units).is_none() {
+        writes.push(Write::NoOpening(
+            position.account.copy()?,
+            position.commodity.copy()?,
+            lot.copy()?,
+        ))?;
+    } else if let Some(number) = listed {
+        writes.push(Write::Opening(OpeningRow {
+            account: position.account.copy()?,
+            commodity: position.commodity.copy()?,
+            lot: lot.copy()?,
+            opening: opening_number(number)?,
+        }))?;
     }
     Ok(())
 }

@@ -9,6 +9,7 @@ ghost use Rattle.lot_rows.specs.Head.{IsHeadRow};
 ghost use Rattle.lot_rows.specs.Leg.{IsLegRow};
 ghost use Rattle.lot_rows.specs.Lot.{IsLotRow};
 ghost use Rattle.lot_rows.specs.LotKey.{IsLotKey};
+ghost use Rattle.lot_rows.specs.Opening.{IsOpeningRow};
 ghost use Rattle.lot_rows.specs.Plain.{IsPlainRow};
 ghost use Rattle.lot_rows.specs.Price.{IsPriceRow};
 ghost use Rattle.lot_rows.specs.Sale.{IsPriceOrNone, IsSaleRow};
@@ -23,6 +24,7 @@ use lot_rows::entry::EntryRow;
 use lot_rows::head::HeadRow;
 use lot_rows::leg::LegRow;
 use lot_rows::lot::LotRow;
+use lot_rows::opening::OpeningRow;
 use lot_rows::plain::PlainRow;
 use lot_rows::price::PriceRow;
 use lot_rows::sale::SaleRow;
@@ -49,6 +51,8 @@ fn is_good(write: &Write)
         Write::Sale(row) => is_sale_row(row),
         Write::Lot(row) => is_lot_row(row),
         Write::NoLot(_, _, lot) => is_lot_key(lot),
+        Write::Opening(row) => is_opening_row(row),
+        Write::NoOpening(_, _, lot) => is_lot_key(lot),
         Write::Plain(row) => is_plain_row(row),
         Write::NoPlain(_, _) => {}
         Write::Head(row) => is_head_row(row),
@@ -131,6 +135,15 @@ fn is_lot_row(row: &LotRow)
     let _ = row.commodity.as_str();
     is_lot_key(&row.lot);
     let _ = row.units.units();
+}
+
+fn is_opening_row(row: &OpeningRow)
+    ensures { IsOpeningRow row.now }
+{
+    let _ = row.account.as_str();
+    let _ = row.commodity.as_str();
+    is_lot_key(&row.lot);
+    let _ = row.opening.number();
 }
 
 fn is_plain_row(row: &PlainRow)

@@ -1,10 +1,9 @@
 //! The law of what is written: tables that stand for a book stand, after the writes of an accepted command, for the book
 //! with its entry. It is the contract of a function that does nothing.
 ghost use Rattle.std.specs.Prelude.{◌≡◌, All, None, [], ◌∷◌, ◌++◌, List};
-ghost use Rattle.lot_book.specs.Agree.{Agrees};
 ghost use Rattle.lot_book.specs.Book.{IsBook, entry_of};
-ghost use Rattle.lot_book.specs.Change.{IsAcceptedWith};
-ghost use Rattle.lot_book.specs.Facts.{Entry, Facts, facts_of};
+ghost use Rattle.lot_book.specs.Facts.{Entry};
+ghost use Rattle.lot_book.specs.Openings.{AgreesWithOpenings, FactsWithOpenings, IsAcceptedWith, facts_with_openings};
 ghost use Rattle.lot_book.specs.declared.change.Change.{Change};
 ghost use Rattle.lot_command.specs.declared.command.Command.{Command};
 ghost use Rattle.lot_command.specs.declared.key.Key.{Key};
@@ -18,10 +17,12 @@ ghost use Rattle.lot_rows.specs.Tables.{Tables};
 ///
 /// It is written from facts that agree with the book's on what the command looks at, under a key that is new.
 pub fn what_is_written_stands_for_the_book()
-    ensures { (tables : Tables) (entries : List Entry) (known : Facts) (key : Key) (command : Command) (change : Change)
-        → IsBook entries → StandFor tables entries → Agrees known (facts_of entries key) command → known.text ≡ None
+    ensures { (tables : Tables) (entries : List Entry) (known : FactsWithOpenings) (key : Key) (command : Command)
+        (change : Change) → IsBook entries → StandFor tables entries
+        → AgreesWithOpenings known (facts_with_openings entries key) command → known.facts.text ≡ None
         → IsAcceptedWith known command change → ListsInOrder command change → IsSayable command
-        → All IsGood (writes_of known key command change)
-        → AreFit (writes_of known key command change) tables
-        × StandFor (written_all (writes_of known key command change) tables) (entries ++ entry_of key command change.legs ∷ []) }
+        → All IsGood (writes_of known.facts key command change)
+        → AreFit (writes_of known.facts key command change) tables
+        × StandFor (written_all (writes_of known.facts key command change) tables)
+        (entries ++ entry_of key command change.legs ∷ []) }
 {}

@@ -12,10 +12,11 @@ use lot_rows::entry::EntryRow;
 use lot_rows::head::HeadRow;
 use lot_rows::leg::LegRow;
 use lot_rows::lot::LotRow;
+use lot_rows::opening::OpeningRow;
 use lot_rows::plain::PlainRow;
 use lot_rows::price::PriceRow;
 use lot_rows::sale::SaleRow;
-use lot_rows::{account, allowed, commodity, entry, head, leg, lot, plain, price, sale};
+use lot_rows::{account, allowed, commodity, entry, head, leg, lot, opening, plain, price, sale};
 use lot_table::Fault;
 use sqlite::{Alter, Transaction};
 
@@ -32,6 +33,9 @@ pub enum Write {
     Lot(LotRow),
     /// The row of a lot goes, if there is one.
     NoLot(Account, Commodity, LotKey),
+    Opening(OpeningRow),
+    /// The row of a lot's opening number goes, if there is one.
+    NoOpening(Account, Commodity, LotKey),
     Plain(PlainRow),
     /// The row of the plain units goes, if there is one.
     NoPlain(Account, Commodity),
@@ -68,6 +72,8 @@ fn write_one<S: Alter>(tx: &mut Transaction<'_, S>, write: &Write) -> Result<(),
         Write::Sale(row) => sale::put(tx, row),
         Write::Lot(row) => lot::put(tx, row),
         Write::NoLot(account, commodity, lot) => lot::delete(tx, account, commodity, lot),
+        Write::Opening(row) => opening::put(tx, row),
+        Write::NoOpening(account, commodity, lot) => opening::delete(tx, account, commodity, lot),
         Write::Plain(row) => plain::put(tx, row),
         Write::NoPlain(account, commodity) => plain::delete(tx, account, commodity),
         Write::Head(row) => head::put(tx, row),

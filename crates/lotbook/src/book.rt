@@ -4,7 +4,7 @@ ghost use Rattle.std.specs.Prelude.{◌≡◌, None, false};
 
 use crate::output::Output;
 use crate::{STOPPED, out_of_memory};
-use lot_cli::{Action, Counted, CountedWriter, Served, serve};
+use lot_cli::{Action, AdoptFault, Counted, CountedWriter, Halt, Served, serve};
 use sqlite::{Alter, Connection, Error, ErrorCode, File, FileStore};
 use std::fmt::Display;
 use std::io::Read;
@@ -71,7 +71,11 @@ fn serve_file(rt: &HostRuntime, action: &Action, path: &str, output: &mut Output
 /// Does the same, where the library of the database takes the path for that of a file.
 fn serve_opened(rt: &HostRuntime, action: &Action, path: &str, output: &mut Output<'_>) -> u8 {
     match Connection::open(rt, path) {
-        Ok(conn) => closed(served(rt, action, output, conn)),
+        Ok(conn) => {
+            let served = served(rt, action, output, conn);
+            advise(rt, path, served.halt);
+            closed(served)
+        }
         Err(Error::SqliteFailure(ErrorCode::OutOfMemory)) => out_of_memory(rt),
         Err(error) => unopened(rt, path, error),
     }
@@ -79,7 +83,11 @@ fn serve_opened(rt: &HostRuntime, action: &Action, path: &str, output: &mut Outp
 
 /// Closes the file of an action that ran to its end, and returns the status.
 fn closed(served: Served<FileStore<File>>) -> u8 {
-    let Served { status, conn } = served;
+    let Served {
+        status,
+        halt: _,
+        conn,
+    } = served;
     if status <= REFUSED {
         // Commits are safe in the log beside the file, also where it can't be copied into the file.
         let _ = conn.close();
@@ -87,11 +95,24 @@ fn closed(served: Served<FileStore<File>>) -> u8 {
     status
 }
 
+/// Says on standard error what helps where the book isn't taken up.
+fn advise(rt: &HostRuntime, path: &str, halt: Option<Halt>) {
+    if let Some(Halt::Adopt(AdoptFault::OlderEdition)) = halt {
+        let _ = eprintln!(rt;
+            "lotbook: {path} is a book of edition 1: `lotbook migrate --book {path}` takes it over"
+        );
+    }
+}
+
 /// Does what an action asks for on an empty database in memory.
 fn serve_nothing(rt: &HostRuntime, action: &Action, output: &mut Output<'_>) -> u8 {
     match Connection::open_in_memory(rt.alloc()) {
         Ok(conn) => {
-            let Served { status, conn: _ } = served(rt, action, output, conn);
+            let Served {
+                status,
+                halt: _,
+                conn: _,
+            } = served(rt, action, output, conn);
             status
         }
         Err(_) => out_of_memory(rt),

@@ -1,7 +1,7 @@
-ghost use Rattle.std.specs.Prelude.{◌≡◌, ◌≢◌, List, ℕ, Option, IfOk, IsErrOf, IsFalse};
+ghost use Rattle.std.specs.Prelude.{◌≡◌, ◌≢◌, List, ℕ, Option, IfOk, IsErrOf, IsFalse, OnOk};
 ghost use Rattle.std.specs.Io.KnownBytes.{Appends};
 ghost use Rattle.lot_check.specs.Way.{in_row};
-ghost use Rattle.lot_report.specs.Output.{HasFailed};
+ghost use Rattle.lot_report.specs.Output.{HasFailed, NoneFailed};
 ghost use Rattle.lot_report.specs.declared.holdings.ValuedHolding.{ValuedHolding as Row};
 ghost use Rattle.lot_report.specs.Holdings.{EndsHoldings, GrowsByHolding, IsFed, WritesReport, is_spent, rows_text, unvalued, unvalued_row};
 
@@ -22,6 +22,7 @@ pub(super) fn print_holdings<W: CountedWrite>(
 ) -> Result<(), ReportFault>
     ensures report { WritesReport (unvalued rows.items) (W.contents writer.old) (W.contents writer.new) result }
     ensures cause { IsErrOf result ReportFault.Write → HasFailed (W.calls writer.new) }
+    ensures none_failed { OnOk result (NoneFailed (W.calls writer.old) (W.calls writer.new)) }
 {
     let mut report = Holdings::new(alloc);
     for holding in rows {
@@ -42,6 +43,7 @@ fn print_row<W: CountedWrite>(
         → GrowsByHolding rows (unvalued_row holding) report.new start (W.contents writer.new) (in_row result) }
     ensures after { IfOk result (λ _. IsFalse (is_spent report.new)) }
     ensures cause { IsErrOf result ReportFault.Write → HasFailed (W.calls writer.new) }
+    ensures none_failed { OnOk result (NoneFailed (W.calls writer.old) (W.calls writer.new)) }
 {
     let row = ValuedHolding {
         holding,
@@ -60,6 +62,7 @@ fn print_end<W: CountedWrite>(report: Holdings, writer: &mut W) -> Result<(), Re
         → Appends start (W.contents writer.old) (rows_text rows)
         → EndsHoldings rows start (W.contents writer.new) (in_row result) }
     ensures cause { IsErrOf result ReportFault.Write → HasFailed (W.calls writer.new) }
+    ensures none_failed { OnOk result (NoneFailed (W.calls writer.old) (W.calls writer.new)) }
 {
     match report.end(writer) {
         Ok(()) => Ok(()),

@@ -5,12 +5,12 @@ use Rattle.lot_check.proofs.batch.answer.Goals as goal
 
 pub returns-in_err-text-clause-answers : goal.returns-in_err-text-clause-answers
 returns-in_err-text-clause-answers g c =
-    unheard _ (g.R.CountedRead.remaining c.args.reader.now) (g.W.CountedWrite.contents c.args.writer.now) c.in_err-text.field-0.0 c.from_residual.result c.from_residual.ensures.1
+    unheard _ (g.R.CountedRead.remaining c.args.reader.now) (g.W.CountedWrite.calls c.args.writer.now) (g.W.CountedWrite.contents c.args.writer.now) c.in_err-text.field-0.0 c.from_residual.result c.from_residual.ensures.1
     c.in_err-text.ensures.cause c.in_err-text.ensures.too_long
 
 pub returns-clause-answers : goal.returns-clause-answers
 returns-clause-answers g c =
-    heard _ (g.R.CountedRead.remaining c.args.reader.now) (g.W.CountedWrite.contents c.args.writer.now) (g.W.CountedWrite.contents c.answer_text.new.writer)
+    heard _ (g.R.CountedRead.remaining c.args.reader.now) _ (g.W.CountedWrite.contents c.args.writer.now) (g.W.CountedWrite.contents c.answer_text.new.writer)
     c.in_ok-text.text.items c.deref.result.now (vec_len c.in_ok-text.text) c.answer_text.result c.in_ok-text.ensures.every_byte c.deref.ensures.value
     c.deref.ensures.len c.in_ok-text.ensures.calls c.answer_text.ensures.reaches
 

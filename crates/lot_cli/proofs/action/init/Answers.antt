@@ -21,3 +21,6 @@ returns-in-Err-clause-makes g c =
     (sym c.halted.ensures.same)
     (makes_none (state g.S.Store c.args.conn) (state g.S.Store c.in-Err.field-0.conn) _ _ (record { before = g.W.CountedWrite.calls c.args.writer.now; after = g.W.CountedWrite.calls c.halted.new.writer }) c.in-Err.field-0.fault c.halted.result.status c.in-Err.ensures.refused c.in-Err.ensures.other c.in-Err.ensures.handed_back c.in-Err.ensures.kept c.in-Err.ensures.crash_err
     c.halted.ensures.says)
+
+pub returns-in-Err-clause-told : goal.returns-in-Err-clause-told
+returns-in-Err-clause-told g c = rw (c.halted.ensures.halt) c.halted.ensures.says

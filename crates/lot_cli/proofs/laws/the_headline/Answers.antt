@@ -1,5 +1,8 @@
-use Rattle.lot_cli.proofs.HeadlineLemmas.{headline}
+use Rattle.lot_cli.proofs.HeadlineLemmas.{headline, headline_of_made}
 use Rattle.lot_cli.proofs.laws.the_headline.Goals as goal
 
-pub returns : goal.returns
-returns c = headline
+pub returns-clause-made : goal.returns-clause-made
+returns-clause-made c = headline_of_made
+
+pub returns-clause-goes_on : goal.returns-clause-goes_on
+returns-clause-goes_on c = headline

@@ -1,7 +1,6 @@
 -- What is left over is zero, or taken up.
-use Rattle.lot_book.specs.Edition.{NotYet}
 use Rattle.lot_laws.proofs.LawBalance.{book_balances}
 use Rattle.lot_laws.proofs.books.every_transaction_balances.Goals as goal
 
 pub returns : goal.returns
-returns c = book_balances NotYet
+returns c = book_balances

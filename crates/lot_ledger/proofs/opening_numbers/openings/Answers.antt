@@ -1,35 +1,26 @@
--- A leg at a lot is added to what is kept, and a plain one leaves it.
-use Rattle.std.proofs.Common.{◌≡◌, None, take, ap, ◌∙◌, rules}
-use Rattle.std.specs.Prelude.{IsSome}
-use Rattle.lot_ledger.proofs.OpenLotLemmas.{any_at_lot, lots-plain, next_in_range, next_kept}
-use Rattle.lot_ledger.proofs.opening_numbers.openings.Goals.{then-is_some+in_ok-post, else-is_some}
+-- All legs are added one after another.
+use Rattle.std.proofs.Common.{Ok, Err, ◌≡◌, take, refl, subst}
+use Rattle.std.specs.Prelude.{IfOk, List}
+use Rattle.lot_book.specs.declared.leg.Leg.{Leg}
+use Rattle.lot_ledger.specs.LotOpenings.{Keeps, ListsOpenings}
+use Rattle.lot_ledger.proofs.OpenLotLemmas.{all_kept, next_kept}
 use Rattle.lot_ledger.proofs.opening_numbers.openings.Goals as goal
-
-pub post-requires-clause-in_range : goal.post-requires-clause-in_range
-post-requires-clause-in_range c =
-    let is_lot : IsSome c.leg-item.result.position.lot = search rules in
-    next_in_range c.args.legs.now c.loop-leg.leg-index c.leg-item.result c.loop-leg.lots
-    c.loop-leg-test.true c.leg-item.is c.requires.in_range is_lot c.loop-leg.invariant.kept
 
 pub loop-leg-preserved : goal.loop-leg-preserved
 loop-leg-preserved c =
     let legs = c.args.legs.now in
     let i = c.loop-leg.leg-index in
-    let leg = c.leg-item.result in
-    let within = c.loop-leg-test.true in
-    elim c.if-is_some.branch [
-      | then-is_some+in_ok-post w ↦
-          let is_lot : IsSome leg.position.lot = search rules in
-          record {
-            kept = next_kept legs i leg w.post.new.lots c.if-is_some.lots within c.leg-item.is w.lots-is
-                (w.in_ok-post.ensures (take i legs) c.loop-leg.invariant.kept);
-            begun = λ some. any_at_lot legs i leg within c.leg-item.is is_lot;
-          }
-      | else-is_some w ↦
-          let plain : leg.position.lot ≡ None = search rules in
-          record {
-            kept = next_kept legs i leg c.loop-leg.lots c.if-is_some.lots within c.leg-item.is w.lots-is
-                (lots-plain (take i legs) leg c.loop-leg.lots plain c.loop-leg.invariant.kept);
-            begun = λ some. c.loop-leg.invariant.begun (λ none. some (ap (λ m. m.entries) w.lots-is ∙ none));
-          }
-    ]
+    next_kept legs i c.leg-item.result c.post.new.self c.loop-leg-test.true c.leg-item.is
+    (c.in-Ok.ensures.adds (take i legs) c.loop-leg.invariant)
+
+pub returns-clause-lists : goal.returns-clause-lists
+returns-clause-lists c = by c.into_openings.result refl
+  where
+    keeps : Keeps c.args.legs.now c.loop-leg.lots
+    keeps = all_kept c.args.legs.now c.loop-leg.leg-index c.loop-leg.lots c.loop-leg-test.false c.loop-leg.invariant
+
+    by : (r : _) → c.into_openings.result ≡ r → IfOk r (λ rows. ListsOpenings c.args.legs.now rows.items)
+    by (Ok rows) is =
+        subst (λ r. IfOk r (λ rows. (legs : List Leg) → Keeps legs c.loop-leg.lots → ListsOpenings legs rows.items)) is
+        c.into_openings.ensures.lists c.args.legs.now keeps
+    by (Err e) is = tt

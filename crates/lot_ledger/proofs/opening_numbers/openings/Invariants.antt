@@ -1,12 +1,7 @@
-use Rattle.std.proofs.Common.{◌≢◌, [], take}
-use Rattle.std.specs.Prelude.{Any, IsSome}
-use Rattle.lot_book.specs.declared.leg.Leg.{Leg}
-use Rattle.lot_ledger.specs.LotOpenings.{KeepsLots}
+use Rattle.std.proofs.Common.{take}
+use Rattle.lot_ledger.specs.LotOpenings.{Keeps}
 use Rattle.lot_ledger.proofs.opening_numbers.openings.Given as goal
 
--- the lots are kept as the legs so far leave them, and there are none before a leg at a lot
+-- the lots are kept as the legs so far leave them
 abbrev pub invariant-loop-leg : goal.invariant-loop-leg
-invariant-loop-leg l = record {
-  kept : KeepsLots (take l.leg-index l.legs) l.lots;
-  begun : l.lots.entries ≢ [] → Any (λ (leg : Leg). IsSome leg.position.lot) l.legs;
-}
+invariant-loop-leg l = Keeps (take l.leg-index l.legs) l.lots

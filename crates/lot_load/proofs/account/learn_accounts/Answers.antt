@@ -2,11 +2,10 @@
 use Rattle.std.specs.Prelude.{◌≡◌, List, [], ◌∷◌, ℕ}
 use Rattle.std.proofs.Common.{subst}
 use Rattle.sqlite.specs.Held.{state}
-use Rattle.lot_book.specs.Recorded.{facts_in}
-use Rattle.lot_load.specs.Known.{KnowsStanding}
+use Rattle.lot_load.specs.Known.{KnowsStanding, said_by}
 use Rattle.lot_load.proofs.LearnLemmas.{IsLeft, standing_stays, left_more, left_none}
 use Rattle.lot_load.proofs.ReadLemmas.{reads_as, reads_next, tells}
-use Rattle.lot_view.specs.View.{known}
+use Rattle.lot_view.specs.View.{known_with_openings}
 use Rattle.lot_load.proofs.account.learn_accounts.Goals as goal
 
 pub loop-account-preserved : goal.loop-account-preserved
@@ -19,11 +18,11 @@ loop-account-preserved g c =
     let rest : List (List ℕ) = c.next.new.self in
     let key : List ℕ = c.in-Some.account.now in
     let turn : left ≡ key ∷ rest = c.in-Some.ensures.steps in
-    reads_next _ _ _ (λ entries. IsLeft KnowsStanding keys left (facts_in entries) (known c.args.view.now) (known c.loop-account.view)) _
+    reads_next _ _ _ (λ entries. IsLeft KnowsStanding keys left (said_by entries) (known_with_openings c.args.view.now) (known_with_openings c.loop-account.view)) _
     first mid new c.in_ok-learn_account.field-0 c.loop-account.invariant c.in_ok-learn_account.ensures.teaches
     (λ tables entries book stand was good says.
-    left_more KnowsStanding standing_stays keys rest key (facts_in entries) (known c.args.view.now) (known c.loop-account.view) (known c.learn_account.new.view)
-    (subst (λ (l : List (List ℕ)). IsLeft KnowsStanding keys l (facts_in entries) (known c.args.view.now) (known c.loop-account.view)) turn was)
+    left_more KnowsStanding standing_stays keys rest key (said_by entries) (known_with_openings c.args.view.now) (known_with_openings c.loop-account.view) (known_with_openings c.learn_account.new.view)
+    (subst (λ (l : List (List ℕ)). IsLeft KnowsStanding keys l (said_by entries) (known_with_openings c.args.view.now) (known_with_openings c.loop-account.view)) turn was)
     (says entries book stand))
 
 pub returns : goal.returns
@@ -34,8 +33,8 @@ returns g c =
     let left : List (List ℕ) = c.loop-account.account-iterator in
     let none : left ≡ [] = c.in-None.ensures.steps.0 in record {
       teaches = tells _ first now tt
-          (reads_as (λ entries. IsLeft KnowsStanding keys left (facts_in entries) (known c.args.view.now) (known c.loop-account.view)) _ first now c.loop-account.invariant
+          (reads_as (λ entries. IsLeft KnowsStanding keys left (said_by entries) (known_with_openings c.args.view.now) (known_with_openings c.loop-account.view)) _ first now c.loop-account.invariant
           (λ tables entries book stand was.
-          left_none KnowsStanding keys (facts_in entries) (known c.args.view.now) (known c.loop-account.view)
-          (subst (λ (l : List (List ℕ)). IsLeft KnowsStanding keys l (facts_in entries) (known c.args.view.now) (known c.loop-account.view)) none was)));
+          left_none KnowsStanding keys (said_by entries) (known_with_openings c.args.view.now) (known_with_openings c.loop-account.view)
+          (subst (λ (l : List (List ℕ)). IsLeft KnowsStanding keys l (said_by entries) (known_with_openings c.args.view.now) (known_with_openings c.loop-account.view)) none was)));
     }

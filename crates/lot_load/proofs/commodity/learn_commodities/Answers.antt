@@ -2,11 +2,10 @@
 use Rattle.std.specs.Prelude.{◌≡◌, List, [], ◌∷◌, ℕ}
 use Rattle.std.proofs.Common.{subst}
 use Rattle.sqlite.specs.Held.{state}
-use Rattle.lot_book.specs.Recorded.{facts_in}
-use Rattle.lot_load.specs.Known.{KnowsDeclared}
+use Rattle.lot_load.specs.Known.{KnowsDeclared, said_by}
 use Rattle.lot_load.proofs.LearnLemmas.{IsLeft, declared_stays, left_more, left_none}
 use Rattle.lot_load.proofs.ReadLemmas.{reads_as, reads_next, tells}
-use Rattle.lot_view.specs.View.{known}
+use Rattle.lot_view.specs.View.{known_with_openings}
 use Rattle.lot_load.proofs.commodity.learn_commodities.Goals as goal
 
 pub loop-commodity-preserved : goal.loop-commodity-preserved
@@ -19,11 +18,11 @@ loop-commodity-preserved g c =
     let rest : List (List ℕ) = c.next.new.self in
     let key : List ℕ = c.in-Some.commodity.now in
     let turn : left ≡ key ∷ rest = c.in-Some.ensures.steps in
-    reads_next _ _ _ (λ entries. IsLeft KnowsDeclared keys left (facts_in entries) (known c.args.view.now) (known c.loop-commodity.view)) _
+    reads_next _ _ _ (λ entries. IsLeft KnowsDeclared keys left (said_by entries) (known_with_openings c.args.view.now) (known_with_openings c.loop-commodity.view)) _
     first mid new c.in_ok-learn_commodity.field-0 c.loop-commodity.invariant c.in_ok-learn_commodity.ensures.teaches
     (λ tables entries book stand was good says.
-    left_more KnowsDeclared declared_stays keys rest key (facts_in entries) (known c.args.view.now) (known c.loop-commodity.view) (known c.learn_commodity.new.view)
-    (subst (λ (l : List (List ℕ)). IsLeft KnowsDeclared keys l (facts_in entries) (known c.args.view.now) (known c.loop-commodity.view)) turn was)
+    left_more KnowsDeclared declared_stays keys rest key (said_by entries) (known_with_openings c.args.view.now) (known_with_openings c.loop-commodity.view) (known_with_openings c.learn_commodity.new.view)
+    (subst (λ (l : List (List ℕ)). IsLeft KnowsDeclared keys l (said_by entries) (known_with_openings c.args.view.now) (known_with_openings c.loop-commodity.view)) turn was)
     (says entries book stand))
 
 pub returns : goal.returns
@@ -34,8 +33,8 @@ returns g c =
     let left : List (List ℕ) = c.loop-commodity.commodity-iterator in
     let none : left ≡ [] = c.in-None.ensures.steps.0 in record {
       teaches = tells _ first now tt
-          (reads_as (λ entries. IsLeft KnowsDeclared keys left (facts_in entries) (known c.args.view.now) (known c.loop-commodity.view)) _ first now c.loop-commodity.invariant
+          (reads_as (λ entries. IsLeft KnowsDeclared keys left (said_by entries) (known_with_openings c.args.view.now) (known_with_openings c.loop-commodity.view)) _ first now c.loop-commodity.invariant
           (λ tables entries book stand was.
-          left_none KnowsDeclared keys (facts_in entries) (known c.args.view.now) (known c.loop-commodity.view)
-          (subst (λ (l : List (List ℕ)). IsLeft KnowsDeclared keys l (facts_in entries) (known c.args.view.now) (known c.loop-commodity.view)) none was)));
+          left_none KnowsDeclared keys (said_by entries) (known_with_openings c.args.view.now) (known_with_openings c.loop-commodity.view)
+          (subst (λ (l : List (List ℕ)). IsLeft KnowsDeclared keys l (said_by entries) (known_with_openings c.args.view.now) (known_with_openings c.loop-commodity.view)) none was)));
     }

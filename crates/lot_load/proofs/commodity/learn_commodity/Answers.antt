@@ -2,17 +2,16 @@
 use Rattle.std.specs.Prelude.{is_some}
 use Rattle.std.proofs.Common.{sym, ap, ◌∙◌}
 use Rattle.sqlite.specs.Held.{state}
-use Rattle.lot_book.specs.Recorded.{facts_in}
 use Rattle.lot_stored.specs.Kept.{declared_on}
 use Rattle.lot_stored.specs.Rows.{commodity_row, name_key}
 use Rattle.lot_rows.specs.Commodity.{IsCommodityRow, commodity_cells}
 use Rattle.lot_table.specs.Rows.{has_key}
-use Rattle.lot_load.specs.Known.{KnowsDeclared, Learns}
+use Rattle.lot_load.specs.Known.{KnowsDeclared, Learns, said_by}
 use Rattle.lot_load.proofs.PutLemmas.{not_declared, put_declared}
 use Rattle.lot_load.proofs.ReadLemmas.{fails_first, passes, reads_first, tells}
 use Rattle.lot_stored.proofs.KeptLemmas.{declared_as}
 use Rattle.lot_load.proofs.RowLemmas.{good_filtered, mapped_is_some}
-use Rattle.lot_view.specs.View.{known}
+use Rattle.lot_view.specs.View.{known_with_openings}
 use Rattle.lot_load.proofs.commodity.learn_commodity.Goals as goal
 
 pub returns-in_err-find : goal.returns-in_err-find
@@ -29,10 +28,10 @@ returns-in_ok-put_declared g c =
     let new = state g.S.Store c.find.new.conn in
     let commodity = c.args.commodity.now in record {
       teaches = tells _ old new tt
-          (reads_first _ _ _ (λ entries. Learns (KnowsDeclared commodity) (facts_in entries) (known c.args.view.now) (known c.put_declared.new.self)) old new
+          (reads_first _ _ _ (λ entries. Learns (KnowsDeclared commodity) (said_by entries) (known_with_openings c.args.view.now) (known_with_openings c.put_declared.new.self)) old new
           c.in_ok-find.field-0 c.in_ok-find.ensures.finds
           (λ tables entries book stand good is.
-          put_declared commodity (facts_in entries) (known c.args.view.now) (known c.put_declared.new.self) c.in_ok-put_declared.ensures.ok
+          put_declared commodity (said_by entries) (known_with_openings c.args.view.now) (known_with_openings c.put_declared.new.self) c.in_ok-put_declared.ensures.ok c.in_ok-put_declared.ensures.openings
           (sym (declared_as entries commodity) ∙ sym (mapped_is_some (commodity_row commodity) (declared_on entries commodity))
           ∙ ap is_some (sym (is ∙ stand.commodity commodity)) ∙ sym c.is_some.ensures ∙ c.if-is_some.true)));
     }
@@ -43,10 +42,10 @@ returns-else-is_some g c =
     let new = state g.S.Store c.find.new.conn in
     let commodity = c.args.commodity.now in record {
       teaches = tells _ old new tt
-          (reads_first _ _ _ (λ entries. Learns (KnowsDeclared commodity) (facts_in entries) (known c.args.view.now) (known c.args.view.now)) old new
+          (reads_first _ _ _ (λ entries. Learns (KnowsDeclared commodity) (said_by entries) (known_with_openings c.args.view.now) (known_with_openings c.args.view.now)) old new
           c.in_ok-find.field-0 c.in_ok-find.ensures.finds
           (λ tables entries book stand good is.
-          not_declared commodity (facts_in entries) (known c.args.view.now)
+          not_declared commodity (said_by entries) (known_with_openings c.args.view.now)
           (sym (declared_as entries commodity) ∙ sym (mapped_is_some (commodity_row commodity) (declared_on entries commodity))
           ∙ ap is_some (sym (is ∙ stand.commodity commodity)) ∙ sym c.is_some.ensures ∙ c.if-is_some.false)));
     }

@@ -4,7 +4,7 @@ use Rattle.std.proofs.Common.{sym, ap, ◌∙◌}
 use Rattle.sqlite.specs.Held.{state}
 use Rattle.lot_rows.specs.Entry.{greatest_number}
 use Rattle.lot_load.proofs.ReadLemmas.{reads_first, tells}
-use Rattle.lot_load.proofs.RowLemmas.{greatest_none, greatest_some}
+use Rattle.lot_stored.proofs.KeptLemmas.{greatest_none, greatest_some}
 use Rattle.lot_load.proofs.entry.count.Goals as goal
 
 pub returns-in-Some : goal.returns-in-Some

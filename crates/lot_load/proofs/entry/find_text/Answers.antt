@@ -8,8 +8,8 @@ use Rattle.lot_book.specs.Facts.{Entry, text_under}
 use Rattle.lot_command.specs.Sayable.{IsSayable}
 use Rattle.lot_rows.specs.Entry.{IsEntryRow, entry_cells, is_named, named}
 use Rattle.lot_rows.specs.declared.entry.EntryRow.{EntryRow}
-use Rattle.lot_load.proofs.DamageLemmas.{no_row_has_none, no_row_is_sound, row_has_text, row_is_sound, said_text, text_refused}
-use Rattle.lot_load.proofs.ReadLemmas.{fails_first, passes, reads_first, tells}
+use Rattle.lot_load.proofs.DamageLemmas.{no_row_has_none, no_row_is_sound, row_has_text, row_is_sound, said_text}
+use Rattle.lot_load.proofs.ReadLemmas.{fails_first, passes, reads_first, refuses, tells}
 use Rattle.lot_load.proofs.RowLemmas.{good_filtered, named_text}
 use Rattle.lot_print.specs.Canonical.{IsCanonical}
 use Rattle.lot_load.proofs.entry.find_text.Goals as goal
@@ -49,7 +49,7 @@ returns-in_err-text_of-in-Some-clause-tells g c =
     let body = c.in-Some.row.body in
     let refused = c.in_err-text_of-in-Some.ensures in
     passes _ old new c.in_err-text_of-in-Some.field-0.0 c.from_residual-in_err-text_of-in-Some.result c.from_residual-in_err-text_of-in-Some.ensures.1
-    (text_refused (IsCanonical body) _ old new c.in_err-text_of-in-Some.field-0.0 (λ e. refused.no_device (ap Err e)) (λ e. refused.damaged (ap Err e))
+    (refuses (IsCanonical body) _ old new c.in_err-text_of-in-Some.field-0.0 (λ e. refused.no_device (ap Err e)) (λ e. refused.damaged (ap Err e))
     (reads_first _ _ _ (λ entries. IsCanonical body) old new c.in_ok-row.field-0 c.in_ok-row.ensures.finds
     (λ tables entries book stand good is.
     said_text entries key body (recursion_from_All (λ (entry : Entry). IsSayable entry.command) entries stand.said)

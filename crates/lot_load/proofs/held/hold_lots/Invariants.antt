@@ -1,12 +1,15 @@
 -- Once the rows that are left are known, all are.
-use Rattle.std.specs.Prelude.{drop}
 use Rattle.std.specs.List.{AllByRecursion}
-use Rattle.lot_book.specs.Facts.{Facts}
-use Rattle.lot_load.specs.Known.{IsTrueLot, KnowsLot}
-use Rattle.lot_load.proofs.LearnLemmas.{IsLeft}
-use Rattle.lot_view.specs.View.{known}
+use Rattle.std.specs.Iterator.Adapters.{zip_first, zip_second}
+use Rattle.std.specs.Slice.Iter.{iter_rest}
+use Rattle.lot_book.specs.Openings.{FactsWithOpenings}
+use Rattle.lot_load.specs.Known.{IsTrueLot, IsTrueOpening}
+use Rattle.lot_load.proofs.LotLemmas.{AreLeft}
+use Rattle.lot_view.specs.View.{known_with_openings}
 use Rattle.lot_load.proofs.held.hold_lots.Given as goal
 
 abbrev pub invariant-loop-row : goal.invariant-loop-row
 invariant-loop-row l =
-    (book : Facts) → AllByRecursion (IsTrueLot book) l.rows → IsLeft KnowsLot l.rows (drop l.row-index l.rows) book (known l.fn.view) (known l.view)
+    (book : FactsWithOpenings) → AllByRecursion (IsTrueLot l.pair book.facts) l.lots → AllByRecursion (IsTrueOpening l.pair book) l.openings
+    → AreLeft l.pair l.lots (iter_rest (zip_first l.row-iterator)) (iter_rest (zip_second l.row-iterator)) book
+    (known_with_openings l.fn.view) (known_with_openings l.view)

@@ -1,10 +1,9 @@
 -- The four steps, one after another.
 use Rattle.sqlite.specs.Held.{state}
 use Rattle.lot_book.specs.Facts.{Facts}
-use Rattle.lot_book.specs.Recorded.{facts_in}
-use Rattle.lot_view.specs.View.{known}
+use Rattle.lot_view.specs.View.{known_with_openings}
 use Rattle.lot_load.proofs.ReadLemmas.{HasRead, reads_first, reads_next, tells_last}
-use Rattle.lot_load.specs.Known.{KnowsDeclared, KnowsEach, KnowsPair, KnowsPlain, KnowsStanding, KnowsTouched, Learns}
+use Rattle.lot_load.specs.Known.{KnowsDeclared, KnowsEach, KnowsPair, KnowsPlain, KnowsStanding, KnowsTouched, Learns, said_by}
 use Rattle.lot_load.proofs.LearnLemmas.{both_stay, declared_stays, each_stays, learns_as, learns_both, pair_stays, standing_stays}
 use Rattle.lot_view.specs.declared.touched.Touched.{Touched}
 use Rattle.lot_load.proofs.learn.learn_touched.Goals as goal
@@ -26,26 +25,26 @@ returns g c =
     let s2 = state g.S.Store c.learn_commodities.new.conn in
     let s3 = state g.S.Store c.learn_pairs.new.conn in
     let s4 = state g.S.Store c.learn_all_plain.new.conn in
-    let v0 = known c.args.view.now in
-    let v1 = known c.learn_accounts.new.view in
-    let v2 = known c.learn_commodities.new.view in
-    let v3 = known c.learn_pairs.new.view in
-    let v4 = known c.learn_all_plain.new.view in
-    let one : HasRead (λ entries. Learns p (facts_in entries) v0 v1) s0 s1 =
-    reads_first _ _ _ (λ entries. Learns p (facts_in entries) v0 v1) s0 s1 c.in_ok-learn_accounts.field-0 c.in_ok-learn_accounts.ensures.teaches
+    let v0 = known_with_openings c.args.view.now in
+    let v1 = known_with_openings c.learn_accounts.new.view in
+    let v2 = known_with_openings c.learn_commodities.new.view in
+    let v3 = known_with_openings c.learn_pairs.new.view in
+    let v4 = known_with_openings c.learn_all_plain.new.view in
+    let one : HasRead (λ entries. Learns p (said_by entries) v0 v1) s0 s1 =
+    reads_first _ _ _ (λ entries. Learns p (said_by entries) v0 v1) s0 s1 c.in_ok-learn_accounts.field-0 c.in_ok-learn_accounts.ensures.teaches
     (λ tables entries book stand good is. is entries book stand) in
-    let two : HasRead (λ entries. Learns pq (facts_in entries) v0 v2) s0 s2 =
-    reads_next _ _ _ (λ entries. Learns p (facts_in entries) v0 v1) (λ entries. Learns pq (facts_in entries) v0 v2) s0 s1 s2
+    let two : HasRead (λ entries. Learns pq (said_by entries) v0 v2) s0 s2 =
+    reads_next _ _ _ (λ entries. Learns p (said_by entries) v0 v1) (λ entries. Learns pq (said_by entries) v0 v2) s0 s1 s2
     c.in_ok-learn_commodities.field-0 one c.in_ok-learn_commodities.ensures.teaches
-    (λ tables entries book stand was good is. learns_both p q (facts_in entries) v0 v1 v2 stays_p was (is entries book stand)) in
-    let three : HasRead (λ entries. Learns pqr (facts_in entries) v0 v3) s0 s3 =
-    reads_next _ _ _ (λ entries. Learns pq (facts_in entries) v0 v2) (λ entries. Learns pqr (facts_in entries) v0 v3) s0 s2 s3
+    (λ tables entries book stand was good is. learns_both p q (said_by entries) v0 v1 v2 stays_p was (is entries book stand)) in
+    let three : HasRead (λ entries. Learns pqr (said_by entries) v0 v3) s0 s3 =
+    reads_next _ _ _ (λ entries. Learns pq (said_by entries) v0 v2) (λ entries. Learns pqr (said_by entries) v0 v3) s0 s2 s3
     c.in_ok-learn_pairs.field-0 two c.in_ok-learn_pairs.ensures.teaches
-    (λ tables entries book stand was good is. learns_both pq r (facts_in entries) v0 v2 v3 (both_stay p q stays_p stays_q) was (is entries book stand)) in record {
-      teaches = tells_last (λ entries. Learns pqr (facts_in entries) v0 v3) (λ answer entries. Learns s (facts_in entries) v3 v4) _ s0 s3 s4 c.learn_all_plain.result three
+    (λ tables entries book stand was good is. learns_both pq r (said_by entries) v0 v2 v3 (both_stay p q stays_p stays_q) was (is entries book stand)) in record {
+      teaches = tells_last (λ entries. Learns pqr (said_by entries) v0 v3) (λ answer entries. Learns s (said_by entries) v3 v4) _ s0 s3 s4 c.learn_all_plain.result three
           c.learn_all_plain.ensures.teaches
           (λ entries answer was own.
-          learns_as (λ book known. pqr book known × s book known) (KnowsTouched touched) (facts_in entries) v0 v4
+          learns_as (λ book known. pqr book known × s book known) (KnowsTouched touched) (said_by entries) v0 v4
           (λ _ part knows. (knows.0.0.0, knows.0.0.1, knows.0.1, knows.1))
-          (learns_both pqr s (facts_in entries) v0 v3 v4 (both_stay pq r (both_stay p q stays_p stays_q) stays_r) was own));
+          (learns_both pqr s (said_by entries) v0 v3 v4 (both_stay pq r (both_stay p q stays_p stays_q) stays_r) was own));
     }

@@ -6,11 +6,11 @@ use Rattle.sqlite.specs.Held.{state}
 use Rattle.lot_book.specs.Facts.{Facts, text_under}
 use Rattle.lot_book.specs.Recorded.{facts_in}
 use Rattle.lot_load.specs.Damage.{HasText}
-use Rattle.lot_load.specs.Kept.{IsOf, Keeps, seen}
+use Rattle.lot_load.specs.Kept.{IsOf, Keeps, seen, seen_with_openings}
 use Rattle.lot_load.specs.Known.{KnowsTouched}
 use Rattle.lot_load.proofs.KeptLemmas.{keeps_turned}
 use Rattle.lot_load.proofs.ReadLemmas.{HasRead, reads_first, reads_next, tells}
-use Rattle.lot_load.proofs.RowLemmas.{looked}
+use Rattle.lot_load.proofs.RowLemmas.{looked, numbers_looked}
 use Rattle.lot_load.proofs.look.look_on.Goals as goal
 
 pub returns : goal.returns
@@ -40,11 +40,14 @@ returns g c =
           old counted new c.in_ok-learn_lacking.field-0 two c.in_ok-learn_lacking.ensures.tells
           (λ tables entries book stand was good is of.
           let covers = is entries book stand (was.1 of) in
-          let keeps = keeps_turned learned turned text entries c.turn_to.ensures.seen c.turn_to.ensures.whole covers.keeps in (
+          let keeps = keeps_turned learned turned text entries c.turn_to.ensures.seen c.turn_to.ensures.openings c.turn_to.ensures.whole covers.keeps in (
             keeps,
-            looked entries key command t (seen turned) c.in_ok-touched.ensures.accounts c.in_ok-touched.ensures.declared
-                c.in_ok-touched.ensures.pairs c.in_ok-touched.ensures.plain keeps.count (seen_then ∙ was.0)
-                (subst (KnowsTouched t (facts_in entries)) (sym c.turn_to.ensures.seen) covers.knows),
+            record {
+              facts = looked entries key command t (seen turned) c.in_ok-touched.ensures.accounts c.in_ok-touched.ensures.declared
+                  c.in_ok-touched.ensures.pairs c.in_ok-touched.ensures.plain keeps.count (seen_then ∙ was.0)
+                  (subst (KnowsTouched t (facts_in entries)) (sym c.turn_to.ensures.seen) covers.knows);
+              opening = numbers_looked entries command (seen_with_openings turned) keeps.openings;
+            },
           )));
       damage = λ clean. c.in_ok-text.ensures.damage
           (omega (arith, clean, c.in_ok-learn_lacking.ensures.tells.crash.clean, c.in_ok-kept.ensures.tells.crash.clean));

@@ -3,14 +3,13 @@ use Rattle.std.specs.Prelude.{Some}
 use Rattle.std.proofs.Common.{sym, ap, ◌∙◌}
 use Rattle.sqlite.specs.Held.{state}
 use Rattle.lot_book.specs.Facts.{latest_at_cost}
-use Rattle.lot_book.specs.Recorded.{facts_in}
 use Rattle.lot_table.specs.Rows.{has_key}
-use Rattle.lot_view.specs.View.{known}
+use Rattle.lot_view.specs.View.{known_with_openings}
 use Rattle.lot_load.proofs.ReadLemmas.{fails_first, passes, reads_first, tells}
 use Rattle.lot_stored.specs.Rows.{head_row, pair_key}
 use Rattle.lot_rows.specs.Head.{IsHeadRow, head_cells}
 use Rattle.lot_rows.specs.declared.head.HeadRow.{HeadRow}
-use Rattle.lot_load.specs.Known.{KnowsHead, Learns}
+use Rattle.lot_load.specs.Known.{KnowsHead, Learns, said_by}
 use Rattle.lot_load.proofs.PutLemmas.{no_head, put_head}
 use Rattle.lot_load.proofs.RowLemmas.{good_filtered}
 use Rattle.lot_stored.proofs.HeldLemmas.{mapped_none, mapped_some}
@@ -33,11 +32,11 @@ returns-in_ok-put_head g c =
     let account = c.args.pair.now.account in
     let commodity = c.args.pair.now.commodity in record {
       teaches = tells _ old new tt
-          (reads_first _ _ _ (λ entries. Learns (KnowsHead account commodity) (facts_in entries) (known c.args.view.now) (known c.put_head.new.self)) old new
+          (reads_first _ _ _ (λ entries. Learns (KnowsHead account commodity) (said_by entries) (known_with_openings c.args.view.now) (known_with_openings c.put_head.new.self)) old new
           c.in_ok-row.field-0 c.in_ok-row.ensures.finds
           (λ tables entries book stand good is.
           let at = mapped_some (head_row account commodity) (latest_at_cost entries account commodity) c.in-Some.row (sym c.in-Some.is ∙ is ∙ stand.head account commodity) in
-          put_head account commodity c.in-Some.row.day (facts_in entries) (known c.args.view.now) (known c.put_head.new.self) c.in_ok-put_head.ensures.ok
+          put_head account commodity c.in-Some.row.day (said_by entries) (known_with_openings c.args.view.now) (known_with_openings c.put_head.new.self) c.in_ok-put_head.ensures.ok c.in_ok-put_head.ensures.openings
           (at.1 ∙ ap (λ (row : HeadRow). Some row.day) (sym at.2))));
     }
 
@@ -48,9 +47,9 @@ returns-in_default g c =
     let account = c.args.pair.now.account in
     let commodity = c.args.pair.now.commodity in record {
       teaches = tells _ old new tt
-          (reads_first _ _ _ (λ entries. Learns (KnowsHead account commodity) (facts_in entries) (known c.args.view.now) (known c.args.view.now)) old new
+          (reads_first _ _ _ (λ entries. Learns (KnowsHead account commodity) (said_by entries) (known_with_openings c.args.view.now) (known_with_openings c.args.view.now)) old new
           c.in_ok-row.field-0 c.in_ok-row.ensures.finds
           (λ tables entries book stand good is.
-          no_head account commodity (facts_in entries) (known c.args.view.now)
+          no_head account commodity (said_by entries) (known_with_openings c.args.view.now)
           (mapped_none (head_row account commodity) (latest_at_cost entries account commodity) (sym c.in_default.is ∙ is ∙ stand.head account commodity))));
     }

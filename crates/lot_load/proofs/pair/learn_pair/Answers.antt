@@ -3,9 +3,9 @@ use Rattle.std.specs.Prelude.{None}
 use Rattle.sqlite.specs.Held.{state}
 use Rattle.lot_book.specs.Facts.{Facts}
 use Rattle.lot_book.specs.Recorded.{facts_in}
-use Rattle.lot_view.specs.View.{known}
+use Rattle.lot_view.specs.View.{known_with_openings}
 use Rattle.lot_load.proofs.ReadLemmas.{reads_first, reads_next, tells_last}
-use Rattle.lot_load.specs.Known.{KnowsAt, KnowsHead, KnowsLots, KnowsPair, Learns}
+use Rattle.lot_load.specs.Known.{KnowsAt, KnowsHead, KnowsLots, KnowsPair, Learns, said_by}
 use Rattle.lot_load.proofs.LearnLemmas.{both_stay, head_stays, learns_as, learns_both, lots_stay, pair_known}
 use Rattle.lot_load.proofs.ReadLemmas.{HasRead}
 use Rattle.lot_load.proofs.pair.learn_pair.Goals as goal
@@ -21,23 +21,23 @@ returns g c =
     let second = state g.S.Store c.learn_head.new.conn in
     let third = state g.S.Store c.learn_lots.new.conn in
     let last = state g.S.Store c.learn_units.new.conn in
-    let a = known c.args.view.now in
-    let b = known c.learn_head.new.view in
-    let d = known c.learn_lots.new.view in
-    let e = known c.learn_units.new.view in
-    let one : HasRead (λ entries. Learns head (facts_in entries) a b) first second =
-    reads_first _ _ _ (λ entries. Learns head (facts_in entries) a b) first second c.in_ok-learn_head.field-0 c.in_ok-learn_head.ensures.teaches
+    let a = known_with_openings c.args.view.now in
+    let b = known_with_openings c.learn_head.new.view in
+    let d = known_with_openings c.learn_lots.new.view in
+    let e = known_with_openings c.learn_units.new.view in
+    let one : HasRead (λ entries. Learns head (said_by entries) a b) first second =
+    reads_first _ _ _ (λ entries. Learns head (said_by entries) a b) first second c.in_ok-learn_head.field-0 c.in_ok-learn_head.ensures.teaches
     (λ tables entries book stand good is. is entries book stand) in
-    let two : HasRead (λ entries. Learns both (facts_in entries) a d) first third =
-    reads_next _ _ _ (λ entries. Learns head (facts_in entries) a b) (λ entries. Learns both (facts_in entries) a d) first second third
+    let two : HasRead (λ entries. Learns both (said_by entries) a d) first third =
+    reads_next _ _ _ (λ entries. Learns head (said_by entries) a b) (λ entries. Learns both (said_by entries) a d) first second third
     c.in_ok-learn_lots.field-0 one c.in_ok-learn_lots.ensures.teaches
     (λ tables entries book stand was good is.
-    learns_both head lots (facts_in entries) a b d (head_stays pair.account pair.commodity) was (is entries book stand)) in record {
-      teaches = tells_last (λ entries. Learns both (facts_in entries) a d) (λ answer entries. Learns plain (facts_in entries) d e) _ first third last c.learn_units.result two
+    learns_both head lots (said_by entries) a b d (head_stays pair.account pair.commodity) was (is entries book stand)) in record {
+      teaches = tells_last (λ entries. Learns both (said_by entries) a d) (λ answer entries. Learns plain (said_by entries) d e) _ first third last c.learn_units.result two
           c.learn_units.ensures.teaches
           (λ entries answer was own.
-          learns_as (λ book known. both book known × plain book known) (KnowsPair pair) (facts_in entries) a e
-          (λ _ part knows. pair_known pair (facts_in entries) e knows.0.0 knows.0.1 knows.1)
-          (learns_both both plain (facts_in entries) a d e
+          learns_as (λ book known. both book known × plain book known) (KnowsPair pair) (said_by entries) a e
+          (λ _ part knows. pair_known pair (facts_in entries) e.facts knows.0.0 knows.0.1 knows.1)
+          (learns_both both plain (said_by entries) a d e
           (both_stay head lots (head_stays pair.account pair.commodity) (lots_stay pair.account pair.commodity)) was own));
     }

@@ -2,12 +2,11 @@
 use Rattle.std.specs.Prelude.{◌≡◌, List, [], ◌∷◌}
 use Rattle.std.proofs.Common.{subst}
 use Rattle.sqlite.specs.Held.{state}
-use Rattle.lot_book.specs.Recorded.{facts_in}
 use Rattle.lot_book.specs.declared.change.Pair.{Pair}
-use Rattle.lot_load.specs.Known.{KnowsPair}
+use Rattle.lot_load.specs.Known.{KnowsPair, said_by}
 use Rattle.lot_load.proofs.LearnLemmas.{IsLeft, pair_stays, left_more, left_none}
 use Rattle.lot_load.proofs.ReadLemmas.{reads_as, reads_next, tells}
-use Rattle.lot_view.specs.View.{known}
+use Rattle.lot_view.specs.View.{known_with_openings}
 use Rattle.lot_load.proofs.pair.learn_pairs.Goals as goal
 
 pub loop-pair-preserved : goal.loop-pair-preserved
@@ -20,11 +19,11 @@ loop-pair-preserved g c =
     let rest : List Pair = c.next.new.self in
     let key : Pair = c.in-Some.pair.now in
     let turn : left ≡ key ∷ rest = c.in-Some.ensures.steps in
-    reads_next _ _ _ (λ entries. IsLeft KnowsPair keys left (facts_in entries) (known c.args.view.now) (known c.loop-pair.view)) _
+    reads_next _ _ _ (λ entries. IsLeft KnowsPair keys left (said_by entries) (known_with_openings c.args.view.now) (known_with_openings c.loop-pair.view)) _
     first mid new c.in_ok-learn_pair.field-0 c.loop-pair.invariant c.in_ok-learn_pair.ensures.teaches
     (λ tables entries book stand was good says.
-    left_more KnowsPair pair_stays keys rest key (facts_in entries) (known c.args.view.now) (known c.loop-pair.view) (known c.learn_pair.new.view)
-    (subst (λ (l : List Pair). IsLeft KnowsPair keys l (facts_in entries) (known c.args.view.now) (known c.loop-pair.view)) turn was)
+    left_more KnowsPair pair_stays keys rest key (said_by entries) (known_with_openings c.args.view.now) (known_with_openings c.loop-pair.view) (known_with_openings c.learn_pair.new.view)
+    (subst (λ (l : List Pair). IsLeft KnowsPair keys l (said_by entries) (known_with_openings c.args.view.now) (known_with_openings c.loop-pair.view)) turn was)
     (says entries book stand))
 
 pub returns : goal.returns
@@ -35,8 +34,8 @@ returns g c =
     let left : List Pair = c.loop-pair.pair-iterator in
     let none : left ≡ [] = c.in-None.ensures.steps.0 in record {
       teaches = tells _ first now tt
-          (reads_as (λ entries. IsLeft KnowsPair keys left (facts_in entries) (known c.args.view.now) (known c.loop-pair.view)) _ first now c.loop-pair.invariant
+          (reads_as (λ entries. IsLeft KnowsPair keys left (said_by entries) (known_with_openings c.args.view.now) (known_with_openings c.loop-pair.view)) _ first now c.loop-pair.invariant
           (λ tables entries book stand was.
-          left_none KnowsPair keys (facts_in entries) (known c.args.view.now) (known c.loop-pair.view)
-          (subst (λ (l : List Pair). IsLeft KnowsPair keys l (facts_in entries) (known c.args.view.now) (known c.loop-pair.view)) none was)));
+          left_none KnowsPair keys (said_by entries) (known_with_openings c.args.view.now) (known_with_openings c.loop-pair.view)
+          (subst (λ (l : List Pair). IsLeft KnowsPair keys l (said_by entries) (known_with_openings c.args.view.now) (known_with_openings c.loop-pair.view)) none was)));
     }

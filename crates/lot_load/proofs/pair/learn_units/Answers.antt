@@ -2,13 +2,12 @@
 use Rattle.std.specs.Prelude.{None}
 use Rattle.std.proofs.Common.{sym, ◌∙◌}
 use Rattle.sqlite.specs.Held.{state}
-use Rattle.lot_book.specs.Recorded.{facts_in}
 use Rattle.lot_table.specs.Rows.{has_key}
-use Rattle.lot_view.specs.View.{known}
+use Rattle.lot_view.specs.View.{known_with_openings}
 use Rattle.lot_load.proofs.ReadLemmas.{fails_first, passes, reads_first, tells}
 use Rattle.lot_stored.specs.Rows.{pair_key}
 use Rattle.lot_rows.specs.Plain.{IsPlainRow, plain_cells}
-use Rattle.lot_load.specs.Known.{KnowsAt, Learns}
+use Rattle.lot_load.specs.Known.{KnowsAt, Learns, said_by}
 use Rattle.lot_load.proofs.PutLemmas.{no_units}
 use Rattle.lot_load.proofs.RowLemmas.{good_filtered}
 use Rattle.lot_stored.proofs.HeldLemmas.{plain_found, plain_missing}
@@ -31,10 +30,10 @@ returns-in_ok-hold g c =
     let account = c.args.pair.now.account in
     let commodity = c.args.pair.now.commodity in record {
       teaches = tells _ old new tt
-          (reads_first _ _ _ (λ entries. Learns (KnowsAt account (commodity, None)) (facts_in entries) (known c.args.view.now) (known c.hold.new.view)) old new
+          (reads_first _ _ _ (λ entries. Learns (KnowsAt account (commodity, None)) (said_by entries) (known_with_openings c.args.view.now) (known_with_openings c.hold.new.view)) old new
           c.in_ok-row.field-0 c.in_ok-row.ensures.finds
           (λ tables entries book stand good is.
-          c.in_ok-hold.ensures.learns (facts_in entries) (plain_found tables entries stand account commodity c.in-Some.row (sym is ∙ c.in-Some.is))));
+          c.in_ok-hold.ensures.learns (said_by entries) (plain_found tables entries stand account commodity c.in-Some.row (sym is ∙ c.in-Some.is)) tt));
     }
 
 pub returns-in_default : goal.returns-in_default
@@ -44,8 +43,8 @@ returns-in_default g c =
     let account = c.args.pair.now.account in
     let commodity = c.args.pair.now.commodity in record {
       teaches = tells _ old new tt
-          (reads_first _ _ _ (λ entries. Learns (KnowsAt account (commodity, None)) (facts_in entries) (known c.args.view.now) (known c.args.view.now)) old new
+          (reads_first _ _ _ (λ entries. Learns (KnowsAt account (commodity, None)) (said_by entries) (known_with_openings c.args.view.now) (known_with_openings c.args.view.now)) old new
           c.in_ok-row.field-0 c.in_ok-row.ensures.finds
           (λ tables entries book stand good is.
-          no_units account (commodity, None) (facts_in entries) (known c.args.view.now) (plain_missing tables entries stand account commodity (sym is ∙ c.in_default.is))));
+          no_units account (commodity, None) (said_by entries) (known_with_openings c.args.view.now) (plain_missing tables entries stand account commodity (sym is ∙ c.in_default.is))));
     }

@@ -1,13 +1,12 @@
 -- Once those that are left are known, all are.
 use Rattle.sqlite.specs.Held.{state}
-use Rattle.lot_book.specs.Recorded.{facts_in}
-use Rattle.lot_load.specs.Known.{KnowsPlain}
+use Rattle.lot_load.specs.Known.{KnowsPlain, said_by}
 use Rattle.lot_load.proofs.LearnLemmas.{IsLeft}
 use Rattle.lot_load.proofs.ReadLemmas.{HasRead}
-use Rattle.lot_view.specs.View.{known}
+use Rattle.lot_view.specs.View.{known_with_openings}
 use Rattle.lot_load.proofs.plain.learn_all_plain.Given as goal
 
 abbrev pub invariant-loop-account : goal.invariant-loop-account
 invariant-loop-account g l =
-    HasRead (λ entries. IsLeft KnowsPlain l.accounts.keys l.account-iterator (facts_in entries) (known l.fn.view) (known l.view))
+    HasRead (λ entries. IsLeft KnowsPlain l.accounts.keys l.account-iterator (said_by entries) (known_with_openings l.fn.view) (known_with_openings l.view))
     (state g.S.Store l.fn.conn) (state g.S.Store l.conn)

@@ -3,15 +3,14 @@ use Rattle.std.specs.Prelude.{List}
 use Rattle.std.specs.List.{AllByRecursion}
 use Rattle.std.proofs.Common.{sym, subst}
 use Rattle.sqlite.specs.Held.{state}
-use Rattle.lot_book.specs.Facts.{Facts}
-use Rattle.lot_book.specs.Recorded.{facts_in}
+use Rattle.lot_book.specs.Openings.{FactsWithOpenings}
 use Rattle.lot_table.specs.Rows.{has_key}
-use Rattle.lot_view.specs.View.{known}
+use Rattle.lot_view.specs.View.{known_with_openings}
 use Rattle.lot_load.proofs.ReadLemmas.{fails_first, passes, reads_first, tells_done}
 use Rattle.lot_stored.specs.Rows.{name_key}
 use Rattle.lot_rows.specs.Plain.{IsPlainRow, plain_cells}
 use Rattle.lot_rows.specs.declared.plain.PlainRow.{PlainRow}
-use Rattle.lot_load.specs.Known.{IsTruePlain, KnowsEach, KnowsPlain, KnowsUnits, Learns}
+use Rattle.lot_load.specs.Known.{IsTruePlain, KnowsEach, KnowsPlain, KnowsUnits, Learns, said_by}
 use Rattle.lot_load.proofs.LearnLemmas.{learns_as}
 use Rattle.lot_load.proofs.RowLemmas.{good_filtered}
 use Rattle.lot_load.proofs.UnitLemmas.{AreAllPlain, all_plain}
@@ -31,10 +30,10 @@ returns g c =
     let old = state g.S.Store c.args.conn.now in
     let new = state g.S.Store c.list_of.new.conn in
     let account = c.args.account.now in
-    let before = known c.args.view.now in
-    let after = known c.hold_plain.new.view in
+    let before = known_with_openings c.args.view.now in
+    let after = known_with_openings c.hold_plain.new.view in
     let rows : List PlainRow = c.deref.result.now in record {
-      teaches = tells_done ((book : Facts) → AllByRecursion (IsTruePlain book) rows → Learns (KnowsEach KnowsUnits rows) book before after)
+      teaches = tells_done ((book : FactsWithOpenings) → AllByRecursion (IsTruePlain book.facts) rows → Learns (KnowsEach KnowsUnits rows) book before after)
           (λ entries. AreAllPlain account rows entries) _ old new c.hold_plain.result
           (reads_first _ _ _ (λ entries. AreAllPlain account rows entries) old new c.in_ok-rows.rows c.in_ok-rows.ensures.lists
           (λ tables entries book stand good is.
@@ -42,6 +41,6 @@ returns g c =
           (all_plain tables entries stand account c.in_ok-rows.rows.items is)))
           c.hold_plain.ensures.learns c.hold_plain.ensures.err
           (λ done entries answer all.
-          learns_as (KnowsEach KnowsUnits rows) (KnowsPlain account) (facts_in entries) before after (λ _ part each. all.1 after part each)
-          (done (facts_in entries) all.0));
+          learns_as (KnowsEach KnowsUnits rows) (KnowsPlain account) (said_by entries) before after (λ _ part each. all.1 after.facts part each)
+          (done (said_by entries) all.0));
     }

@@ -5,4 +5,4 @@ use Rattle.lot_rows.proofs.lot.delete.Goals as goal
 pub returns-clause-deletes : goal.returns-clause-deletes
 returns-clause-deletes g c =
     deletes_row (state g.S.Store c.args.tx.now.conn.now) (state g.S.Store c.change.new.tx.conn.now) c.args.account.now c.args.commodity.now c.args.lot.now c.change.result
-    (rw (c.to_cell.ensures, c.to_cell-2.ensures, c.to_cell-3.ensures, c.to_cell-4.ensures, c.to_cell-5.ensures, c.to_cell-6.ensures) at c.change.ensures.runs)
+    (rw (c.cells.ensures.columns) at c.change.ensures.runs)

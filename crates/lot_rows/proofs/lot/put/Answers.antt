@@ -5,4 +5,4 @@ use Rattle.lot_rows.proofs.lot.put.Goals as goal
 pub returns-clause-puts : goal.returns-clause-puts
 returns-clause-puts g c =
     puts_row (state g.S.Store c.args.tx.now.conn.now) (state g.S.Store c.change.new.tx.conn.now) c.args.row.now c.change.result
-    (rw (c.to_cell.ensures, c.to_cell-2.ensures, c.to_cell-3.ensures, c.to_cell-4.ensures, c.to_cell-5.ensures, c.to_cell-6.ensures, c.to_cell-7.ensures) at c.change.ensures.runs)
+    (rw (c.cells_with.ensures.columns, c.to_cell.ensures) at c.change.ensures.runs)

@@ -3,11 +3,11 @@ use Rattle.std.proofs.lemmas.Result.{err_from_is_err_and}
 use Rattle.std.specs.Result.{result_ok}
 use Rattle.sqlite.specs.Held.{state}
 use Rattle.sqlite.specs.State.{HasCleanDisk}
-use Rattle.lot_book.specs.Change.{IsAcceptedWith}
+use Rattle.lot_book.specs.Openings.{IsAcceptedWith, ties_on}
 use Rattle.lot_book.specs.declared.refusal.Stop.TheVariants.{Refused}
 use Rattle.lot_laws.proofs.RecordedBook.{room_where_decided}
 use Rattle.lot_ledger.specs.declared.decision.Outcome.TheVariants.{Repeat}
-use Rattle.lot_load.specs.Kept.{IsOf, Keeps, seen}
+use Rattle.lot_load.specs.Kept.{IsOf, Keeps, seen, seen_with_openings}
 use Rattle.lot_write.specs.Writes.{writes_of}
 use Rattle.lot_store.specs.Apply.{store_fault_of}
 use Rattle.lot_store.specs.declared.fault.StoreFault.TheVariants.{Device}
@@ -21,14 +21,14 @@ use Rattle.lot_store.proofs.book.apply_to.Goals as goal
 pub writes-requires : goal.writes-requires
 writes-requires g c =
     let looked = c.in_ok-looked.looked in
-    let comes : IsAcceptedWith (seen looked) c.args.command.now c.in-Ok-Accept.change = accepted_on looked c.view.result.now c.view.ensures c.args.command.now _ _ c.in-Ok-Accept.field-0-is c.in-Ok-Accept.ensures.decided in
-    rw c.view-in-Ok-Accept.ensures (room_where_decided (seen looked) c.args.command.now c.in-Ok-Accept.change.legs comes.0)
+    let comes : IsAcceptedWith (seen_with_openings looked) c.args.command.now c.in-Ok-Accept.change = accepted_on looked c.view.result.now c.view.ensures c.args.command.now _ _ c.in-Ok-Accept.field-0-is c.in-Ok-Accept.ensures.decided in
+    rw c.view-in-Ok-Accept.ensures (room_where_decided (ties_on (seen_with_openings looked)) (seen looked) c.args.command.now c.in-Ok-Accept.change.legs comes.0)
 
 pub record-requires : goal.record-requires
 record-requires g c =
     let looked = c.in_ok-looked.looked in
-    let comes : IsAcceptedWith (seen looked) c.args.command.now c.in-Ok-Accept.change = accepted_on looked c.view.result.now c.view.ensures c.args.command.now _ _ c.in-Ok-Accept.field-0-is c.in-Ok-Accept.ensures.decided in
-    room_where_decided (seen looked) c.args.command.now c.in-Ok-Accept.change.legs comes.0
+    let comes : IsAcceptedWith (seen_with_openings looked) c.args.command.now c.in-Ok-Accept.change = accepted_on looked c.view.result.now c.view.ensures c.args.command.now _ _ c.in-Ok-Accept.field-0-is c.in-Ok-Accept.ensures.decided in
+    room_where_decided (ties_on (seen_with_openings looked)) (seen looked) c.args.command.now c.in-Ok-Accept.change.legs comes.0
 
 pub returns-in-Ok-Repeat-clause-applies : goal.returns-in-Ok-Repeat-clause-applies
 returns-in-Ok-Repeat-clause-applies g c =
@@ -36,9 +36,9 @@ returns-in-Ok-Repeat-clause-applies g c =
     let mid = state g.S.Store c.look_on.new.conn in
     let looked = c.in_ok-looked.looked in
     let read = c.in_ok-looked.ensures.looks in
-    let looks : HasCleanDisk mid → LooksOn (IsOf c.args.kept.now) (Keeps looked) (seen looked) c.args.key.now c.args.command.now old =
+    let looks : HasCleanDisk mid → LooksOn (IsOf c.args.kept.now) (Keeps looked) (seen_with_openings looked) c.args.key.now c.args.command.now old =
     λ clean tables has entries book stand is_kept. read.says clean tables has entries book stand (rw c.take.ensures.value is_kept) in
-    repeats (IsOf c.args.kept.now) (Keeps looked) c.args.key.now c.args.command.now (seen looked) old mid read.same looks
+    repeats (IsOf c.args.kept.now) (Keeps looked) c.args.key.now c.args.command.now (seen_with_openings looked) old mid read.same looks
     (λ clean opened. c.is_autocommit-settled.ensures.settled (rw c.is_autocommit-settled.ensures.value (ap not (c.requires.outside (omega (arith, clean, read.crash.clean))))) opened)
     read.crash (comes_on looked c.view.result.now c.view.ensures c.args.command.now _ Repeat c.in-Ok-Repeat.field-0-is c.in-Ok-Repeat.ensures.decided)
 
@@ -48,10 +48,10 @@ returns-in-Err-Refused-clause-applies g c =
     let mid = state g.S.Store c.look_on.new.conn in
     let looked = c.in_ok-looked.looked in
     let read = c.in_ok-looked.ensures.looks in
-    let looks : HasCleanDisk mid → LooksOn (IsOf c.args.kept.now) (Keeps looked) (seen looked) c.args.key.now c.args.command.now old =
+    let looks : HasCleanDisk mid → LooksOn (IsOf c.args.kept.now) (Keeps looked) (seen_with_openings looked) c.args.key.now c.args.command.now old =
     λ clean tables has entries book stand is_kept. read.says clean tables has entries book stand (rw c.take.ensures.value is_kept) in
     rw c.in-Err-Refused.refusal-is
-    (refuses (IsOf c.args.kept.now) (Keeps looked) c.args.key.now c.args.command.now (seen looked) old mid read.same looks
+    (refuses (IsOf c.args.kept.now) (Keeps looked) c.args.key.now c.args.command.now (seen_with_openings looked) old mid read.same looks
     (λ clean opened. c.is_autocommit-settled.ensures.settled (rw c.is_autocommit-settled.ensures.value (ap not (c.requires.outside (omega (arith, clean, read.crash.clean))))) opened)
     read.crash c.in-Err-Refused.refusal (stops_on looked c.view.result.now c.view.ensures c.args.command.now _ (Refused c.in-Err-Refused.refusal) c.in-Err-Refused.field-0-is c.in-Err-Refused.ensures.stops))
 
@@ -70,15 +70,15 @@ returns-in_err-commit-in-Ok-Accept-clause-applies g c =
     let mid = state g.S.Store c.look_on.new.conn in
     let new = state g.S.Store c.commit.new.conn in
     let looked = c.in_ok-looked.looked in
-    let comes : IsAcceptedWith (seen looked) c.args.command.now c.in-Ok-Accept.change = accepted_on looked c.view.result.now c.view.ensures c.args.command.now _ _ c.in-Ok-Accept.field-0-is c.in-Ok-Accept.ensures.decided in
+    let comes : IsAcceptedWith (seen_with_openings looked) c.args.command.now c.in-Ok-Accept.change = accepted_on looked c.view.result.now c.view.ensures c.args.command.now _ _ c.in-Ok-Accept.field-0-is c.in-Ok-Accept.ensures.decided in
     let read = c.in_ok-looked.ensures.looks in
-    let looks : HasCleanDisk mid → LooksOn (IsOf c.args.kept.now) (Keeps looked) (seen looked) c.args.key.now c.args.command.now old =
+    let looks : HasCleanDisk mid → LooksOn (IsOf c.args.kept.now) (Keeps looked) (seen_with_openings looked) c.args.key.now c.args.command.now old =
     λ clean tables has entries book stand is_kept. read.says clean tables has entries book stand (rw c.take.ensures.value is_kept) in
     let made = c.in_ok-writes-in-Ok-Accept.ensures in
     let are : c.deref.result.now ≡ writes_of (seen looked) c.args.key.now c.args.command.now c.in-Ok-Accept.change = writes_on looked c.view-in-Ok-Accept.result.now c.view-in-Ok-Accept.ensures c.args.command.now c.args.key.now c.in-Ok-Accept.change c.deref.result.now (c.deref.ensures.value ∙ made.writes) in
     let fault = err_from_is_err_and c.from_residual-in_err-commit-in-Ok-Accept.result c.from_residual-in_err-commit-in-Ok-Accept.ensures.1 in
     rw (fault.1, fault.2)
-    (fails c.what_is_written_stands_for_the_book.ensures (IsOf c.args.kept.now) (Keeps looked) c.args.key.now c.args.command.now (seen looked) c.in-Ok-Accept.change c.deref.result.now are comes made.ordered
+    (fails c.what_is_written_stands_for_the_book.ensures (IsOf c.args.kept.now) (Keeps looked) c.args.key.now c.args.command.now (seen_with_openings looked) c.in-Ok-Accept.change c.deref.result.now are comes made.ordered
     c.is_sayable.ensures (rw c.deref.ensures.value made.good) old mid new read.same looks
     (λ clean opened. c.is_autocommit-settled.ensures.settled (rw c.is_autocommit-settled.ensures.value (ap not (c.requires.outside (omega (arith, clean, read.crash.clean))))) opened)
     read.crash (IsOf c.take.new.self) _ c.in_err-commit-in-Ok-Accept.ensures.kept c.in_err-commit-in-Ok-Accept.ensures.settled
@@ -90,14 +90,14 @@ returns-in_ok-commit-in-Ok-Accept-clause-applies g c =
     let mid = state g.S.Store c.look_on.new.conn in
     let new = state g.S.Store c.commit.new.conn in
     let looked = c.in_ok-looked.looked in
-    let comes : IsAcceptedWith (seen looked) c.args.command.now c.in-Ok-Accept.change = accepted_on looked c.view.result.now c.view.ensures c.args.command.now _ _ c.in-Ok-Accept.field-0-is c.in-Ok-Accept.ensures.decided in
+    let comes : IsAcceptedWith (seen_with_openings looked) c.args.command.now c.in-Ok-Accept.change = accepted_on looked c.view.result.now c.view.ensures c.args.command.now _ _ c.in-Ok-Accept.field-0-is c.in-Ok-Accept.ensures.decided in
     let read = c.in_ok-looked.ensures.looks in
-    let looks : HasCleanDisk mid → LooksOn (IsOf c.args.kept.now) (Keeps looked) (seen looked) c.args.key.now c.args.command.now old =
+    let looks : HasCleanDisk mid → LooksOn (IsOf c.args.kept.now) (Keeps looked) (seen_with_openings looked) c.args.key.now c.args.command.now old =
     λ clean tables has entries book stand is_kept. read.says clean tables has entries book stand (rw c.take.ensures.value is_kept) in
     let made = c.in_ok-writes-in-Ok-Accept.ensures in
     let are : c.deref.result.now ≡ writes_of (seen looked) c.args.key.now c.args.command.now c.in-Ok-Accept.change = writes_on looked c.view-in-Ok-Accept.result.now c.view-in-Ok-Accept.ensures c.args.command.now c.args.key.now c.in-Ok-Accept.change c.deref.result.now (c.deref.ensures.value ∙ made.writes) in
     rw c.ok.ensures.value
-    (accepts c.what_is_written_stands_for_the_book.ensures (IsOf c.args.kept.now) (Keeps looked) c.args.key.now c.args.command.now (seen looked) c.in-Ok-Accept.change c.deref.result.now are comes made.ordered
+    (accepts c.what_is_written_stands_for_the_book.ensures (IsOf c.args.kept.now) (Keeps looked) c.args.key.now c.args.command.now (seen_with_openings looked) c.in-Ok-Accept.change c.deref.result.now are comes made.ordered
     c.is_sayable.ensures (rw c.deref.ensures.value made.good) old mid new read.same looks
     (λ clean opened. c.is_autocommit-settled.ensures.settled (rw c.is_autocommit-settled.ensures.value (ap not (c.requires.outside (omega (arith, clean, read.crash.clean))))) opened)
     read.crash
@@ -109,15 +109,15 @@ returns-in_err-writes-in-Ok-Accept-clause-device g c clean is =
     let old = state g.S.Store c.args.conn.now in
     let mid = state g.S.Store c.look_on.new.conn in
     let looked = c.in_ok-looked.looked in
-    let comes : IsAcceptedWith (seen looked) c.args.command.now c.in-Ok-Accept.change = accepted_on looked c.view.result.now c.view.ensures c.args.command.now _ _ c.in-Ok-Accept.field-0-is c.in-Ok-Accept.ensures.decided in
+    let comes : IsAcceptedWith (seen_with_openings looked) c.args.command.now c.in-Ok-Accept.change = accepted_on looked c.view.result.now c.view.ensures c.args.command.now _ _ c.in-Ok-Accept.field-0-is c.in-Ok-Accept.ensures.decided in
     let read = c.in_ok-looked.ensures.looks in
-    let looks : HasCleanDisk mid → LooksOn (IsOf c.args.kept.now) (Keeps looked) (seen looked) c.args.key.now c.args.command.now old =
+    let looks : HasCleanDisk mid → LooksOn (IsOf c.args.kept.now) (Keeps looked) (seen_with_openings looked) c.args.key.now c.args.command.now old =
     λ clean tables has entries book stand is_kept. read.says clean tables has entries book stand (rw c.take.ensures.value is_kept) in
     let fault = err_from_is_err_and c.from_residual-in_err-writes-in-Ok-Accept.result c.from_residual-in_err-writes-in-Ok-Accept.ensures.1 in
     let both = sym fault.1 ∙ is in
     let said = fault.2 in
     let told : store_fault_of c.in_err-writes-in-Ok-Accept.field-0.0 ≡ Device = cc in
-    refused_number (IsOf c.args.kept.now) (Keeps looked) c.args.key.now c.args.command.now (seen looked) c.in-Ok-Accept.change old mid comes (looks clean)
+    refused_number (IsOf c.args.kept.now) (Keeps looked) c.args.key.now c.args.command.now (seen_with_openings looked) c.in-Ok-Accept.change old mid comes (looks clean)
     (c.in_err-writes-in-Ok-Accept.ensures.device (ap Err (of_device c.in_err-writes-in-Ok-Accept.field-0.0 told)))
 
 pub returns-in_err-commit-in-Ok-Accept-clause-device : goal.returns-in_err-commit-in-Ok-Accept-clause-device
@@ -126,9 +126,9 @@ returns-in_err-commit-in-Ok-Accept-clause-device g c clean is =
     let mid = state g.S.Store c.look_on.new.conn in
     let new = state g.S.Store c.commit.new.conn in
     let looked = c.in_ok-looked.looked in
-    let comes : IsAcceptedWith (seen looked) c.args.command.now c.in-Ok-Accept.change = accepted_on looked c.view.result.now c.view.ensures c.args.command.now _ _ c.in-Ok-Accept.field-0-is c.in-Ok-Accept.ensures.decided in
+    let comes : IsAcceptedWith (seen_with_openings looked) c.args.command.now c.in-Ok-Accept.change = accepted_on looked c.view.result.now c.view.ensures c.args.command.now _ _ c.in-Ok-Accept.field-0-is c.in-Ok-Accept.ensures.decided in
     let read = c.in_ok-looked.ensures.looks in
-    let looks : HasCleanDisk mid → LooksOn (IsOf c.args.kept.now) (Keeps looked) (seen looked) c.args.key.now c.args.command.now old =
+    let looks : HasCleanDisk mid → LooksOn (IsOf c.args.kept.now) (Keeps looked) (seen_with_openings looked) c.args.key.now c.args.command.now old =
     λ clean tables has entries book stand is_kept. read.says clean tables has entries book stand (rw c.take.ensures.value is_kept) in
     let made = c.in_ok-writes-in-Ok-Accept.ensures in
     let are : c.deref.result.now ≡ writes_of (seen looked) c.args.key.now c.args.command.now c.in-Ok-Accept.change = writes_on looked c.view-in-Ok-Accept.result.now c.view-in-Ok-Accept.ensures c.args.command.now c.args.key.now c.in-Ok-Accept.change c.deref.result.now (c.deref.ensures.value ∙ made.writes) in
@@ -136,7 +136,7 @@ returns-in_err-commit-in-Ok-Accept-clause-device g c clean is =
     let both = sym fault.1 ∙ is in
     let said = fault.2 in
     let told : c.in_err-commit-in-Ok-Accept.field-0.0 ≡ Device = cc in
-    refused c.what_is_written_stands_for_the_book.ensures (IsOf c.args.kept.now) (Keeps looked) c.args.key.now c.args.command.now (seen looked) c.in-Ok-Accept.change c.deref.result.now are comes made.ordered
+    refused c.what_is_written_stands_for_the_book.ensures (IsOf c.args.kept.now) (Keeps looked) c.args.key.now c.args.command.now (seen_with_openings looked) c.in-Ok-Accept.change c.deref.result.now are comes made.ordered
     c.is_sayable.ensures (rw c.deref.ensures.value made.good) old mid new read.same looks
     (λ clean opened. c.is_autocommit-settled.ensures.settled (rw c.is_autocommit-settled.ensures.value (ap not (c.requires.outside (omega (arith, clean, read.crash.clean))))) opened)
     read.crash (omega (arith, clean, c.in_err-commit-in-Ok-Accept.ensures.crash.clean)) (c.in_err-commit-in-Ok-Accept.ensures.device clean (ap Err told))
@@ -175,11 +175,11 @@ returns-in_ok-commit-in-Ok-Accept-clause-text g c clean tables has =
     let mid = state g.S.Store c.look_on.new.conn in
     let new = state g.S.Store c.commit.new.conn in
     let looked = c.in_ok-looked.looked in
-    let comes : IsAcceptedWith (seen looked) c.args.command.now c.in-Ok-Accept.change = accepted_on looked c.view.result.now c.view.ensures c.args.command.now _ _ c.in-Ok-Accept.field-0-is c.in-Ok-Accept.ensures.decided in
+    let comes : IsAcceptedWith (seen_with_openings looked) c.args.command.now c.in-Ok-Accept.change = accepted_on looked c.view.result.now c.view.ensures c.args.command.now _ _ c.in-Ok-Accept.field-0-is c.in-Ok-Accept.ensures.decided in
     let made = c.in_ok-writes-in-Ok-Accept.ensures in
     let are : c.deref.result.now ≡ writes_of (seen looked) c.args.key.now c.args.command.now c.in-Ok-Accept.change = writes_on looked c.view-in-Ok-Accept.result.now c.view-in-Ok-Accept.ensures c.args.command.now c.args.key.now c.in-Ok-Accept.change c.deref.result.now (c.deref.ensures.value ∙ made.writes) in
     let early : HasCleanDisk mid = omega (arith, clean, c.in_ok-commit-in-Ok-Accept.ensures.crash.clean) in
-    turns_accepted (seen looked) c.args.key.now c.args.command.now c.in-Ok-Accept.change c.deref.result.now are comes c.is_sayable.ensures tables
+    turns_accepted (seen_with_openings looked) c.args.key.now c.args.command.now c.in-Ok-Accept.change c.deref.result.now are comes c.is_sayable.ensures tables
     (c.in_ok-looked.ensures.text early tables has) new
     ((c.in_ok-commit-in-Ok-Accept.ensures.done clean).tables tables (has_along old mid tables (c.in_ok-looked.ensures.looks.same early).0.now_is has))
 
@@ -188,7 +188,7 @@ returns-in-Ok-Repeat-clause-text g c clean tables has =
     let looked = c.in_ok-looked.looked in (
       tables,
       (
-        seen looked,
+        seen_with_openings looked,
         c.in_ok-looked.ensures.text clean tables has,
         (comes_on looked c.view.result.now c.view.ensures c.args.command.now _ Repeat c.in-Ok-Repeat.field-0-is c.in-Ok-Repeat.ensures.decided, refl),
       ),
@@ -201,7 +201,7 @@ returns-in-Err-Refused-clause-text g c clean tables has =
     rw c.in-Err-Refused.refusal-is (
       tables,
       (
-        seen looked,
+        seen_with_openings looked,
         c.in_ok-looked.ensures.text clean tables has,
         (stops_on looked c.view.result.now c.view.ensures c.args.command.now _ (Refused c.in-Err-Refused.refusal) c.in-Err-Refused.field-0-is c.in-Err-Refused.ensures.stops, refl),
       ),

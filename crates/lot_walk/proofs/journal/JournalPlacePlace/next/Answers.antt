@@ -1,8 +1,7 @@
-use Rattle.std.proofs.Common.{◌∙◌, Err, ap, rules}
+use Rattle.std.proofs.Common.{Err, ap}
 use Rattle.std.proofs.lemmas.Result.{err_from_is_err_and}
 use Rattle.sqlite.specs.Held.{state}
 use Rattle.lot_walk.proofs.JournalLemmas.{entry_next, entry_none, entry_refused, entry_rows_end, entry_rows_next, entry_unread}
-use Rattle.lot_walk.proofs.StepLemmas.{stays_left, undone_left}
 use Rattle.lot_walk.proofs.journal.JournalPlacePlace.next.Goals as goal
 
 pub returns-in_err-row-clause-steps : goal.returns-in_err-row-clause-steps

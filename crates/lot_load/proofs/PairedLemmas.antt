@@ -1,0 +1,100 @@
+-- Rows of lots and of opening numbers that are compared one after another.
+use Rattle.std.specs.Prelude.{◌≡◌, ◌≢◌, ◌↔◌, ◌⊎◌, ℕ, suc, ◌==◌, Bool, true, ◌&&◌, List, [], ◌∷◌, length, map, Option, None, Some}
+use Rattle.std.specs.Option.{option_eq}
+use Rattle.std.specs.Ordering.{int_eq}
+use Rattle.std.proofs.Common.{refl, sym, ap, subst, ◌∙◌, inl, inr}
+use Rattle.std.proofs.lemmas.Bool.{and_parts}
+use Rattle.std.proofs.lemmas.List.{length-map}
+use Rattle.std.proofs.lemmas.Bool.Decides.{Decides-eqb, Decides-int_eq}
+use Rattle.lot_base.specs.Text.{same_text}
+use Rattle.lot_base.proofs.TextLemmas.{one_text, same_text-itself}
+use Rattle.lot_cost.specs.declared.lot_key.LotKey.{LotKey}
+use Rattle.lot_rows.specs.declared.lot.LotRow.{LotRow}
+use Rattle.lot_rows.specs.declared.opening.OpeningRow.{OpeningRow}
+use Rattle.lot_load.specs.Paired.{ArePaired}
+
+-- ---- two lots
+
+-- how lots are compared
+abbrev pub same_lot : LotKey → LotKey → Bool
+same_lot a b =
+    int_eq a.day b.day && (same_text a.currency b.currency && ((a.number == b.number) && option_eq same_text a.label b.label))
+
+one_label : (a b : Option (List ℕ)) → option_eq same_text a b ≡ true → a ≡ b
+one_label None None e = refl
+one_label None (Some label) e = cc
+one_label (Some label) None e = cc
+one_label (Some label) (Some other) e = ap Some (one_text label other e)
+
+label_itself : (a : Option (List ℕ)) → option_eq same_text a a ≡ true
+label_itself None = refl
+label_itself (Some label) = same_text-itself label
+
+pub one_lot : (a b : LotKey) → same_lot a b ≡ true → a ≡ b
+one_lot a b e =
+    let first = and_parts _ _ e in
+    let second = and_parts _ _ first.1 in
+    let third = and_parts _ _ second.1 in
+    let day : a.day ≡ b.day = (Decides-int_eq a.day b.day).0 first.0 in
+    let currency : a.currency ≡ b.currency = one_text a.currency b.currency second.0 in
+    let number : a.number ≡ b.number = (Decides-eqb a.number b.number).0 third.0 in
+    let label : a.label ≡ b.label = one_label a.label b.label third.1 in
+    λ i. record { day = day i; currency = currency i; number = number i; label = label i }
+
+lot_itself : (a : LotKey) → same_lot a a ≡ true
+lot_itself a =
+    (λ i. (Decides-int_eq a.day a.day).1 refl i
+    && (same_text-itself a.currency i && ((Decides-eqb a.number a.number).1 refl i && label_itself a.label i)))
+
+pub lot_same : (a b : LotKey) → a ≡ b → same_lot a b ≡ true
+lot_same a b is = ap (same_lot a) (sym is) ∙ lot_itself a
+
+-- ---- rows that are left
+
+module _ (lots : List LotRow) (openings : List OpeningRow) where
+  -- those that are left are of the same lots exactly where all are
+  pub record StayPaired (left : List LotRow) (numbered : List OpeningRow) : Type 0 where
+    pub same : ArePaired lots openings ↔ ArePaired left numbered
+    pub as_long : length left ≡ length numbered
+
+  pub all_left : (left : List LotRow) (numbered : List OpeningRow) → left ≡ lots → numbered ≡ openings → length lots ≡ length openings
+      → StayPaired left numbered
+  all_left left numbered is are as_long =
+      subst (λ (rows : List LotRow). StayPaired rows numbered) (sym is)
+      (subst (StayPaired lots) (sym are) (record { same = (λ paired. paired, λ paired. paired); as_long = as_long }))
+
+  module _ (left rest : List LotRow) (numbered others : List OpeningRow) (row : LotRow) (opened : OpeningRow) (turn : left ≡ row ∷ rest)
+      (turned : numbered ≡ opened ∷ others) (was : StayPaired left numbered) where
+    first_left : StayPaired (row ∷ rest) (opened ∷ others)
+    first_left =
+        subst (λ (rows : List LotRow). StayPaired rows (opened ∷ others)) turn (subst (StayPaired left) turned was)
+
+    pub one_less : row.lot ≡ opened.lot → StayPaired rest others
+    one_less lot =
+        let is = first_left in
+        let as_long : suc (length rest) ≡ suc (length others) = is.as_long in record {
+          same = (
+            λ all. let paired : map (λ (r : LotRow). r.lot) (row ∷ rest) ≡ map (λ (r : OpeningRow). r.lot) (opened ∷ others) = is.same.0 all in
+                let more : ArePaired rest others = cc in more,
+            λ paired. is.same.1 (λ i. lot i ∷ paired i),
+          );
+          as_long = cc;
+        }
+
+    pub not_paired : row.lot ≢ opened.lot → ¬ ArePaired lots openings
+    not_paired other all =
+        let paired : map (λ (r : LotRow). r.lot) (row ∷ rest) ≡ map (λ (r : OpeningRow). r.lot) (opened ∷ others) = first_left.same.0 all in
+        let lot : row.lot ≡ opened.lot = cc in other lot
+
+  pub none_left : (left : List LotRow) (numbered : List OpeningRow) → (left ≡ []) ⊎ (numbered ≡ []) → StayPaired left numbered
+      → ArePaired lots openings
+  none_left [] [] none was = was.same.1 refl
+  none_left [] (opened ∷ others) none was = let long : 0 ≡ suc (length others) = was.as_long in cc
+  none_left (row ∷ rest) [] none was = let long : suc (length rest) ≡ 0 = was.as_long in cc
+  none_left (row ∷ rest) (opened ∷ others) (inl none) was = cc
+  none_left (row ∷ rest) (opened ∷ others) (inr none) was = cc
+
+-- lists that aren't as long have not the same lots
+pub not_as_long : (lots : List LotRow) (openings : List OpeningRow) → length lots ≢ length openings → ¬ ArePaired lots openings
+not_as_long lots openings other paired =
+    other (sym (length-map lots (λ (row : LotRow). row.lot)) ∙ ap length paired ∙ length-map openings (λ (row : OpeningRow). row.lot))

@@ -1,0 +1,107 @@
+ghost use Rattle.std.specs.Prelude.{◌≡◌, ◌∷◌, [], IsTrue};
+ghost use Rattle.lot_rows.specs.Opening.{IsOpeningRow, opening_cells};
+ghost use Rattle.lot_rows.specs.LotKey.{lot_key};
+ghost use Rattle.lot_rows.specs.Tables.{layout, opening_table};
+ghost use Rattle.lot_table.specs.Call.{Deletes, ListsColumns, Puts};
+ghost use Rattle.lot_table.specs.Rows.{with_key};
+ghost use Rattle.sqlite.specs.Held.{state};
+ghost use Rattle.sqlite.specs.State.{HasCleanDisk};
+ghost use Rattle.sqlite.specs.declared.types.Value.TheVariants.{Text};
+
+use crate::lot_key;
+use lot_base::{Account, Commodity};
+use lot_cost::LotKey;
+use lot_table::{Cell, Fault, OpeningNumber, TableRow, change, column, select};
+use sqlite::{Alter, Connection, Row, Transaction};
+use std::alloc::Global;
+
+/// A row of the table `opening`: the opening number of a lot in which an account has units.
+#[derive(Drop)]
+pub struct OpeningRow {
+    pub account: Account,
+    pub commodity: Commodity,
+    pub lot: LotKey,
+    pub opening: OpeningNumber,
+}
+
+impl TableRow for OpeningRow {
+    ghost encode = { opening_cells };
+
+    ghost IsGood = { IsOpeningRow };
+
+    fn read(alloc: Global, row: &Row) -> Result<OpeningRow, Fault> {
+        if row.column_count() != 7 {
+            return Err(Fault::Damaged);
+        }
+        Ok(OpeningRow {
+            account: column(alloc, row, 0)?,
+            commodity: column(alloc, row, 1)?,
+            lot: LotKey {
+                day: column(alloc, row, 2)?,
+                currency: column(alloc, row, 3)?,
+                number: column(alloc, row, 4)?,
+                label: column(alloc, row, 5)?,
+            },
+            opening: column(alloc, row, 6)?,
+        })
+    }
+}
+
+/// Puts a row, instead of the row of its key.
+pub fn put<S: Alter>(tx: &mut Transaction<'_, S>, row: &OpeningRow) -> Result<(), Fault>
+    requires { HasCleanDisk (state S.Store tx.old.conn.now)
+        → IsTrue (state S.Store tx.old.conn.now).in_transaction }
+    ensures same_reference { tx.new.conn.ghost_name ≡ tx.old.conn.ghost_name }
+    ensures puts { Puts layout opening_table row.now
+        (state S.Store tx.old.conn.now) (state S.Store tx.new.conn.now) result }
+{
+    change(
+        tx,
+        "INSERT OR REPLACE INTO opening (account, commodity, cost_day, cost_currency, cost_number, cost_label, opening) VALUES (?1, ?2, ?3, ?4, ?5, ?6, ?7)",
+        &lot_key::cells_with(
+            &row.account,
+            &row.commodity,
+            &row.lot,
+            row.opening.to_cell(),
+        ),
+    )
+}
+
+/// Deletes the row of a lot, if there is one.
+pub fn delete<S: Alter>(
+    tx: &mut Transaction<'_, S>,
+    account: &Account,
+    commodity: &Commodity,
+    lot: &LotKey,
+) -> Result<(), Fault>
+    requires { HasCleanDisk (state S.Store tx.old.conn.now)
+        → IsTrue (state S.Store tx.old.conn.now).in_transaction }
+    ensures same_reference { tx.new.conn.ghost_name ≡ tx.old.conn.ghost_name }
+    ensures deletes { Deletes layout opening_table (lot_key account.now commodity.now lot.now)
+        (state S.Store tx.old.conn.now) (state S.Store tx.new.conn.now) result }
+{
+    change(
+        tx,
+        "DELETE FROM opening WHERE account = ?1 AND commodity = ?2 AND cost_day = ?3 AND cost_currency = ?4 AND cost_number = ?5 AND cost_label = ?6",
+        &lot_key::cells(account, commodity, lot),
+    )
+}
+
+/// Returns the rows of a commodity in an account, by the lots: by day, currency, number and label, no label before every label.
+pub fn list_of<S: Alter>(
+    alloc: Global,
+    conn: &mut Connection<S>,
+    account: &Account,
+    commodity: &Commodity,
+) -> Result<Vec<OpeningRow>, Fault>
+    ensures lists { ListsColumns layout opening_cells IsOpeningRow
+        (λ b. with_key opening_cells 2 (Text account.now ∷ Text commodity.now ∷ []) b.opening)
+        (state S.Store conn.old) (state S.Store conn.new) result }
+{
+    select(
+        alloc,
+        conn,
+        "SELECT account, commodity, cost_day, cost_currency, cost_number, cost_label, opening FROM opening WHERE account = ?1 AND commodity = ?2 ORDER BY account, commodity, cost_day, cost_currency, cost_number, cost_label",
+        &[account.to_cell(), commodity.to_cell()],
+    )
+}
