@@ -79,10 +79,12 @@ unusable() {
     fi
 }
 unusable "sell" sell
-unusable "migrate" migrate --book f
+unusable "migration" migration --book f
 unusable "hold" hold --book f
 unusable "help" help
 for word in holdings gains journal import; do unusable "--book" "$word" --batch a; done
+unusable "--book" migrate
+unusable "--batch" migrate --book f --batch a
 unusable "--batch" post --book f
 unusable "--book" post --batch a
 unusable "--book" init
@@ -123,8 +125,8 @@ helps "lotbook init --book" init --help
 helps "lotbook post --book" post --help
 helps "lotbook import --book" import --help
 helps "the oldest first" import --help
-for word in holdings gains journal; do helps "lotbook $word --book" "$word" --help; done
-for word in init post import holdings gains journal; do helps "--book family.book" "$word" -h; done
+for word in holdings gains journal migrate; do helps "lotbook $word --book" "$word" --help; done
+for word in init post import holdings gains journal migrate; do helps "--book family.book" "$word" -h; done
 helps "--batch 2024" post -h
 helps "--from 120" post -h
 helps "--batch broker" import -h

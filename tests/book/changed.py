@@ -5,8 +5,8 @@
 Each case changes a copy of one book: a value of a row that no book has, a table that is gone, one of another form, columns that hold
 other types. Then a report or a post that reads this row ends with S7, or with S1, S2 or S3 where it is the table `book`, and the book
 is as it was changed. What tests/reports/ shows of damaged rows doesn't stand here again. A row of `opening` without its row of `lot`, or
-the other way round, is S7 of a post to that account and commodity with braces. No report reads `opening`, and no call reads
-`migration` yet: whatever stands there, these answer as ever. It prints a line `ok NAME` or `FAILED NAME: ..` for each case.
+the other way round, is S7 of a post to that account and commodity with braces. No report reads `opening`, no call reads `migration`
+yet, and `migrate` reads `book` alone of a book of this edition: whatever stands there, these answer as ever. It prints a line `ok NAME` or `FAILED NAME: ..` for each case.
 """
 
 import concurrent.futures
@@ -42,6 +42,7 @@ PROBES = {
     "values": (["holdings", "--day", "2020-12-31"], ""),
     "gains": (["gains"], ""),
     "journal": (["journal"], ""),
+    "migrate": (["migrate"], ""),
     "buy": (["post", "--batch", "b"], "2020-03-01 *\n  Assets:Broker 1 HOOL {100 USD}\n  Assets:Cash\n"),
     "sell": (["post", "--batch", "b"], "2020-03-01 *\n  Assets:Broker -1 HOOL {} @ 100 USD\n  Assets:Cash 100 USD\n"),
     "back": (["post", "--batch", "b"], "2020-03-01 *\n  Assets:Old 1 USD\n  Assets:Cash\n"),
@@ -143,7 +144,7 @@ ROWS = [
     ("opening", "1", "cost_label", ["''", "'b'", "'A'", *LABELS], "buy"),
 ]
 
-# Values of the table `book`, as a mark and an edition, and what every call answers.
+# Values of the table `book`, as a mark and an edition, and what every call answers; but `migrate` finds the tables that it would make.
 NOT_A_BOOK, NEWER, OLDER = "fault S1 NotABook", "fault S2 NewerEdition", "fault S3 OlderEdition"
 MARKS = {
     "no row": ("", NOT_A_BOOK),
@@ -186,10 +187,10 @@ APART = {
 
 # Rows of `opening` that no report reads, and of `migration`, that no call reads. A posting asks for the table `opening`.
 UNREAD = {
-    "holdings values gains journal declare quote again other": [
+    "holdings values gains journal migrate declare quote again other": [
         "DROP TABLE opening", "ALTER TABLE opening RENAME COLUMN opening TO other",
     ],
-    "holdings values gains journal declare quote again other back": [
+    "holdings values gains journal migrate declare quote again other back": [
         "DELETE FROM opening", "UPDATE opening SET opening = 0", "UPDATE opening SET account = 'x'",
     ],
     " ".join(PROBES): [
@@ -270,8 +271,8 @@ def without_types(db, table):
 
 
 def is_told(fault, errors):
-    """Whether these are the messages beside a fault: of an older edition a line says what helps."""
-    return errors.endswith("\n") and errors.count("\n") == 1 if fault == OLDER else not errors
+    """Whether these are the messages beside a fault: of an older edition a line names what helps."""
+    return errors.endswith("\n") and errors.count("\n") == 1 and "lotbook migrate" in errors if fault == OLDER else not errors
 
 
 def is_within(lines, all_lines):
@@ -329,8 +330,9 @@ def damages(db):
             yield f"{name} with a table {table} of another form", [*gone, f"CREATE TABLE {table} (other)"], name, damaged
     for what, (rows, fault) in MARKS.items():
         statements = [*without_types(db, "book"), "DELETE FROM book", *[f"INSERT INTO book VALUES {rows}"] * bool(rows)]
-        for name in ("buy", "holdings"):
-            yield f"{name} with {what} in the table book", statements, name, fault
+        for name in ("buy", "holdings", "migrate"):
+            told = NOT_A_BOOK if (name, fault) == ("migrate", OLDER) else fault
+            yield f"{name} with {what} in the table book", statements, name, told
     yield "buy with a table book of another form", ["DROP TABLE book", "CREATE TABLE book (other)"], "buy", NOT_A_BOOK
     for what, (statement, names) in APART.items():
         for name in names:

@@ -23,6 +23,7 @@ sys.path.insert(0, os.path.join(os.path.dirname(os.path.abspath(__file__)), ".."
 import model  # noqa: E402  (the folder is named above)
 
 TABLES = ("book", "account", "allowed", "commodity", "price", "entry", "leg", "sale", "lot", "plain", "head", "opening", "migration")
+OF_EDITION_1, ADDED = TABLES[:11], TABLES[11:]
 
 # A book as a program of edition 1 left it: seven entries, of which the last is a sale from the lot of the label "a".
 OLDER = os.path.join(os.path.dirname(os.path.abspath(__file__)), "edition-1.sql")
@@ -39,10 +40,10 @@ def day_text(number):
     return (datetime.date(1970, 1, 1) + datetime.timedelta(days=number)).isoformat()
 
 
-def contents(path):
+def contents(path, names=TABLES):
     """All rows of all tables, as the program left them: the log beside the file is read, too."""
     with connect(path) as db:
-        return {table: sorted(db.execute(f"SELECT * FROM {table}"), key=repr) for table in TABLES}
+        return {table: sorted(db.execute(f"SELECT * FROM {table}"), key=repr) for table in names}
 
 
 def of_copy(path, read):

@@ -110,14 +110,15 @@ def run(program, words, book, text=b""):
 
 
 def held(book):
-    """The tables of the database at that path; None where there is no file, and its bytes where it is no database."""
+    """The tables of the database at that path, of either edition; None where there is no file, and its bytes where it is no book."""
     if not os.path.exists(book):
         return None
     try:
         with tables.connect(book) as db:
-            if not db.execute("SELECT count(*) FROM sqlite_master").fetchone()[0]:
-                return {}
-        return tables.contents(book)
+            names = {name for (name,) in db.execute("SELECT name FROM sqlite_master")}
+        if not names:
+            return {}
+        return tables.contents(book, tables.TABLES if names & {*tables.ADDED} else tables.OF_EDITION_1)
     except sqlite3.DatabaseError:
         with open(book, "rb") as file:
             return file.read()
@@ -271,7 +272,7 @@ class Sweep:
             wanted = int(any(" refused " in line for line in lines)), "".join(line + "\n" for line in lines).encode(), b""
         elif words[:1] == ["init"] and stage:
             wanted = 4, b"fault S1 NotABook\n", b""
-        else:
+        elif words[:1] != ["migrate"]:
             return ""
         answer = run(self.program, words, self.other, self.call.text)
         if answer != wanted:
@@ -339,6 +340,7 @@ POST = ["post", "--book", BOOK, "--batch", "a"]
 IMPORT = ["import", "--book", BOOK, "--batch", "broker", "--invest", "Assets:Broker", "--cash", "Assets:Cash"]
 IMPORT += ["--fees", "Expenses:Fees", "--gains", "Income:Gains"]
 MAKE = INIT, b""
+MIGRATE = ["migrate", "--book", BOOK]
 
 
 def content(*path):
@@ -373,6 +375,13 @@ def short_calls(texts):
     yield Call("a report of a file that is no database", ["gains", "--book", BOOK], file=b"no database\n" * 1000)
     yield Call("init", INIT)
     yield Call("post of the first purchase", POST, texts["the first purchase"], [MAKE])
+
+
+def migrations(older):
+    """Those of `migrate`, of which each growth is refused, too."""
+    yield Call("migrate a book of edition 1", MIGRATE, file=older)
+    yield Call("migrate a book of edition 2", MIGRATE, before=[MAKE])
+    yield Call("migrate a file that isn't there", MIGRATE)
 
 
 def longer_calls(texts, broker, older):
@@ -422,8 +431,9 @@ def sweep_all(words, scratch):
         "every kind": content(HERE, "every-kind.ledger"),
     }
     broker = {name: content(EXAMPLES, "broker", name) for name in ("accounts.ledger", "2024.csv", "2025.csv")}
-    calls = [(call, 1) for call in short_calls(texts)]
-    calls += [(call, 1 if words.whole else STEP) for call in longer_calls(texts, broker, older_book(scratch))]
+    older = older_book(scratch)
+    calls = [(call, 1) for call in (*short_calls(texts), *migrations(older))]
+    calls += [(call, 1 if words.whole else STEP) for call in longer_calls(texts, broker, older)]
     total = Found()
     with concurrent.futures.ProcessPoolExecutor(len(os.sched_getaffinity(0))) as pool:
         jobs = [

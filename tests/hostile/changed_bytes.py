@@ -92,6 +92,13 @@ def outcome_of_init(got, path):
     return "another", "a book where tables stand"
 
 
+def outcome_of_migrate(got, book):
+    """On a book of this edition nothing is migrated: what isn't one any more is a fault, also where it says 1, since the tables are there."""
+    if got == book.answers["migrate"]:
+        return "right", ""
+    return (got.fault(), "") if got.fault() not in ("", "S3 OlderEdition") else ("another", "no fault, and another answer than of the book")
+
+
 def count_of_entries(path):
     with tables.connect(path) as db:
         return db.execute("SELECT count(*) FROM entry NOT INDEXED").fetchone()[0]
@@ -121,6 +128,8 @@ def outcome_of(word, got, book, path, asked):
     if word == "init":
         outcome, wrong = outcome_of_init(got, sqlite_reads)
         is_kept = is_kept or outcome == MADE
+    elif word == "migrate":
+        outcome, wrong = outcome_of_migrate(got, book)
     else:
         outcome, wrong = outcome_of_report(word, got, book, sqlite_reads)
     return outcome, wrong or ("" if is_kept else "the file changed")

@@ -21,6 +21,7 @@ IN_THE_GATE = 200  # calls on tables of another form, and on values that no book
 NOBODY = 65534
 RIGHT, OPEN, NOT_A_BOOK, NEWER, OLDER, DAMAGED = "right", "open", "S1 NotABook", "S2 NewerEdition", "S3 OlderEdition", "S7 Damaged"
 DOUBLED = "right, and a row stands twice"
+MIGRATED = "migrated"
 
 
 # Files of every kind.
@@ -134,6 +135,9 @@ for what, make in {
     KINDS[f"a {what} as journal"] = beside("-journal", make), RIGHT if is_file and what != "file of garbage" else OPEN
     KINDS[f"a {what} as index of the log"] = beside("-shm", make), RIGHT
 
+# What `migrate` says of them where that is something else: of the second one, that it would make tables that are there.
+OF_MIGRATE = {"a book of edition 1": MIGRATED, "a book that says that it is of edition 1": NOT_A_BOOK}
+
 # By a user who isn't root, who may do all.
 MODES = {
     "a book that can't be written": (with_mode(0o444, log=0o666), OPEN),
@@ -178,9 +182,13 @@ def kind_fault(program, sound, folder, make, wanted, word, **streams):
     got = ask(program, path, word, **streams)
     if wrong := sweep.strange(got):
         return f"{wrong}\n{got}"
-    if wanted == RIGHT:
+    if wanted in (RIGHT, MIGRATED):
         if got != sound.answers[word]:
             return f"another answer than of the book\n{got}"
+    if wanted == MIGRATED:
+        there = tables.contents(sweep.copied(path, folder + ".read"))
+        return "" if (there["book"], there["migration"]) == ([("lot-book", 2)], [(7,)]) else "it isn't migrated"
+    if wanted == RIGHT:
         there = tables.contents(sweep.copied(path, folder + ".read"))  # SQLite's own library wouldn't open it beside a folder
         stands = sound.then[word] if word in WRITERS else {table: sound.held[table] for table in tables.TABLES}
         return "" if there == stands else "the book holds something else"
@@ -194,8 +202,9 @@ def kinds(program, sound, scratch):
     folder = os.path.join(scratch, "kind")
     for name, (make, wanted) in KINDS.items():
         for word in WORDS:
-            wrong = kind_fault(program, sound, folder, make, wanted, word)
-            done.saw(wanted, wrong and f"{word} on {name}: {wrong}")
+            told = OF_MIGRATE.get(name, wanted) if word == "migrate" else wanted
+            wrong = kind_fault(program, sound, folder, make, told, word)
+            done.saw(told, wrong and f"{word} on {name}: {wrong}")
     return done
 
 

@@ -30,7 +30,7 @@ WRITERS = {
     "post": (["--batch", "a"], POST),
     "import": ("--batch b --invest Assets:Broker --cash Assets:Cash --fees Assets:Cash --gains Income:Gains".split(), ROWS),
 }
-WORDS = ("init", *REPORTS, *WRITERS)
+WORDS = ("init", "migrate", *REPORTS, *WRITERS)
 COUNT = sum(line[:1].isdigit() for line in changed.LEDGER.splitlines())  # of its entries
 
 PAGE = 4096

@@ -370,6 +370,13 @@ def limited_reports(ground, whole):
         got = limited(none, ["init", "--book", none.book], b"", count)
         done.compare(f"init, {count} bytes", "init", (ready[:count], 4 if count < len(ready) else 0), got)
         done.also("" if tables.contents(none.book) == held else f"init, {count} bytes: no empty book")
+    migrated, older = b"book migrated\n", ground.on("older.book")
+    tables.older(older.first)
+    for count in range(len(migrated) + 1):
+        got = limited(older, ["migrate", "--book", older.book], b"", count)
+        done.compare(f"migrate, {count} bytes", "migrate", (migrated[:count], 4 if count < len(migrated) else 0), got)
+        there = tables.contents(older.book)
+        done.also("" if (there["book"], there["migration"]) == ([("lot-book", 2)], [(7,)]) else f"migrate, {count} bytes: it isn't migrated")
     return done
 
 

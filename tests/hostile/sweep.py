@@ -55,7 +55,7 @@ FAULT = re.compile(
 REPORT = re.compile(
     rf"{ACCOUNT} {NUMBER} {COMMODITY}( {LOT}( value (none|{NUMBER} {COMMODITY}))?)?|total (cost|value|gain) {NUMBER} {COMMODITY}"
     rf"|{DAY} {ACCOUNT} {NUMBER} {COMMODITY} (unpriced|proceeds {NUMBER} cost {NUMBER} gain {NUMBER} {COMMODITY})"
-    rf"|  {NUMBER} {COMMODITY} {LOT}|nothing held|no gains|book ready"
+    rf"|  {NUMBER} {COMMODITY} {LOT}|nothing held|no gains|book ready|book migrated"
 )
 REPLY = re.compile(rf"{COUNT} (accepted|repeat|refused [LB][0-9]+ [A-Za-z]+( posting {COUNT}| {COMMODITY})?)")
 KEY = re.compile(rf"; entry {COUNT} key [^\x00-\x1f\x7f]+")
@@ -84,8 +84,9 @@ def strange(answer):
     for line in lines:
         if not is_ours(line):
             return f"the line '{line[:200]}'"
-    if answer.fault() == "S3 OlderEdition":  # one line says what helps
-        return "" if answer.errors.endswith(b"\n") and answer.errors.count(b"\n") == 1 else "no line says what helps"
+    if answer.fault() == "S3 OlderEdition":  # one line names what helps
+        is_one = answer.errors.endswith(b"\n") and answer.errors.count(b"\n") == 1
+        return "" if is_one and b"lotbook migrate" in answer.errors else "no line names what helps"
     if answer.errors and answer.status != 2 and answer.fault() != "open":
         return f"the message '{answer.errors[:200].decode(errors='replace')}'"
     return ""

@@ -28,6 +28,7 @@ OPTIONS = {
     "holdings": {"--book": "f", "--day": "2020-01-01"},
     "gains": {"--book": "f", "--first": "2020-01-01", "--last": "2020-01-01"},
     "journal": {"--book": "f"},
+    "migrate": {"--book": "f"},
 }  # fmt: skip
 HEADER = b"ref,date,action,symbol,units,price,currency,fee\n"
 REQUIRED = ("--book", "--batch", "--invest", "--cash", "--fees", "--gains")

@@ -60,14 +60,14 @@ expect() {
     fi
 }
 
-# older NAME: `run` met a book of an older edition: the fault, status 4, and one line on standard error that says what helps.
+# older NAME: `run` met a book of an older edition: the fault, status 4, and one line on standard error that names what helps.
 older() {
     if ((status != 4)); then
         fail "$1" "status $status instead of 4"
     elif [[ $(<"$scratch/out") != "fault S3 OlderEdition" ]]; then
         fail "$1" "other output: $(head -c 200 "$scratch/out" | tr '\n' '|')"
-    elif [[ $(wc -l <"$scratch/err") != 1 || $(<"$scratch/err") != *[a-z]* ]]; then
-        fail "$1" "no line says what helps: $(head -c 200 "$scratch/err" | tr '\n' '|')"
+    elif [[ $(wc -l <"$scratch/err") != 1 || $(<"$scratch/err") != *"lotbook migrate"* ]]; then
+        fail "$1" "no line names what helps: $(head -c 200 "$scratch/err" | tr '\n' '|')"
     else
         pass "$1"
     fi

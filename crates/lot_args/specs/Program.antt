@@ -28,6 +28,9 @@ word_app name rules = with_rules (new_app name) rules
 abbrev pub init_app : App
 init_app = word_app (codes "init") (required_rule (codes "book") ∷ [])
 
+abbrev pub migrate_app : App
+migrate_app = word_app (codes "migrate") (required_rule (codes "book") ∷ [])
+
 abbrev pub post_app : App
 post_app = word_app (codes "post") (required_rule (codes "book") ∷ required_rule (codes "batch") ∷ from_rule ∷ [])
 
@@ -60,4 +63,4 @@ bare_app =
 
 -- the program
 abbrev pub program_app : App
-program_app = with_words bare_app (init_app ∷ post_app ∷ import_app ∷ holdings_app ∷ gains_app ∷ journal_app ∷ [])
+program_app = with_words bare_app (init_app ∷ migrate_app ∷ post_app ∷ import_app ∷ holdings_app ∷ gains_app ∷ journal_app ∷ [])

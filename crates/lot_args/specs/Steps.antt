@@ -15,7 +15,7 @@ IsOneOf (name ∷ names) word = (word ≡ name) ⊎ IsOneOf names word
 abbrev pub IsWord : Text → Type 0
 IsWord =
     IsOneOf
-    (codes "init" ∷ codes "post" ∷ codes "import" ∷ codes "holdings" ∷ codes "gains" ∷ codes "journal" ∷ [])
+    (codes "init" ∷ codes "migrate" ∷ codes "post" ∷ codes "import" ∷ codes "holdings" ∷ codes "gains" ∷ codes "journal" ∷ [])
 
 -- what a word answers whose options are all looked at before a value is kept: out of memory only where none is bad
 abbrev pub JudgesOptions : {T : Type 0} → List Row → List BadOption → Result T WordsFault → Type 0

@@ -11,7 +11,7 @@ use Rattle.lot_args.specs.Options.{day_of, first_bad, options_of, value_of}
 use Rattle.lot_args.specs.Program.{program_app}
 use Rattle.lot_args.specs.Start.{start_at}
 use Rattle.lot_args.specs.declared.action.Action.{Action}
-use Rattle.lot_args.specs.declared.action.Action.TheVariants.{Check, Init, Post, Import, Holdings, Gains, Journal}
+use Rattle.lot_args.specs.declared.action.Action.TheVariants.{Check, Init, Migrate, Post, Import, Holdings, Gains, Journal}
 use Rattle.lot_args.specs.declared.fault.BadOption.{BadOption}
 
 -- ---- the values of a word
@@ -46,6 +46,7 @@ IsBook rows path = path ≡ value_of (codes "book") rows
 abbrev pub WordAsks : Text → List Row → Action → Type 0
 WordAsks word rows Check = ⊥
 WordAsks word rows (Init book) = (word ≡ codes "init") × IsBook rows (string_bytes book)
+WordAsks word rows (Migrate book) = (word ≡ codes "migrate") × IsBook rows (string_bytes book)
 WordAsks word rows (Post book batch from) =
     (word ≡ codes "post") × IsBook rows (string_bytes book) × (batch ≡ value_of (codes "batch") rows) × (from ≡ from_of rows)
 WordAsks word rows (Import book batch accounts from) =

@@ -12,6 +12,10 @@ pub enum Action {
     Init {
         book: String,
     },
+    /// A book of an older edition becomes one of this edition.
+    Migrate {
+        book: String,
+    },
     /// Ledger text is judged on a book, and kept there.
     Post {
         book: String,

@@ -1,7 +1,7 @@
 //! The words that there are, each with its help and its options.
 ghost use Rattle.std.specs.Prelude.{◌≡◌, IfOk, false, true};
 ghost use Rattle.clap.specs.Words.{app_of, new_app, rule_of, with_rule, with_subcommand};
-ghost use Rattle.lot_args.specs.Program.{bare_app, gains_app, holdings_app, import_app, init_app, journal_app, post_app, program_app};
+ghost use Rattle.lot_args.specs.Program.{bare_app, gains_app, holdings_app, import_app, init_app, journal_app, migrate_app, post_app, program_app};
 
 use crate::options::{account, batch, book, day, from};
 use clap::{Arg, Command};
@@ -16,6 +16,7 @@ pub(crate) fn program<'a>(alloc: Global) -> Result<Command<'a>, AllocError>
 {
     let program = bare(alloc);
     let program = with_word(program, init(alloc)?)?;
+    let program = with_word(program, migrate(alloc)?)?;
     let program = with_word(program, post(alloc)?)?;
     let program = with_word(program, import(alloc)?)?;
     let program = with_word(program, holdings(alloc)?)?;
@@ -31,6 +32,18 @@ fn init<'a>(alloc: Global) -> Result<Command<'a>, AllocError>
         alloc,
         "init",
         "Makes a book in a file: lotbook init --book family.book\n\nA file that is a book already is left as it is, with the fault S1 NotABook.",
+    );
+    with_option(word, book(alloc))
+}
+
+/// `migrate --book FILE`
+fn migrate<'a>(alloc: Global) -> Result<Command<'a>, AllocError>
+    ensures { IfOk result (λ command. app_of command ≡ migrate_app) }
+{
+    let word = word(
+        alloc,
+        "migrate",
+        "Takes over a book of edition 1, which this program doesn't use as it is: lotbook migrate --book family.book\n\nEntries, sales and gains stay as they are. Of lots that are alike the sales behind them take the one that was opened first. There is no way back: keep a copy of the file. A book of this edition is left as it is.",
     );
     with_option(word, book(alloc))
 }

@@ -57,6 +57,7 @@ fn kept(alloc: Global, word: &str, options: &ArgMatches<'_>) -> Result<Action, W
     let book = book(alloc, options)?;
     match word {
         "init" => Ok(Action::Init { book }),
+        "migrate" => Ok(Action::Migrate { book }),
         "post" => Ok(Action::Post {
             book,
             batch: batch(alloc, options)?,

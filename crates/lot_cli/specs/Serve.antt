@@ -4,6 +4,10 @@ use Rattle.sqlite.specs.State.{HasCleanDisk, KeepsCommit, State, Survives}
 use Rattle.lot_check.specs.Answer.{IsOutcome}
 use Rattle.lot_stream.specs.declared.status.Status.TheVariants.{Accepted}
 use Rattle.lot_stored.specs.StandFor.{Left, Stands}
+use Rattle.lot_book.specs.Facts.{Entry}
+use Rattle.lot_migrate.specs.First.{StandsFirst}
+use Rattle.lot_migrate.specs.Migrate.{IsOfFirst, IsOfSecond, LeavesMigrated, Migrates, NotMigrated}
+use Rattle.lot_migrate.specs.declared.fault.MigrateFault.{MigrateFault}
 use Rattle.lot_report.specs.Output.{WritesMade}
 use Rattle.lot_report.specs.Printed.{line}
 use Rattle.lot_input.specs.Input.{Reading}
@@ -17,7 +21,7 @@ use Rattle.lot_store.specs.declared.fault.CreateFault.{CreateFault}
 use Rattle.lot_store.specs.declared.fault.CreateFault.TheVariants.{NotABook}
 use Rattle.lot_table.specs.Shape.{schema_of}
 use Rattle.lot_args.specs.declared.action.Action.{Action}
-use Rattle.lot_args.specs.declared.action.Action.TheVariants.{Check, Init, Post, Import, Holdings, Gains, Journal}
+use Rattle.lot_args.specs.declared.action.Action.TheVariants.{Check, Init, Migrate, Post, Import, Holdings, Gains, Journal}
 use Rattle.std.specs.Io.KnownBytes.{Appends}
 
 -- ---- making a book
@@ -47,12 +51,40 @@ Makes old new before written calls status =
     (IsMade old new × Says ready_line Accepted before written calls status)
     ⊎ ((fault : CreateFault) × IsNotMade old new fault × Halts (halt.Create fault) before written calls status)
 
+-- ---- taking over a book of edition 1
+
+abbrev pub migrated_line : List ℕ
+migrated_line = line (codes "book migrated")
+
+-- A book of edition 1 becomes one of edition 2, in one commit, and one of edition 2 stays as it is. A crash during the call
+-- leaves the book of edition 2 or what it could leave before.
+pub record IsMigrated (old new : State) : Type 0 where
+  pub migrates : HasCleanDisk new → Migrates old new
+  pub crash : Survives old new (LeavesMigrated old)
+
+-- It isn't migrated, for what the fault says, and the database is handed back as it was. After a commit that failed a crash
+-- may leave the book of edition 2.
+pub record IsNotMigrated (old new : State) (fault : MigrateFault) : Type 0 where
+  pub refused : HasCleanDisk new → NotMigrated old new fault
+  pub of_first : HasCleanDisk new → (entries : List Entry) → StandsFirst old entries → IsOfFirst fault
+  pub of_second : HasCleanDisk new → (entries : List Entry) → Stands old entries → IsOfSecond old new fault
+  pub handed_back : HasCleanDisk new → IsHandedBack old new
+  pub kept : HasCleanDisk new → KeepsCommit old new
+  pub crash : Survives old new (LeavesMigrated old)
+
+abbrev pub TakesOver : State → State → Option (List ℕ) → Option (List ℕ) → WritesMade → ℕ → Type 0
+TakesOver old new before written calls status =
+    (IsMigrated old new × Says migrated_line Accepted before written calls status)
+    ⊎ ((fault : MigrateFault) × IsNotMigrated old new fault
+    × Halts (halt.Migrate fault) before written calls status)
+
 -- ---- any action
 
 -- the action asks the reader for nothing
 abbrev pub ReadsNothing : Action → Type 0
 ReadsNothing Check = ⊥
 ReadsNothing (Init book) = ⊤
+ReadsNothing (Migrate book) = ⊤
 ReadsNothing (Post book batch from) = ⊥
 ReadsNothing (Import book batch accounts from) = ⊥
 ReadsNothing (Holdings book day) = ⊤
@@ -77,6 +109,7 @@ Serves Check c =
     IsUntouched c.old c.new × IfSome c.input.bytes (λ input. (text : List ℕ) × Appends c.before c.written text
     × IsOutcome c.input.calls c.calls input text c.status)
 Serves (Init book) c = Makes c.old c.new c.before c.written c.calls c.status
+Serves (Migrate book) c = TakesOver c.old c.new c.before c.written c.calls c.status
 Serves (Post book batch from) c = Posts batch from c.input c.old c.new c.before c.written c.calls c.status
 Serves (Import book batch accounts from) c = Imports batch accounts from c.input c.old c.new c.before c.written c.calls c.status
 Serves (Holdings book day) c = Reports (report.Holdings day) c.old c.new c.before c.written c.calls c.status

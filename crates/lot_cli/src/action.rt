@@ -7,6 +7,7 @@ ghost use Rattle.sqlite.specs.Tree.{Trees};
 
 use crate::halt::Halt;
 use crate::import::import;
+use crate::migration::migrate;
 use crate::post::post;
 use crate::report::{Report, write_report};
 use crate::run::{halted, tell};
@@ -31,6 +32,8 @@ pub struct Served<S: Alter> {
 /// Does what an action asks for on the book that the connection leads to.
 ///
 /// - `init` makes a book in a database without tables and writes `book ready`; it reads nothing.
+/// - `migrate` makes a book of edition 2 of one of edition 1, in one commit, leaves one of edition 2 as it is, and writes
+///   `book migrated`; it reads nothing.
 /// - `post` reads all that the reader has as ledger text, and `import` as a broker file. Only then they take the book up, and
 ///   apply the commands, or those of the rows, from the given number on, each in one commit, with a reply to each. A fault of
 ///   the input changes nothing.
@@ -39,7 +42,7 @@ pub struct Served<S: Alter> {
 /// - No words ask for a check, which leaves the book alone.
 ///
 /// A fault is one line (docs/FORMATS.md, Faults). Returns the status of the program: 0 where all commands were accepted or
-/// repeated, the book was made, or the report is whole; 1 where some were refused; 3 for a fault of the input; 4 for a fault of the book, of the
+/// repeated, the book was made or migrated, or the report is whole; 1 where some were refused; 3 for a fault of the input; 4 for a fault of the book, of the
 /// output or of memory, which goes before 1.
 pub fn serve<R: CountedRead, W: CountedWrite, S: Alter>(
     alloc: Global,
@@ -81,6 +84,7 @@ pub fn serve<R: CountedRead, W: CountedWrite, S: Alter>(
             conn,
         },
         Action::Init { .. } => init(alloc, writer, conn),
+        Action::Migrate { .. } => migrate(alloc, writer, conn),
         Action::Post { batch, from, .. } => post(alloc, batch, *from, reader, writer, conn),
         Action::Import {
             batch,

@@ -1,9 +1,16 @@
 ghost use Rattle.std.specs.Prelude.{◌≡◌, IfErr, OnErr, OnOk};
 ghost use Rattle.lot_report.specs.Output.{HasFailed, NoneFailed};
 ghost use Rattle.lot_report.specs.Written.{WritesLine};
-ghost use Rattle.lot_cli.specs.HaltLine.{adopt_name, create_name, halt_line, status_of_halt};
+ghost use Rattle.lot_cli.specs.HaltLine.{
+  adopt_name,
+  create_name,
+  halt_line,
+  migrate_name,
+  status_of_halt,
+};
 
 use lot_input::{InputFault, print_input_fault};
+use lot_migrate::MigrateFault;
 use lot_report::{CountedWrite, PrintFault, print_texts};
 use lot_store::{AdoptFault, CreateFault};
 use lot_stream::Status;
@@ -17,6 +24,8 @@ pub enum Halt {
     Create(CreateFault),
     /// The book isn't taken up.
     Adopt(AdoptFault),
+    /// The book isn't migrated.
+    Migrate(MigrateFault),
 }
 
 impl Halt {
@@ -26,7 +35,7 @@ impl Halt {
     {
         match self {
             Halt::Input(fault) => fault.status(),
-            Halt::Create(_) | Halt::Adopt(_) => Status::Stopped,
+            Halt::Create(_) | Halt::Adopt(_) | Halt::Migrate(_) => Status::Stopped,
         }
     }
 }
@@ -44,6 +53,7 @@ pub(crate) fn print_halt<W: CountedWrite>(writer: &mut W, halt: Halt) -> Result<
         Halt::Input(fault) => print_input_fault(writer, fault),
         Halt::Create(fault) => print_texts(writer, &["fault ", create_name(fault), "\n"]),
         Halt::Adopt(fault) => print_texts(writer, &["fault ", adopt_name(fault), "\n"]),
+        Halt::Migrate(fault) => print_texts(writer, &["fault ", migrate_name(fault), "\n"]),
     }
 }
 
@@ -69,5 +79,19 @@ fn adopt_name(fault: AdoptFault) -> &'static str
         AdoptFault::OlderEdition => "S3 OlderEdition",
         AdoptFault::Device => "S4 Device",
         AdoptFault::Memory => "Memory",
+    }
+}
+
+/// Returns the code and the name of a fault of a migration.
+fn migrate_name(fault: MigrateFault) -> &'static str
+    ensures { result.now ≡ migrate_name fault }
+{
+    match fault {
+        MigrateFault::NotABook => "S1 NotABook",
+        MigrateFault::NewerEdition => "S2 NewerEdition",
+        MigrateFault::Device => "S4 Device",
+        MigrateFault::InDoubt => "S5 InDoubt",
+        MigrateFault::Damaged => "S7 Damaged",
+        MigrateFault::Memory => "Memory",
     }
 }

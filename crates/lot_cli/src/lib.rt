@@ -5,6 +5,7 @@
 //! - `action`: `serve`, and what an action leaves.
 //! - `post`: ledger text posted to the book that is there; `import`: a broker file. What an input gives is the affair of
 //!   `lot_input`.
+//! - `migration`: a book of edition 1 taken over.
 //! - `run`: commands run on the book that is there.
 //! - `report`: reports of the book that is there.
 //! - `halt`: why an action ends before its first command.
@@ -15,6 +16,7 @@ mod action;
 mod halt;
 mod import;
 pub mod laws;
+mod migration;
 mod post;
 mod report;
 mod run;
@@ -23,6 +25,7 @@ pub use action::{Served, serve};
 pub use halt::Halt;
 pub use lot_args::{Action, BadOption, Batch, Start, WordsFault, parse_words};
 pub use lot_input::InputFault;
+pub use lot_migrate::MigrateFault;
 pub use lot_report::{CountedWrite, CountedWriter};
 pub use lot_store::{AdoptFault, CreateFault};
 pub use lot_stream::{Counted, CountedRead, SlurpFault, slurp};

@@ -4,7 +4,7 @@
 //! - `reopening`: a crash of both files, and what a connection that is opened again stands for.
 //! - `stops`: a file of a book stops at each of its calls while a ledger is sent, and again while the rest is sent.
 //! - `doubt`: a file stops within a commit, which is kept or lost.
-//! - `making`: a file stops at each of its calls while a book is made.
+//! - `making`: a file stops at each of its calls while a book is made; `migrating`: while one of edition 1 is migrated.
 //! - `disk`: the files of a book, on disks that stop; `program`: calls of the program; `ledgers`: what is sent; `sent`: how it is
 //!   sent.
 #![tactic(auto)]
@@ -17,6 +17,8 @@ mod doubt;
 mod ledgers;
 #[cfg(test)]
 mod making;
+#[cfg(test)]
+mod migrating;
 #[cfg(test)]
 mod program;
 pub mod reopening;

@@ -29,7 +29,8 @@ pub fn act(rt: &HostRuntime, action: &Action) -> u8 {
     let status = match action {
         Action::Check => serve_nothing(rt, action, &mut output),
         Action::Init { book } => serve_file(rt, action, book.as_str(), &mut output),
-        Action::Post { book, .. }
+        Action::Migrate { book }
+        | Action::Post { book, .. }
         | Action::Import { book, .. }
         | Action::Holdings { book, .. }
         | Action::Gains { book, .. }

@@ -15,3 +15,9 @@ returns-in-Adopt-clause-bytes g c =
     rw (c.in-Adopt.is)
     (subst (WritesLine (g.W.CountedWrite.contents c.args.writer.now) (g.W.CountedWrite.contents c.print_texts-in-Adopt.new.writer) c.print_texts-in-Adopt.result)
     (ap (λ n. line (codes "fault " ++ n)) c.adopt_name.ensures) c.print_texts-in-Adopt.ensures.bytes)
+
+pub returns-in-Migrate-clause-bytes : goal.returns-in-Migrate-clause-bytes
+returns-in-Migrate-clause-bytes g c =
+    rw (c.in-Migrate.is)
+    (subst (WritesLine (g.W.CountedWrite.contents c.args.writer.now) (g.W.CountedWrite.contents c.print_texts-in-Migrate.new.writer) c.print_texts-in-Migrate.result)
+    (ap (λ n. line (codes "fault " ++ n)) c.migrate_name.ensures) c.print_texts-in-Migrate.ensures.bytes)

@@ -1,0 +1,17 @@
+pub mod LotLegLemmas
+pub mod LegLemmas
+pub mod OpeningLemmas
+pub mod SaleLemmas
+pub mod StandLemmas
+pub mod ReadLemmas
+pub mod RowLemmas
+pub mod FoldLemmas
+pub mod PostLemmas
+pub mod CountLemmas
+pub mod PutLemmas
+pub mod NumberLemmas
+pub mod FillLemmas
+pub mod TurnLemmas
+pub mod BookLemmas
+pub mod MarkLemmas
+pub mod MigrateLemmas

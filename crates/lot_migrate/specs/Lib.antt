@@ -1,0 +1,6 @@
+pub mod First
+pub mod Rows
+pub mod Fault
+pub mod Read
+pub mod Put
+pub mod Migrate

@@ -1,0 +1,19 @@
+//! A book of edition 1 becomes one of edition 2, in one commit.
+//!
+//! - `migration`: `migrate`, which takes a connection and gives it back.
+//! - `fill`: what is read and put in its transaction; `fold`: the legs of the table, folded to
+//!   opening numbers.
+//! - `pages`: rows that are read in a transaction, a page at a time.
+//! - `fault`: `MigrateFault`, why a book isn't migrated.
+//! - `laws`: that the sales stay those of edition 1.
+#![tactic(auto)]
+
+mod fault;
+mod fill;
+mod fold;
+pub mod laws;
+mod migration;
+mod pages;
+
+pub use fault::MigrateFault;
+pub use migration::migrate;
