@@ -361,36 +361,16 @@ fi
 
 # ---- progress
 
-# watched NAME INPUT WANTED WORDS..: standard error is a terminal and the output isn't; what is shown there matches WANTED.
-watched() {
-    local shown
-    shown=$(python3 -c 'import os, pty, sys
-out = os.open(sys.argv[1], os.O_WRONLY | os.O_CREAT | os.O_TRUNC)
-pid, terminal = pty.fork()
-if pid == 0:
-    os.dup2(out, 1)
-    os.dup2(os.open(sys.argv[2], os.O_RDONLY), 0)
-    os.execv(sys.argv[3], sys.argv[3:])
-shown = b""
-try:
-    while part := os.read(terminal, 4096):
-        shown += part
-except OSError:
-    pass
-os.waitpid(pid, 0)
-sys.stdout.write(shown.decode())' "$scratch/out" "$2" "$program" "${@:4}")
-    if [[ $shown =~ $3 ]]; then pass "$1"; else fail "$1" "$(head -c 100 <<<"$shown")"; fi
-}
 makes "$scratch/watched.book"
 awk 'BEGIN { for (n = 0; n < 10000; n++) printf "2020-01-01 open Assets:A%d\n", n }' >"$scratch/more"
-watched "progress on a terminal" "$scratch/more" $'^\r[0-9]+ commands, [0-9]+ a second' post --book "$scratch/watched.book" --batch a
-watched "no progress of a short run" "$scratch/good" '^$' post --book "$scratch/watched.book" --batch b
+watched "progress on a terminal" "$scratch/out" "$scratch/more" $'^\r[0-9]+ commands, [0-9]+ a second' post --book "$scratch/watched.book" --batch a
+watched "no progress of a short run" "$scratch/out" "$scratch/good" $'^1 accepted, 0 repeated, 0 refused in [0-9]+\\.[0-9] s\r$' post --book "$scratch/watched.book" --batch b
 # The rows add up in one lot.
 makes "$scratch/broker.book"
 "$program" post --book "$scratch/broker.book" --batch accounts <"$examples/broker/accounts.ledger" >"$scratch/out"
 { echo ref,date,action,symbol,units,price,currency,fee && seq -f 'R-%g,2024-01-15,BUY,HOOL,1,100,USD,' 10000; } >"$scratch/rows.csv"
-watched "progress of an import on a terminal" "$scratch/rows.csv" $'^\r[0-9]+ rows, [0-9]+ a second' import --book "$scratch/broker.book" \
-    --batch deals --invest Assets:Broker --cash Assets:Cash --fees Expenses:Fees --gains Income:Gains
+watched "progress of an import on a terminal" "$scratch/out" "$scratch/rows.csv" $'^\r[0-9]+ rows, [0-9]+ a second' \
+    import --book "$scratch/broker.book" --batch deals --invest Assets:Broker --cash Assets:Cash --fees Expenses:Fees --gains Income:Gains
 
 # ---- stops
 

@@ -1,12 +1,13 @@
 #!/usr/bin/env bash
-# The blocks of docs/GUIDE.md, in their order and in one folder: what a line that begins with `$` prints is what stands under
-# it. Where the machine has no `sqlite3`, Python's stands in for it.
+# The blocks of README.md, and then those of docs/GUIDE.md, in their order and in one folder: what a line that begins with `$` prints
+# is what stands under it. Where the machine has no `sqlite3`, Python's stands in for it.
 source "$(dirname "$(readlink -f "${BASH_SOURCE[0]}")")/lib/cases.sh"
 need_program
 
 mkdir "$scratch/bin" "$scratch/work"
 ln -s "$program" "$scratch/bin/lotbook"
 ln -s "$examples" "$scratch/work/examples"
+ln -s "$program" "$scratch/work/lotbook" # as README.md calls it
 if ! command -v sqlite3 >/dev/null; then
     cat >"$scratch/bin/sqlite3" <<'END'
 #!/usr/bin/env python3
@@ -31,7 +32,7 @@ done_with() {
 }
 
 : >"$scratch/wanted"
-while IFS= read -r line; do
+cat "$root/README.md" "$root/docs/GUIDE.md" | while IFS= read -r line; do
     case $line in
         '    $ '*)
             done_with
@@ -41,6 +42,6 @@ while IFS= read -r line; do
             ;;
         '    '*) printf '%s\n' "${line#    }" >>"$scratch/wanted" ;;
     esac
-done <"$root/docs/GUIDE.md"
+done
 done_with
 finish

@@ -2,7 +2,7 @@
 # The program with memory up to a limit and none beyond it. The limits go from the least one with which the program starts
 # up to one with which it ends as usual, so memory runs out while the text is read, while commands are judged, and while the
 # report is written. Whatever the limit is: the whole lines before the fault are lines of the full answer, in their order; the
-# last line names the fault, and the command where one was being judged; the status is 4; nothing goes to standard error.
+# last line names the fault, and the command where one was being judged; the status is 4; standard error has at most one line, of memory.
 source "$(dirname "$(readlink -f "${BASH_SOURCE[0]}")")/lib/cases.sh"
 need_program
 
@@ -34,6 +34,12 @@ within() {
     (ulimit -v "$1" && exec "$program" <"$2") >"$scratch/out" 2>"$scratch/err" && status=0 || status=$?
 }
 
+# Whether standard error is one line that says that memory ended, of a command or of none.
+is_of_memory() {
+    [[ $(wc -l <"$scratch/err") == 1 ]] &&
+        grep -qxE 'lotbook: (line [0-9]+, command [0-9]+: |number [0-9]+: )?(Memory )?Memory: memory ended(: .*)?' "$scratch/err"
+}
+
 # judged LIMIT: what `within` kept is the full answer, or a prefix of its lines and the line of the fault. Sets `where`.
 judged() {
     local name="with $1 KiB" lines last whole
@@ -44,11 +50,12 @@ judged() {
     where=nowhere
     if ((status == 0)); then
         where=complete
-        cmp -s "$scratch/out" "$scratch/full" && pass "$name: complete" || fail "$name" "status 0 and other output"
+        cmp -s "$scratch/out" "$scratch/full" && [[ ! -s $scratch/err ]] && pass "$name: complete" ||
+            fail "$name" "status 0 and other output, or a message: $(head -n 1 "$scratch/err")"
     elif ((status != 4)); then
         fail "$name" "status $status instead of 4"
-    elif [[ -s $scratch/err ]]; then
-        fail "$name" "standard error isn't empty: $(head -n 1 "$scratch/err")"
+    elif [[ -s $scratch/err ]] && ! is_of_memory; then
+        fail "$name" "on standard error: $(head -n 1 "$scratch/err")"
     elif ! cmp -s -n "$whole" "$scratch/before" "$scratch/full"; then
         fail "$name" "the lines before the fault aren't those of the answer"
     elif [[ $(tail -c 1 "$scratch/out" | od -An -tx1) != " 0a" ]]; then

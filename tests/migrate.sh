@@ -196,7 +196,7 @@ mkfifo "$scratch/slow"
 "$program" post --book "$book" --batch b <"$scratch/slow" >"$scratch/posted" 2>&1 &
 exec 8>"$scratch/slow"
 for _ in {1..200}; do
-    run holdings --book "$book" </dev/null
+    run init --book "$book" </dev/null
     if [[ $(<"$scratch/out") == "fault open" ]]; then break; fi
     sleep 0.05
 done
@@ -259,6 +259,27 @@ mkfifo "$scratch/pipe"
     </dev/null 2>"$scratch/err" >"$scratch/pipe" && status=0 || status=$?
 wait
 migrated "a pipe that is closed"
+
+# ---- progress
+
+first
+watched "progress on a terminal" "$scratch/out" /dev/null $'^\r6 legs, [0-9]+ a second +\r$' migrate --book "$book"
+: >"$scratch/err" && echo "book migrated" >"$scratch/expected"
+expect "the line on standard output beside it" 0 "$scratch/expected"
+watched "no progress of a book of edition 2" "$scratch/out" /dev/null '^$' migrate --book "$book"
+first
+watched "progress where standard output is that terminal" - /dev/null \
+    $'^\r6 legs, [0-9]+ a second +\r\nbook migrated\r$' migrate --book "$book"
+rm -f "$book"*
+python3 -B "$stored/large.py" "$book" 6000 # some 14,000 legs, of which 5,000 are read at a time
+watched "progress of a large book" "$scratch/out" /dev/null \
+    $'^\r5000 legs, [0-9]+ a second +(\r1[0-9]{4} legs, [0-9]+ a second +)*\r$' migrate --book "$book"
+rm -f "$book"*
+python3 -B "$stored/large.py" "$book" 6000
+tables rows "$book" "UPDATE leg SET posting = 65 WHERE entry = 6000 AND posting = 1"
+watched "progress up to a damaged leg" - /dev/null \
+    $'^\r5000 legs, [0-9]+ a second +(\r10000 legs, [0-9]+ a second +)?\r\nfault S7 Damaged\r\nlotbook: S7 Damaged: [^\r\n]+\r$' migrate --book "$book"
+if ((status == 4)); then pass "its status"; else fail "its status" "status $status instead of 4"; fi
 
 # ---- stops, and a disk without room
 

@@ -81,7 +81,7 @@ unusable() {
 unusable "sell" sell
 unusable "migration" migration --book f
 unusable "hold" hold --book f
-unusable "help" help
+unusable "sell" help sell
 for word in holdings gains journal import; do unusable "--book" "$word" --batch a; done
 unusable "--book" migrate
 unusable "--batch" migrate --book f --batch a
@@ -90,7 +90,24 @@ unusable "--book" post --batch a
 unusable "--book" init
 unusable "''" ''
 for value in 0 10000001 -1 x ''; do unusable "--from" post --book f --batch a "--from=$value"; done
+for word in post import init migrate holdings gains journal; do unusable "Example: lotbook $word --book" "$word"; done
+unusable "fault U2 BadValue --batch" --quiet post --book f
+unusable "fault U2 BadValue --batch" post --book f --batch a --row-of b --ref r
+unusable "fault U2 BadValue --row-of" post --book f --row-of a/b --ref r
+unusable "fault U2 BadValue --ref" post --book f --row-of a
+unusable "fault U2 BadValue --ref" post --book f --row-of a --ref 'r"'
+unusable "fault U2 BadValue --ref" post --book f --batch a --ref r
+unusable "fault U2 BadValue --from" post --book f --row-of a --ref r --from 2
+unusable "--quiet" post --book f --batch a --quiet --quiet
+unusable "--all-or-none" init --book f --all-or-none
+unusable "--dry-run" holdings --book f --dry-run
+unusable "--explain-all" journal --book f --explain-all
+unusable "--book" explain --book f
+unusable "L1" explain B2 L1
 unusable "fault U2 BadValue --batch" post --book f --batch a/b
+unusable "\"a/b\" isn't 1 to 32 letters" post --book f --batch a/b
+unusable "\"a/b\" isn't 1 to 32 letters" post --book f --batch=a/b
+unusable "--batch wants 1 to 32 letters" post --book f --batch "$(head -c 81 /dev/zero | tr '\0' /)"
 unusable "fault U2 BadValue --batch" post --book f --batch ''
 unusable "fault U2 BadValue --batch" post --book f --batch 123456789012345678901234567890123
 unusable "--from" post --book f --batch a/b --from 0
@@ -98,6 +115,7 @@ unusable "-a" post --book f --batch -a
 unusable "--book" journal --book f --book g
 unusable "UTF-8" post --book f --batch $'\xff'
 unusable "fault U2 BadValue --day" holdings --book f --day 2020-02-30
+unusable "\"2020-02-30\" isn't a day" holdings --book f --day 2020-02-30
 unusable "fault U2 BadValue --first" gains --book f --last x --first ''
 unusable "fault U2 BadValue --last" gains --book f --last x --first 2020-01-01
 
@@ -109,6 +127,7 @@ for ((at = 0; at < 10; at += 2)); do
     unusable "fault U2 BadValue ${good[at]}" import --book f "${bad[@]:at}" "${good[@]:0:at}"
 done
 unusable "--from" import --book f "${bad[@]}" --from 0
+unusable "--row-of" import --book f --row-of a "${good[@]}"
 
 # Help that is asked for: status 0, on standard output, with an example of each word.
 helps() {
@@ -121,6 +140,12 @@ helps() {
 }
 helps "lotbook < " --help
 helps "lotbook < " -h
+helps "lotbook < " help
+helps "explain" help
+for word in init post import holdings gains journal migrate; do helps "lotbook $word --book" help "$word"; done
+helps "lotbook explain B2" help explain
+helps "lotbook explain B2" explain --help
+helps "[CODE]" explain -h
 helps "lotbook init --book" init --help
 helps "lotbook post --book" post --help
 helps "lotbook import --book" import --help
@@ -128,6 +153,12 @@ helps "the oldest first" import --help
 for word in holdings gains journal migrate; do helps "lotbook $word --book" "$word" --help; done
 for word in init post import holdings gains journal migrate; do helps "--book family.book" "$word" -h; done
 helps "--batch 2024" post -h
+helps "--row-of broker --ref A17" post -h
+for word in post import init migrate; do helps "--dry-run" "$word" -h; done
+for word in post import; do helps "--all-or-none" "$word" -h && helps "--explain-all" "$word" -h; done
+for word in init post import holdings gains journal migrate; do helps "--quiet" "$word" -h; done
+helps "--quiet" -h
+helps "--explain-all" -h
 helps "--from 120" post -h
 helps "--batch broker" import -h
 helps "--invest Assets:Broker" import -h
@@ -141,14 +172,31 @@ helps "--last 2024-12-31" gains -h
 "$program" --help </dev/null 2>"$scratch/err" >/dev/full && status=0 || status=$?
 stops "help on a full disk"
 
+# The example that is shown beside what is missing is that of the help.
+for word in init post import holdings gains journal migrate; do
+    run "$word" </dev/null
+    example=$(sed -n 's/^Example: //p' "$scratch/err")
+    helps "$example" "$word" --help
+done
+
 # The version: the program's name and its number, on standard output.
 helps "  -V, --version" --help
+version=$(sed -n 's/^## \([0-9.]*\)$/\1/p' "$root/CHANGELOG.md" | head -n 1)
 for word in --version -V; do
-    prints "the version by $word" 0 "lotbook 1.0.0" "$word" </dev/null
+    prints "the version by $word" 0 "lotbook $version" "$word" </dev/null
 done
 unusable "--version" init --version
 "$program" --version </dev/null 2>"$scratch/err" >/dev/full && status=0 || status=$?
 stops "the version on a full disk"
+
+# The names of the C library's calls that the program asks for: none is of a socket or of another program (SECURITY.md).
+calls() { tr '\0' '\n' <"$program" | grep -axE "$1" | sort -u; }
+forbidden=$(calls 'socket|connect|bind|listen|accept4?|getaddrinfo|exec[a-z]+|v?fork|clone|posix_spawnp?|system|popen|dlopen')
+if [[ -z $(calls fdatasync) || -n $forbidden ]]; then
+    fail "no socket and no other program" "${forbidden//$'\n'/ }"
+else
+    pass "no socket and no other program"
+fi
 
 # The script `lotbook`, from elsewhere and by links; it hands on words, streams and status.
 program=$root/lotbook

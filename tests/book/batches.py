@@ -12,6 +12,9 @@ import os
 import subprocess
 import sys
 
+sys.path.append(os.path.join(os.path.dirname(os.path.abspath(__file__)), "..", "lib"))
+
+import notes
 import tables
 
 WAYS = {"in one batch": lambda text: [text], "a batch for each command": lambda text: commands_of(text)}
@@ -30,7 +33,7 @@ def commands_of(text):
 
 def call(program, words, text=b""):
     done = subprocess.run([program, *words], input=text, capture_output=True, timeout=120)
-    return done.stdout.decode(), done.stderr.decode(), done.returncode
+    return done.stdout.decode(), notes.without(done.stderr).decode(), done.returncode
 
 
 def post(program, book, batch, text):

@@ -17,6 +17,9 @@ import shutil
 import subprocess
 import sys
 
+sys.path.append(os.path.join(os.path.dirname(os.path.abspath(__file__)), "..", "lib"))
+
+import notes
 import tables
 
 LEDGER = """\
@@ -270,9 +273,13 @@ def without_types(db, table):
     ]
 
 
-def is_told(fault, errors):
-    """Whether these are the messages beside a fault: of an older edition a line names what helps."""
-    return errors.endswith("\n") and errors.count("\n") == 1 and "lotbook migrate" in errors if fault == OLDER else not errors
+def note_of(line, book):
+    """How the one line on standard error begins beside the line of a fault: with what the book is and what helps, or with the name of
+    the fault, behind the place of the command that met it."""
+    return {
+        NOT_A_BOOK: f"{book} is a database of another program: ",
+        OLDER: f"{book} is a book of edition 1: `lotbook migrate --book {book}` ",
+    }.get(line, line.replace("1 fault ", "line 1, command 1: ").removeprefix("fault ") + ": ")
 
 
 def is_within(lines, all_lines):
@@ -286,7 +293,7 @@ def fault_of(program, book, statements, name, fault, sound):
     held = changed(book, statements)
     output, errors, status = probe(program, book, name)
     lines = output.splitlines()
-    if not is_told(fault, errors) or status != 4 or not lines or lines[-1] not in (fault, f"1 {fault}"):
+    if status != 4 or not lines or lines[-1] not in (fault, f"1 {fault}") or not notes.are(errors, note_of(lines[-1], book)):
         return f"status {status}, {lines[-1:]}, '{errors[:60]}'"
     if not is_within(lines[:-1], sound):
         return f"other lines before the fault: {lines[:3]}"
@@ -371,9 +378,9 @@ def taken(program, book, make, drop):
     """What is wrong with making a book where another program has a table and a name of a book's, a table alone, or nothing; or nothing."""
     held = changed(book, ["CREATE TABLE kept (other)", "INSERT INTO kept VALUES ('lot')", make])
     for statement in (drop, "DROP TABLE kept"):
-        answer = call(program, ["init", "--book", book])
-        if answer != ("fault S1 NotABook\n", "", 4):
-            return f"before {statement}: {answer}"
+        output, errors, status = call(program, ["init", "--book", book])
+        if (output, status) != (NOT_A_BOOK + "\n", 4) or not notes.are(errors, note_of(NOT_A_BOOK, book)):
+            return f"before {statement}: {output!r}, {errors!r}, {status}"
         with tables.connect(book) as db:
             if dump(db) != held:
                 return f"before {statement} the file holds something else"
@@ -390,13 +397,13 @@ def taken(program, book, make, drop):
 def full(program, book):
     """What is wrong with a command on a book whose last entry has the greatest number, or nothing."""
     changed(book, ["UPDATE entry SET number = 1999999999 WHERE number = 9"])
-    answer = probe(program, book, "buy"), probe(program, book, "quote")
-    wanted = ("1 accepted\n", "", 0), ("1 refused L1 KeyReused\n", "", 1)
-    if answer != wanted:
+    answer = probe(program, book, "buy")
+    if answer != ("1 accepted\n", "", 0):
         return f"{answer}"
-    answer = call(program, ["post", "--book", book, "--batch", "c"], PROBES["quote"][1])
-    if answer != ("1 refused L16 BookFull\n", "", 1):
-        return f"then {answer}"
+    for batch, code in (("b", "L1 KeyReused"), ("c", "L16 BookFull")):
+        output, errors, status = call(program, ["post", "--book", book, "--batch", batch], PROBES["quote"][1])
+        if (output, status) != (f"1 refused {code}\n", 1) or not notes.are(errors, f"line 1, command 1: {code}: "):
+            return f"batch {batch}: {output!r}, {errors!r}, {status}"
     with tables.connect(book) as db:
         numbers = list(db.execute("SELECT opening FROM opening ORDER BY opening"))
     return "" if numbers == [(64 * 7 + 1,), (64 * 1_999_999_999 + 1,)] else f"opening numbers {numbers}"

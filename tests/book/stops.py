@@ -117,9 +117,10 @@ def stopped_inits(program, scratch, rng, kills):
         used = subprocess.run(
             [program, "post", "--book", book, "--batch", "a"], input=CASES[1].encode(), capture_output=True, timeout=60
         )
-        if again.stdout not in (b"book ready\n", b"fault S1 NotABook\n") and not again.stderr:
+        is_made = again.stdout in (b"book ready\n", b"fault S1 NotABook\n")
+        if not is_made and not again.stderr:
             return f"init again: {again.stdout}, and no message"
-        if not again.stderr and used.stdout != b"1 accepted\n":
+        if is_made and used.stdout != b"1 accepted\n":
             return f"post after it: {used.stdout}"
     return "" if unready >= kills / 10 else f"only {unready} of {kills} stops hit the making, within {took:.3f} s"
 

@@ -20,9 +20,11 @@ import tempfile
 
 HERE = pathlib.Path(__file__).resolve().parent
 sys.path.append(str(HERE.parent / "random"))
+sys.path.append(str(HERE.parent / "lib"))
 
 import draw
 import model
+import notes
 import reader
 
 A_CASE = 50  # seeds
@@ -94,7 +96,7 @@ class Program:
     def run(self, word, options, data):
         words = [self.program, word, "--book", self.book, *options]
         done = subprocess.run(words, input=data, capture_output=True, timeout=120)
-        return done.stdout, done.returncode, done.stderr
+        return done.stdout, done.returncode, notes.without(done.stderr)
 
     def begin(self, openings):
         ledger = "".join(

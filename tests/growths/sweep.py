@@ -5,8 +5,8 @@
 LIBRARY is refuse.c, compiled: at a growth it makes two copies of the process, one that is refused this growth, and one that is refused
 this one and each that follows. Of each copy:
 
-- it answers what the call answers with ample memory, or the fault of memory behind some of the first lines of that, with status 4
-  and nothing on standard error
+- it answers what the call answers with ample memory, or the fault of memory behind some of the first lines of that, with status 4;
+  standard error has some of the first lines that it has with ample memory, or all, and a line of memory in the place of what was stopped
 - the tables, read by SQLite's own library in a copy of the files, are those of the commands that were replied to. One command more
   may stand where the log held its commit already when the growth was refused: that commit is in doubt, and counted
 - a report, and words that can't be used, leave the tables as they were, and no file where there was none
@@ -34,9 +34,11 @@ import tempfile
 
 HERE = os.path.dirname(os.path.abspath(__file__))
 EXAMPLES = os.path.join(HERE, "..", "..", "examples")
-sys.path.insert(0, os.path.join(HERE, "..", "book"))
+for folder in ("book", "lib"):
+    sys.path.insert(0, os.path.join(HERE, "..", folder))
 
-import batches  # noqa: E402  (the folder is named above)
+import batches  # noqa: E402  (the folders are named above)
+import notes  # noqa: E402
 import tables  # noqa: E402
 
 # What refuse.c says.
@@ -48,6 +50,8 @@ WHOSE = ("of the program's own code", "of the C library", "before main, which ar
 
 STEP = 23
 MEMORY = "fault Memory"
+OF_A_COPY = ("fault S4 Device", "fault S5 InDoubt")  # to the database a copy for which memory ends is a disk that fails
+KEEPS_NOTHING = {"--dry-run", "--all-or-none"}  # the second where a command is refused
 BOOK = "BOOK"  # stands in words for the path of the book
 PATIENCE = 300  # seconds without a message
 
@@ -200,7 +204,7 @@ class Sweep:
         self.stages = [self.tables_of(self.start)]
         word = self.call.words[0] if self.call.words else "check"
         self.replies = sum(line[:1].isdigit() for line in self.lines) if word in ("check", "post", "import") else 0
-        self.is_run = word != "check" and self.replies > 0
+        self.is_run = word != "check" and self.replies > 0 and not KEEPS_NOTHING & {*self.call.words}
         if self.is_run:
             self.stages += [self.left(text) for text in self.call.beginnings()[1:]]
         elif after != self.stages[0]:
@@ -221,9 +225,12 @@ class Sweep:
 
     def is_stopped(self, answer):
         """Whether a copy says that memory stopped it. Raises where it answers otherwise than it may."""
-        if answer == self.ample:
-            return False
         status, output, messages = answer
+        messages = notes.before_the_end(messages, self.ample[2])
+        if (status, output) == self.ample[:2]:
+            if not self.ample[2].startswith(messages) or messages[-1:] not in (b"", b"\n"):
+                raise Different(f"messages {messages[-200:]}")
+            return False
         *before, last = output.decode(errors="replace").split("\n")[:-1] or [""]
         count = len(before)
         rights = set()
@@ -231,8 +238,15 @@ class Sweep:
             rights.add(MEMORY)
         if count < self.replies:
             rights.add(f"{self.lines[count].split(' ')[0]} {MEMORY}")
-        if status != 4 or messages or last not in rights or before != self.lines[:count] or not output.endswith(b"\n"):
+        of_copy = {f"{self.lines[count].split(' ')[0]} {fault}" if count < self.replies else fault for fault in OF_A_COPY}
+        of_copy = of_copy if "--dry-run" in self.call.words else set()
+        if status != 4 or last not in rights | of_copy or before != self.lines[:count] or not output.endswith(b"\n"):
             raise Different(f"status {status}, output {output[-200:]}, messages {messages[-200:]}")
+        if last in of_copy:
+            if messages and (wrong := notes.wrong(messages, status, output)):  # memory may be gone for them, too
+                raise Different(wrong)
+        elif wrong := notes.wrong_where_memory_ended(messages, notes.before_the_end(self.ample[2], self.ample[2]), output):
+            raise Different(wrong)
         return True
 
     def may_fail_behind_its_lines(self):
@@ -275,7 +289,7 @@ class Sweep:
         elif words[:1] != ["migrate"]:
             return ""
         answer = run(self.program, words, self.other, self.call.text)
-        if answer != wanted:
+        if answer[:2] != wanted[:2]:
             return f"sent again from {first} on: {answer} instead of {wanted}"
         return "" if held(self.other) == self.stages[-1] else f"sent again from {first} on: other tables than those of one run"
 
@@ -358,6 +372,7 @@ def journal_of(program, scratch, before):
 
 def short_calls(texts):
     """Those of which each growth is refused."""
+    filled = [MAKE, (POST, texts["a sale"])]
     yield Call("no words, no input", [])
     for name, text in texts.items():
         yield Call(f"no words, {name}", [], text)
@@ -375,6 +390,10 @@ def short_calls(texts):
     yield Call("a report of a file that is no database", ["gains", "--book", BOOK], file=b"no database\n" * 1000)
     yield Call("init", INIT)
     yield Call("post of the first purchase", POST, texts["the first purchase"], [MAKE])
+    yield Call("a report of an empty file", ["journal", "--book", BOOK], file=b"")
+    yield Call("a dry run of init", [*INIT, "--dry-run"])
+    yield Call("a dry run of the first purchase", [*POST, "--dry-run"], texts["the first purchase"], [MAKE])
+    yield Call("all or none of a text that is refused", [*POST[:-1], "b", "--all-or-none"], texts["the first purchase"], filled)
 
 
 def migrations(older):

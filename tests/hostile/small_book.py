@@ -40,9 +40,10 @@ UNREADABLE = (sqlite3.Error, UnicodeError)  # the second where SQLite's message 
 
 
 def ask(program, book, word, **streams):
-    """The answer of one word on a book."""
+    """The answer of one word on a book, which messages call BOOK wherever it lies."""
     more, text = WRITERS[word] if word in WRITERS else (REPORTS[word][0] if word in REPORTS else [], "")
-    return sweep.call(program, [word, "--book", book, *more], text.encode(), **streams)
+    got = sweep.call(program, [word, "--book", book, *more], text.encode(), **streams)
+    return got._replace(errors=got.errors.replace(book.encode(), b"BOOK"))
 
 
 def read(path):

@@ -106,6 +106,11 @@ def taken(descriptor):
         time.sleep(0)
 
 
+def warns(words):
+    """Whether a warning is due: of the broker file, in which a name comes twice."""
+    return words[:1] == ["import"]
+
+
 def in_pieces(ground, words, pieces):
     """The answer to an input that comes in pieces: each is there only once the one before it was read."""
     reading, writing = os.pipe()
@@ -132,9 +137,10 @@ def pieces(ground, whole):
     for name, words, text in ground.ways():
         got = ground.call(words, text)
         wanted = got.output, got.status
-        done.compare(name, "one byte a call", wanted, in_pieces(ground, words, [text[at : at + 1] for at in range(len(text))]))
+        got = in_pieces(ground, words, [text[at : at + 1] for at in range(len(text))])
+        done.compare(name, "one byte a call", wanted, got, warns(words))
         for at in some(range(1, len(text)), whole):
-            done.compare(f"{name}, {at}", "in two pieces", wanted, in_pieces(ground, words, [text[:at], text[at:]]))
+            done.compare(f"{name}, {at}", "in two pieces", wanted, in_pieces(ground, words, [text[:at], text[at:]]), warns(words))
     return done
 
 
@@ -171,7 +177,7 @@ def failing_reads(ground, whole):
                 got = ground.call(words, stdin=descriptors[0])
                 for descriptor in descriptors:
                     os.close(descriptor)
-                done.compare(f"{name}, {kind.__name__}, {at}", name, wanted, got)
+                done.compare(f"{name}, {kind.__name__}, {at}", name, wanted, got, at == len(text) and warns(words))
                 done.also(ground.applied_nothing())
     return done
 
@@ -200,10 +206,10 @@ def hung_up(ground):
             os.close(theirs)
             # A read that waits fails; where none has begun, the system says that the input is at its end.
             if got.output == b"fault K1 Read\n":
-                done.compare(f"{name}, {at}", "reads that failed", (got.output, 3), got)
+                done.compare(f"{name}, {at}", "reads that failed", (got.output, 3), got, at == len(text) and warns(words))
                 done.also(ground.applied_nothing())
             else:
-                done.compare(f"{name}, {at}", "inputs that ended", ground.call(words, text[:at])[:2], got)
+                done.compare(f"{name}, {at}", "inputs that ended", ground.call(words, text[:at])[:2], got, warns(words))
     return done
 
 
@@ -281,6 +287,11 @@ def limited(ground, words, text, count):
     return sweep.Answer(written, answer.status, answer.errors)
 
 
+def begun(output, count):
+    """The lines of an output of which the first byte was among so many."""
+    return output[: output.index(b"\n", count - 1) + 1] if count else b""
+
+
 def stands_after(ground, words, text):
     """What the book holds after each number of lines that could be written whole: no command behind the next one was begun."""
     held = []
@@ -308,14 +319,15 @@ def limited_replies(ground):
         whole = b"".join(lines)
         for count in range(len(whole) + 1):
             got = limited(ground, words, text, count)
-            done.compare(f"{name}, {count} bytes", f"{name} to so many bytes", (whole[:count], 4 if count < len(whole) else 1), got)
+            wanted = whole[:count], 4 if count < len(whole) else 1
+            done.compare(f"{name}, {count} bytes", f"{name} to so many bytes", wanted, got, warns(words), begun(whole, count))
             written = whole[:count].count(b"\n")
             stands = held[min(written, len(held) - 1)]
             done.also("" if tables.contents(ground.book) == stands else f"{name}, {count} bytes: the book holds something else")
         full = os.open("/dev/full", os.O_WRONLY)
         got = ground.call(words, text, stdout=full)
         os.close(full)
-        done.compare(f"{name} to a full disk", "to a full disk", (b"", 4), got)
+        done.compare(f"{name} to a full disk", "to a full disk", (b"", 4), got, warns(words))
         done.also("" if tables.contents(ground.book) == held[0] else f"{name} to a full disk: the book holds something else")
     return done
 
@@ -328,7 +340,8 @@ def limited_faults(ground):
         whole = ground.call(words, faulty).output
         for count in range(len(whole) + 1):
             got = limited(ground, words, faulty, count)
-            done.compare(f"{name}, {count} bytes", f"{name} of a faulty input", (whole[:count], 4 if count < len(whole) else 3), got)
+            wanted = whole[:count], 4 if count < len(whole) else 3
+            done.compare(f"{name}, {count} bytes", f"{name} of a faulty input", wanted, got, said=begun(whole, count))
             done.also(ground.applied_nothing())
     ground = ground.changed("damaged.book", damage)
     damaged = ground.held
@@ -336,7 +349,8 @@ def limited_faults(ground):
     text = b"2020-01-01 open Assets:Other\n2020-01-02 *\n  Assets:Cash 1 USD\n  Assets:Other\n2020-01-01 open Assets:Third\n"
     words = ["post", "--book", ground.book, *POST]
     for count in range(len(whole) + 1):
-        done.compare(f"damage, {count} bytes", "post on a damaged row", (whole[:count], 4), limited(ground, words, text, count))
+        got = limited(ground, words, text, count)
+        done.compare(f"damage, {count} bytes", "post on a damaged row", (whole[:count], 4), got, said=begun(whole, count))
         held = tables.contents(ground.book)
         entries = [row[2] for row in held["entry"] if row[1] == "post:x"]
         others = {**held, "account": damaged["account"], "entry": damaged["entry"]}
@@ -436,7 +450,8 @@ def closed(ground):
                 wanted, stands = (sweep.lines("fault K1 Read"), 3), ground.held
             else:
                 wanted, stands = (whole.output, whole.status), held[-1]
-            done.compare(f"{word} without {streams}", word, wanted, got)
+            done.compare(f"{word} without {streams}", word, wanted, got, warns(words), b"" if 2 in streams else None)
+            done.also(f"{word} without {streams}: messages {got.errors}" if 2 in streams and got.errors else "")
             with tables.connect(ground.book) as db:
                 is_sound = db.execute("PRAGMA integrity_check").fetchone() == ("ok",)
             kept = is_sound and tables.contents(ground.book) == stands

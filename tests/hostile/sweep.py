@@ -15,10 +15,11 @@ import sys
 from typing import NamedTuple
 
 HERE = os.path.dirname(os.path.abspath(__file__))
-for folder in ("random", "book"):
+for folder in ("random", "book", "lib"):
     sys.path.append(os.path.join(HERE, "..", folder))
 
-import text as second  # noqa: E402  (the folders are named above)
+import notes  # noqa: E402  (the folders are named above)
+import text as second  # noqa: E402
 
 ROOT = os.path.join(HERE, "..", "..")
 SHOWN = 3  # differences of a sweep
@@ -87,9 +88,7 @@ def strange(answer):
     if answer.fault() == "S3 OlderEdition":  # one line names what helps
         is_one = answer.errors.endswith(b"\n") and answer.errors.count(b"\n") == 1
         return "" if is_one and b"lotbook migrate" in answer.errors else "no line names what helps"
-    if answer.errors and answer.status != 2 and answer.fault() != "open":
-        return f"the message '{answer.errors[:200].decode(errors='replace')}'"
-    return ""
+    return "" if answer.status == 2 else notes.wrong(answer.errors, answer.status, answer.output)
 
 
 def call(program, words, text=b"", seconds=PATIENCE, **streams):
@@ -187,10 +186,12 @@ class Sweep:
         if difference:
             self.differences.append(difference)
 
-    def compare(self, case, outcome, wanted, got):
-        """A case whose answer has to be this output and status, without a message."""
+    def compare(self, case, outcome, wanted, got, may_warn=False, said=None):
+        """A case whose answer has to be this output and status, with the messages that are due beside them, or beside what was said, and
+        without a warning where none may be due."""
         told = f"--- wanted\n{wanted}\n--- got\n{got}"
-        self.saw(outcome, "" if got == (*wanted, b"") else f"{case}\n{told}")
+        wrong = "another answer" if got[:2] != (*wanted,) else notes.wrong(got[2], wanted[1], wanted[0] if said is None else said, may_warn)
+        self.saw(outcome, wrong and f"{case}\n{wrong}\n{told}")
 
     def add(self, other):
         self.outcomes.update(other.outcomes)

@@ -95,7 +95,7 @@ def beside(program, cases):
     for text in cases:
         answer, outcome = compare.answer_to(text)
         got = sweep.call(program, [], text)
-        done.compare(text, outcome, answer, (got.output, got.status, got.errors))
+        done.compare(text, outcome, answer, got, may_warn=True)
     return done
 
 

@@ -47,26 +47,36 @@ run() {
     status=$?
 }
 
-# expect NAME STATUS FILE: `run` kept that status, exactly the bytes of FILE, and nothing on standard error.
+# expect NAME STATUS FILE: `run` kept that status and exactly the bytes of FILE. Standard error is empty, or says of a refusal, a fault
+# or what may have been meant otherwise what there is to say.
 expect() {
     if ((status != $2)); then
         fail "$1" "status $status instead of $2"
     elif ! cmp -s "$scratch/out" "$3"; then
         fail "$1" "other output: $(diff "$3" "$scratch/out" 2>&1 | head -n 6 | cut -c 1-200 | tr '\n' '|')"
-    elif [[ -s $scratch/err ]]; then
-        fail "$1" "standard error isn't empty: $(head -n 1 "$scratch/err")"
+    elif grep -qv '^lotbook: ' "$scratch/err" || { ((status == 0)) && grep -qvE 'warning: |: \.\.\. and [0-9]+ more$' "$scratch/err"; }; then
+        fail "$1" "on standard error: $(grep -m 1 -v '^lotbook: ' "$scratch/err" || head -n 1 "$scratch/err")"
     else
         pass "$1"
     fi
 }
 
-# older NAME: `run` met a book of an older edition: the fault, status 4, and one line on standard error that names what helps.
+# says NAME PATTERN: standard error of `run` is one line, which the pattern matches whole.
+says() {
+    if [[ $(wc -l <"$scratch/err") == 1 && -z $(tail -c 1 "$scratch/err") ]] && grep -qxE "$2" "$scratch/err"; then
+        pass "$1"
+    else
+        fail "$1" "on standard error: $(head -c 200 "$scratch/err" | tr '\n' '|')"
+    fi
+}
+
+# older NAME: `run` met a book of an older edition: the fault, status 4, and on standard error, behind warnings, one line that names what helps.
 older() {
     if ((status != 4)); then
         fail "$1" "status $status instead of 4"
     elif [[ $(<"$scratch/out") != "fault S3 OlderEdition" ]]; then
         fail "$1" "other output: $(head -c 200 "$scratch/out" | tr '\n' '|')"
-    elif [[ $(wc -l <"$scratch/err") != 1 || $(<"$scratch/err") != *"lotbook migrate"* ]]; then
+    elif [[ $(grep -vc ': warning: ' "$scratch/err") != 1 || $(tail -n 1 "$scratch/err") != *"lotbook migrate"* ]]; then
         fail "$1" "no line names what helps: $(head -c 200 "$scratch/err" | tr '\n' '|')"
     else
         pass "$1"
@@ -78,6 +88,15 @@ prints() {
     run "${@:4}"
     printf '%s\n' "$3" >"$scratch/expected"
     expect "$1" "$2" "$scratch/expected"
+}
+
+# watched NAME OUTPUT INPUT WANTED WORDS..: standard error is a terminal, and standard output too where OUTPUT is `-` and no file; what is
+# shown there matches WANTED. Keeps the status.
+watched() {
+    local shown
+    shown=$(timeout 120 python3 -B "$root/tests/lib/terminal.py" "$2" "$3" "$program" "${@:5}")
+    status=$?
+    if [[ $shown =~ $4 ]]; then pass "$1"; else fail "$1" "$(head -c 200 <<<"$shown" | tr '\r\n' '@|')"; fi
 }
 
 # run_python SCRIPT WORDS..: counts the lines `ok NAME` and `FAILED NAME: ..` of a script in Python, given from the root. That there

@@ -11,8 +11,9 @@ import sqlite3
 import sys
 
 sys.path.insert(0, os.path.join(os.path.dirname(os.path.abspath(__file__)), "..", "book"))
+sys.path.append(os.path.join(os.path.dirname(os.path.abspath(__file__)), "..", "lib"))
 
-import tables  # noqa: E402  (the folder is named above)
+import tables  # noqa: E402  (the folders are named above)
 
 OF_EDITION_1 = tables.OF_EDITION_1
 KEY = ("account", "commodity", "cost_day", "cost_currency", "cost_number", "cost_label")

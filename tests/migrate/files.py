@@ -16,6 +16,7 @@ import compare
 import large
 
 import changed
+import notes
 import tables
 
 NOT_A_BOOK, NEWER, DAMAGED = "fault S1 NotABook", "fault S2 NewerEdition", "fault S7 Damaged"
@@ -178,9 +179,9 @@ def fault_of_refusal(program, path, statements, fault):
     changed.changed(path, statements)
     there = held(path)
     for _ in range(2):
-        got = call(program, "migrate", path)
-        if got != (fault + "\n", "", 4):
-            return f"{got}"
+        output, errors, status = call(program, "migrate", path)
+        if (output, status) != (fault + "\n", 4) or not notes.are(errors, changed.note_of(fault, path)):
+            return f"{output!r}, {errors!r}, {status}"
         if held(path) != there:
             return "the file holds something else"
     return ""
@@ -258,7 +259,7 @@ def fault_of_other(program, folder, name, make, fault):
     os.mkdir(folder)
     path = os.path.join(folder, "family.book")
     got, before, after, names = left(program, path, make, "migrate")
-    if got[0] != fault + "\n" or got[2] != 4 or bool(got[1]) != (fault == "fault open"):
+    if got[0] != fault + "\n" or got[2] != 4 or not notes.are(got[1], "S2 NewerEdition: " if fault == NEWER else "F"):
         return f"{got}"
     if name in EMPTY:
         after = after[:1]  # of a log each call writes another
@@ -266,7 +267,10 @@ def fault_of_other(program, folder, name, make, fault):
         return "the file changed"
     for words in (["holdings"], ["post", "--batch", "a"]):
         other = left(program, path, make, *words)
-        if (other[0], other[2][: len(after)], other[3]) != (got, after, names):
+        wanted = got, after, names
+        if (name, *words) == ("an empty file", "holdings"):  # a report leaves it empty
+            wanted = got, before, ["family.book"]
+        if (other[0], other[2][: len(wanted[1])], other[3]) != wanted:
             return f"{words[0]} answers {other[0]}, and leaves {other[3]}"
     return ""
 

@@ -18,6 +18,7 @@ import time
 import compare
 import large
 
+import notes
 import tables
 
 FAULTS = ("fault S4 Device", "fault S5 InDoubt", "fault open")
@@ -110,6 +111,8 @@ def roomless(ground, room):
     words = [ground.program, "migrate", "--book", ground.book]
     done = subprocess.run(words, stdin=subprocess.DEVNULL, capture_output=True, timeout=600, preexec_fn=limited(room))
     said, status = done.stdout.decode(), done.returncode
+    if notes.without(done.stderr) or (done.stderr and status == 0):
+        return f"{said[:80]!r}, status {status}, messages {done.stderr[:80]!r}", said
     if (said, status) != ("book migrated\n", 0) and (said.rstrip("\n") not in FAULTS or status != 4):
         return f"{said[:80]!r}, status {status}, '{done.stderr.decode()[:80]}'", said
     return ground.fault_then(said == "book migrated\n")[1], said

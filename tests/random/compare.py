@@ -19,10 +19,13 @@ import subprocess
 import sys
 from typing import NamedTuple
 
+sys.path.append(os.path.join(os.path.dirname(os.path.abspath(__file__)), "..", "lib"))
+
 import draw
 import forms
 import model
 import mutate
+import notes
 import spell
 import text as second
 
@@ -196,7 +199,7 @@ def both_signs(book):
 
 def run(program, text):
     done = subprocess.run([program], input=text, capture_output=True, timeout=120)
-    return done.stdout, done.returncode, done.stderr
+    return done.stdout, done.returncode, notes.without(done.stderr)
 
 
 def answer_to(text):

@@ -18,9 +18,11 @@ import subprocess
 import sys
 
 sys.path.append(os.path.join(os.path.dirname(os.path.abspath(__file__)), "..", "book"))
+sys.path.append(os.path.join(os.path.dirname(os.path.abspath(__file__)), "..", "lib"))
 
 import draw
 import model
+import notes
 import spell
 import tables
 from model import ONE, day_text, key_order, money_text, number_text
@@ -252,7 +254,7 @@ def openings(book, seen):
 
 def call(program, words, text=b""):
     done = subprocess.run([program, *words], input=text, capture_output=True, timeout=120)
-    return done.stdout.decode(), done.returncode, done.stderr.decode()
+    return done.stdout.decode(), done.returncode, notes.without(done.stderr).decode()
 
 
 def quote_more(rng, drawing):

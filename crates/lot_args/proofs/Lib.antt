@@ -1,3 +1,4 @@
+mod HelpLemmas
 mod ProgramLemmas
 mod ValueLemmas
 mod WordsLemmas

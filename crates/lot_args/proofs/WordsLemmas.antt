@@ -18,12 +18,12 @@ use Rattle.clap.proofs.WalkLemmas.{both}
 use Rattle.lot_args.specs.Faults.{Refuses}
 use Rattle.lot_args.specs.Options.{options_of}
 use Rattle.lot_args.specs.Steps.{JudgesOptions}
-use Rattle.lot_args.specs.Words.{Ask, WordAsks, bad_of, is_number, number_or_one}
-use Rattle.lot_args.specs.declared.action.Action.{Action}
-use Rattle.lot_args.specs.declared.action.Action.TheVariants.{Check}
+use Rattle.lot_args.specs.From.{is_number, number_or_one}
+use Rattle.lot_args.specs.Words.{Ask, ChecksWith, WordRequests, bad_of}
 use Rattle.lot_args.specs.declared.fault.BadOption.{BadOption}
 use Rattle.lot_args.specs.declared.fault.WordsFault.{WordsFault}
 use Rattle.lot_args.specs.declared.fault.WordsFault.TheVariants.{BadValue, Memory, Usage}
+use Rattle.lot_args.specs.declared.request.Request.{Request}
 
 -- a text that is there, or else the empty one
 pub text_or_empty : (o : Option (Bor Text)) (none : Bor Text) (v : Option Text) → none.now ≡ [] → option_map (λ s. s.now) o ≡ v
@@ -91,19 +91,24 @@ pub met_none : (m : ArgMatches) → subcommand_name_of m ≡ None → subcommand
 met_none m named = no_parts _ _ _ named
 
 -- where no word was met, a check is asked for
-pub ask_of_none : (o : Option (Text × List Row)) (faults : Kinds) → o ≡ None → faults ≡ [] → (faults ≡ []) × Ask o Check × (bad_of o ≡ None)
-ask_of_none o faults met none = (none, rw met refl, rw met refl)
+pub ask_of_none : (o : Option (Text × List Row)) (faults : Kinds) (read before : List Row) (request : Request)
+    → o ≡ None → faults ≡ [] → read ≡ before → ChecksWith read request → (faults ≡ []) × Ask before o request × (bad_of o ≡ None)
+ask_of_none o faults read before request met none same asks =
+    let Checks : List Row → Type 0 = λ rows. ChecksWith rows request in
+    (none, rw met (subst Checks same asks), rw met refl)
 
--- what was matched asks for the action of its word
-pub ask_of_word : (o : Option (Text × List Row)) (faults : Kinds) (r : Result Action WordsFault) (word : Text) (rows : List Row)
-    → o ≡ Some (word, rows) → faults ≡ [] → IfOk r (WordAsks word rows) → JudgesOptions rows (options_of word) r
-    → IfOk r (λ action. (faults ≡ []) × Ask o action × (bad_of o ≡ None))
-ask_of_word o faults (Ok action) word rows met none asks judged = (none, rw met asks, rw met judged)
-ask_of_word o faults (Err e) word rows met none asks judged = tt
+-- what was matched asks for what its word does
+pub ask_of_word : (o : Option (Text × List Row)) (faults : Kinds) (read before : List Row) (r : Result Request WordsFault) (word : Text) (rows : List Row)
+    → o ≡ Some (word, rows) → faults ≡ [] → read ≡ before → IfOk r (WordRequests read word rows) → JudgesOptions rows (options_of word) r
+    → IfOk r (λ request. (faults ≡ []) × Ask before o request × (bad_of o ≡ None))
+ask_of_word o faults read before (Ok request) word rows met none same asks judged =
+    let Requests : List Row → Type 0 = λ rows-before. WordRequests rows-before word rows request in
+    (none, rw met (subst Requests same asks), rw met judged)
+ask_of_word o faults read before (Err e) word rows met none same asks judged = tt
 
-pub bad_of_word : (o : Option (Text × List Row)) (faults : Kinds) (r : Result Action WordsFault) (bad : BadOption) (word : Text) (rows : List Row)
+pub bad_of_word : (o : Option (Text × List Row)) (faults : Kinds) (r : Result Request WordsFault) (bad : BadOption) (word : Text) (rows : List Row)
     → o ≡ Some (word, rows) → faults ≡ [] → JudgesOptions rows (options_of word) r → r ≡ Err (BadValue bad) → (faults ≡ []) × (bad_of o ≡ Some bad)
-bad_of_word o faults (Ok action) bad word rows met none judged e = cc
+bad_of_word o faults (Ok request) bad word rows met none judged e = cc
 bad_of_word o faults (Err (Usage error)) bad word rows met none judged e = absurd judged
 bad_of_word o faults (Err Memory) bad word rows met none judged e = cc
 bad_of_word o faults (Err (BadValue told)) bad word rows met none judged e =
@@ -111,17 +116,17 @@ bad_of_word o faults (Err (BadValue told)) bad word rows met none judged e =
     (none, rw met (judged ∙ ap Some same))
 
 -- an error of `clap` that is out of memory is told as that
-pub no_usage : (error : Error) (r : Result Action WordsFault) → IsErrAnd r (Refuses error) → kind_of error ≡ kind.OutOfMemory
+pub no_usage : (error : Error) (r : Result Request WordsFault) → IsErrAnd r (Refuses error) → kind_of error ≡ kind.OutOfMemory
     → (told : Error) → r ≢ Err (Usage told)
-no_usage error (Ok action) refused memory told e = cc
+no_usage error (Ok request) refused memory told e = cc
 no_usage error (Err (Usage other)) refused memory told e = refused.1 memory
 no_usage error (Err (BadValue bad)) refused memory told e = absurd refused
 no_usage error (Err Memory) refused memory told e = cc
 
 -- of which kind the error is that is told
-pub kind_told : (error : Error) (r : Result Action WordsFault) (known kinds : Kinds) → IsErrAnd r (Refuses error) → HasKind known error → known ≡ kinds
+pub kind_told : (error : Error) (r : Result Request WordsFault) (known kinds : Kinds) → IsErrAnd r (Refuses error) → HasKind known error → known ≡ kinds
     → (told : Error) → r ≡ Err (Usage told) → IsAmong (kind_of told) kinds
-kind_told error (Ok action) known kinds refused has is told e = cc
+kind_told error (Ok request) known kinds refused has is told e = cc
 kind_told error (Err (BadValue bad)) known kinds refused has is told e = absurd refused
 kind_told error (Err Memory) known kinds refused has is told e = cc
 kind_told error (Err (Usage other)) known kinds refused has is told e =

@@ -1,12 +1,51 @@
 -- Words that the laws speak of.
-use Rattle.std.specs.Prelude.{ℕ, List, [], ◌∷◌, Option, codes, option_map}
-use Rattle.clap.specs.Words.{Row, Text}
-use Rattle.lot_args.specs.Options.{value_of}
-use Rattle.lot_args.specs.Words.{from_of}
+use Rattle.std.specs.Prelude.{Bool, ℕ, List, [], ◌∷◌, Option, codes, option_map}
+use Rattle.clap.specs.Words.{Row, Text, first_of, matches_of, subcommand_of}
+use Rattle.lot_args.specs.Options.{has_row, value_of}
+use Rattle.lot_args.specs.Program.{program_app}
+use Rattle.lot_args.specs.From.{from_of}
+use Rattle.lot_args.specs.Words.{effect_of, notes_of}
+use Rattle.lot_args.specs.declared.request.Effect.{Effect}
+use Rattle.lot_args.specs.declared.request.Notes.{Notes}
 
 -- lotbook post --book f --batch a --from 7
 abbrev pub a_post : List Text
 a_post = codes "lotbook" ∷ codes "post" ∷ codes "--book" ∷ codes "f" ∷ codes "--batch" ∷ codes "a" ∷ codes "--from" ∷ codes "7" ∷ []
+
+-- lotbook --quiet import --book f --batch a --invest A:B --cash A:B --fees A:B --gains A:B --dry-run --all-or-none
+abbrev pub a_dry_run : List Text
+a_dry_run =
+    codes "lotbook" ∷ codes "--quiet" ∷ codes "import" ∷ codes "--book" ∷ codes "f" ∷ codes "--batch" ∷ codes "a"
+    ∷ codes "--invest" ∷ codes "A:B" ∷ codes "--cash" ∷ codes "A:B" ∷ codes "--fees" ∷ codes "A:B" ∷ codes "--gains" ∷ codes "A:B"
+    ∷ codes "--dry-run" ∷ codes "--all-or-none" ∷ []
+
+-- lotbook post --book f --batch a --explain-all --all-or-none
+abbrev pub a_whole_post : List Text
+a_whole_post =
+    codes "lotbook" ∷ codes "post" ∷ codes "--book" ∷ codes "f" ∷ codes "--batch" ∷ codes "a" ∷ codes "--explain-all"
+    ∷ codes "--all-or-none" ∷ []
+
+-- lotbook post --book f --row-of a --ref r
+abbrev pub a_row : List Text
+a_row =
+    codes "lotbook" ∷ codes "post" ∷ codes "--book" ∷ codes "f" ∷ codes "--row-of" ∷ codes "a" ∷ codes "--ref" ∷ codes "r" ∷ []
+
+-- lotbook explain B2
+abbrev pub a_question : List Text
+a_question = codes "lotbook" ∷ codes "explain" ∷ codes "B2" ∷ []
+
+-- what a call of a word may leave in the book, and what it explains
+abbrev pub flags_of : List Text → Option (Effect × Notes)
+flags_of words =
+    option_map (λ asked. (effect_of asked.1, notes_of (matches_of program_app words) asked.1)) (subcommand_of program_app words)
+
+-- a word for a row, with its batch and its reference
+abbrev pub row_of : Option (Text × List Row) → Option (Bool × Text × Text)
+row_of = option_map (λ asked. (has_row asked.1, value_of (codes "row-of") asked.1, value_of (codes "ref") asked.1))
+
+-- a word with the code that stands behind it
+abbrev pub code_of : Option (Text × List Row) → Option (Text × Option Text)
+code_of = option_map (λ asked. (asked.0, first_of (codes "code") asked.1))
 
 -- a word with its book, its batch and the number of its first command
 abbrev pub parts_of : Option (Text × List Row) → Option (Text × Text × Text × ℕ)

@@ -1,5 +1,6 @@
 pub mod Batch
 pub mod Start
+pub mod From
 pub mod Program
 pub mod Options
 pub mod Faults

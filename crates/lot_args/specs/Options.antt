@@ -1,13 +1,14 @@
 -- The values of options, and which of them are outside their rules.
-use Rattle.std.specs.Prelude.{if◌then◌else◌, ℤ, Bool, true, not, is_some, List, [], ◌∷◌, Option, codes, find, option_and_then, unwrap_or}
+use Rattle.std.specs.Prelude.{if◌then◌else◌, ◌||◌, ◌==◌, ℤ, Bool, true, not, is_some, List, [], ◌∷◌, Option, codes, find, option_and_then, unwrap_or}
 use Rattle.std.specs.Str.{bytes_eq}
 use Rattle.std.specs.Option.{option_map_or}
 use Rattle.clap.specs.Words.{Row, Text, first_of}
 use Rattle.lot_base.specs.Day.{named_day}
-use Rattle.lot_base.specs.Name.{is_account}
+use Rattle.lot_base.specs.Name.{is_account, is_label}
 use Rattle.lot_args.specs.Batch.{is_batch}
+use Rattle.lot_args.specs.From.{from_of}
 use Rattle.lot_args.specs.declared.fault.BadOption.{BadOption}
-use Rattle.lot_args.specs.declared.fault.BadOption.TheVariants.{Batch, Invest, Cash, Fees, Gains, Day, First, Last}
+use Rattle.lot_args.specs.declared.fault.BadOption.TheVariants.{Batch, PostBatch, RowOf, Ref, From, Invest, Cash, Fees, Gains, Day, First, Last}
 
 -- ---- values
 
@@ -24,6 +25,10 @@ day_of name rows = option_and_then named_day (first_of name rows)
 -- the option without its dashes
 abbrev pub name_of : BadOption → Text
 name_of Batch = codes "batch"
+name_of PostBatch = codes "batch"
+name_of RowOf = codes "row-of"
+name_of Ref = codes "ref"
+name_of From = codes "from"
 name_of Invest = codes "invest"
 name_of Cash = codes "cash"
 name_of Fees = codes "fees"
@@ -40,9 +45,22 @@ has_account name rows = is_account (value_of name rows)
 abbrev pub has_day : Text → List Row → Bool
 has_day name rows = option_map_or (λ text. is_some (named_day text)) (first_of name rows) true
 
--- whether the value of the option is within its rule
+-- whether the option is given
+abbrev pub is_given : Text → List Row → Bool
+is_given name rows = is_some (first_of name rows)
+
+-- whether a command is posted for the row of a broker file
+abbrev pub has_row : List Row → Bool
+has_row = is_given (codes "row-of")
+
+-- whether the value of the option is within its rule: of a post for a row `--batch` isn't given and `--from` is 1, and `--ref`
+-- is given with it alone
 abbrev pub is_good : List Row → BadOption → Bool
 is_good rows Batch = is_batch (value_of (codes "batch") rows)
+is_good rows PostBatch = if has_row rows then not (is_given (codes "batch") rows) else is_batch (value_of (codes "batch") rows)
+is_good rows RowOf = not (has_row rows) || is_batch (value_of (codes "row-of") rows)
+is_good rows Ref = if has_row rows then is_label (value_of (codes "ref") rows) else not (is_given (codes "ref") rows)
+is_good rows From = not (has_row rows) || (from_of rows == 1)
 is_good rows Invest = has_account (codes "invest") rows
 is_good rows Cash = has_account (codes "cash") rows
 is_good rows Fees = has_account (codes "fees") rows
@@ -59,7 +77,7 @@ account_options = Invest ∷ Cash ∷ Fees ∷ Gains ∷ []
 -- the options of a word whose values have a rule of ours, in the order of the table of words in docs/RULES.md
 abbrev pub options_of : Text → List BadOption
 options_of word =
-    if bytes_eq word (codes "post") then Batch ∷ []
+    if bytes_eq word (codes "post") then PostBatch ∷ RowOf ∷ Ref ∷ From ∷ []
     else (if bytes_eq word (codes "import") then Batch ∷ account_options
     else (if bytes_eq word (codes "holdings") then Day ∷ []
     else (if bytes_eq word (codes "gains") then First ∷ Last ∷ [] else [])))

@@ -1,7 +1,7 @@
 -- The words that the program takes, as `clap` keeps them.
 use Rattle.std.specs.Prelude.{pos, true, List, [], ◌∷◌, codes, Some}
 use Rattle.clap.specs.Words.{App, Rule, Text, new_app, new_rule, with_rule, with_subcommand}
-use Rattle.clap.specs.declared.builder.ArgAction.TheVariants.{Set}
+use Rattle.clap.specs.declared.builder.ArgAction.TheVariants.{Set, SetTrue}
 use Rattle.clap.specs.declared.builder.value_parser.ValueParser.TheVariants.{Signed}
 use Rattle.lot_args.specs.Start.{greatest_start}
 
@@ -17,6 +17,14 @@ required_rule name = record (option_rule name) { required = true }
 abbrev pub from_rule : Rule
 from_rule = record (option_rule (codes "from")) { parser = Some (Signed (pos 1) (pos greatest_start)); defaults = codes "1" ∷ [] }
 
+-- one without a value
+abbrev pub flag_rule : Text → Rule
+flag_rule name = record (new_rule name) { long = Some name; action = Some SetTrue }
+
+-- a value that stands without an option, and need not be given
+abbrev pub place_rule : Text → Rule
+place_rule name = record (new_rule name) { value_names = 1; action = Some Set }
+
 -- a word with its options
 abbrev pub with_rules : App → List Rule → App
 with_rules app [] = app
@@ -25,42 +33,61 @@ with_rules app (rule ∷ rules) = with_rules (with_rule app rule) rules
 abbrev pub word_app : Text → List Rule → App
 word_app name rules = with_rules (new_app name) rules
 
+-- a word on a book
+abbrev pub book_app : Text → List Rule → App
+book_app name rules = word_app name (required_rule (codes "book") ∷ flag_rule (codes "quiet") ∷ rules)
+
 abbrev pub init_app : App
-init_app = word_app (codes "init") (required_rule (codes "book") ∷ [])
+init_app = book_app (codes "init") (flag_rule (codes "dry-run") ∷ [])
 
 abbrev pub migrate_app : App
-migrate_app = word_app (codes "migrate") (required_rule (codes "book") ∷ [])
+migrate_app = book_app (codes "migrate") (flag_rule (codes "dry-run") ∷ [])
+
+-- the options of a word whose commands are judged one after another
+abbrev pub run_rules : List Rule
+run_rules = from_rule ∷ flag_rule (codes "dry-run") ∷ flag_rule (codes "all-or-none") ∷ flag_rule (codes "explain-all") ∷ []
+
+abbrev pub run_app : Text → List Rule → App
+run_app name rules = with_rules (book_app name rules) run_rules
 
 abbrev pub post_app : App
-post_app = word_app (codes "post") (required_rule (codes "book") ∷ required_rule (codes "batch") ∷ from_rule ∷ [])
+post_app = run_app (codes "post") (option_rule (codes "batch") ∷ option_rule (codes "row-of") ∷ option_rule (codes "ref") ∷ [])
 
 abbrev pub import_app : App
 import_app =
-    word_app (codes "import")
-    (required_rule (codes "book") ∷ required_rule (codes "batch") ∷ required_rule (codes "invest")
-    ∷ required_rule (codes "cash") ∷ required_rule (codes "fees") ∷ required_rule (codes "gains") ∷ from_rule ∷ [])
+    run_app (codes "import")
+    (required_rule (codes "batch") ∷ required_rule (codes "invest") ∷ required_rule (codes "cash")
+    ∷ required_rule (codes "fees") ∷ required_rule (codes "gains") ∷ [])
 
 abbrev pub holdings_app : App
-holdings_app = word_app (codes "holdings") (required_rule (codes "book") ∷ option_rule (codes "day") ∷ [])
+holdings_app = book_app (codes "holdings") (option_rule (codes "day") ∷ [])
 
 abbrev pub gains_app : App
-gains_app =
-    word_app (codes "gains") (required_rule (codes "book") ∷ option_rule (codes "first") ∷ option_rule (codes "last") ∷ [])
+gains_app = book_app (codes "gains") (option_rule (codes "first") ∷ option_rule (codes "last") ∷ [])
 
 abbrev pub journal_app : App
-journal_app = word_app (codes "journal") (required_rule (codes "book") ∷ [])
+journal_app = book_app (codes "journal") []
+
+abbrev pub explain_app : App
+explain_app = word_app (codes "explain") (place_rule (codes "code") ∷ [])
 
 -- a command with its words
 abbrev pub with_words : App → List App → App
 with_words app [] = app
 with_words app (word ∷ words) = with_words (with_subcommand app word.top) words
 
--- the program without a word: it has a version, and no word for help
-abbrev pub bare_app : App
-bare_app =
+-- the name of the program, which has a version; `clap` adds the word `help`
+abbrev pub named_app : App
+named_app =
     let bare = new_app (codes "lotbook") in
-    record bare { top = record bare.top { has_version = true; disable_help_subcommand = true } }
+    record bare { top = record bare.top { has_version = true } }
+
+-- the program without a word, with the options of a check
+abbrev pub bare_app : App
+bare_app = with_rules named_app (flag_rule (codes "quiet") ∷ flag_rule (codes "explain-all") ∷ [])
 
 -- the program
 abbrev pub program_app : App
-program_app = with_words bare_app (init_app ∷ migrate_app ∷ post_app ∷ import_app ∷ holdings_app ∷ gains_app ∷ journal_app ∷ [])
+program_app =
+    with_words bare_app
+    (init_app ∷ migrate_app ∷ post_app ∷ import_app ∷ holdings_app ∷ gains_app ∷ journal_app ∷ explain_app ∷ [])

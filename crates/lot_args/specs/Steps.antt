@@ -1,5 +1,5 @@
 -- What the steps of reading words answer, for the code alone.
-use Rattle.std.specs.Prelude.{◌≡◌, ◌⊎◌, List, [], ◌∷◌, Some, None, Result, Ok, Err, codes}
+use Rattle.std.specs.Prelude.{◌≡◌, ◌⊎◌, List, [], ◌∷◌, ◌++◌, Some, None, Result, Ok, Err, codes}
 use Rattle.clap.specs.Words.{Row, Text}
 use Rattle.lot_args.specs.Options.{first_bad}
 use Rattle.lot_args.specs.declared.fault.BadOption.{BadOption}
@@ -11,11 +11,18 @@ abbrev pub IsOneOf : List Text → Text → Type 0
 IsOneOf [] word = ⊥
 IsOneOf (name ∷ names) word = (word ≡ name) ⊎ IsOneOf names word
 
+-- the words on a book
+abbrev pub book_words : List Text
+book_words =
+    codes "init" ∷ codes "migrate" ∷ codes "post" ∷ codes "import" ∷ codes "holdings" ∷ codes "gains" ∷ codes "journal" ∷ []
+
+-- there is such a word on a book
+abbrev pub IsBookWord : Text → Type 0
+IsBookWord = IsOneOf book_words
+
 -- there is such a word
 abbrev pub IsWord : Text → Type 0
-IsWord =
-    IsOneOf
-    (codes "init" ∷ codes "migrate" ∷ codes "post" ∷ codes "import" ∷ codes "holdings" ∷ codes "gains" ∷ codes "journal" ∷ [])
+IsWord = IsOneOf (book_words ++ codes "explain" ∷ [])
 
 -- what a word answers whose options are all looked at before a value is kept: out of memory only where none is bad
 abbrev pub JudgesOptions : {T : Type 0} → List Row → List BadOption → Result T WordsFault → Type 0

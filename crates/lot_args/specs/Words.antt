@@ -1,32 +1,24 @@
--- What words ask for: the action that the values matched by `clap` name, and the option whose value is outside its rule.
-use Rattle.std.specs.Prelude.{◌≡◌, ◌&&◌, ◌^◌, if◌then◌else◌, ℕ, Bool, List, [], Option, Some, None, codes, length, nat_lt, option_and_then}
-use Rattle.std.specs.Char.{digit_value}
-use Rattle.std.specs.List.{list_all}
+-- What words ask for: what the values matched by `clap` name, and the option whose value is outside its rule.
+use Rattle.std.specs.Prelude.{◌≡◌, ◌||◌, if◌then◌else◌, ℕ, Bool, false, true, List, [], Option, Some, None, codes, option_and_then, option_map}
 use Rattle.std.specs.Option.{option_map_or}
-use Rattle.std.specs.Str.Parse.{digits_value, without_leading_plus}
+use Rattle.std.specs.Str.{bytes_eq}
 use Rattle.std.specs.String.{string_bytes}
-use Rattle.clap.specs.Words.{Row, Text, fault_of, one_of, subcommand_of}
+use Rattle.clap.specs.Words.{Row, Text, fault_of, first_of, matches_of, subcommand_of}
 use Rattle.lot_import.specs.declared.accounts.Accounts.{Accounts}
-use Rattle.lot_args.specs.Options.{day_of, first_bad, options_of, value_of}
+use Rattle.lot_args.specs.From.{from_of}
+use Rattle.lot_args.specs.Options.{day_of, first_bad, has_row, options_of, value_of}
 use Rattle.lot_args.specs.Program.{program_app}
-use Rattle.lot_args.specs.Start.{start_at}
 use Rattle.lot_args.specs.declared.action.Action.{Action}
-use Rattle.lot_args.specs.declared.action.Action.TheVariants.{Check, Init, Migrate, Post, Import, Holdings, Gains, Journal}
+use Rattle.lot_args.specs.declared.action.Action.TheVariants.{Check, Init, Migrate, Post, PostRow, Import, Holdings, Gains, Journal}
 use Rattle.lot_args.specs.declared.fault.BadOption.{BadOption}
+use Rattle.lot_args.specs.declared.request.Effect.{Effect}
+use Rattle.lot_args.specs.declared.request.Effect.TheVariants.{AllOrNone, DryRun, Keep}
+use Rattle.lot_args.specs.declared.request.Notes.{Notes}
+use Rattle.lot_args.specs.declared.request.Notes.TheVariants.{All, Quiet, Ten}
+use Rattle.lot_args.specs.declared.request.Request.{Request}
+use Rattle.lot_args.specs.declared.request.Request.TheVariants.{Act, Explain}
 
 -- ---- the values of a word
-
--- whether the digits are those of a number of 32 bits
-abbrev pub is_number : Text → Bool
-is_number digits = nat_lt 0 (length digits) && list_all (λ d. nat_lt (digit_value d) 10) digits && nat_lt (digits_value 10 digits) (2 ^ 32)
-
--- the number that a text is, as `u32` reads it: a plus sign may stand first; 1 where it is none
-abbrev pub number_or_one : Text → ℕ
-number_or_one text = let digits = without_leading_plus text in if is_number digits then digits_value 10 digits else 1
-
--- the number of the first command or row to run
-abbrev pub from_of : List Row → ℕ
-from_of rows = start_at (option_map_or number_or_one (one_of (codes "from") rows) 1)
 
 abbrev pub accounts_of : List Row → Accounts
 accounts_of rows = record {
@@ -35,6 +27,28 @@ accounts_of rows = record {
   fees = value_of (codes "fees") rows;
   gains = value_of (codes "gains") rows;
 }
+
+-- ---- options without a value
+
+-- whether the option is given
+abbrev pub is_set : Text → List Row → Bool
+is_set name rows = option_map_or (λ text. bytes_eq text (codes "true")) (first_of name rows) false
+
+-- what the call may leave in the book: where both options are given, nothing
+abbrev pub effect_of : List Row → Effect
+effect_of rows =
+    if is_set (codes "dry-run") rows then DryRun
+    else (if is_set (codes "all-or-none") rows then AllOrNone else Keep)
+
+-- whether an option that may stand before the word or behind it is given
+abbrev pub is_in_either : Text → List Row → List Row → Bool
+is_in_either name before rows = is_set name before || is_set name rows
+
+-- what the call explains: where both options are given, nothing
+abbrev pub notes_of : List Row → List Row → Notes
+notes_of before rows =
+    if is_in_either (codes "quiet") before rows then Quiet
+    else (if is_in_either (codes "explain-all") before rows then All else Ten)
 
 -- ---- the action
 
@@ -48,7 +62,11 @@ WordAsks word rows Check = ⊥
 WordAsks word rows (Init book) = (word ≡ codes "init") × IsBook rows (string_bytes book)
 WordAsks word rows (Migrate book) = (word ≡ codes "migrate") × IsBook rows (string_bytes book)
 WordAsks word rows (Post book batch from) =
-    (word ≡ codes "post") × IsBook rows (string_bytes book) × (batch ≡ value_of (codes "batch") rows) × (from ≡ from_of rows)
+    (word ≡ codes "post") × (has_row rows ≡ false) × IsBook rows (string_bytes book)
+    × (batch ≡ value_of (codes "batch") rows) × (from ≡ from_of rows)
+WordAsks word rows (PostRow book batch reference) =
+    (word ≡ codes "post") × (has_row rows ≡ true) × IsBook rows (string_bytes book)
+    × (batch ≡ value_of (codes "row-of") rows) × (reference ≡ value_of (codes "ref") rows)
 WordAsks word rows (Import book batch accounts from) =
     (word ≡ codes "import") × IsBook rows (string_bytes book) × (batch ≡ value_of (codes "batch") rows)
     × (accounts ≡ accounts_of rows) × (from ≡ from_of rows)
@@ -59,10 +77,26 @@ WordAsks word rows (Gains book first last) =
     × (last ≡ day_of (codes "last") rows)
 WordAsks word rows (Journal book) = (word ≡ codes "journal") × IsBook rows (string_bytes book)
 
--- no word asks for a check
-abbrev pub Ask : Option (Text × List Row) → Action → Type 0
-Ask None action = action ≡ Check
-Ask (Some asked) action = WordAsks asked.0 asked.1 action
+-- ---- the request
+
+-- the code that is to be explained
+abbrev pub IsCode : List Row → Option (List ℕ) → Type 0
+IsCode rows code = code ≡ first_of (codes "code") rows
+
+-- a word with the values of its options, and with those before it, asks for this
+abbrev pub WordRequests : List Row → Text → List Row → Request → Type 0
+WordRequests before word rows (Act action effect notes) =
+    WordAsks word rows action × (effect ≡ effect_of rows) × (notes ≡ notes_of before rows)
+WordRequests before word rows (Explain code) = (word ≡ codes "explain") × IsCode rows (option_map string_bytes code)
+
+-- no word asks for a check, of which nothing is left
+abbrev pub ChecksWith : List Row → Request → Type 0
+ChecksWith rows (Act action effect notes) = (action ≡ Check) × (effect ≡ Keep) × (notes ≡ notes_of rows rows)
+ChecksWith rows (Explain code) = ⊥
+
+abbrev pub Ask : List Row → Option (Text × List Row) → Request → Type 0
+Ask before None request = ChecksWith before request
+Ask before (Some asked) request = WordRequests before asked.0 asked.1 request
 
 -- ---- a bad value
 
@@ -72,10 +106,11 @@ bad_of = option_and_then (λ asked. first_bad asked.1 (options_of asked.0))
 
 -- ---- all words
 
--- `clap` takes the words, of which the first is the program's name, no value is outside its rule, and they ask for the action
-abbrev pub AskFor : List Text → Action → Type 0
-AskFor words action =
-    (fault_of program_app words ≡ []) × Ask (subcommand_of program_app words) action × (bad_of (subcommand_of program_app words) ≡ None)
+-- `clap` takes the words, of which the first is the program's name, no value is outside its rule, and they ask for this
+abbrev pub AskFor : List Text → Request → Type 0
+AskFor words request =
+    (fault_of program_app words ≡ []) × Ask (matches_of program_app words) (subcommand_of program_app words) request
+    × (bad_of (subcommand_of program_app words) ≡ None)
 
 -- `clap` takes the words, and this is the first option whose value is outside its rule
 abbrev pub HaveBadIn : List Text → BadOption → Type 0

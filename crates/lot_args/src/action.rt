@@ -1,12 +1,12 @@
 use crate::batch::Batch;
 use crate::start::Start;
-use lot_base::Day;
+use lot_base::{Day, Label};
 use lot_import::Accounts;
 
 /// What the program is asked to do. A book is named by the path of its file.
 #[derive(Drop)]
 pub enum Action {
-    /// No words: ledger text is judged on a fresh book in memory.
+    /// No word: ledger text is judged on a fresh book in memory.
     Check,
     /// A book is made in a file.
     Init {
@@ -21,6 +21,13 @@ pub enum Action {
         book: String,
         batch: Batch,
         from: Start,
+    },
+    /// The one command of ledger text is judged on a book, and kept there, in place of the row with that `ref` of a broker
+    /// file.
+    PostRow {
+        book: String,
+        batch: Batch,
+        reference: Label,
     },
     /// The rows of a broker file are posted to the accounts of a book, and kept there.
     Import {

@@ -12,6 +12,14 @@ use std::fmt;
 pub enum BadOption {
     /// `--batch`, whose value is no name of a batch.
     Batch,
+    /// `--batch` of a post, whose value is no name of a batch; or which stands beside `--row-of`.
+    PostBatch,
+    /// `--row-of`, whose value is no name of a batch.
+    RowOf,
+    /// `--ref`, whose value is no label; or which stands without `--row-of`.
+    Ref,
+    /// `--from`, whose value isn't 1, beside `--row-of`.
+    From,
     /// `--invest`, whose value is no account.
     Invest,
     /// `--cash`, whose value is no account.
@@ -34,7 +42,10 @@ impl BadOption {
         ensures { result.now ≡ name_of self }
     {
         match self {
-            BadOption::Batch => "batch",
+            BadOption::Batch | BadOption::PostBatch => "batch",
+            BadOption::RowOf => "row-of",
+            BadOption::Ref => "ref",
+            BadOption::From => "from",
             BadOption::Invest => "invest",
             BadOption::Cash => "cash",
             BadOption::Fees => "fees",
@@ -59,7 +70,7 @@ impl fmt::Display for BadOption {
     }
 }
 
-/// Why words name no action.
+/// Why words ask for nothing.
 #[derive(Drop)]
 pub enum WordsFault {
     /// `clap` doesn't take the words, or help or the version was asked for: its error says which, and has the text to show.

@@ -1,11 +1,11 @@
 //! What the words of the program ask for (docs/RULES.md, The program).
 //!
-//! - `action`: what can be asked for.
+//! - `request`: what can be asked for; `action`: what the program is asked to do.
 //! - `batch`: the names of batches.
 //! - `start`: the numbers at which a run may start.
 //! - `program`: the words that there are, with their help; `options`: their options.
-//! - `words`: from words to an action (`parse_words`); `values`: what the values of options say.
-//! - `fault`: why words name no action.
+//! - `words`: from words to a request (`parse_words`); `values`: what the values of options say.
+//! - `fault`: why words ask for nothing.
 //! - `laws`: what holds of the definitions that the contracts cite.
 #![tactic(auto)]
 
@@ -15,6 +15,7 @@ mod fault;
 pub mod laws;
 mod options;
 mod program;
+mod request;
 mod start;
 mod values;
 mod words;
@@ -22,5 +23,6 @@ mod words;
 pub use action::Action;
 pub use batch::Batch;
 pub use fault::{BadOption, WordsFault};
+pub use request::{Effect, Notes, Request};
 pub use start::Start;
 pub use words::parse_words;

@@ -1,9 +1,11 @@
 //! The words that there are, each with its help and its options.
-ghost use Rattle.std.specs.Prelude.{◌≡◌, IfOk, false, true};
+ghost use Rattle.std.specs.Prelude.{◌≡◌, [], IfOk, false, true};
 ghost use Rattle.clap.specs.Words.{app_of, new_app, rule_of, with_rule, with_subcommand};
-ghost use Rattle.lot_args.specs.Program.{bare_app, gains_app, holdings_app, import_app, init_app, journal_app, migrate_app, post_app, program_app};
+ghost use Rattle.lot_args.specs.Program.{bare_app, book_app, explain_app};
+ghost use Rattle.lot_args.specs.Program.{gains_app, holdings_app, import_app, init_app, journal_app};
+ghost use Rattle.lot_args.specs.Program.{migrate_app, named_app, post_app, program_app, run_rules, with_rules};
 
-use crate::options::{account, batch, book, day, from};
+use crate::options::{account, batch, book, explain_all, flag, from, given, place, quiet};
 use clap::{Arg, Command};
 use std::alloc::{AllocError, Global};
 
@@ -14,76 +16,108 @@ const VERSION: &str = "1.0.0";
 pub(crate) fn program<'a>(alloc: Global) -> Result<Command<'a>, AllocError>
     ensures { IfOk result (λ command. app_of command ≡ program_app) }
 {
-    let program = bare(alloc);
+    let program = bare(alloc)?;
     let program = with_word(program, init(alloc)?)?;
     let program = with_word(program, migrate(alloc)?)?;
     let program = with_word(program, post(alloc)?)?;
     let program = with_word(program, import(alloc)?)?;
     let program = with_word(program, holdings(alloc)?)?;
     let program = with_word(program, gains(alloc)?)?;
-    with_word(program, journal(alloc)?)
+    let program = with_word(program, journal(alloc)?)?;
+    with_word(program, explain(alloc)?)
 }
 
-/// `init --book FILE`
+/// `init --book FILE [--dry-run]`
 fn init<'a>(alloc: Global) -> Result<Command<'a>, AllocError>
     ensures { IfOk result (λ command. app_of command ≡ init_app) }
 {
-    let word = word(
+    let word = book_word(
         alloc,
         "init",
         "Makes a book in a file: lotbook init --book family.book\n\nA file that is a book already is left as it is, with the fault S1 NotABook.",
-    );
-    with_option(word, book(alloc))
-}
-
-/// `migrate --book FILE`
-fn migrate<'a>(alloc: Global) -> Result<Command<'a>, AllocError>
-    ensures { IfOk result (λ command. app_of command ≡ migrate_app) }
-{
-    let word = word(
-        alloc,
-        "migrate",
-        "Takes over a book of edition 1, which this program doesn't use as it is: lotbook migrate --book family.book\n\nEntries, sales and gains stay as they are. Of lots that are alike the sales behind them take the one that was opened first. There is no way back: keep a copy of the file. A book of this edition is left as it is.",
-    );
-    with_option(word, book(alloc))
-}
-
-/// `post --book FILE --batch NAME [--from N]`
-fn post<'a>(alloc: Global) -> Result<Command<'a>, AllocError>
-    ensures { IfOk result (λ command. app_of command ≡ post_app) }
-{
-    let word = word(
-        alloc,
-        "post",
-        "Judges ledger text from standard input on a book and keeps what is accepted, a commit for each command: lotbook post --book family.book --batch 2024 < 2024.ledger",
-    );
-    let word = with_option(word, book(alloc))?;
-    let word = with_option(
-        word,
-        batch(
-            alloc,
-            "A name for this list of commands, as in --batch 2024: 1 to 32 letters, digits, '.', '_' or '-'. A command that comes again under the same batch and number is a repeat and changes nothing",
-        ),
     )?;
     with_option(
         word,
-        from(
+        flag(
             alloc,
-            "The number of the first command to run, as in --from 120: those before it are read but not run, and a fault in one of them still stops the call",
+            "dry-run",
+            "Prints what the call would print and makes no file, as in lotbook init --book family.book --dry-run",
         ),
     )
 }
 
-/// `import --book FILE --batch NAME --invest ACCOUNT --cash ACCOUNT --fees ACCOUNT --gains ACCOUNT [--from N]`
+/// `migrate --book FILE [--dry-run]`
+fn migrate<'a>(alloc: Global) -> Result<Command<'a>, AllocError>
+    ensures { IfOk result (λ command. app_of command ≡ migrate_app) }
+{
+    let word = book_word(
+        alloc,
+        "migrate",
+        "Takes over a book of edition 1, which this program doesn't use as it is: lotbook migrate --book family.book\n\nEntries, sales and gains stay as they are. Of lots that are alike the sales behind them take the one that was opened first. There is no way back: keep a copy of the file. A book of this edition is left as it is.",
+    )?;
+    with_option(
+        word,
+        flag(
+            alloc,
+            "dry-run",
+            "Prints what the call would print and changes no file, as in lotbook migrate --book family.book --dry-run",
+        ),
+    )
+}
+
+/// `post --book FILE (--batch NAME [--from N] | --row-of NAME --ref REF) [--dry-run] [--all-or-none] [--explain-all]`
+fn post<'a>(alloc: Global) -> Result<Command<'a>, AllocError>
+    ensures { IfOk result (λ command. app_of command ≡ post_app) }
+{
+    let word = book_word(
+        alloc,
+        "post",
+        "Judges ledger text from standard input on a book and keeps what is accepted, a commit for each command: lotbook post --book family.book --batch 2024 < 2024.ledger\n\nA row of a broker file that was refused can be posted by hand, as one command that stands for it: lotbook post --book family.book --row-of broker --ref A17 < A17.ledger. When its file comes again the row is refused with L1 KeyReused, and doesn't act a second time.",
+    )?;
+    let word = with_option(
+        word,
+        given(
+            alloc,
+            "batch",
+            "NAME",
+            "A name for this list of commands, as in --batch 2024: 1 to 32 letters, digits, '.', '_' or '-'. A command that comes again under the same batch and number is a repeat and changes nothing. It has to be given where --row-of isn't",
+        ),
+    )?;
+    let word = with_option(
+        word,
+        given(
+            alloc,
+            "row-of",
+            "NAME",
+            "In place of --batch: the batch under which the broker file is imported, as in --row-of broker --ref A17. The text has to be one command, which is kept in place of that row",
+        ),
+    )?;
+    let word = with_option(
+        word,
+        given(
+            alloc,
+            "ref",
+            "REF",
+            "The ref of the row, as it stands in the file. It goes with --row-of",
+        ),
+    )?;
+    run_word(
+        alloc,
+        word,
+        "The number of the first command to run, as in --from 120: those before it are read but not run, and a fault in one of them still stops the call. It doesn't go with --row-of",
+    )
+}
+
+/// `import --book FILE --batch NAME --invest ACCOUNT --cash ACCOUNT --fees ACCOUNT --gains ACCOUNT
+/// [--from N] [--dry-run] [--all-or-none] [--explain-all]`
 fn import<'a>(alloc: Global) -> Result<Command<'a>, AllocError>
     ensures { IfOk result (λ command. app_of command ≡ import_app) }
 {
-    let word = word(
+    let word = book_word(
         alloc,
         "import",
         "Posts the rows of a broker file (CSV) from standard input to a book and keeps what is accepted, a commit for each row: lotbook import --book family.book --batch broker --invest Assets:Broker --cash Assets:Cash --fees Expenses:Fees --gains Income:Gains < deals.csv\n\nThe first record is ref,date,action,symbol,units,price,currency,fee and optionally lot. The rows have to be in the order of their days, the oldest first: a deal of an earlier day than the last one that was accepted for the same account and symbol is refused.",
-    );
-    let word = with_option(word, book(alloc))?;
+    )?;
     let word = with_option(
         word,
         batch(
@@ -123,30 +157,57 @@ fn import<'a>(alloc: Global) -> Result<Command<'a>, AllocError>
             "The account that takes what a sale gains or loses, as in --gains Income:Gains",
         ),
     )?;
-    with_option(
+    run_word(
+        alloc,
         word,
-        from(
-            alloc,
-            "The number of the first row to run, as in --from 120: those before it are read but not run, and a fault in one of them still stops the call",
-        ),
+        "The number of the first row to run, as in --from 120: those before it are read but not run, and a fault in one of them still stops the call",
     )
+}
+
+/// Returns a word whose commands are judged one after another, with the options of a run behind its others.
+fn run_word<'a>(
+    alloc: Global,
+    word: Command<'a>,
+    from_help: &'a str,
+) -> Result<Command<'a>, AllocError>
+    ensures { IfOk result (λ more.
+        app_of more ≡ with_rules (app_of word.entry) run_rules) }
+{
+    let word = with_option(word, from(alloc, from_help))?;
+    let word = with_option(
+        word,
+        flag(
+            alloc,
+            "dry-run",
+            "Prints what the call would print, with its status, and keeps nothing: neither the file of the book nor its log is changed",
+        ),
+    )?;
+    let word = with_option(
+        word,
+        flag(
+            alloc,
+            "all-or-none",
+            "Keeps all or nothing: where one is refused, or a fault comes, the replies are printed and nothing is in the book. A call that is killed in the middle leaves a part, and the same call again completes it",
+        ),
+    )?;
+    with_option(word, explain_all(alloc))
 }
 
 /// `holdings --book FILE [--day DAY]`
 fn holdings<'a>(alloc: Global) -> Result<Command<'a>, AllocError>
     ensures { IfOk result (λ command. app_of command ≡ holdings_app) }
 {
-    let word = word(
+    let word = book_word(
         alloc,
         "holdings",
         "Prints what a book holds and what it cost: lotbook holdings --book family.book",
-    );
-    let word = with_option(word, book(alloc))?;
+    )?;
     with_option(
         word,
-        day(
+        given(
             alloc,
             "day",
+            "DAY",
             "The day at whose prices the lots are valued, as in --day 2024-12-31. Without it no value is printed",
         ),
     )
@@ -156,25 +217,26 @@ fn holdings<'a>(alloc: Global) -> Result<Command<'a>, AllocError>
 fn gains<'a>(alloc: Global) -> Result<Command<'a>, AllocError>
     ensures { IfOk result (λ command. app_of command ≡ gains_app) }
 {
-    let word = word(
+    let word = book_word(
         alloc,
         "gains",
         "Prints what each sale of a book earned, lot by lot: lotbook gains --book family.book --first 2024-01-01 --last 2024-12-31",
-    );
-    let word = with_option(word, book(alloc))?;
+    )?;
     let word = with_option(
         word,
-        day(
+        given(
             alloc,
             "first",
+            "DAY",
             "The first day whose sales are printed, as in --first 2024-01-01. Without it they begin with the first sale",
         ),
     )?;
     with_option(
         word,
-        day(
+        given(
             alloc,
             "last",
+            "DAY",
             "The last day whose sales are printed, as in --last 2024-12-31. Without it they end with the last sale",
         ),
     )
@@ -184,24 +246,50 @@ fn gains<'a>(alloc: Global) -> Result<Command<'a>, AllocError>
 fn journal<'a>(alloc: Global) -> Result<Command<'a>, AllocError>
     ensures { IfOk result (λ command. app_of command ≡ journal_app) }
 {
-    let word = word(
+    book_word(
         alloc,
         "journal",
         "Prints the accepted commands of a book as ledger text: lotbook journal --book family.book > family.ledger",
-    );
-    with_option(word, book(alloc))
+    )
 }
 
-/// Returns the program without a word.
-fn bare<'a>(alloc: Global) -> Command<'a>
-    ensures { app_of result ≡ bare_app }
+/// `explain [CODE]`
+fn explain<'a>(alloc: Global) -> Result<Command<'a>, AllocError>
+    ensures { IfOk result (λ command. app_of command ≡ explain_app) }
+{
+    let word = word(
+        alloc,
+        "explain",
+        "Says what a code means that the program prints, and what helps: lotbook explain B2\n\nWithout a code it prints all of them, a line each.",
+    );
+    with_option(
+        word,
+        place(
+            alloc,
+            "code",
+            "CODE",
+            "The code or its name, in large or small letters, as in explain B2 or explain ambiguous",
+        ),
+    )
+}
+
+/// Returns the program without a word, with the options of a check.
+fn bare<'a>(alloc: Global) -> Result<Command<'a>, AllocError>
+    ensures { IfOk result (λ command. app_of command ≡ bare_app) }
+{
+    let program = with_option(named(alloc), quiet(alloc))?;
+    with_option(program, explain_all(alloc))
+}
+
+/// Returns the program with its name, its help and its version.
+fn named<'a>(alloc: Global) -> Command<'a>
+    ensures { app_of result ≡ named_app }
 {
     Command::new(alloc, "lotbook")
         .about(
             "A lot book: what an investor holds, what it cost, and what each sale earned.\n\nWithout a word it reads ledger text from standard input, judges it on a fresh book in memory, and prints a reply for each command and what is held then: lotbook < year.ledger",
         )
         .version(VERSION)
-        .disable_help_subcommand(true)
 }
 
 /// Returns the program with that word behind its others.
@@ -211,6 +299,14 @@ fn with_word<'a>(program: Command<'a>, word: Command<'a>) -> Result<Command<'a>,
         app_of more ≡ with_subcommand (app_of program.entry) (app_of word.entry).top) }
 {
     program.subcommand(word)
+}
+
+/// Returns the word of that name on a book, with the options that each of them has.
+fn book_word<'a>(alloc: Global, name: &'a str, about: &'a str) -> Result<Command<'a>, AllocError>
+    ensures { IfOk result (λ command. app_of command ≡ book_app name.now []) }
+{
+    let word = with_option(word(alloc, name, about), book(alloc))?;
+    with_option(word, quiet(alloc))
 }
 
 /// Returns the word of that name, with its help and without an option.

@@ -2,18 +2,21 @@
 //!
 //! All values are looked at before one is kept: what keeps one knows that it is within its rule.
 ghost use Rattle.std.specs.Prelude.{◌≡◌, IfOk, IfErr, IsTrue, None, codes, option_map};
+ghost use Rattle.lot_base.specs.Name.{is_label};
 ghost use Rattle.std.specs.String.{string_bytes};
 ghost use Rattle.clap.specs.Words.{first_of, found_of, rows_of};
 ghost use Rattle.lot_args.specs.Batch.{is_batch};
-ghost use Rattle.lot_args.specs.Options.{account_options, day_of, first_bad, has_account, is_good, name_of, options_of, value_of};
-ghost use Rattle.lot_args.specs.Words.{accounts_of, from_of};
+ghost use Rattle.lot_args.specs.Options.{account_options, day_of, first_bad, has_account, has_row, is_good, is_given, name_of, options_of, value_of};
+ghost use Rattle.lot_args.specs.From.{from_of};
+ghost use Rattle.lot_args.specs.Words.{IsCode, accounts_of, effect_of, is_in_either, is_set, notes_of};
 ghost use Rattle.lot_args.specs.declared.fault.WordsFault.TheVariants.{Memory};
 
 use crate::batch::Batch;
 use crate::fault::{BadOption, WordsFault};
+use crate::request::{Effect, Notes};
 use crate::start::Start;
 use clap::ArgMatches;
-use lot_base::{Account, Day};
+use lot_base::{Account, Day, Label};
 use lot_import::Accounts;
 use std::alloc::{AllocError, Global};
 
@@ -38,7 +41,12 @@ fn options_of(word: &str) -> &'static [BadOption]
     ensures { result.now ≡ options_of word.now }
 {
     match word {
-        "post" => &[BadOption::Batch],
+        "post" => &[
+            BadOption::PostBatch,
+            BadOption::RowOf,
+            BadOption::Ref,
+            BadOption::From,
+        ],
         "import" => &[
             BadOption::Batch,
             BadOption::Invest,
@@ -59,6 +67,12 @@ fn is_good(options: &ArgMatches<'_>, option: BadOption) -> bool
     let name = option.name();
     match option {
         BadOption::Batch => Batch::is_name(value(options, name)),
+        BadOption::PostBatch if has_row(options) => !is_given(options, name),
+        BadOption::PostBatch => Batch::is_name(value(options, name)),
+        BadOption::RowOf => !has_row(options) || Batch::is_name(value(options, name)),
+        BadOption::Ref if has_row(options) => Label::is_name(value(options, name)),
+        BadOption::Ref => !is_given(options, name),
+        BadOption::From => !has_row(options) || from(options).number() == FIRST,
         BadOption::Invest | BadOption::Cash | BadOption::Fees | BadOption::Gains => {
             Account::is_name(value(options, name))
         }
@@ -76,13 +90,38 @@ pub(crate) fn book(alloc: Global, options: &ArgMatches<'_>) -> Result<String, Al
     String::from_str(alloc, value(options, "book"))
 }
 
-/// Returns the batch, whose name is within its rule. The only error is out of memory.
-pub(crate) fn batch(alloc: Global, options: &ArgMatches<'_>) -> Result<Batch, WordsFault>
-    requires { IsTrue (is_batch (value_of (codes "batch") (rows_of (found_of options.now)))) }
-    ensures value { IfOk result (λ batch. batch ≡ value_of (codes "batch") (rows_of (found_of options.now))) }
+/// Returns whether a command is posted for the row of a broker file.
+pub(crate) fn has_row(options: &ArgMatches<'_>) -> bool
+    ensures { result ≡ has_row (rows_of (found_of options.now)) }
+{
+    is_given(options, "row-of")
+}
+
+/// Returns the batch that the value of an option names, which is within its rule. The only error is out of memory.
+pub(crate) fn batch(
+    alloc: Global,
+    options: &ArgMatches<'_>,
+    name: &str,
+) -> Result<Batch, WordsFault>
+    requires { IsTrue (is_batch (value_of name.now (rows_of (found_of options.now)))) }
+    ensures value { IfOk result (λ batch.
+        batch ≡ value_of name.now (rows_of (found_of options.now))) }
     ensures memory { IfErr result (λ fault. fault ≡ Memory) }
 {
-    Ok(Batch::new(alloc, value(options, "batch"))?)
+    Ok(Batch::new(alloc, value(options, name))?)
+}
+
+/// Returns the reference of a row, which is within its rule. The only error is out of memory.
+pub(crate) fn reference(alloc: Global, options: &ArgMatches<'_>) -> Result<Label, WordsFault>
+    requires { IsTrue (is_label (value_of (codes "ref") (rows_of (found_of options.now)))) }
+    ensures value { IfOk result (λ reference.
+        reference ≡ value_of (codes "ref") (rows_of (found_of options.now))) }
+    ensures memory { IfErr result (λ fault. fault ≡ Memory) }
+{
+    match Label::new(alloc, value(options, "ref")) {
+        Ok(reference) => Ok(reference),
+        Err(_) => Err(WordsFault::Memory),
+    }
 }
 
 /// Returns the accounts that rows are posted to, whose values are within their rules. The only error is out of memory.
@@ -130,11 +169,74 @@ pub(crate) fn from(options: &ArgMatches<'_>) -> Start
     Start::new(number).unwrap_or(Start::at_first())
 }
 
+/// Returns what a call may leave in the book. Where a dry run is asked for, `--all-or-none` changes nothing.
+pub(crate) fn effect(options: &ArgMatches<'_>) -> Effect
+    ensures { result ≡ effect_of (rows_of (found_of options.now)) }
+{
+    if is_set(options, "dry-run") {
+        return Effect::DryRun;
+    }
+    if is_set(options, "all-or-none") {
+        return Effect::AllOrNone;
+    }
+    Effect::Keep
+}
+
+/// Returns what a call explains, by the options before its word and by those behind it. Where `--quiet` is given,
+/// `--explain-all` changes nothing.
+pub(crate) fn notes(before: &ArgMatches<'_>, options: &ArgMatches<'_>) -> Notes
+    ensures { result ≡ notes_of (rows_of (found_of before.now)) (rows_of (found_of options.now)) }
+{
+    if is_in_either(before, options, "quiet") {
+        return Notes::Quiet;
+    }
+    if is_in_either(before, options, "explain-all") {
+        return Notes::All;
+    }
+    Notes::Ten
+}
+
+/// Returns the code that is to be explained, if one is named. The only error is out of memory.
+pub(crate) fn code(alloc: Global, options: &ArgMatches<'_>) -> Result<Option<String>, AllocError>
+    ensures { IfOk result (λ code.
+        IsCode (rows_of (found_of options.now)) (option_map string_bytes code)) }
+{
+    match given(options, "code") {
+        Some(code) => Ok(Some(String::from_str(alloc, code)?)),
+        None => Ok(None),
+    }
+}
+
+/// Returns whether an option without a value stands before the word or behind it.
+fn is_in_either(before: &ArgMatches<'_>, options: &ArgMatches<'_>, name: &str) -> bool
+    ensures { result ≡ is_in_either name.now
+        (rows_of (found_of before.now)) (rows_of (found_of options.now)) }
+{
+    is_set(before, name) || is_set(options, name)
+}
+
+/// Returns whether an option without a value is given: `clap` gives it the value `true`, and else `false`.
+fn is_set(options: &ArgMatches<'_>, name: &str) -> bool
+    ensures { result ≡ is_set name.now (rows_of (found_of options.now)) }
+{
+    match given(options, name) {
+        Some(text) => text == "true",
+        None => false,
+    }
+}
+
 /// Returns the value of an option, which `clap` has seen to where it is required, and else the empty text.
 fn value<'a>(options: &ArgMatches<'a>, name: &str) -> &'a str
     ensures { result.now ≡ value_of name.now (rows_of (found_of options.now)) }
 {
     given(options, name).unwrap_or("")
+}
+
+/// Returns whether an option is given.
+fn is_given(options: &ArgMatches<'_>, name: &str) -> bool
+    ensures { result ≡ is_given name.now (rows_of (found_of options.now)) }
+{
+    given(options, name).is_some()
 }
 
 /// Returns the value of an option where it is given.

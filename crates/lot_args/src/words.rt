@@ -4,24 +4,27 @@ ghost use Rattle.clap.specs.Words.{IsAmong, fault_of, found_of, kind_of, rows_of
 ghost use Rattle.clap.specs.declared.error.ErrorKind.TheVariants.{OutOfMemory};
 ghost use Rattle.lot_args.specs.Options.{first_bad, options_of};
 ghost use Rattle.lot_args.specs.Program.{program_app};
-ghost use Rattle.lot_args.specs.Steps.{IsWord, JudgesOptions};
-ghost use Rattle.lot_args.specs.Words.{AskFor, HaveBadIn, WordAsks};
+ghost use Rattle.lot_args.specs.Steps.{IsBookWord, IsWord, JudgesOptions};
+ghost use Rattle.lot_args.specs.Words.{AskFor, HaveBadIn, WordAsks, WordRequests};
 ghost use Rattle.lot_args.specs.declared.fault.WordsFault.TheVariants.{BadValue, Memory, Usage};
 
 use crate::action::Action;
 use crate::fault::{BadOption, WordsFault};
 use crate::program::program;
-use crate::values::{accounts, batch, book, day, first_bad, from};
+use crate::request::{Effect, Request};
+use crate::values::{
+    accounts, batch, book, code, day, effect, first_bad, from, has_row, notes, reference,
+};
 use clap::ArgMatches;
 use std::alloc::Global;
 
-/// Returns the action that the words ask for, of which the first is the program's name.
+/// Returns what the words ask for, of which the first is the program's name.
 ///
-/// No words but that one ask for a check. The error is what `clap` answers where it doesn't take the words, or asks for
+/// Where none of them is a word of the program a check is asked for. The error is what `clap` answers where it doesn't take the words, or asks for
 /// help or the version to be shown; else the first option, in the order of the table in docs/RULES.md, whose value is outside its rule;
 /// else out of memory. Memory may end before `clap` has taken the words, or where all values are within their rules.
-pub fn parse_words(alloc: Global, words: &[String]) -> Result<Action, WordsFault>
-    ensures action { IfOk result (AskFor (map string_bytes words.now)) }
+pub fn parse_words(alloc: Global, words: &[String]) -> Result<Request, WordsFault>
+    ensures request { IfOk result (AskFor (map string_bytes words.now)) }
     ensures bad { (bad : BadOption) → result ≡ Err (BadValue bad) → HaveBadIn (map string_bytes words.now) bad }
     ensures kind { (error : _) → result ≡ Err (Usage error) → IsAmong (kind_of error) (fault_of program_app (map string_bytes words.now)) }
     ensures memory { (error : _) → result ≡ Err (Usage error) → kind_of error ≢ OutOfMemory }
@@ -29,27 +32,63 @@ pub fn parse_words(alloc: Global, words: &[String]) -> Result<Action, WordsFault
 {
     let matches = program(alloc)?.try_get_matches_from(words)?;
     match matches.subcommand() {
-        None => Ok(Action::Check),
-        Some((word, options)) => asked(alloc, word, options),
+        None => Ok(Request::Act {
+            action: Action::Check,
+            effect: Effect::Keep,
+            notes: notes(&matches, &matches),
+        }),
+        Some((word, options)) => asked(alloc, &matches, word, options),
     }
 }
 
-/// Returns the action that a word asks for with the values of its options, which are all looked at before one is kept.
-fn asked(alloc: Global, word: &str, options: &ArgMatches<'_>) -> Result<Action, WordsFault>
+/// Returns what a word asks for with the values of its options, which are all looked at before one is kept.
+fn asked(
+    alloc: Global,
+    before: &ArgMatches<'_>,
+    word: &str,
+    options: &ArgMatches<'_>,
+) -> Result<Request, WordsFault>
     requires { IsWord word.now }
-    ensures action { IfOk result (WordAsks word.now (rows_of (found_of options.now))) }
+    ensures request { IfOk result (WordRequests (rows_of (found_of before.now))
+        word.now (rows_of (found_of options.now))) }
     ensures judges { JudgesOptions (rows_of (found_of options.now)) (options_of word.now) result }
     ensures usage { (error : _) → result ≢ Err (Usage error) }
 {
     match first_bad(word, options) {
         Some(bad) => Err(WordsFault::BadValue(bad)),
-        None => kept(alloc, word, options),
+        None => requested(alloc, before, word, options),
     }
 }
 
-/// Returns the action that a word asks for with values that are within their rules. The only error is out of memory.
-fn kept(alloc: Global, word: &str, options: &ArgMatches<'_>) -> Result<Action, WordsFault>
+/// Returns what a word asks for with values that are within their rules. The only error is out of memory.
+fn requested(
+    alloc: Global,
+    before: &ArgMatches<'_>,
+    word: &str,
+    options: &ArgMatches<'_>,
+) -> Result<Request, WordsFault>
     requires word { IsWord word.now }
+    requires good { first_bad (rows_of (found_of options.now)) (options_of word.now) ≡ None }
+    ensures request { IfOk result (WordRequests (rows_of (found_of before.now))
+        word.now (rows_of (found_of options.now))) }
+    ensures memory { IfErr result (λ fault. fault ≡ Memory) }
+{
+    if word == "explain" {
+        return Ok(Request::Explain {
+            code: code(alloc, options)?,
+        });
+    }
+    Ok(Request::Act {
+        action: action(alloc, word, options)?,
+        effect: effect(options),
+        notes: notes(before, options),
+    })
+}
+
+/// Returns the action that a word on a book asks for with values that are within their rules. The only error is out of
+/// memory.
+fn action(alloc: Global, word: &str, options: &ArgMatches<'_>) -> Result<Action, WordsFault>
+    requires word { IsBookWord word.now }
     requires good { first_bad (rows_of (found_of options.now)) (options_of word.now) ≡ None }
     ensures action { IfOk result (WordAsks word.now (rows_of (found_of options.now))) }
     ensures memory { IfErr result (λ fault. fault ≡ Memory) }
@@ -58,14 +97,19 @@ fn kept(alloc: Global, word: &str, options: &ArgMatches<'_>) -> Result<Action, W
     match word {
         "init" => Ok(Action::Init { book }),
         "migrate" => Ok(Action::Migrate { book }),
+        "post" if has_row(options) => Ok(Action::PostRow {
+            book,
+            batch: batch(alloc, options, "row-of")?,
+            reference: reference(alloc, options)?,
+        }),
         "post" => Ok(Action::Post {
             book,
-            batch: batch(alloc, options)?,
+            batch: batch(alloc, options, "batch")?,
             from: from(options),
         }),
         "import" => Ok(Action::Import {
             book,
-            batch: batch(alloc, options)?,
+            batch: batch(alloc, options, "batch")?,
             accounts: accounts(alloc, options)?,
             from: from(options),
         }),

@@ -1,5 +1,5 @@
 -- What an input gives is run on the book, or nothing is asked of it.
-use Rattle.std.proofs.Common.{◌≡◌, inr, ℕ, List, Option, refl, subst}
+use Rattle.std.proofs.Common.{◌≡◌, inr, ℕ, List, None, Option, refl, subst}
 use Rattle.sqlite.specs.State.{State}
 use Rattle.lot_command.specs.declared.command.Command.{Command}
 use Rattle.lot_command.specs.declared.key.Key.{Key}
@@ -7,15 +7,21 @@ use Rattle.lot_report.specs.Output.{WritesMade}
 use Rattle.lot_input.specs.Input.{Gives, Reading}
 use Rattle.lot_input.specs.declared.fault.InputFault.{InputFault}
 use Rattle.lot_cli.specs.Runs.{IsUntouched, RunsInput, RunsOn}
+use Rattle.lot_cli.specs.Says.{Told}
 use Rattle.lot_rows.proofs.StateLemmas.{survives_same}
 
 pub untouched : (s : State) → IsUntouched s s
 untouched s = record { now = refl; committed = refl; is_open = refl; crash = survives_same s (λ _. ⊥) }
 
-module _ (Means : ℕ → List ℕ → List (Key × Command) → Type 0) (IsFaulty : List ℕ → InputFault → Type 0) (from : ℕ) (reading : Reading) (before written : Option (List ℕ)) (calls : WritesMade) (status : ℕ) where
+module _ (Means : ℕ → List ℕ → List (Key × Command) → Type 0) (IsFaulty : List ℕ → InputFault → Type 0) (from : ℕ) (reading : Reading) (before written : Option (List ℕ)) (calls : WritesMade) (told : Told) where
   -- the commands that an input gives are run
   pub runs_given : (old new : State) (first : ℕ) (keyed commands : List (Key × Command)) → first ≡ from → commands ≡ keyed → Gives (Means first) reading keyed
-      → RunsOn commands first old new before written calls status → RunsInput (Means from) IsFaulty from reading old new before written calls status
+      → RunsOn commands first old new before written calls told → RunsInput (Means from) IsFaulty from reading old new before written calls told
   runs_given old new first keyed commands at is gives ran =
-      subst (λ n. RunsInput (Means n) IsFaulty n reading old new before written calls status) at
-      (inr (keyed, gives, subst (λ (ks : List (Key × Command)). RunsOn ks first old new before written calls status) is ran))
+      subst (λ n. RunsInput (Means n) IsFaulty n reading old new before written calls told) at
+      (inr (keyed, gives, subst (λ (ks : List (Key × Command)). RunsOn ks first old new before written calls told) is ran))
+
+-- an input that gives nothing
+pub gives_nothing : (Means : List ℕ → Option (Key × Command) → Type 0) (reading : Reading) (given : Option (Key × Command)) → given ≡ None
+    → Gives Means reading given → Gives Means reading None
+gives_nothing Means reading given is gives = subst (Gives Means reading) is gives

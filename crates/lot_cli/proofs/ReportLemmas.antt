@@ -1,5 +1,5 @@
 -- A report of a database that was only looked at before is a report of the database as it was.
-use Rattle.std.proofs.Common.{◌≡◌, ◌≢◌, ◌∙◌, inl, inr, ℕ, IsTrue, List, Ok, Err, Option, Result, sym}
+use Rattle.std.proofs.Common.{◌≡◌, ◌≢◌, ◌∙◌, inl, inr, ℕ, IsTrue, List, None, Ok, Err, Option, Result, refl, sym}
 use Rattle.std.proofs.lemmas.Bool.{true≢false}
 use Rattle.sqlite.specs.Held.{state}
 use Rattle.sqlite.specs.State.{HasCleanDisk, IsUnchanged, State, Survives}
@@ -8,7 +8,7 @@ use Rattle.lot_page.specs.Cursor.{Stays}
 use Rattle.lot_rows.specs.Tables.{Has, Tables}
 use Rattle.lot_cli.specs.Reports.{Concludes, IsRead, Reports, ShowsReport, ShowsAllRows, ShowsSome}
 use Rattle.lot_report.specs.Output.{HasFailed, WriteCalls, WritesMade}
-use Rattle.lot_cli.specs.Says.{Halts}
+use Rattle.lot_cli.specs.Says.{Halts, Told}
 use Rattle.lot_cli.specs.declared.halt.Halt.TheVariants as halt
 use Rattle.lot_cli.specs.declared.report.Report.{Report}
 use Rattle.lot_book_report.specs.Fault.{HasCause, is_of_writer}
@@ -59,7 +59,8 @@ pub reported : {S : Type 0} (g : Ghosts S) (report : Report) (old : State) (book
     → ShowsSome report before mid shown
     → HoldsOfTables g book later (λ tables. ShowsAllRows report tables before mid shown)
     → HasCause shown (record { before = first; after = between }) → Concludes shown mid written (record { before = between; after = last }) status
-    → Reports report old (state g later.conn) before written (record { before = first; after = last }) status
+    → Reports report old (state g later.conn) before written (record { before = first; after = last })
+    (record { status = status; halt = None })
 reported g report old book later shown before mid written first between last status found same look ready reads shows some rows cause concludes =
     let taken = state g book.conn in
     let calm : HasCleanDisk (state g later.conn) → HasCleanDisk taken = early taken (state g later.conn) reads.crash in
@@ -74,6 +75,7 @@ reported g report old book later shown before mid written first between last sta
       (λ clean tables has. rows.holds clean tables (has_still old taken tables (unchanged_stays old taken (same (calm clean))) has)),
       cause,
       concludes,
+      refl,
     )
 
 -- a report that ends for the writer ends so where a call of it failed
@@ -82,10 +84,10 @@ failed_writer (AtWalk fault) calls none is = absurd (true≢false (sym is))
 failed_writer (AtRow fault) calls cause is = cause is
 
 -- the book isn't taken up
-pub report_refused : (report : Report) (old new : State) (before written : Option (List ℕ)) (calls : WritesMade) (fault : AdoptFault) (status : ℕ)
+pub report_refused : (report : Report) (old new : State) (before written : Option (List ℕ)) (calls : WritesMade) (fault : AdoptFault) (told : Told)
     → (HasCleanDisk new → TellsOf old new (Err fault))
     → (HasCleanDisk new → fault ≢ adopt.Device → (tables : Tables) → Has old tables → TellsBook tables.book (Err fault)) → (HasCleanDisk new → IsHandedBack old new)
-    → (HasCleanDisk new → IsUndone old new) → Survives old new (λ _. ⊥) → Halts (halt.Adopt fault) before written calls status
-    → Reports report old new before written calls status
-report_refused report old new before written calls fault status tells told back undone crash said =
-    inr (fault, record { tells = tells; told = told; handed_back = back; undone = undone; crash = crash }, said)
+    → (HasCleanDisk new → IsUndone old new) → Survives old new (λ _. ⊥) → Halts (halt.Adopt fault) before written calls told
+    → Reports report old new before written calls told
+report_refused report old new before written calls fault told tells book back undone crash said =
+    inr (fault, record { tells = tells; told = book; handed_back = back; undone = undone; crash = crash }, said)

@@ -14,6 +14,7 @@ use Rattle.lot_import.specs.Deal.{IsCommandOf}
 use Rattle.lot_import.specs.Keyed.{IsKeyed}
 use Rattle.lot_import.specs.declared.accounts.Accounts.{Accounts}
 use Rattle.lot_import.specs.declared.row.Row.{Row}
+use Rattle.lot_input.specs.Keyed.{import_source, row_key}
 use Rattle.lot_laws.proofs.KeyLaws.{accepted_stands, is_refused, is_repeat}
 use Rattle.lot_print.proofs.ReadLemmas.{same_command}
 use Rattle.lot_command.specs.Sayable.{IsSayable}
@@ -40,3 +41,16 @@ row_refused book after source accounts row other keyed next verdict is more name
     (λ same. apart (one_row_of accounts other row next.1 more.1
     (subst (λ (c : Command). IsCommandOf accounts row c) (same_command keyed.1 next.1 said said_next same) is.1)))
     judged
+
+-- a row in whose place a command stands
+pub in_place : (book after : List Entry) (batch : List ℕ) (accounts : Accounts) (row : Row) (posted keyed : Key × Command) (verdict : Verdict)
+    → posted.0 ≡ row_key batch row.name → text_under book posted.0 ≡ Some (canonical posted.1)
+    → IsKeyed (import_source batch) accounts row keyed → IsSayable posted.1 → IsSayable keyed.1 → JudgesOn book keyed.0 keyed.1 verdict after
+    → ((posted.1 ≢ keyed.1) → (verdict ≡ Refused KeyReused) × (after ≡ book))
+    × ((posted.1 ≡ keyed.1) → (verdict ≡ Repeated) × (after ≡ book))
+in_place book after batch accounts row posted keyed verdict key stands is said said_row judged =
+    let known : text_under book keyed.0 ≡ Some (canonical posted.1) = ap (text_under book) (is.0 ∙ sym key) ∙ stands in (
+      (λ apart. is_refused Second book after keyed.0 keyed.1 (canonical posted.1) verdict known
+          (λ same. apart (same_command posted.1 keyed.1 said said_row same)) judged),
+      (λ same. is_repeat Second book after keyed.0 keyed.1 verdict (known ∙ ap (λ (c : Command). Some (canonical c)) same) judged),
+    )

@@ -1,5 +1,5 @@
 -- A run on a database that was only looked at before is a run on the database as it was.
-use Rattle.std.proofs.Common.{◌≡◌, ◌≢◌, inl, inr, ℕ, List, [], ◌∷◌, ◌++◌, Ok, Err, Option, Result, arith, subst, sym}
+use Rattle.std.proofs.Common.{◌≡◌, ◌≢◌, inl, inr, ℕ, List, [], ◌∷◌, ◌++◌, None, Ok, Err, Option, Result, arith, refl, subst, sym}
 use Rattle.sqlite.proofs.StateLemmas.{survives_then}
 use Rattle.sqlite.specs.Effect.{Database}
 use Rattle.sqlite.specs.State.{HasCleanDisk, IsUnchanged, State, Survives}
@@ -13,7 +13,7 @@ use Rattle.lot_stream.specs.Status.{code_of}
 use Rattle.lot_stored.specs.StandFor.{Stands}
 use Rattle.lot_rows.specs.Tables.{Has, Tables, layout}
 use Rattle.lot_cli.specs.Runs.{RunsOn, status_of_run}
-use Rattle.lot_cli.specs.Says.{Halts}
+use Rattle.lot_cli.specs.Says.{Halts, Told}
 use Rattle.lot_cli.specs.declared.halt.Halt.TheVariants as halt
 use Rattle.lot_store.proofs.ApplyLemmas.{stands_along}
 use Rattle.lot_store.proofs.ByTextLemmas.{has_along, runs_by_text_since}
@@ -112,7 +112,7 @@ pub runs_on : (commands : List (Key × Command)) (from : ℕ) (old mid new : Sta
     → (HasCleanDisk mid → IsTaken old) → (HasCleanDisk mid → IsUnchanged old mid) → Survives old mid (λ _. ⊥) → was ≡ Ready
     → RunsBook commands from mid new before written was condition end → (was ≡ Ready → end.ending ≢ Stopped NeedsReopen)
     → status ≡ code_of (status_of_run end) → (IsFlushed calls.before → IsWrittenOut end.ending calls)
-    → RunsOn commands from old new before written calls status
+    → RunsOn commands from old new before written calls (record { status = status; halt = None })
 runs_on commands from old mid new before written calls was condition end status found same look ready (answer, ran, usable, known) stops is flushed =
     inl (
       answer,
@@ -121,14 +121,15 @@ runs_on commands from old mid new before written calls was condition end status 
       runs_after_look commands from old mid new before written answer end same look ran,
       (usable ready, stops ready),
       is,
+      refl,
       flushed,
     )
 
 -- the book isn't taken up
-pub left_alone : (commands : List (Key × Command)) (from : ℕ) (old new : State) (before written : Option (List ℕ)) (calls : WritesMade) (fault : AdoptFault) (status : ℕ)
+pub left_alone : (commands : List (Key × Command)) (from : ℕ) (old new : State) (before written : Option (List ℕ)) (calls : WritesMade) (fault : AdoptFault) (told : Told)
     → (HasCleanDisk new → TellsOf old new (Err fault))
     → (HasCleanDisk new → fault ≢ adopt.Device → (tables : Tables) → Has old tables → TellsBook tables.book (Err fault)) → (HasCleanDisk new → IsHandedBack old new)
-    → (HasCleanDisk new → IsUndone old new) → Survives old new (λ _. ⊥) → Halts (halt.Adopt fault) before written calls status
-    → RunsOn commands from old new before written calls status
-left_alone commands from old new before written calls fault status tells told back undone crash said =
-    inr (fault, record { tells = tells; told = told; handed_back = back; undone = undone; crash = crash }, said)
+    → (HasCleanDisk new → IsUndone old new) → Survives old new (λ _. ⊥) → Halts (halt.Adopt fault) before written calls told
+    → RunsOn commands from old new before written calls told
+left_alone commands from old new before written calls fault told tells book back undone crash said =
+    inr (fault, record { tells = tells; told = book; handed_back = back; undone = undone; crash = crash }, said)

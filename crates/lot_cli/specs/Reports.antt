@@ -1,5 +1,5 @@
 -- A report of the book that is there: what is written, and what is left (docs/RULES.md, The program).
-use Rattle.std.specs.Prelude.{◌≡◌, ◌≢◌, ◌⊎◌, ℕ, Bool, true, false, List, ◌++◌, Option, Result, Ok, Err, codes}
+use Rattle.std.specs.Prelude.{◌≡◌, ◌≢◌, ◌⊎◌, ℕ, Bool, true, false, List, ◌++◌, None, Option, Result, Ok, Err, codes}
 use Rattle.std.specs.Io.KnownBytes.{Keeps}
 use Rattle.sqlite.specs.State.{HasCleanDisk, State, Survives}
 use Rattle.lot_book.specs.Facts.{Entry}
@@ -13,7 +13,7 @@ use Rattle.lot_report.specs.Printed.{line}
 use Rattle.lot_rows.specs.Tables.{Has, Tables}
 use Rattle.lot_cli.specs.Runs.{IsLeft}
 use Rattle.lot_store.specs.Create.{IsTaken}
-use Rattle.lot_cli.specs.Says.{Halts, Says}
+use Rattle.lot_cli.specs.Says.{Halts, Says, Told}
 use Rattle.lot_cli.specs.declared.halt.Halt.TheVariants as halt
 use Rattle.lot_cli.specs.declared.report.Report.{Report}
 use Rattle.lot_cli.specs.declared.report.Report.TheVariants.{Holdings, Gains, Journal}
@@ -87,12 +87,14 @@ ShowsAllRows (Gains first last) tables = ShowsAllSales tables (first, last)
 ShowsAllRows Journal tables = ShowsAllEntries tables
 
 -- a report of the book that is there is written, as far as its fault lets it, and concluded; or the database isn't taken up
-abbrev pub Reports : Report → State → State → Option (List ℕ) → Option (List ℕ) → WritesMade → ℕ → Type 0
-Reports report old new before written calls status =
+abbrev pub Reports : Report → State → State → Option (List ℕ) → Option (List ℕ) → WritesMade → Told
+    → Type 0
+Reports report old new before written calls told =
     ((shown : Result (Unit {0}) ShowFault) × (mid : Option (List ℕ)) × (between : Option WriteCalls) × (HasCleanDisk new → IsTaken old) × IsRead old new shown
     × (HasCleanDisk new → (entries : List Entry) → Stands old entries → ShowsReport report entries before mid shown)
     × ShowsSome report before mid shown
     × (HasCleanDisk new → (tables : Tables) → Has old tables → ShowsAllRows report tables before mid shown)
     × HasCause shown (record { before = calls.before; after = between })
-    × Concludes shown mid written (record { before = between; after = calls.after }) status)
-    ⊎ ((fault : AdoptFault) × IsLeft old new fault × Halts (halt.Adopt fault) before written calls status)
+    × Concludes shown mid written (record { before = between; after = calls.after }) told.status
+    × (told.halt ≡ None))
+    ⊎ ((fault : AdoptFault) × IsLeft old new fault × Halts (halt.Adopt fault) before written calls told)

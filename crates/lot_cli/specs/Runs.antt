@@ -1,5 +1,5 @@
 -- What is run of an input on the book that is there (docs/RULES.md, The program).
-use Rattle.std.specs.Prelude.{◌≡◌, ◌≢◌, ◌⊎◌, ℕ, zero, suc, List, Option, Result, Err}
+use Rattle.std.specs.Prelude.{◌≡◌, ◌≢◌, ◌⊎◌, ℕ, zero, suc, List, [], ◌∷◌, None, Option, Result, Err, Some}
 use Rattle.sqlite.specs.State.{HasCleanDisk, State, Survives}
 use Rattle.lot_stream.specs.Status.{code_of}
 use Rattle.lot_stream.specs.declared.status.Status.{Status}
@@ -10,9 +10,9 @@ use Rattle.lot_rows.specs.Tables.{Has, Tables}
 use Rattle.lot_import.specs.declared.accounts.Accounts.{Accounts}
 use Rattle.lot_input.specs.Input.{Gives, GivesNone, Reading}
 use Rattle.lot_input.specs.Rows.{FileMeans, IsFaultyFile}
-use Rattle.lot_input.specs.Text.{IsFaultyText, TextMeans}
+use Rattle.lot_input.specs.Text.{IsFaultyText, RowMeans, TextMeans}
 use Rattle.lot_input.specs.declared.fault.InputFault.{InputFault}
-use Rattle.lot_cli.specs.Says.{Halts}
+use Rattle.lot_cli.specs.Says.{Halts, Told}
 use Rattle.lot_report.specs.Output.{IsFlushed, WritesMade}
 use Rattle.lot_cli.specs.declared.halt.Halt.TheVariants as halt
 use Rattle.lot_store.specs.Create.{IsHandedBack, IsTaken, TellsBook, TellsOf}
@@ -64,26 +64,56 @@ NeverReopens answer end = (answer ≢ Err (apply.Failed NeedsReopen)) × (end �
 
 -- Commands, of which the first has that number, are run on the book that is there; or it isn't taken up. The answer is that to
 -- the command at which the writer failed. Where all was flushed before, all is then and no call of the writer failed, or one did.
-abbrev pub RunsOn : List (Key × Command) → ℕ → State → State → Option (List ℕ) → Option (List ℕ) → WritesMade → ℕ → Type 0
-RunsOn commands from old new before written calls status =
+abbrev pub RunsOn : List (Key × Command) → ℕ → State → State → Option (List ℕ) → Option (List ℕ)
+    → WritesMade → Told → Type 0
+RunsOn commands from old new before written calls told =
     ((answer : Result Ack ApplyFault) × (end : RunEnd) × (HasCleanDisk new → IsTaken old) × RunsSession commands from old new before written answer end
-    × NeverReopens answer end.ending × (status ≡ code_of (status_of_run end))
+    × NeverReopens answer end.ending
+    × (told.status ≡ code_of (status_of_run end)) × (told.halt ≡ None)
     × (IsFlushed calls.before → IsWrittenOut end.ending calls))
-    ⊎ ((fault : AdoptFault) × IsLeft old new fault × Halts (halt.Adopt fault) before written calls status)
+    ⊎ ((fault : AdoptFault) × IsLeft old new fault × Halts (halt.Adopt fault) before written calls told)
 
 -- ---- an input
 
 -- What is read gives no commands, and nothing is done to the book; or those that it gives are run. `Means` tells which
 -- commands an input gives, and `IsFaulty` which fault it has. The first of the commands has that number.
 abbrev pub RunsInput : (List ℕ → List (Key × Command) → Type 0) → (List ℕ → InputFault → Type 0)
-    → ℕ → Reading → State → State → Option (List ℕ) → Option (List ℕ) → WritesMade → ℕ → Type 0
-RunsInput Means IsFaulty from reading old new before written calls status =
-    ((fault : InputFault) × GivesNone IsFaulty reading fault × IsUntouched old new × Halts (halt.Input fault) before written calls status)
-    ⊎ ((keyed : List (Key × Command)) × Gives Means reading keyed × RunsOn keyed from old new before written calls status)
+    → ℕ → Reading → State → State → Option (List ℕ) → Option (List ℕ) → WritesMade → Told → Type 0
+RunsInput Means IsFaulty from reading old new before written calls told =
+    ((fault : InputFault) × GivesNone IsFaulty reading fault × IsUntouched old new × Halts (halt.Input fault) before written calls told)
+    ⊎ ((keyed : List (Key × Command)) × Gives Means reading keyed × RunsOn keyed from old new before written calls told)
 
 -- ledger text that is posted, and a broker file that is imported (docs/RULES.md, The program)
-abbrev pub Posts : List ℕ → ℕ → Reading → State → State → Option (List ℕ) → Option (List ℕ) → WritesMade → ℕ → Type 0
+abbrev pub Posts : List ℕ → ℕ → Reading → State → State → Option (List ℕ) → Option (List ℕ)
+    → WritesMade → Told → Type 0
 Posts batch from = RunsInput (TextMeans batch from) IsFaultyText from
 
-abbrev pub Imports : List ℕ → Accounts → ℕ → Reading → State → State → Option (List ℕ) → Option (List ℕ) → WritesMade → ℕ → Type 0
+abbrev pub Imports : List ℕ → Accounts → ℕ → Reading → State → State → Option (List ℕ)
+    → Option (List ℕ) → WritesMade → Told → Type 0
 Imports batch accounts from = RunsInput (FileMeans batch accounts from) IsFaultyFile from
+
+-- ---- a command in place of a row
+
+-- the number with which the program ends where its words and its text don't fit one another
+abbrev pub unfit : ℕ
+unfit = 2
+
+-- the input is ledger text of one command, and this is that command under the key of the row, alone in the list
+abbrev pub RowAlone : List ℕ → List ℕ → List ℕ → List (Key × Command) → Type 0
+RowAlone batch reference input keyed =
+    (one : Key × Command) × RowMeans batch reference input (Some one) × (keyed ≡ one ∷ [])
+
+-- what is read is ledger text without a command, or of several: nothing is done to the book, and nothing is written
+pub record IsUnfit (batch reference : List ℕ) (reading : Reading) (old new : State)
+    (before written : Option (List ℕ)) (calls : WritesMade) (told : Told) : Type 0 where
+  pub given : Gives (RowMeans batch reference) reading None
+  pub untouched : IsUntouched old new
+  pub silent : (written ≡ before) × (calls.after ≡ calls.before)
+  pub ends : (told.status ≡ unfit) × (told.halt ≡ None)
+
+-- the one command of ledger text that is posted in place of a row of a broker file
+abbrev pub PostsRow : List ℕ → List ℕ → Reading → State → State → Option (List ℕ)
+    → Option (List ℕ) → WritesMade → Told → Type 0
+PostsRow batch reference reading old new before written calls told =
+    IsUnfit batch reference reading old new before written calls told
+    ⊎ RunsInput (RowAlone batch reference) IsFaultyText 1 reading old new before written calls told

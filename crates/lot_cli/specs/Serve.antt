@@ -1,8 +1,8 @@
 -- What an action writes, with which status it ends, and what it leaves of the book (docs/RULES.md, The program).
-use Rattle.std.specs.Prelude.{◌≡◌, ◌≢◌, ◌⊎◌, ℕ, List, [], IfSome, IsTrue, Option, codes, ⊤}
+use Rattle.std.specs.Prelude.{◌≡◌, ◌≢◌, ◌⊎◌, ℕ, List, [], IfSome, IsTrue, None, Option, codes, ⊤}
 use Rattle.sqlite.specs.State.{HasCleanDisk, KeepsCommit, State, Survives}
 use Rattle.lot_check.specs.Answer.{IsOutcome}
-use Rattle.lot_stream.specs.declared.status.Status.TheVariants.{Accepted}
+use Rattle.lot_stream.specs.Status.{IsStatus}
 use Rattle.lot_stored.specs.StandFor.{Left, Stands}
 use Rattle.lot_book.specs.Facts.{Entry}
 use Rattle.lot_migrate.specs.First.{StandsFirst}
@@ -12,8 +12,8 @@ use Rattle.lot_report.specs.Output.{WritesMade}
 use Rattle.lot_report.specs.Printed.{line}
 use Rattle.lot_input.specs.Input.{Reading}
 use Rattle.lot_cli.specs.Reports.{Reports}
-use Rattle.lot_cli.specs.Runs.{Imports, IsUntouched, Posts}
-use Rattle.lot_cli.specs.Says.{Halts, Says}
+use Rattle.lot_cli.specs.Runs.{Imports, IsUntouched, Posts, PostsRow, unfit}
+use Rattle.lot_cli.specs.Says.{Halts, Succeeds, Told}
 use Rattle.lot_cli.specs.declared.halt.Halt.TheVariants as halt
 use Rattle.lot_cli.specs.declared.report.Report.TheVariants as report
 use Rattle.lot_store.specs.Create.{IsHandedBack, RefusedFor}
@@ -21,7 +21,7 @@ use Rattle.lot_store.specs.declared.fault.CreateFault.{CreateFault}
 use Rattle.lot_store.specs.declared.fault.CreateFault.TheVariants.{NotABook}
 use Rattle.lot_table.specs.Shape.{schema_of}
 use Rattle.lot_args.specs.declared.action.Action.{Action}
-use Rattle.lot_args.specs.declared.action.Action.TheVariants.{Check, Init, Migrate, Post, Import, Holdings, Gains, Journal}
+use Rattle.lot_args.specs.declared.action.Action.TheVariants.{Check, Init, Migrate, Post, PostRow, Import, Holdings, Gains, Journal}
 use Rattle.std.specs.Io.KnownBytes.{Appends}
 
 -- ---- making a book
@@ -46,10 +46,11 @@ pub record IsNotMade (old new : State) (fault : CreateFault) : Type 0 where
   pub kept : HasCleanDisk new → KeepsCommit old new
   pub crash : Survives old new (λ trees. Left trees [])
 
-abbrev pub Makes : State → State → Option (List ℕ) → Option (List ℕ) → WritesMade → ℕ → Type 0
-Makes old new before written calls status =
-    (IsMade old new × Says ready_line Accepted before written calls status)
-    ⊎ ((fault : CreateFault) × IsNotMade old new fault × Halts (halt.Create fault) before written calls status)
+abbrev pub Makes : State → State → Option (List ℕ) → Option (List ℕ) → WritesMade → Told → Type 0
+Makes old new before written calls told =
+    (IsMade old new × Succeeds ready_line before written calls told)
+    ⊎ ((fault : CreateFault) × IsNotMade old new fault
+    × Halts (halt.Create fault) before written calls told)
 
 -- ---- taking over a book of edition 1
 
@@ -72,11 +73,12 @@ pub record IsNotMigrated (old new : State) (fault : MigrateFault) : Type 0 where
   pub kept : HasCleanDisk new → KeepsCommit old new
   pub crash : Survives old new (LeavesMigrated old)
 
-abbrev pub TakesOver : State → State → Option (List ℕ) → Option (List ℕ) → WritesMade → ℕ → Type 0
-TakesOver old new before written calls status =
-    (IsMigrated old new × Says migrated_line Accepted before written calls status)
+abbrev pub SaysMigrated : State → State → Option (List ℕ) → Option (List ℕ) → WritesMade → Told
+    → Type 0
+SaysMigrated old new before written calls told =
+    (IsMigrated old new × Succeeds migrated_line before written calls told)
     ⊎ ((fault : MigrateFault) × IsNotMigrated old new fault
-    × Halts (halt.Migrate fault) before written calls status)
+    × Halts (halt.Migrate fault) before written calls told)
 
 -- ---- any action
 
@@ -86,13 +88,26 @@ ReadsNothing Check = ⊥
 ReadsNothing (Init book) = ⊤
 ReadsNothing (Migrate book) = ⊤
 ReadsNothing (Post book batch from) = ⊥
+ReadsNothing (PostRow book batch reference) = ⊥
 ReadsNothing (Import book batch accounts from) = ⊥
 ReadsNothing (Holdings book day) = ⊤
 ReadsNothing (Gains book first last) = ⊤
 ReadsNothing (Journal book) = ⊤
 
+-- the numbers with which an action ends: a post in place of a row may find that its text doesn't fit
+abbrev pub EndsWith : Action → ℕ → Type 0
+EndsWith (PostRow book batch reference) status = IsStatus status ⊎ (status ≡ unfit)
+EndsWith Check status = IsStatus status
+EndsWith (Init book) status = IsStatus status
+EndsWith (Migrate book) status = IsStatus status
+EndsWith (Post book batch from) status = IsStatus status
+EndsWith (Import book batch accounts from) status = IsStatus status
+EndsWith (Holdings book day) status = IsStatus status
+EndsWith (Gains book first last) status = IsStatus status
+EndsWith (Journal book) status = IsStatus status
+
 -- a call: what is known of the reader, the database before it and after it, what is known of the bytes that were
--- written before it and after it, and of the calls of the writer, and the status of the program
+-- written before it and after it, and of the calls of the writer, and what it tells of its end
 pub record Call : Type 1 where
   pub input : Reading
   pub old : State
@@ -100,18 +115,20 @@ pub record Call : Type 1 where
   pub before : Option (List ℕ)
   pub written : Option (List ℕ)
   pub calls : WritesMade
-  pub status : ℕ
+  pub told : Told
 
--- What an action comes to: what it writes behind what was written before, and its status; and what the connection stands for,
--- and a crash may leave, after it.
+-- What an action comes to: what it writes behind what was written before, and its status; whether
+-- it ended before its first command, and why; and what the connection stands for, and a crash may
+-- leave, after it.
 abbrev pub Serves : Action → Call → Type 0
 Serves Check c =
     IsUntouched c.old c.new × IfSome c.input.bytes (λ input. (text : List ℕ) × Appends c.before c.written text
-    × IsOutcome c.input.calls c.calls input text c.status)
-Serves (Init book) c = Makes c.old c.new c.before c.written c.calls c.status
-Serves (Migrate book) c = TakesOver c.old c.new c.before c.written c.calls c.status
-Serves (Post book batch from) c = Posts batch from c.input c.old c.new c.before c.written c.calls c.status
-Serves (Import book batch accounts from) c = Imports batch accounts from c.input c.old c.new c.before c.written c.calls c.status
-Serves (Holdings book day) c = Reports (report.Holdings day) c.old c.new c.before c.written c.calls c.status
-Serves (Gains book first last) c = Reports (report.Gains first last) c.old c.new c.before c.written c.calls c.status
-Serves (Journal book) c = Reports report.Journal c.old c.new c.before c.written c.calls c.status
+    × IsOutcome c.input.calls c.calls input text c.told.status) × (c.told.halt ≡ None)
+Serves (Init book) c = Makes c.old c.new c.before c.written c.calls c.told
+Serves (Migrate book) c = SaysMigrated c.old c.new c.before c.written c.calls c.told
+Serves (Post book batch from) c = Posts batch from c.input c.old c.new c.before c.written c.calls c.told
+Serves (PostRow book batch reference) c = PostsRow batch reference c.input c.old c.new c.before c.written c.calls c.told
+Serves (Import book batch accounts from) c = Imports batch accounts from c.input c.old c.new c.before c.written c.calls c.told
+Serves (Holdings book day) c = Reports (report.Holdings day) c.old c.new c.before c.written c.calls c.told
+Serves (Gains book first last) c = Reports (report.Gains first last) c.old c.new c.before c.written c.calls c.told
+Serves (Journal book) c = Reports report.Journal c.old c.new c.before c.written c.calls c.told

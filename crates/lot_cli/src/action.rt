@@ -1,18 +1,18 @@
-ghost use Rattle.std.specs.Prelude.{◌≡◌, IfSome, IsTrue, None, false};
+ghost use Rattle.std.specs.Prelude.{◌≡◌, IsTrue, None, false};
 ghost use Rattle.lot_stream.specs.Status.{IsStatus};
-ghost use Rattle.lot_cli.specs.Says.{Halts};
-ghost use Rattle.lot_cli.specs.Serve.{Makes, ReadsNothing, Serves};
+ghost use Rattle.lot_cli.specs.Serve.{EndsWith, Makes, ReadsNothing, Serves};
 ghost use Rattle.sqlite.specs.Held.{state};
 ghost use Rattle.sqlite.specs.Tree.{Trees};
 
 use crate::halt::Halt;
 use crate::import::import;
 use crate::migration::migrate;
-use crate::post::post;
+use crate::post::{post, post_row};
 use crate::report::{Report, write_report};
 use crate::run::{halted, tell};
 use lot_args::Action;
 use lot_check::check;
+use lot_migrate::Progress;
 use lot_report::{CountedWrite, print_texts};
 use lot_store::{HandedBack, create};
 use lot_stream::{CountedRead, Status};
@@ -23,7 +23,7 @@ use std::alloc::Global;
 pub struct Served<S: Alter> {
     /// The status of the program.
     pub status: u8,
-    /// Why it ended before its first command, where it did.
+    /// Why it ended before its first command; `None` where it didn't.
     pub halt: Option<Halt>,
     /// The connection to the book, with every row as the action left it.
     pub conn: Connection<S>,
@@ -37,18 +37,23 @@ pub struct Served<S: Alter> {
 /// - `post` reads all that the reader has as ledger text, and `import` as a broker file. Only then they take the book up, and
 ///   apply the commands, or those of the rows, from the given number on, each in one commit, with a reply to each. A fault of
 ///   the input changes nothing.
+/// - `post` in place of a row of a broker file reads all that the reader has as ledger text, and applies its one command under
+///   the key of the row. Where the text has no command, or several, nothing is written and nothing changes.
 /// - `holdings`, `gains` and `journal` take the book up and write the report, each row as it is read; they read no input and
 ///   change nothing. Behind a report that ends before its end stands one line with the fault, unless the writer failed.
 /// - No words ask for a check, which leaves the book alone.
 ///
-/// A fault is one line (docs/FORMATS.md, Faults). Returns the status of the program: 0 where all commands were accepted or
-/// repeated, the book was made or migrated, or the report is whole; 1 where some were refused; 3 for a fault of the input; 4 for a fault of the book, of the
-/// output or of memory, which goes before 1.
-pub fn serve<R: CountedRead, W: CountedWrite, S: Alter>(
+/// A fault is one line (docs/FORMATS.md, Faults). Returns the status of the program: 0 where all
+/// commands were accepted or repeated, the book was made or migrated, or the report is whole; 1
+/// where some were refused; 2 where the text for a row isn't one command; 3 for a fault of the
+/// input; 4 for a fault of the book, of the output or of memory, which goes before 1. It is told
+/// how far a migration is, and nothing of other actions.
+pub fn serve<R: CountedRead, W: CountedWrite, P: Progress, S: Alter>(
     alloc: Global,
     action: &Action,
     reader: &mut R,
     writer: &mut W,
+    progress: &mut P,
     conn: Connection<S>,
 ) -> Served<S>
     requires outside { conn.in_transaction ≡ false }
@@ -64,18 +69,13 @@ pub fn serve<R: CountedRead, W: CountedWrite, S: Alter>(
       before = W.contents writer.old;
       written = W.contents writer.new;
       calls = record { before = W.calls writer.old; after = W.calls writer.new };
-      status = result.status;
+      told = record { status = result.status; halt = result.halt };
     }) }
     // With the connection open a crash leaves the last commit, and nothing else.
     ensures safe { IsTrue (state S.Store result.conn).is_open → (trees : Trees) → (state S.Store result.conn).may_leave trees
         → trees ≡ (state S.Store result.conn).committed.trees }
     ensures unread { ReadsNothing action.now → reader.new ≡ reader.old }
-    ensures told { IfSome result.halt (λ halt. Halts halt
-        (W.contents writer.old) (W.contents writer.new) (record {
-          before = W.calls writer.old;
-          after = W.calls writer.new;
-        }) result.status) }
-    ensures status { IsStatus result.status }
+    ensures status { EndsWith action.now result.status }
 {
     match action {
         Action::Check => Served {
@@ -84,8 +84,13 @@ pub fn serve<R: CountedRead, W: CountedWrite, S: Alter>(
             conn,
         },
         Action::Init { .. } => init(alloc, writer, conn),
-        Action::Migrate { .. } => migrate(alloc, writer, conn),
+        Action::Migrate { .. } => migrate(alloc, writer, progress, conn),
         Action::Post { batch, from, .. } => post(alloc, batch, *from, reader, writer, conn),
+        Action::PostRow {
+            batch,
+            reference,
+            ..
+        } => post_row(alloc, batch, reference, reader, writer, conn),
         Action::Import {
             batch,
             accounts,
@@ -114,12 +119,7 @@ fn init<W: CountedWrite, S: Alter>(alloc: Global, writer: &mut W, conn: Connecti
         (W.contents writer.old) (W.contents writer.new) (record {
           before = W.calls writer.old;
           after = W.calls writer.new;
-        }) result.status }
-    ensures told { IfSome result.halt (λ halt. Halts halt
-        (W.contents writer.old) (W.contents writer.new) (record {
-          before = W.calls writer.old;
-          after = W.calls writer.new;
-        }) result.status) }
+        }) (record { status = result.status; halt = result.halt }) }
     ensures status { IsStatus result.status }
 {
     match create(alloc, conn) {

@@ -20,6 +20,7 @@ ghost use Rattle.lot_import.specs.Keyed.{IsKeyed};
 ghost use Rattle.lot_import.specs.declared.accounts.Accounts.{Accounts};
 ghost use Rattle.lot_import.specs.declared.row.Row.{Row};
 ghost use Rattle.lot_command.specs.Sayable.{IsSayable};
+ghost use Rattle.lot_input.specs.Keyed.{import_source, row_key};
 ghost use Rattle.lot_cli.specs.Again.{IsOneRun, SentAgain};
 ghost use Rattle.lot_cli.specs.Headline.{Headline, Sent, StopsLeave};
 ghost use Rattle.lot_cli.specs.Reopen.{IsOpenedAgain, LeavesOneOf, StandsForOneOf};
@@ -56,6 +57,8 @@ pub fn sending_again_is_one_run()
 
 /// A row of a broker file acts once. Where it is accepted, its text stands under its key. While it stands there, the row is a
 /// repeat where it comes again to the same accounts, and another row with its `ref` is refused; neither changes anything.
+/// While a command stands there that was posted in place of the row, the row is refused when its file comes, or a repeat where
+/// it says that same command, and changes nothing.
 pub fn a_row_acts_once()
     ensures stands { (book after : List Entry) (source : List ℕ) (accounts : Accounts) (row : Row) (keyed : Key × Command)
         → IsKeyed source accounts row keyed → JudgesOn book keyed.0 keyed.1 Accepted after
@@ -67,6 +70,13 @@ pub fn a_row_acts_once()
         → IsKeyed source accounts row keyed → IsKeyed source accounts other next → other.name ≡ row.name → other ≢ row
         → IsSayable keyed.1 → IsSayable next.1 → text_under book keyed.0 ≡ Some (canonical keyed.1)
         → JudgesOn book next.0 next.1 verdict after → (verdict ≡ Refused KeyReused) × (after ≡ book) }
+    ensures in_place { (book after : List Entry) (batch : List ℕ) (accounts : Accounts) (row : Row)
+        (posted keyed : Key × Command) (verdict : Verdict)
+        → posted.0 ≡ row_key batch row.name → text_under book posted.0 ≡ Some (canonical posted.1)
+        → IsKeyed (import_source batch) accounts row keyed → IsSayable posted.1 → IsSayable keyed.1
+        → JudgesOn book keyed.0 keyed.1 verdict after
+        → ((posted.1 ≢ keyed.1) → (verdict ≡ Refused KeyReused) × (after ≡ book))
+        × ((posted.1 ≡ keyed.1) → (verdict ≡ Repeated) × (after ≡ book)) }
 {}
 
 /// Where a connection that was opened shows what a stop left of a book, it shows this book: its

@@ -23,9 +23,11 @@ mod run;
 
 pub use action::{Served, serve};
 pub use halt::Halt;
-pub use lot_args::{Action, BadOption, Batch, Start, WordsFault, parse_words};
+pub use lot_args::{
+    Action, BadOption, Batch, Effect, Notes, Request, Start, WordsFault, parse_words,
+};
 pub use lot_input::InputFault;
-pub use lot_migrate::MigrateFault;
+pub use lot_migrate::{MigrateFault, Progress, Unwatched};
 pub use lot_report::{CountedWrite, CountedWriter};
 pub use lot_store::{AdoptFault, CreateFault};
 pub use lot_stream::{Counted, CountedRead, SlurpFault, slurp};

@@ -1,12 +1,12 @@
-ghost use Rattle.std.specs.Prelude.{◌≡◌, IfSome, None, false};
+ghost use Rattle.std.specs.Prelude.{◌≡◌, None, false};
 ghost use Rattle.lot_stream.specs.Status.{IsStatus};
-ghost use Rattle.lot_cli.specs.Says.{Halts};
-ghost use Rattle.lot_cli.specs.Serve.{TakesOver};
+ghost use Rattle.lot_cli.specs.Serve.{SaysMigrated};
 ghost use Rattle.sqlite.specs.Held.{state};
 
 use crate::action::Served;
 use crate::halt::Halt;
 use crate::run::{halted, tell};
+use lot_migrate::Progress;
 use lot_report::{CountedWrite, print_texts};
 use lot_store::HandedBack;
 use lot_stream::Status;
@@ -14,26 +14,22 @@ use sqlite::{Alter, Connection};
 use std::alloc::Global;
 
 /// Takes over the book that is there, if it is of edition 1.
-pub(crate) fn migrate<W: CountedWrite, S: Alter>(
+pub(crate) fn migrate<W: CountedWrite, P: Progress, S: Alter>(
     alloc: Global,
     writer: &mut W,
+    progress: &mut P,
     conn: Connection<S>,
 ) -> Served<S>
     requires outside { conn.in_transaction ≡ false }
     requires unlimited { conn.step_limit ≡ None }
-    ensures takes_over { TakesOver (state S.Store conn) (state S.Store result.conn)
+    ensures takes_over { SaysMigrated (state S.Store conn) (state S.Store result.conn)
         (W.contents writer.old) (W.contents writer.new) (record {
           before = W.calls writer.old;
           after = W.calls writer.new;
-        }) result.status }
-    ensures told { IfSome result.halt (λ halt. Halts halt
-        (W.contents writer.old) (W.contents writer.new) (record {
-          before = W.calls writer.old;
-          after = W.calls writer.new;
-        }) result.status) }
+        }) (record { status = result.status; halt = result.halt }) }
     ensures status { IsStatus result.status }
 {
-    match lot_migrate::migrate(alloc, conn) {
+    match lot_migrate::migrate(alloc, conn, progress) {
         Ok(conn) => {
             let printed = print_texts(writer, &["book migrated\n"]);
             Served {

@@ -1,18 +1,21 @@
-ghost use Rattle.std.specs.Prelude.{◌≡◌, IfSome, None, false};
+ghost use Rattle.std.specs.Prelude.{◌≡◌, ◌⊎◌, None, false};
 ghost use Rattle.lot_stream.specs.Status.{IsStatus};
-ghost use Rattle.lot_cli.specs.Runs.{Posts};
-ghost use Rattle.lot_cli.specs.Says.{Halts};
+ghost use Rattle.lot_cli.specs.Runs.{Posts, PostsRow, unfit};
 ghost use Rattle.sqlite.specs.Held.{state};
 
 use crate::action::Served;
 use crate::halt::Halt;
 use crate::run::{halted, run};
 use lot_args::{Batch, Start};
-use lot_input::keyed_text;
+use lot_base::Label;
+use lot_input::{keyed_row, keyed_text};
 use lot_report::CountedWrite;
 use lot_stream::CountedRead;
 use sqlite::{Alter, Connection};
 use std::alloc::Global;
+
+/// The status where the text for a row of a broker file isn't one command (`unfit` of the definitions).
+const UNFIT: u8 = 2;
 
 /// Posts all that a reader has to the book that is there, as ledger text: its commands from that number on, each under the
 /// key of its number in the batch.
@@ -36,17 +39,48 @@ pub(crate) fn post<R: CountedRead, W: CountedWrite, S: Alter>(
         (W.contents writer.old) (W.contents writer.new) (record {
           before = W.calls writer.old;
           after = W.calls writer.new;
-        }) result.status }
-    ensures told { IfSome result.halt (λ halt. Halts halt
-        (W.contents writer.old) (W.contents writer.new) (record {
-          before = W.calls writer.old;
-          after = W.calls writer.new;
-        }) result.status) }
+        }) (record { status = result.status; halt = result.halt }) }
     ensures status { IsStatus result.status }
 {
     let first = from.number() as usize;
     match keyed_text(alloc, batch, first, reader) {
         Ok(commands) => run(alloc, &commands, first, writer, conn),
+        Err(fault) => halted(writer, Halt::Input(fault), conn),
+    }
+}
+
+/// Posts the one command of all that a reader has, which is ledger text, to the book that is there, under the key of the row
+/// with that `ref` in the broker files of the batch.
+///
+/// All is read before the book is taken up. Where the text has no command, or several, nothing is written.
+pub(crate) fn post_row<R: CountedRead, W: CountedWrite, S: Alter>(
+    alloc: Global,
+    batch: &Batch,
+    reference: &Label,
+    reader: &mut R,
+    writer: &mut W,
+    conn: Connection<S>,
+) -> Served<S>
+    requires outside { conn.in_transaction ≡ false }
+    requires unlimited { conn.step_limit ≡ None }
+    ensures posts { PostsRow batch.now reference.now (record {
+      bytes = R.remaining reader.old;
+      left = R.remaining reader.new;
+      calls = record { before = R.calls reader.old; after = R.calls reader.new };
+    }) (state S.Store conn) (state S.Store result.conn)
+        (W.contents writer.old) (W.contents writer.new) (record {
+          before = W.calls writer.old;
+          after = W.calls writer.new;
+        }) (record { status = result.status; halt = result.halt }) }
+    ensures status { IsStatus result.status ⊎ (result.status ≡ unfit) }
+{
+    match keyed_row(alloc, batch, reference, reader) {
+        Ok(Some(keyed)) => run(alloc, &[keyed], 1, writer, conn),
+        Ok(None) => Served {
+            status: UNFIT,
+            halt: None,
+            conn,
+        },
         Err(fault) => halted(writer, Halt::Input(fault), conn),
     }
 }

@@ -1,10 +1,10 @@
 //! Reports of the book that is there.
-ghost use Rattle.std.specs.Prelude.{◌≡◌, IfSome, None, Option, false};
+ghost use Rattle.std.specs.Prelude.{◌≡◌, None, Option, false};
 ghost use Rattle.lot_report.specs.Output.{WriteCalls};
 ghost use Rattle.lot_stream.specs.Status.{IsStatus};
 ghost use Rattle.lot_stream.specs.declared.status.Status.TheVariants.{Stopped};
 ghost use Rattle.lot_cli.specs.Reports.{Concludes, Reports, ShowsReport, ShowsAllRows, ShowsSome, report_line};
-ghost use Rattle.lot_cli.specs.Says.{Halts, Says};
+ghost use Rattle.lot_cli.specs.Says.{Says};
 ghost use Rattle.lot_book_report.specs.Fault.{HasCause};
 ghost use Rattle.lot_book_report.specs.Show.{HoldsOfBook, HoldsOfTables, ReadsBook};
 ghost use Rattle.sqlite.specs.Held.{state};
@@ -49,12 +49,7 @@ pub(crate) fn write_report<W: CountedWrite, S: Alter>(
         (W.contents writer.old) (W.contents writer.new) (record {
           before = W.calls writer.old;
           after = W.calls writer.new;
-        }) result.status }
-    ensures told { IfSome result.halt (λ halt. Halts halt
-        (W.contents writer.old) (W.contents writer.new) (record {
-          before = W.calls writer.old;
-          after = W.calls writer.new;
-        }) result.status) }
+        }) (record { status = result.status; halt = result.halt }) }
     ensures status { IsStatus result.status }
 {
     match adopt(alloc, conn) {

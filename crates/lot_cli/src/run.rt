@@ -1,5 +1,5 @@
 //! What is run of an input on the book that is there.
-ghost use Rattle.std.specs.Prelude.{◌≡◌, ◌+◌, ◌<◌, ◌^◌, IfSome, IsErr, None, Some, false, length};
+ghost use Rattle.std.specs.Prelude.{◌≡◌, ◌+◌, ◌<◌, ◌^◌, IsErr, None, false, length};
 ghost use Rattle.lot_stream.specs.Status.{IsStatus};
 ghost use Rattle.lot_cli.specs.Runs.{RunsOn, status_of_run};
 ghost use Rattle.lot_cli.specs.Says.{EndsWithLine, Halts};
@@ -30,12 +30,7 @@ pub(crate) fn run<W: CountedWrite, S: Alter>(
         (W.contents writer.old) (W.contents writer.new) (record {
           before = W.calls writer.old;
           after = W.calls writer.new;
-        }) result.status }
-    ensures told { IfSome result.halt (λ halt. Halts halt
-        (W.contents writer.old) (W.contents writer.new) (record {
-          before = W.calls writer.old;
-          after = W.calls writer.new;
-        }) result.status) }
+        }) (record { status = result.status; halt = result.halt }) }
     ensures status { IsStatus result.status }
 {
     match adopt(alloc, conn) {
@@ -72,9 +67,8 @@ pub(crate) fn halted<W: CountedWrite, S: Alter>(
         (W.contents writer.old) (W.contents writer.new) (record {
           before = W.calls writer.old;
           after = W.calls writer.new;
-        }) result.status }
+        }) (record { status = result.status; halt = result.halt }) }
     ensures same { result.conn ≡ conn }
-    ensures halt { result.halt ≡ Some halt }
     ensures status { IsStatus result.status }
 {
     let printed = print_halt(writer, halt);

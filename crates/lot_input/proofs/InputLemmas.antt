@@ -4,8 +4,6 @@ use Rattle.std.specs.Prelude.{◌≤◌, IfErr, IfOk, Result, Ok, Err}
 use Rattle.std.specs.Io.KnownBytes.{IsAtEnd}
 use Rattle.lot_stream.specs.Input.{EndsWell, longest_input}
 use Rattle.lot_stream.specs.declared.input.SlurpFault.{SlurpFault}
-use Rattle.lot_command.specs.declared.command.Command.{Command}
-use Rattle.lot_command.specs.declared.key.Key.{Key}
 use Rattle.lot_input.specs.Input.{Gives, GivesNone, IsAllOf, Reading}
 use Rattle.lot_input.specs.declared.fault.InputFault.{InputFault}
 use Rattle.lot_input.specs.declared.fault.InputFault.TheVariants.{Unasked, Unread, Text, Rows, Cash, Memory}
@@ -17,7 +15,7 @@ module _ (reading : Reading) (input read : List ℕ) (count : ℕ) (is : read �
   had_as = (subst (λ (i : List ℕ). IfSome reading.bytes (λ bytes. i ≡ bytes)) (sym is) all, short, at_end, subst (EndsWell reading.calls) counted ends)
 
   -- it gives the commands that it means
-  pub gives_of : {A : Type 0} (Means : List ℕ → List (Key × Command) → Type 0) (items : A → List (Key × Command)) (result : Result A InputFault)
+  pub gives_of : {A B : Type 0} (Means : List ℕ → B → Type 0) (items : A → B) (result : Result A InputFault)
       → IfOk result (λ given. Means read (items given)) → IfOk result (λ given. Gives Means reading (items given))
   gives_of Means items (Ok given) means = (read, had_as, means)
   gives_of Means items (Err fault) means = tt

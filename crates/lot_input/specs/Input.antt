@@ -4,8 +4,6 @@ use Rattle.std.specs.Io.KnownBytes.{IsAtEnd}
 use Rattle.lot_stream.specs.Input.{CallsMade, EndsFor, EndsWell, longest_input}
 use Rattle.lot_stream.specs.declared.input.SlurpFault.{SlurpFault}
 use Rattle.lot_stream.specs.declared.input.SlurpFault.TheVariants as slurp
-use Rattle.lot_command.specs.declared.command.Command.{Command}
-use Rattle.lot_command.specs.declared.key.Key.{Key}
 use Rattle.lot_input.specs.declared.fault.InputFault.{InputFault}
 use Rattle.lot_input.specs.declared.fault.InputFault.TheVariants.{Unasked, Unread, Text, Rows, Cash, Memory}
 
@@ -32,9 +30,9 @@ IsUnread reading slurp.TooLong =
     EndsFor reading.calls slurp.TooLong × IfSome reading.bytes (λ bytes. longest_input < length bytes)
 IsUnread reading slurp.Memory = EndsFor reading.calls slurp.Memory
 
--- all that a reader has gives these commands under their keys, where `Means` tells which an input gives
-abbrev pub Gives : (List ℕ → List (Key × Command) → Type 0) → Reading → List (Key × Command) → Type 0
-Gives Means reading keyed = (input : List ℕ) × IsAllOf reading input × Means input keyed
+-- all that a reader has gives this, where `Means` tells what an input gives
+abbrev pub Gives : {A : Type 0} → (List ℕ → A → Type 0) → Reading → A → Type 0
+Gives Means reading given = (input : List ℕ) × IsAllOf reading input × Means input given
 
 -- Why it gives none: memory ends before anything is read; it isn't had; or it is had, and this is its fault, where `IsFaulty`
 -- tells which an input has. Where memory ends behind that, `IsFaulty` tells which input that can be.

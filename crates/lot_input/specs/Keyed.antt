@@ -19,6 +19,10 @@ import_source = source_of (codes "import")
 abbrev pub numbered_key : List ℕ → ℕ → Key
 numbered_key source number = record { source = source; name = decimal number }
 
+-- the key of the row with that `ref`, of a batch of broker files
+abbrev pub row_key : List ℕ → List ℕ → Key
+row_key batch reference = record { source = import_source batch; name = reference }
+
 -- commands under the keys of their numbers, of which the first has that one
 abbrev pub under_keys : List ℕ → ℕ → List Command → List (Key × Command)
 under_keys source number [] = []

@@ -1,8 +1,8 @@
 -- The commands of an input that is ledger text, and why it isn't (docs/FORMATS.md, Ledger text).
-use Rattle.std.specs.Prelude.{◌≡◌, ℕ, List}
+use Rattle.std.specs.Prelude.{◌≡◌, ℕ, List, [], ◌∷◌, Option, Some, None, option_map}
 use Rattle.lot_command.specs.declared.command.Command.{Command}
 use Rattle.lot_command.specs.declared.key.Key.{Key}
-use Rattle.lot_input.specs.Keyed.{keyed_from, post_source}
+use Rattle.lot_input.specs.Keyed.{keyed_from, post_source, row_key}
 use Rattle.lot_input.specs.declared.fault.InputFault.{InputFault}
 use Rattle.lot_input.specs.declared.fault.InputFault.TheVariants.{Unasked, Unread, Text, Rows, Cash, Memory}
 use Rattle.lot_read.specs.Text.{IsFaultOf, Reads}
@@ -10,6 +10,17 @@ use Rattle.lot_read.specs.Text.{IsFaultOf, Reads}
 -- the input is ledger text, and these are its commands from that number on, each under the key of its number in the batch
 abbrev pub TextMeans : List ℕ → ℕ → List ℕ → List (Key × Command) → Type 0
 TextMeans batch from input keyed = (commands : List Command) × Reads input commands × (keyed ≡ keyed_from (post_source batch) from commands)
+
+-- the one command of a list; none, where it has another number of commands
+abbrev pub only : List Command → Option Command
+only [] = None
+only (command ∷ []) = Some command
+only (command ∷ next ∷ commands) = None
+
+-- the input is ledger text, and this is its one command under the key of the row with that `ref`; or it has none, or several
+abbrev pub RowMeans : List ℕ → List ℕ → List ℕ → Option (Key × Command) → Type 0
+RowMeans batch reference input given =
+    (commands : List Command) × Reads input commands × (given ≡ option_map (λ command. (row_key batch reference, command)) (only commands))
 
 -- The input is no ledger text, and this is its first faulty line; or memory ends at a line before that, where the lines up to
 -- that one say commands. Behind that memory ends only where it is ledger text. It is no fault of a reader.

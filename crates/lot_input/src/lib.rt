@@ -1,7 +1,7 @@
 //! What an input says before any book is looked at: its commands, each under its key, or why it gives none
 //! (docs/RULES.md, The program).
 //!
-//! - `text`: the commands of ledger text (`keyed_text`).
+//! - `text`: the commands of ledger text (`keyed_text`), and its one command for a row of a broker file (`keyed_row`).
 //! - `rows`: those of the rows of a broker file (`keyed_rows`).
 //! - `keyed`: the keys of the commands of a batch.
 //! - `fault`: why an input gives no commands, and the line that reports it (`print_input_fault`).
@@ -14,4 +14,4 @@ mod text;
 
 pub use fault::{InputFault, print_input_fault};
 pub use rows::keyed_rows;
-pub use text::keyed_text;
+pub use text::{keyed_row, keyed_text};

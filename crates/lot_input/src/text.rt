@@ -1,10 +1,11 @@
-ghost use Rattle.std.specs.Prelude.{◌≤◌, IfErr, IfOk};
+ghost use Rattle.std.specs.Prelude.{◌≡◌, ◌≤◌, IfErr, IfOk};
 ghost use Rattle.lot_input.specs.Input.{Gives, GivesNone};
-ghost use Rattle.lot_input.specs.Text.{IsFaultyText, TextMeans};
+ghost use Rattle.lot_input.specs.Text.{IsFaultyText, RowMeans, TextMeans, only};
 
 use crate::fault::InputFault;
-use crate::keyed::keyed;
+use crate::keyed::{keyed, source};
 use lot_args::Batch;
+use lot_base::Label;
 use lot_command::{Command, Key};
 use lot_stream::{CountedRead, slurp};
 use lot_text::read;
@@ -36,6 +37,31 @@ pub fn keyed_text<R: CountedRead>(
     commands_in(alloc, batch, from, &text)
 }
 
+/// Returns the one command of all that a reader has, which is ledger text, under the key of the row with that `ref` in the
+/// broker files of the batch; `None` where the text has no command, or several.
+///
+/// The errors are `Unread`, `Text` and `Memory`.
+pub fn keyed_row<R: CountedRead>(
+    alloc: Global,
+    batch: &Batch,
+    reference: &Label,
+    reader: &mut R,
+) -> Result<Option<(Key, Command)>, InputFault>
+    ensures ok { IfOk result (Gives (RowMeans batch.now reference.now) (record {
+      bytes = R.remaining reader.old;
+      left = R.remaining reader.new;
+      calls = record { before = R.calls reader.old; after = R.calls reader.new };
+    })) }
+    ensures err { IfErr result (GivesNone IsFaultyText (record {
+      bytes = R.remaining reader.old;
+      left = R.remaining reader.new;
+      calls = record { before = R.calls reader.old; after = R.calls reader.new };
+    })) }
+{
+    let text = slurp(alloc, reader)?;
+    row_in(alloc, batch, reference, &text)
+}
+
 /// Returns the same of a text that was read, which has no fault of a reader. Out of memory comes only where its lines up to one
 /// say commands, or all of them.
 fn commands_in(
@@ -50,4 +76,37 @@ fn commands_in(
 {
     let commands = read(alloc, text)?;
     Ok(keyed(alloc, batch, from, commands)?)
+}
+
+/// Returns the same of the one command of a text that was read.
+fn row_in(
+    alloc: Global,
+    batch: &Batch,
+    reference: &Label,
+    text: &[u8],
+) -> Result<Option<(Key, Command)>, InputFault>
+    ensures ok { IfOk result (RowMeans batch.now reference.now text.now) }
+    ensures err { IfErr result (IsFaultyText text.now) }
+{
+    match only(read(alloc, text)?) {
+        Some(command) => {
+            let source = source(alloc, "import", batch)?;
+            let name = reference.copy()?;
+            Ok(Some((Key { source, name }, command)))
+        }
+        None => Ok(None),
+    }
+}
+
+/// Returns the one command of a list; `None` where it has another number of commands.
+fn only(mut commands: Vec<Command>) -> Option<Command>
+    ensures { result ≡ only commands.items }
+{
+    let Some(command) = commands.pop() else {
+        return None;
+    };
+    if !commands.is_empty() {
+        return None;
+    }
+    Some(command)
 }

@@ -1,7 +1,6 @@
 -- What is read and put in the transaction makes tables of edition 2 of those of edition 1.
-use Rattle.std.proofs.Common.{◌≡◌, ◌≢◌, ◌∙◌, inl, inr, [], ◌∷◌, ℤ, None, Err, ap, map, refl, subst}
+use Rattle.std.proofs.Common.{◌≡◌, ◌≢◌, ◌∙◌, inl, inr, ℕ, List, None, Err, Result, ap, map, refl, subst}
 use Rattle.sqlite.specs.State.{HasCleanDisk, State, Survives}
-use Rattle.lot_stored.specs.Rows.{marked}
 use Rattle.lot_table.specs.Book.{Turns, always}
 use Rattle.lot_table.specs.Shape.{schema_of}
 use Rattle.lot_table.specs.Statement.{DiskFailed}
@@ -13,24 +12,26 @@ use Rattle.lot_rows.proofs.StateLemmas.{early, survives_both}
 use Rattle.lot_rows.specs.Tables.{Has, HasFirst, Tables, first_shapes, layout}
 use Rattle.lot_page.specs.Cursor.{Stays}
 use Rattle.lot_migrate.specs.Fault.{add_fault_of, migrate_fault_of}
-use Rattle.lot_migrate.specs.Migrate.{HasMigrated, NotTakenOver}
-use Rattle.lot_migrate.specs.Put.{HasNoRoom, PutsRows, with_all}
-use Rattle.lot_migrate.specs.Read.{CanMigrate, IsReading, Reads}
-use Rattle.lot_migrate.specs.Rows.{migrated, row_of_opening}
+use Rattle.lot_migrate.specs.Migrate.{MigratesMarked, NotTakenOver}
+use Rattle.lot_migrate.specs.Put.{HasNoRoom, IsFullForAll, PutsRows, with_all}
+use Rattle.lot_migrate.specs.Read.{CanMigrate, IsReading, ListsTable, Reads}
+use Rattle.lot_migrate.specs.Rows.{bare, migrated, row_of_opening}
+use Rattle.lot_ledger.specs.declared.opening_numbers.LotOpening.{LotOpening}
 use Rattle.lot_migrate.specs.declared.fill.Reading.{Reading}
 use Rattle.lot_migrate.proofs.NumberLemmas.{openings_rise}
 use Rattle.lot_migrate.proofs.PutLemmas.{all_put, failed_later}
 use Rattle.lot_migrate.proofs.ReadLemmas.{has_on}
 
--- tables of edition 1 with the two that are added, which have no rows yet
-abbrev pub bare : Tables → Tables
-bare tables = record tables { opening = []; migration = [] }
-
 can_bare : (tables : Tables) → CanMigrate tables → CanMigrate (bare tables)
 can_bare tables can = record { fold = record { legs = can.fold.legs; in_range = can.fold.in_range }; entries = can.entries }
 
-none_bare : (tables : Tables) → HasNoRoom (bare tables) → HasNoRoom tables
-none_bare tables none = record { made = none.made; same = none.same; trees = none.trees; holds = none.holds; lacks = none.lacks }
+-- the opening numbers of tables don't rest on the two that are added
+lists_bare : (tables : Tables) (openings : List LotOpening) → ListsTable openings (bare tables) → ListsTable openings tables
+lists_bare tables openings lists = record {
+  rows = lists.rows;
+  are = record { legs = lists.are.legs; same = lists.are.same };
+  lists = lists.lists;
+}
 
 -- the two tables are added
 abbrev pub Adds : State → State → Type 0
@@ -41,7 +42,7 @@ Adds old begun = (tables : Tables) → HasFirst old tables → Has begun (bare t
 pub is_filled : (old begun read new : State) (reading : Reading) → Adds old begun
     → ((tables : Tables) → Has begun tables → IsReading reading tables) → Stays begun read
     → Turns layout always (with_all reading.openings.items reading.entries) read new
-    → (tables : Tables) (edition : ℤ) → HasFirst old tables → tables.book ≡ marked edition ∷ [] → HasMigrated tables new
+    → MigratesMarked old new
 is_filled old begun read new reading adds says same turns tables edition has book =
     let openings = reading.openings.items in
     let first = adds tables has in
@@ -51,11 +52,7 @@ is_filled old begun read new reading adds says same turns tables edition has boo
     let whole = all_put openings reading.entries tables edition book up ∙ ap (migrated tables (map row_of_opening openings)) it.0 in
     record {
       openings = openings;
-      lists = record {
-        rows = it.1.rows;
-        are = record { legs = it.1.are.legs; same = it.1.are.same };
-        lists = it.1.lists;
-      };
+      lists = lists_bare tables openings it.1;
       has = subst (Has new) whole (turns.book then.0, turns.lists then.0 (bare tables) then.1 tt);
     }
 
@@ -80,20 +77,35 @@ read_refused old begun new Device first adds unlimited clean r =
     λ tables has. inl (failed_later old begun new first (early begun new r.crash clean) r.crash.counts (r.device clean refl))
 read_refused old begun new Memory first adds unlimited clean r = tt
 
-pub put_refused : (old begun read new : State) (f : Tables → Tables) (fault : Fault) → Survives old begun (λ _. ⊥)
+-- there is no room for a row that migration makes of the tables
+none_of : (reading : Reading) (tables : Tables) → IsReading reading (bare tables)
+    → IsFullForAll reading.openings.items reading.entries (bare tables) → HasNoRoom tables
+none_of reading tables it lacks = record {
+  openings = reading.openings.items;
+  lists = lists_bare tables reading.openings.items it.1;
+  lacks = subst (λ (place : ℕ). IsFullForAll reading.openings.items place (bare tables)) it.0 lacks;
+}
+
+abbrev pub PutsAll : Reading → State → State → Result (Unit {0}) Fault → Type 0
+PutsAll reading =
+    PutsRows (with_all reading.openings.items reading.entries) (IsFullForAll reading.openings.items reading.entries)
+
+pub put_refused : (old begun read new : State) (reading : Reading) (fault : Fault) → Survives old begun (λ _. ⊥)
     → (HasCleanDisk begun → Adds old begun) → Survives begun read (λ _. ⊥) → (HasCleanDisk read → Stays begun read)
-    → old.step_limit ≡ None → HasCleanDisk new → PutsRows {A = Unit {0}} f read new (Err fault)
+    → (HasCleanDisk read → (tables : Tables) → Has begun tables → IsReading reading tables)
+    → old.step_limit ≡ None → HasCleanDisk new → PutsAll reading read new (Err fault)
     → NotTakenOver old new (migrate_fault_of fault)
-put_refused old begun read new f Memory first adds second same unlimited clean p = tt
-put_refused old begun read new f Damaged first adds second same unlimited clean p =
+put_refused old begun read new reading Memory first adds second same says unlimited clean p = tt
+put_refused old begun read new reading Damaged first adds second same says unlimited clean p =
     λ tables has can.
     let was = early read new p.crash clean in
     p.damaged clean refl (second.limit ∙ first.limit ∙ unlimited) (bare tables)
     (has_on begun read (bare tables) (same was) (adds (early begun read second was) tables has))
-put_refused old begun read new f Device first adds second same unlimited clean p =
+put_refused old begun read new reading Device first adds second same says unlimited clean p =
     λ tables has.
     let was = early read new p.crash clean in
-    elim (p.device clean refl (bare tables) (has_on begun read (bare tables) (same was) (adds (early begun read second was) tables has))) [
+    let added = adds (early begun read second was) tables has in
+    elim (p.device clean refl (bare tables) (has_on begun read (bare tables) (same was) added)) [
       | inl disk ↦ inl (failed_later old read new (survives_both old begun read first second) was p.crash.counts disk)
-      | inr none ↦ inr (none_bare tables none)
+      | inr lacks ↦ inr (none_of reading tables (says was (bare tables) added) lacks)
     ]

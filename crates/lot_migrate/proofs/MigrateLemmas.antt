@@ -22,11 +22,11 @@ use Rattle.lot_store.specs.declared.fault.AdoptFault.{AdoptFault}
 use Rattle.lot_store.specs.declared.fault.AdoptFault.TheVariants as adopt
 use Rattle.lot_migrate.specs.Fault.{refusal_of}
 use Rattle.lot_migrate.specs.First.{StandsFirst, first_edition}
-use Rattle.lot_migrate.specs.Migrate.{IsOfFirst, IsOfSecond, IsOlder, LeavesMigrated, LeavesTakenOver, Migrates, NotTakenOver, TakesOver, TakesOverMarked}
+use Rattle.lot_migrate.specs.Migrate.{IsOfFirst, IsOfSecond, IsCommitted, IsOlder, LeavesMigrated, LeavesTakenOver, Migrates, MigratesMarked, NotTakenOver, TakesOver}
 use Rattle.lot_migrate.specs.declared.fault.MigrateFault.{MigrateFault}
 use Rattle.lot_migrate.specs.declared.fault.MigrateFault.TheVariants as migrate
 use Rattle.lot_migrate.proofs.MarkLemmas.{first_answers, first_marks}
-use Rattle.lot_migrate.proofs.TurnLemmas.{can_migrate}
+use Rattle.lot_migrate.proofs.TurnLemmas.{can_migrate, stands_migrated_from}
 
 -- ---- an older edition
 
@@ -77,7 +77,7 @@ module _ (old mid : State) where
     pub stands_then : (entries : List Entry) → StandsFirst old entries → StandsFirst mid entries
     stands_then entries first = record { tables = first.tables; has = first_then first.tables first.has; stand = first.stand }
 
-    pub migrates_then : (new : State) → TellsOf old mid (Err adopt.OlderEdition) → TakesOverMarked mid new → Migrates old new
+    pub migrates_then : (new : State) → TellsOf old mid (Err adopt.OlderEdition) → MigratesMarked mid new × IsCommitted new → Migrates old new
     migrates_then new tells t = inr (older_is tells, taken)
       where
         told : (tables : Tables) → HasFirst old tables → (edition : ℤ) × (tables.book ≡ marked edition ∷ [])
@@ -90,9 +90,9 @@ module _ (old mid : State) where
 
         taken : TakesOver old new
         taken = record {
-          stands = λ entries first. t.stands entries (stands_then entries first);
-          rows = λ tables has. let is = told tables has in t.rows tables is.0 (first_then tables has) is.1;
-          committed = t.committed;
+          stands = λ entries first. stands_migrated_from mid new t.0 entries (stands_then entries first);
+          rows = λ tables has. let is = told tables has in t.0 tables is.0 (first_then tables has) is.1;
+          committed = t.1;
         }
 
     pub refused_then : (new : State) (fault : MigrateFault) → Survives old mid (λ _. ⊥) → NotTakenOver mid new fault

@@ -3,7 +3,6 @@ use Rattle.std.proofs.Common.{◌≡◌, ◌∙◌, ◌⊎◌, inl, inr, ◌++�
 use Rattle.std.proofs.lemmas.Bool.{both_ways, cases_Bool}
 use Rattle.std.proofs.lemmas.List.{append_assoc, map-append}
 use Rattle.sqlite.specs.State.{HasCleanDisk, KeepsCommit, State, Survives}
-use Rattle.sqlite.specs.Tree.{Trees}
 use Rattle.lot_ledger.specs.declared.opening_numbers.LotOpening.{LotOpening}
 use Rattle.lot_stored.specs.Rows.{marked, migration_row, this_edition}
 use Rattle.lot_stored.proofs.LookupLemmas.{has_own_key}
@@ -19,14 +18,14 @@ use Rattle.lot_table.specs.declared.fault.Fault.TheVariants.{Memory}
 use Rattle.lot_rows.proofs.StateLemmas.{early, survives_both, survives_same}
 use Rattle.lot_rows.specs.Book.{book_cells}
 use Rattle.lot_rows.specs.Opening.{opening_cells}
-use Rattle.lot_rows.specs.Tables.{Has, Tables, book_table, layout, migration_table, opening_table}
+use Rattle.lot_rows.specs.Tables.{Has, Tables, layout, opening_table}
 use Rattle.lot_rows.specs.declared.book.BookRow.{BookRow}
 use Rattle.lot_write.specs.Call.{LacksRoomFor, LacksRoomIn, Stops, WritesAll}
 use Rattle.lot_write.specs.Write.{AreFit, with_put, written_all}
 use Rattle.lot_write.specs.declared.write.Write.{Write}
 use Rattle.lot_write.specs.declared.write.Write.TheVariants.{Opening}
-use Rattle.lot_migrate.specs.Put.{HasNoRoom, PutsRows, opening_writes, with_all, with_marks}
-use Rattle.lot_migrate.specs.Rows.{migrated, row_of_opening}
+use Rattle.lot_migrate.specs.Put.{IsFullFor, IsFullForOpenings, PutsRows, opening_writes, with_all, with_marks}
+use Rattle.lot_migrate.specs.Rows.{bare, migrated, row_of_opening}
 use Rattle.lot_migrate.proofs.OpeningLemmas.{put_next}
 
 -- ---- a failure of the disk after other calls
@@ -41,30 +40,6 @@ failed_later a b c first clean up (inr shut) = elim (cases_Bool a.is_open) [
   | inr dead ↦ inr dead
 ]
 
--- ---- no room
-
-abbrev Lacks : Trees → Type 0
-Lacks trees =
-    ((it : LotOpening) × LacksRoomIn opening_table (row_of_opening it) trees)
-    ⊎ (((place : ℕ) × LacksRoomIn migration_table (migration_row place) trees) ⊎ LacksRoomIn book_table this_edition trees)
-
--- there is none for a row of these tables themselves
-none_for : (tables : Tables) (trees : Trees) → Holds layout trees tables → Lacks trees → HasNoRoom tables
-none_for tables trees holds lacks = record { made = tables; same = refl; trees = trees; holds = holds; lacks = lacks }
-
--- where tables differ only in what migration puts, what one has no room for is none for the other
-pub none_behind : (tables other : Tables) → other ≡ record tables { book = other.book; opening = other.opening; migration = other.migration }
-    → HasNoRoom other → HasNoRoom tables
-none_behind tables other is none = record {
-  made = none.made;
-  same =
-      none.same
-      ∙ ap (λ (t : Tables). record t { book = none.made.book; opening = none.made.opening; migration = none.made.migration }) is;
-  trees = none.trees;
-  holds = none.holds;
-  lacks = none.lacks;
-}
-
 -- ---- one row
 
 same_fault : {A B : Type 0} {a b : Fault} → ◌≡◌ {A = Result A Fault} (Err a) (Err b) → ◌≡◌ {A = Result B Fault} (Err a) (Err b)
@@ -72,14 +47,14 @@ same_fault {A} {B} {a} {b} is = let one : a ≡ b = cc in ap Err one
 
 -- the last of the rows
 pub puts_one : {A X : Type 0} (t : BookTable Tables X) (x : X) (old new : State) (result : Result A Fault)
-    → ((trees : Trees) → LacksRoomIn t x trees → Lacks trees) → Puts layout t x old new result → PutsRows (with_put t x) old new result
-puts_one t x old new result lacks puts = record {
+    → Puts layout t x old new result → PutsRows (with_put t x) (IsFullFor t x) old new result
+puts_one t x old new result puts = record {
   inside = λ clean. on_ok result _ _ (λ inside. inside.mode) (puts.inside clean);
   turns = puts.turns;
   damaged = puts.damaged;
   device = λ clean is tables has. elim (puts.device clean is tables has) [
     | inl disk ↦ inl disk
-    | inr none ↦ inr (none_for tables old.now.trees has.1 (lacks old.now.trees none))
+    | inr none ↦ inr (record { trees = old.now.trees; holds = has.1; lacks = none })
   ];
   kept = λ clean. kept result (puts.inside clean) (puts.undone clean);
   crash = puts.crash;
@@ -90,16 +65,17 @@ puts_one t x old new result lacks puts = record {
     kept (Err fault) inside undone = keeps_undone old new undone
 
 -- rows, and others behind them
-pub puts_then : {A B : Type 0} (f g : Tables → Tables) (old mid new : State) (done : A) (result : Result B Fault)
-    → ((tables : Tables) → HasNoRoom (f tables) → HasNoRoom tables)
-    → PutsRows f old mid (Ok done) → PutsRows g mid new result → PutsRows (λ tables. g (f tables)) old new result
-puts_then f g old mid new done result none first second = record {
+pub puts_then : {A B : Type 0} (f g : Tables → Tables) (NoRoom NoneThen : Tables → Type 0) (old mid new : State) (done : A)
+    (result : Result B Fault)
+    → PutsRows f NoRoom old mid (Ok done) → PutsRows g NoneThen mid new result
+    → PutsRows (λ tables. g (f tables)) (λ tables. NoRoom tables ⊎ NoneThen (f tables)) old new result
+puts_then f g NoRoom NoneThen old mid new done result first second = record {
   inside = second.inside;
   turns = λ clean. on_ok result _ _ (λ turns. both clean turns) (second.turns clean);
   damaged = λ clean is unlimited tables has. second.damaged clean is (first.crash.limit ∙ unlimited) (f tables) (has_then clean tables has);
   device = λ clean is tables has. elim (second.device clean is (f tables) (has_then clean tables has)) [
     | inl disk ↦ inl (failed_later old mid new first.crash (early mid new second.crash clean) second.crash.counts disk)
-    | inr lacks ↦ inr (none tables lacks)
+    | inr lacks ↦ inr (inr lacks)
   ];
   kept = λ clean. keeps_then old mid new (first.kept (early mid new second.crash clean)) (second.kept clean);
   crash = survives_both old mid new first.crash second.crash;
@@ -115,20 +91,24 @@ puts_then f g old mid new done result none first second = record {
         record { book = all.book; lists = λ is tables holds _. all.lists is tables holds (tt, tt) }
 
 -- a failure puts nothing, whatever were put behind it
-pub puts_fails : {A B : Type 0} (f g : Tables → Tables) (old new : State) (fault : Fault) → PutsRows {A = A} f old new (Err fault)
-    → PutsRows {A = B} g old new (Err fault)
-puts_fails f g old new fault p = record {
+pub puts_fails : {A B : Type 0} (f g : Tables → Tables) (NoRoom NoneThen : Tables → Type 0) (old new : State) (fault : Fault)
+    → ((tables : Tables) → NoRoom tables → NoneThen tables) → PutsRows {A = A} f NoRoom old new (Err fault)
+    → PutsRows {A = B} g NoneThen old new (Err fault)
+puts_fails f g NoRoom NoneThen old new fault then p = record {
   inside = λ clean. tt;
   turns = λ clean. tt;
   damaged = λ clean is. p.damaged clean (same_fault is);
-  device = λ clean is. p.device clean (same_fault is);
+  device = λ clean is tables has. elim (p.device clean (same_fault is) tables has) [
+    | inl disk ↦ inl disk
+    | inr lacks ↦ inr (then tables lacks)
+  ];
   kept = p.kept;
   crash = p.crash;
 }
 
 -- there is no memory before the first of them
-pub puts_out : {A : Type 0} (f : Tables → Tables) (s : State) → PutsRows {A = A} f s s (Err Memory)
-puts_out f s = record {
+pub puts_out : {A : Type 0} (f : Tables → Tables) (NoRoom : Tables → Type 0) (s : State) → PutsRows {A = A} f NoRoom s s (Err Memory)
+puts_out f NoRoom s = record {
   inside = λ clean. tt;
   turns = λ clean. tt;
   damaged = λ clean is. absurd cc;
@@ -143,29 +123,11 @@ all_fit : (openings : List LotOpening) (tables : Tables) → AreFit (opening_wri
 all_fit [] tables = tt
 all_fit (it ∷ more) tables = (tt, all_fit more (with_put opening_table (row_of_opening it) tables))
 
--- only their table is another
-pub only_openings : (openings : List LotOpening) (tables : Tables)
-    → written_all (opening_writes openings) tables ≡ record tables { opening = (written_all (opening_writes openings) tables).opening }
-only_openings [] tables = refl
-only_openings (it ∷ more) tables = only_openings more (with_put opening_table (row_of_opening it) tables)
-
-pub none_before : (openings : List LotOpening) (tables : Tables) → HasNoRoom (written_all (opening_writes openings) tables) → HasNoRoom tables
-none_before openings tables =
-    let other = written_all (opening_writes openings) tables in
-    none_behind tables other (same (only_openings openings tables))
-  where
-    same : {other : Tables} → other ≡ record tables { opening = other.opening }
-        → other ≡ record tables { book = other.book; opening = other.opening; migration = other.migration }
-    same {other} is =
-        is ∙ (λ i. record tables {
-          book = (sym is i).book;
-          opening = other.opening;
-          migration = (sym is i).migration;
-        })
-
 record PartsOf (openings : List LotOpening) (made : List Write) (next : Write) : Type 0 where
   first : List LotOpening
   it : LotOpening
+  more : List LotOpening
+  split : openings ≡ first ++ it ∷ more
   before : made ≡ opening_writes first
   here : next ≡ Opening (row_of_opening it)
 
@@ -173,23 +135,38 @@ parts : (openings : List LotOpening) (made : List Write) (next : Write) (left : 
     → opening_writes openings ≡ made ++ next ∷ left → PartsOf openings made next
 parts [] [] next left is = absurd cc
 parts [] (m ∷ made) next left is = absurd cc
-parts (it ∷ more) [] next left is = record { first = []; it = it; before = refl; here = let same : next ≡ Opening (row_of_opening it) = cc in same }
+parts (it ∷ more) [] next left is = record { first = []; it = it; more = more; split = refl; before = refl; here = let same : next ≡ Opening (row_of_opening it) = cc in same }
 parts (it ∷ more) (m ∷ made) next left is =
     let head : m ≡ Opening (row_of_opening it) = cc in
     let tail : opening_writes more ≡ made ++ next ∷ left = cc in
     let p = parts more made next left tail in
-    record { first = it ∷ p.first; it = p.it; before = λ i. head i ∷ p.before i; here = p.here }
+    record {
+      first = it ∷ p.first;
+      it = p.it;
+      more = p.more;
+      split = ap (λ l. it ∷ l) p.split;
+      before = λ i. head i ∷ p.before i;
+      here = p.here;
+    }
 
-none_for_openings : (openings : List LotOpening) (tables : Tables) (new : State) → Stops (opening_writes openings) tables new → HasNoRoom tables
+none_for_openings : (openings : List LotOpening) (tables : Tables) (new : State) → Stops (opening_writes openings) tables new
+    → IsFullForOpenings openings tables
 none_for_openings openings tables new stops =
     let p = parts openings stops.made stops.next stops.left stops.split in
     let holds = subst (λ (made : List Write). Holds layout stops.trees (written_all made tables)) p.before stops.holds in
     let lacks : LacksRoomIn opening_table (row_of_opening p.it) stops.trees =
     subst (λ (next : Write). LacksRoomFor next stops.trees) p.here stops.lacks in
-    none_before p.first tables (none_for (written_all (opening_writes p.first) tables) stops.trees holds (inl (p.it, lacks)))
+    record {
+      done = p.first;
+      next = p.it;
+      left = p.more;
+      split = p.split;
+      lacks = record { trees = stops.trees; holds = holds; lacks = lacks };
+    }
 
 pub puts_openings : {A : Type 0} (openings : List LotOpening) (old new : State) (result : Result A Fault)
-    → WritesAll (opening_writes openings) old new result → PutsRows (written_all (opening_writes openings)) old new result
+    → WritesAll (opening_writes openings) old new result
+    → PutsRows (written_all (opening_writes openings)) (IsFullForOpenings openings) old new result
 puts_openings openings old new result w = record {
   inside = w.inside;
   turns = λ clean. on_ok result _ _
@@ -232,12 +209,11 @@ one_mark edition = rw (has_own_key 1 (book_cells this_edition)) refl
 
 pub all_put : (openings : List LotOpening) (place : ℕ) (tables : Tables) (edition : ℤ) → tables.book ≡ marked edition ∷ []
     → IsRising opening_cells 6 (map row_of_opening openings)
-    → with_all openings place (record tables { opening = []; migration = [] }) ≡ migrated tables (map row_of_opening openings) place
+    → with_all openings place (bare tables) ≡ migrated tables (map row_of_opening openings) place
 all_put openings place tables edition is up =
-    let bare : Tables = record tables { opening = []; migration = [] } in
     let rows = map row_of_opening openings in
-    let put : with_all openings place bare ≡ with_marks place (record tables { opening = rows; migration = [] }) =
-    ap (with_marks place) (openings_put [] openings bare refl up) in
+    let put : with_all openings place (bare tables) ≡ with_marks place (record tables { opening = rows; migration = [] }) =
+    ap (with_marks place) (openings_put [] openings (bare tables) refl up) in
     put
     ∙ (λ i. record tables {
       book = (ap (λ (book : List BookRow). put_in book_cells 1 this_edition book) is ∙ one_mark edition) i;

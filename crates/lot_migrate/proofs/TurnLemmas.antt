@@ -1,5 +1,5 @@
 -- A database that is taken over, once its transaction is committed.
-use Rattle.std.proofs.Common.{◌≡◌, ◌∙◌, inl, inr, true, All, Err, Ok, OnOk, Result, List, [], ◌∷◌, ℕ, ℤ, length, ap, map, false, sym, subst, arith}
+use Rattle.std.proofs.Common.{◌≡◌, ◌∙◌, inl, inr, true, All, Err, Ok, OnOk, Result, List, ℕ, length, ap, map, false, sym, subst, arith}
 use Rattle.sqlite.specs.Effect.{Database}
 use Rattle.sqlite.specs.State.{Shows, State, Survives}
 use Rattle.sqlite.specs.Held.{Held, state}
@@ -8,16 +8,15 @@ use Rattle.sqlite.specs.declared.error.Error.{Error}
 use Rattle.lot_book.specs.Book.{IsBook}
 use Rattle.lot_book.specs.Facts.{Entry}
 use Rattle.lot_ledger.specs.LotOpenings.{ListsOpenings}
-use Rattle.lot_stored.specs.Rows.{marked}
 use Rattle.lot_stored.specs.StandFor.{StandFor}
 use Rattle.lot_table.specs.Book.{Holds}
 use Rattle.lot_rows.specs.Entry.{IsEntryRow}
 use Rattle.lot_rows.specs.Leg.{IsLegRow}
-use Rattle.lot_rows.specs.Tables.{Has, HasFirst, Tables, layout}
+use Rattle.lot_rows.specs.Tables.{Has, Tables, layout}
 use Rattle.lot_rows.specs.declared.leg.LegRow.{LegRow}
 use Rattle.lot_migrate.specs.Fault.{migrate_outcome}
-use Rattle.lot_migrate.specs.First.{StandForFirst, first_edition}
-use Rattle.lot_migrate.specs.Migrate.{HasMigrated, LeavesTakenOver, LeftFrom, NotTakenOver, StandsFrom, TakesOverMarked}
+use Rattle.lot_migrate.specs.First.{StandForFirst, StandsFirst, first_edition}
+use Rattle.lot_migrate.specs.Migrate.{HasMigrated, IsCommitted, LeavesTakenOver, LeftFrom, MigratesMarked, NotTakenOver, StandsFrom}
 use Rattle.lot_migrate.specs.Read.{AreLegs, CanMigrate, entries_in}
 use Rattle.lot_migrate.specs.Rows.{leg_of, migrated, row_of_opening}
 use Rattle.lot_migrate.specs.declared.fault.MigrateFault.{MigrateFault}
@@ -72,10 +71,6 @@ module _ (tables : Tables) (entries : List Entry) (first : StandForFirst tables 
 
 -- ---- the transaction
 
--- what is made of the tables of edition 1
-abbrev pub Makes : State → State → Type 0
-Makes old last = (tables : Tables) (edition : ℤ) → HasFirst old tables → tables.book ≡ marked edition ∷ [] → HasMigrated tables last
-
 has_along : (last end : State) (tables : Tables) → end.now ≡ last.now → HasMigrated tables last → HasMigrated tables end
 has_along last end tables is m = record {
   openings = m.openings;
@@ -85,16 +80,19 @@ has_along last end tables is m = record {
       (sym is) m.has;
 }
 
-pub taken_over : (old last end : State) → Makes old last → Shows last end last.now last.now false → TakesOverMarked old end
-taken_over old last end makes shows = record {
-  stands = λ entries first.
-      stands_from first.tables entries first.stand end
-      (has_along last end first.tables shows.now_is (makes first.tables first_edition first.has first.stand.book));
-  rows = λ tables edition has book. has_along last end tables shows.now_is (makes tables edition has book);
-  committed = (shows.is_open, shows.committed_is ∙ sym shows.now_is);
-}
+pub taken_over : (old last end : State) → MigratesMarked old last → Shows last end last.now last.now false
+    → MigratesMarked old end × IsCommitted end
+taken_over old last end makes shows = (
+  (λ tables edition has book. has_along last end tables shows.now_is (makes tables edition has book)),
+  (shows.is_open, shows.committed_is ∙ sym shows.now_is),
+)
 
-pub leaves_migrated : (old last : State) → Makes old last → LeavesTakenOver old last.now.trees
+pub stands_migrated_from : (old new : State) → MigratesMarked old new → (entries : List Entry) → StandsFirst old entries
+    → StandsFrom (length entries) new entries
+stands_migrated_from old new makes entries first =
+    stands_from first.tables entries first.stand new (makes first.tables first_edition first.has first.stand.book)
+
+pub leaves_migrated : (old last : State) → MigratesMarked old last → LeavesTakenOver old last.now.trees
 leaves_migrated old last makes entries first =
     left_from first.tables entries first.stand last (makes first.tables first_edition first.has first.stand.book)
 
@@ -117,9 +115,9 @@ refused_later old last end migrate.Memory undone refused = tt
 
 -- the transaction began before it
 pub makes_begun : {S : Type 0} (g : Ghosts S) (old begun : Held S) (last : State) → begun ≡ record old { in_transaction = true }
-    → Makes (state g begun) last → Makes (state g old) last
+    → MigratesMarked (state g begun) last → MigratesMarked (state g old) last
 makes_begun g old begun last is makes tables edition has book =
-    subst (λ (h : Held _). Makes (state g h) last) is makes tables edition has book
+    subst (λ (h : Held _). MigratesMarked (state g h) last) is makes tables edition has book
 
 pub on_migrated : {A : Type 0} (r : Result A Error) (P : Type 0) → OnOk r P → OnOk (migrate_outcome r) P
 on_migrated (Ok done) P h = h

@@ -39,6 +39,15 @@ pub record HasMigrated (tables : Tables) (s : State) : Type 0 where
   pub lists : ListsTable openings tables
   pub has : Has s (migrated tables (map row_of_opening openings) (entries_in tables))
 
+-- so the eleven tables become, where one row marks their edition
+abbrev pub MigratesMarked : State → State → Type 0
+MigratesMarked old new = (tables : Tables) (edition : ℤ) → HasFirst old tables
+    → tables.book ≡ marked edition ∷ [] → HasMigrated tables new
+
+-- the connection is open, and what it shows is committed
+abbrev pub IsCommitted : State → Type 0
+IsCommitted s = IsTrue s.is_open × (s.committed ≡ s.now)
+
 -- A database that tells an older edition becomes a book of edition 2, in one commit. Where it
 -- stands for a book of edition 1, the same entries stand in edition 2, each of them before the
 -- place of migration. Whatever the eleven tables stand for, their rows stay but for the edition.
@@ -46,15 +55,7 @@ pub record TakesOver (old new : State) : Type 0 where
   pub stands : (entries : List Entry) → StandsFirst old entries
       → StandsFrom (length entries) new entries
   pub rows : (tables : Tables) → HasFirst old tables → HasMigrated tables new
-  pub committed : IsTrue new.is_open × (new.committed ≡ new.now)
-
--- the same of any database: of tables whose edition is marked by one row
-pub record TakesOverMarked (old new : State) : Type 0 where
-  pub stands : (entries : List Entry) → StandsFirst old entries
-      → StandsFrom (length entries) new entries
-  pub rows : (tables : Tables) (edition : ℤ) → HasFirst old tables
-      → tables.book ≡ marked edition ∷ [] → HasMigrated tables new
-  pub committed : IsTrue new.is_open × (new.committed ≡ new.now)
+  pub committed : IsCommitted new
 
 -- the database answers the question for its edition with an older one
 abbrev pub IsOlder : State → Type 0

@@ -1,10 +1,10 @@
 -- What migration puts, in its open transaction.
-use Rattle.std.specs.Prelude.{◌≡◌, ◌⊎◌, ℕ, List, map, IsTrue, None, OnOk, Result, Err}
+use Rattle.std.specs.Prelude.{◌≡◌, ◌⊎◌, ℕ, List, ◌∷◌, ◌++◌, map, IsTrue, None, OnOk, Result, Err}
 use Rattle.sqlite.specs.State.{HasCleanDisk, KeepsCommit, State, Survives}
 use Rattle.sqlite.specs.Tree.{Trees}
 use Rattle.lot_ledger.specs.declared.opening_numbers.LotOpening.{LotOpening}
 use Rattle.lot_stored.specs.Rows.{migration_row, this_edition}
-use Rattle.lot_table.specs.Book.{Holds, Turns, always}
+use Rattle.lot_table.specs.Book.{BookTable, Holds, Turns, always}
 use Rattle.lot_table.specs.Statement.{DiskFailed}
 use Rattle.lot_table.specs.declared.fault.Fault.{Fault}
 use Rattle.lot_table.specs.declared.fault.Fault.TheVariants.{Damaged, Device}
@@ -13,7 +13,8 @@ use Rattle.lot_write.specs.Call.{LacksRoomIn}
 use Rattle.lot_write.specs.Write.{with_put, written_all}
 use Rattle.lot_write.specs.declared.write.Write.{Write}
 use Rattle.lot_write.specs.declared.write.Write.TheVariants.{Opening}
-use Rattle.lot_migrate.specs.Rows.{row_of_opening}
+use Rattle.lot_migrate.specs.Read.{ListsTable, entries_in}
+use Rattle.lot_migrate.specs.Rows.{bare, row_of_opening}
 
 -- the writes of the opening numbers
 abbrev pub opening_writes : List LotOpening → List Write
@@ -28,27 +29,49 @@ with_marks place tables =
 abbrev pub with_all : List LotOpening → ℕ → Tables → Tables
 with_all openings place tables = with_marks place (written_all (opening_writes openings) tables)
 
--- The database has no room for a row that migration puts: tables that have some of its rows take no
--- more.
-pub record HasNoRoom (tables : Tables) : Type 0 where
-  pub made : Tables
-  pub same : made
-      ≡ record tables { book = made.book; opening = made.opening; migration = made.migration }
+-- a database that has these tables has no room for this row
+pub record IsFullFor {X : Type 0} (t : BookTable Tables X) (x : X) (tables : Tables)
+    : Type 0 where
   pub trees : Trees
-  pub holds : Holds layout trees made
-  pub lacks : ((it : LotOpening) × LacksRoomIn opening_table (row_of_opening it) trees)
-      ⊎ (((place : ℕ) × LacksRoomIn migration_table (migration_row place) trees)
-      ⊎ LacksRoomIn book_table this_edition trees)
+  pub holds : Holds layout trees tables
+  pub lacks : LacksRoomIn t x trees
+
+-- it has none for one of the opening numbers, once those before it are put
+pub record IsFullForOpenings (openings : List LotOpening) (tables : Tables) : Type 0 where
+  pub done : List LotOpening
+  pub next : LotOpening
+  pub left : List LotOpening
+  pub split : openings ≡ done ++ next ∷ left
+  pub lacks : IsFullFor opening_table (row_of_opening next)
+      (written_all (opening_writes done) tables)
+
+-- or for the place of migration, or for the edition behind it
+abbrev pub IsFullForMarks : ℕ → Tables → Type 0
+IsFullForMarks place tables =
+    IsFullFor migration_table (migration_row place) tables
+    ⊎ IsFullFor book_table this_edition (with_put migration_table (migration_row place) tables)
+
+abbrev pub IsFullForAll : List LotOpening → ℕ → Tables → Type 0
+IsFullForAll openings place tables =
+    IsFullForOpenings openings tables
+    ⊎ IsFullForMarks place (written_all (opening_writes openings) tables)
+
+-- The database has no room for a row that migration makes of these tables of edition 1, once the
+-- two tables are added and the rows before it are put.
+pub record HasNoRoom (tables : Tables) : Type 0 where
+  pub openings : List LotOpening
+  pub lists : ListsTable openings tables
+  pub lacks : IsFullForAll openings (entries_in tables) (bare tables)
 
 -- The tables become what `f` makes of them, in the open transaction. Without a limit on steps no
--- damage is found, and the device fails only where the disk failed or the database has no room.
-pub record PutsRows {A : Type 0} (f : Tables → Tables) (old new : State) (result : Result A Fault)
-    : Type 0 where
+-- damage is found, and the device fails only where the disk failed or there is no room.
+pub record PutsRows {A : Type 0} (f : Tables → Tables) (NoRoom : Tables → Type 0) (old new : State)
+    (result : Result A Fault) : Type 0 where
   pub inside : HasCleanDisk new → OnOk result (IsTrue new.in_transaction)
   pub turns : HasCleanDisk new → OnOk result (Turns layout always f old new)
   pub damaged : HasCleanDisk new → result ≡ Err Damaged → old.step_limit ≡ None
       → (tables : Tables) → ¬ Has old tables
   pub device : HasCleanDisk new → result ≡ Err Device → (tables : Tables) → Has old tables
-      → DiskFailed old new ⊎ HasNoRoom tables
+      → DiskFailed old new ⊎ NoRoom tables
   pub kept : HasCleanDisk new → KeepsCommit old new
   pub crash : Survives old new (λ _. ⊥)

@@ -33,6 +33,10 @@ at_lots = filter is_at_lot
 abbrev pub row_of_opening : LotOpening → OpeningRow
 row_of_opening it = opening_row it.account it.commodity it.lot it.opening
 
+-- tables of edition 1 with the two that are added, which have no rows yet
+abbrev pub bare : Tables → Tables
+bare tables = record tables { opening = []; migration = [] }
+
 -- the tables of edition 2 that migration makes of tables of edition 1
 abbrev pub migrated : Tables → List OpeningRow → ℕ → Tables
 migrated tables openings place = record tables {

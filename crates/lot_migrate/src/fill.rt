@@ -1,6 +1,13 @@
-ghost use Rattle.std.specs.Prelude.{◌≡◌, ◌≢◌, ◌∷◌, [], All, Err, IfErr, IfOk, IsTrue, None, OnOk, ℤ};
-ghost use Rattle.lot_migrate.specs.Migrate.{HasMigrated, NotTakenOver};
-ghost use Rattle.lot_migrate.specs.Put.{PutsRows, opening_writes, with_all, with_marks};
+ghost use Rattle.std.specs.Prelude.{◌≡◌, ◌≢◌, All, Err, IfErr, IfOk, IsTrue, None, OnOk};
+ghost use Rattle.lot_migrate.specs.Migrate.{MigratesMarked, NotTakenOver};
+ghost use Rattle.lot_migrate.specs.Put.{
+  IsFullForAll,
+  IsFullForMarks,
+  PutsRows,
+  opening_writes,
+  with_all,
+  with_marks,
+};
 ghost use Rattle.lot_migrate.specs.Read.{
   AreNumbers,
   CanMigrate,
@@ -12,8 +19,7 @@ ghost use Rattle.lot_migrate.specs.Read.{
 };
 ghost use Rattle.lot_migrate.specs.Rows.{row_of_opening};
 ghost use Rattle.lot_rows.specs.Entry.{IsEntryRow};
-ghost use Rattle.lot_rows.specs.Tables.{HasFirst, Tables};
-ghost use Rattle.lot_stored.specs.Rows.{marked, this_edition};
+ghost use Rattle.lot_stored.specs.Rows.{this_edition};
 ghost use Rattle.lot_table.specs.Cell.{IsOpeningNumber};
 ghost use Rattle.lot_write.specs.declared.write.Write.TheVariants.{Opening};
 ghost use Rattle.sqlite.specs.Held.{state};
@@ -21,6 +27,7 @@ ghost use Rattle.sqlite.specs.State.{HasCleanDisk, KeepsCommit, Survives};
 
 use crate::fault::MigrateFault;
 use crate::fold::fold_legs;
+use crate::progress::Progress;
 use lot_ledger::LotOpening;
 use lot_rows::book::{self, BookRow};
 use lot_rows::migration::{self, MigrationRow};
@@ -37,10 +44,11 @@ use std::alloc::{AllocError, Global};
 ///
 /// After an error the last commit stands, and the caller drops the transaction, which rolls back
 /// what was made.
-pub(crate) fn fill<S: Alter>(
+pub(crate) fn fill<S: Alter, P: Progress>(
     alloc: Global,
     tx: &mut Transaction<'_, S>,
     row: &BookRow,
+    progress: &mut P,
 ) -> Result<(), MigrateFault>
     requires inside { HasCleanDisk (state S.Store tx.old.conn.now)
         → IsTrue (state S.Store tx.old.conn.now).in_transaction }
@@ -51,9 +59,8 @@ pub(crate) fn fill<S: Alter>(
         → OnOk result (IsTrue (state S.Store tx.new.conn.now).in_transaction
         × IsTrue (state S.Store tx.new.conn.now).is_open) }
     ensures made { HasCleanDisk (state S.Store tx.new.conn.now)
-        → OnOk result ((tables : Tables) (edition : ℤ)
-        → HasFirst (state S.Store tx.old.conn.now) tables
-        → tables.book ≡ marked edition ∷ [] → HasMigrated tables (state S.Store tx.new.conn.now)) }
+        → OnOk result (MigratesMarked (state S.Store tx.old.conn.now)
+        (state S.Store tx.new.conn.now)) }
     ensures refused { HasCleanDisk (state S.Store tx.new.conn.now) → IfErr result
         (NotTakenOver (state S.Store tx.old.conn.now) (state S.Store tx.new.conn.now)) }
     ensures kept { HasCleanDisk (state S.Store tx.new.conn.now)
@@ -62,7 +69,7 @@ pub(crate) fn fill<S: Alter>(
         (λ _. ⊥) }
 {
     tables::add_later(tx)?;
-    let reading = read_book(alloc, tx)?;
+    let reading = read_book(alloc, tx, progress)?;
     put_all(alloc, tx, reading, row)?;
     Ok(())
 }
@@ -76,14 +83,18 @@ struct Reading {
 }
 
 /// Reads a book in the open transaction.
-fn read_book<S: Alter>(alloc: Global, tx: &mut Transaction<'_, S>) -> Result<Reading, Fault>
+fn read_book<S: Alter, P: Progress>(
+    alloc: Global,
+    tx: &mut Transaction<'_, S>,
+    progress: &mut P,
+) -> Result<Reading, Fault>
     ensures same_reference { tx.new.conn.ghost_name ≡ tx.old.conn.ghost_name }
     ensures reads { Reads IsReading CanMigrate
         (state S.Store tx.old.conn.now) (state S.Store tx.new.conn.now) result }
     ensures numbers { IfOk result (λ it. AreNumbers it.openings.items) }
 {
     let entries = count_entries(alloc, tx)?;
-    let lots = fold_legs(alloc, tx)?;
+    let lots = fold_legs(alloc, tx, progress)?;
     Ok(Reading {
         entries,
         openings: lots.into_openings(alloc)?,
@@ -136,6 +147,7 @@ fn put_all<S: Alter>(
     ensures opened { HasCleanDisk (state S.Store tx.new.conn.now)
         → OnOk result (IsTrue (state S.Store tx.new.conn.now).is_open) }
     ensures puts { PutsRows (with_all reading.openings.items reading.entries)
+        (IsFullForAll reading.openings.items reading.entries)
         (state S.Store tx.old.conn.now) (state S.Store tx.new.conn.now) result }
 {
     let Reading { entries, openings } = reading;
@@ -156,7 +168,7 @@ fn put_marks<S: Alter>(
     ensures same_reference { tx.new.conn.ghost_name ≡ tx.old.conn.ghost_name }
     ensures opened { HasCleanDisk (state S.Store tx.new.conn.now)
         → OnOk result (IsTrue (state S.Store tx.new.conn.now).is_open) }
-    ensures puts { PutsRows (with_marks entries)
+    ensures puts { PutsRows (with_marks entries) (IsFullForMarks entries)
         (state S.Store tx.old.conn.now) (state S.Store tx.new.conn.now) result }
 {
     migration::put(tx, &MigrationRow { entries })?;

@@ -16,6 +16,7 @@ ghost use Rattle.lot_rows.specs.declared.leg.LegRow.{LegRow};
 ghost use Rattle.sqlite.specs.Held.{state};
 
 use crate::pages::legs_behind;
+use crate::progress::Progress;
 use lot_book::{Leg, MOST_POSTINGS, Position};
 use lot_ledger::{LegFault, OpenLots};
 use lot_rows::leg::LegRow;
@@ -30,9 +31,10 @@ const MOST_ENTRIES: u32 = 2_000_000_000;
 ///
 /// The legs are read a page at a time, in the order of the table. The error is `Damaged` where a
 /// leg is none that a book has, or takes the units of its lot out of their range.
-pub(crate) fn fold_legs<S: Alter>(
+pub(crate) fn fold_legs<S: Alter, P: Progress>(
     alloc: Global,
     tx: &mut Transaction<'_, S>,
+    progress: &mut P,
 ) -> Result<OpenLots, Fault>
     ensures same_reference { tx.new.conn.ghost_name ≡ tx.old.conn.ghost_name }
     ensures reads { Reads KeepsTable CanFold
@@ -48,6 +50,7 @@ pub(crate) fn fold_legs<S: Alter>(
             return Ok(lots);
         };
         post_page(alloc, &mut lots, &page)?;
+        progress.legs_read(page.len());
         last = Some(row);
     }
     // No book has so many legs.

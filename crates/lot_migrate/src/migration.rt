@@ -3,14 +3,15 @@ ghost use Rattle.lot_book.specs.Facts.{Entry};
 ghost use Rattle.lot_migrate.specs.Fault.{migrate_outcome, refusal_of};
 ghost use Rattle.lot_migrate.specs.First.{StandsFirst};
 ghost use Rattle.lot_migrate.specs.Migrate.{
+  IsCommitted,
   IsOfFirst,
   IsOfSecond,
   LeavesMigrated,
   LeavesTakenOver,
   Migrates,
+  MigratesMarked,
   NotMigrated,
   NotTakenOver,
-  TakesOverMarked,
 };
 ghost use Rattle.lot_store.specs.Create.{IsHandedBack};
 ghost use Rattle.lot_stored.specs.StandFor.{Stands};
@@ -19,6 +20,7 @@ ghost use Rattle.sqlite.specs.State.{HasCleanDisk, KeepsCommit, Survives};
 
 use crate::fault::MigrateFault;
 use crate::fill::fill;
+use crate::progress::Progress;
 use lot_store::{AdoptFault, HandedBack, adopt, edition_row};
 use sqlite::{Alter, Connection, Error, ErrorCode};
 use std::alloc::Global;
@@ -30,10 +32,12 @@ use std::alloc::Global;
 /// also for want of room, `InDoubt`, where the disk failed in the commit and the book was migrated
 /// or not, or `Memory`. After any error the connection is outside a transaction and, while it is
 /// open, shows every row as it was. A crash during the call leaves what it could leave before, or
-/// the book of edition 2 that one of an older edition becomes.
-pub fn migrate<S: Alter>(
+/// the book of edition 2 that one of an older edition becomes. How many legs are read is told as
+/// they are.
+pub fn migrate<S: Alter, P: Progress>(
     alloc: Global,
     conn: Connection<S>,
+    progress: &mut P,
 ) -> Result<Connection<S>, HandedBack<S, MigrateFault>>
     requires outside { conn.in_transaction ≡ false }
     requires unlimited { conn.step_limit ≡ None }
@@ -63,7 +67,7 @@ pub fn migrate<S: Alter>(
     match adopt(alloc, conn) {
         Ok(book) => Ok(book.into_connection()),
         Err(HandedBack { fault, conn }) => match refusal_of(fault) {
-            None => take_over(alloc, conn),
+            None => take_over(alloc, conn, progress),
             Some(fault) => Err(HandedBack { fault, conn }),
         },
     }
@@ -84,14 +88,16 @@ fn refusal_of(fault: AdoptFault) -> Option<MigrateFault>
 }
 
 /// Takes over a database of an older edition.
-fn take_over<S: Alter>(
+fn take_over<S: Alter, P: Progress>(
     alloc: Global,
     conn: Connection<S>,
+    progress: &mut P,
 ) -> Result<Connection<S>, HandedBack<S, MigrateFault>>
     requires outside { HasCleanDisk (state S.Store conn) → conn.in_transaction ≡ false }
     requires unlimited { conn.step_limit ≡ None }
     ensures taken { IfOk result (λ new. HasCleanDisk (state S.Store new)
-        → TakesOverMarked (state S.Store conn) (state S.Store new)) }
+        → MigratesMarked (state S.Store conn) (state S.Store new)
+        × IsCommitted (state S.Store new)) }
     ensures outside { IfOk result (λ new. new.in_transaction ≡ false) }
     ensures refused { IfErr result (λ left. HasCleanDisk (state S.Store left.conn)
         → NotTakenOver (state S.Store conn) (state S.Store left.conn) left.fault) }
@@ -114,7 +120,9 @@ fn take_over<S: Alter>(
             conn,
         });
     }
-    match turn(alloc, &mut conn) {
+    let turned = turn(alloc, &mut conn, progress);
+    progress.end();
+    match turned {
         Ok(()) => Ok(conn),
         Err(fault) => {
             let _settled = conn.is_autocommit();
@@ -124,12 +132,17 @@ fn take_over<S: Alter>(
 }
 
 /// Makes the tables of edition 2 on a connection that is lent.
-fn turn<S: Alter>(alloc: Global, conn: &mut Connection<S>) -> Result<(), MigrateFault>
+fn turn<S: Alter, P: Progress>(
+    alloc: Global,
+    conn: &mut Connection<S>,
+    progress: &mut P,
+) -> Result<(), MigrateFault>
     requires outside { conn.old.in_transaction ≡ false }
     requires unlimited { conn.old.step_limit ≡ None }
     ensures outside { conn.new.in_transaction ≡ false }
     ensures taken { HasCleanDisk (state S.Store conn.new)
-        → OnOk result (TakesOverMarked (state S.Store conn.old) (state S.Store conn.new)) }
+        → OnOk result (MigratesMarked (state S.Store conn.old) (state S.Store conn.new)
+        × IsCommitted (state S.Store conn.new)) }
     ensures refused { HasCleanDisk (state S.Store conn.new)
         → IfErr result (NotTakenOver (state S.Store conn.old) (state S.Store conn.new)) }
     ensures kept { HasCleanDisk (state S.Store conn.new)
@@ -139,7 +152,7 @@ fn turn<S: Alter>(alloc: Global, conn: &mut Connection<S>) -> Result<(), Migrate
 {
     let row = edition_row(alloc)?;
     let mut tx = conn.transaction();
-    fill(alloc, &mut tx, &row)?;
+    fill(alloc, &mut tx, &row, progress)?;
     after_commit(tx.commit())
 }
 

@@ -1,7 +1,7 @@
 //! Calls of the program, by its words.
 
 use crate::disk::{Image, NO_STOP, run};
-use lot_cli::{Action, Served, parse_words, serve};
+use lot_cli::{Action, Request, Served, Unwatched, parse_words, serve};
 use sqlite::{Alter, Connection};
 use std::alloc::Global;
 use std::process::Abort;
@@ -13,7 +13,18 @@ pub(crate) fn action(rt: &(impl Abort + AllocGlobal), words: &str) -> Action {
         let word = String::from_str(rt.alloc(), word).expect(rt, words);
         said.push(word).expect(rt, words);
     }
-    parse_words(rt.alloc(), &said).ok().expect(rt, words)
+    let asked = match parse_words(rt.alloc(), &said) {
+        Ok(
+            Request::Act {
+                action,
+                effect: _effect,
+                notes: _notes,
+            },
+        ) => Some(action),
+        Ok(Request::Explain { code: _code }) => None,
+        Err(_fault) => None,
+    };
+    asked.expect(rt, words)
 }
 
 /// The post of the commands from that number on.
@@ -38,7 +49,14 @@ pub(crate) fn act<S: Alter>(
             break;
         }
         let mut reader = text;
-        let served = serve(alloc, action, &mut reader, &mut written, conn);
+        let served = serve(
+            alloc,
+            action,
+            &mut reader,
+            &mut written,
+            &mut Unwatched,
+            conn,
+        );
         let Served {
             status: _,
             halt: _,

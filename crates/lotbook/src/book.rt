@@ -1,85 +1,191 @@
-//! The book that the words name.
+//! The book that the words name, and how a call gets at it.
 
 ghost use Rattle.std.specs.Prelude.{◌≡◌, None, false};
 
-use crate::output::Output;
+use crate::call::Call;
+use crate::cause::Cause;
+use crate::copy::open_copy;
+use crate::files::{has_long_name, holds_one_byte, is_empty, is_missing, names_no_file, open};
+use crate::image::Image;
+use crate::notes::withdraw;
+use crate::output::write_out;
+use crate::record::{Held, Keeper, Witness};
+use crate::words::UNUSABLE;
 use crate::{STOPPED, out_of_memory};
-use lot_cli::{Action, AdoptFault, Counted, CountedWriter, Halt, Served, serve};
-use sqlite::{Alter, Connection, Error, ErrorCode, File, FileStore};
-use std::fmt::Display;
-use std::io::Read;
-use std::path::Path;
-use std::{fs, io};
+use lot_cli::{Action, Effect, Served};
+use sqlite::{Alter, Connection, File, FileStore};
 
-/// The status of an action that ran to its end, where some of its commands were refused. Where none was the status is 0; that of a
-/// fault is greater.
+/// The status of an action that ran to its end, where none of its commands was refused.
+const DONE: u8 = 0;
+
+/// The status of one where some were. That of a fault is greater.
 const REFUSED: u8 = 1;
 
-/// The most bytes that the name of a book's file may have. Beside it stands its log, and may stand a journal of another program:
-/// their names have up to eight bytes more, and no file's name has more than 255.
-const LONGEST_NAME: usize = 247;
+/// How a call gets at its book.
+enum Access {
+    /// It writes the file.
+    Write,
+    /// It writes a copy in memory, which is dropped.
+    Try,
+    /// It writes a copy, and then the file where nothing was refused.
+    TryThenWrite,
+    /// It reads the file.
+    Read,
+}
 
-/// Does what an action asks for, and returns the status of the program.
-pub fn act(rt: &HostRuntime, action: &Action) -> u8 {
-    let mut output = match action {
-        Action::Post { .. } => Output::of_replies(rt, "commands"),
-        Action::Import { .. } => Output::of_replies(rt, "rows"),
-        _ => Output::of_text(rt),
+/// Does what a call is for, and returns the status of the program.
+pub fn act(call: &Call<'_>) -> u8 {
+    let status = match path_of(call.action) {
+        None => on_nothing(call),
+        Some(path) if !names_no_file(path) => on_path(call, path),
+        Some(path) => match format!(in call.rt.alloc(); "./{path}") {
+            Ok(path) => on_path(call, path.as_str()),
+            Err(_) => out_of_memory(call.rt),
+        },
     };
-    let status = match action {
-        Action::Check => serve_nothing(rt, action, &mut output),
-        Action::Init { book } => serve_file(rt, action, book.as_str(), &mut output),
-        Action::Migrate { book }
-        | Action::Post { book, .. }
-        | Action::Import { book, .. }
-        | Action::Holdings { book, .. }
-        | Action::Gains { book, .. }
-        | Action::Journal { book } => serve_existing(rt, action, book.as_str(), &mut output),
-    };
-    output.end();
+    if status == UNUSABLE {
+        let _ = eprintln!(call.rt; "lotbook: --row-of wants a text of one command");
+    }
     status
 }
 
-/// Does what an action asks for on the book that is in the file of that path; where there is none, on an empty database of
-/// which nothing stays.
-fn serve_existing(rt: &HostRuntime, action: &Action, path: &str, output: &mut Output<'_>) -> u8 {
-    if is_missing(rt, path) && !has_long_name(path) {
-        serve_nothing(rt, action, output)
-    } else {
-        serve_file(rt, action, path, output)
+/// Returns the path of the book that an action names.
+pub fn path_of(action: &Action) -> Option<&str> {
+    match action {
+        Action::Check => None,
+        Action::Init { book }
+        | Action::Migrate { book }
+        | Action::Post { book, .. }
+        | Action::PostRow { book, .. }
+        | Action::Import { book, .. }
+        | Action::Holdings { book, .. }
+        | Action::Gains { book, .. }
+        | Action::Journal { book } => Some(book.as_str()),
     }
 }
 
-/// Does what an action asks for on the book in the file of that path.
+/// Returns how a call gets at its book.
+fn access_of(action: &Action, effect: Effect) -> Access {
+    match (action, effect) {
+        (Action::Holdings { .. } | Action::Gains { .. } | Action::Journal { .. }, _) =>
+            Access::Read,
+        (_, Effect::Keep) => Access::Write,
+        (_, Effect::DryRun) => Access::Try,
+        (_, Effect::AllOrNone) => Access::TryThenWrite,
+    }
+}
+
+/// Does what a call is for on the book of that path; where there is no such file, and none is to be
+/// made, on an empty database of which nothing stays.
 ///
 /// The file is opened before anything is read. Where it can't be opened, one line says so.
-fn serve_file(rt: &HostRuntime, action: &Action, path: &str, output: &mut Output<'_>) -> u8 {
+fn on_path(call: &Call<'_>, path: &str) -> u8 {
     if has_long_name(path) {
-        return unopened(rt, path, "its name has more than 247 bytes");
+        return unopened(call, path, Cause::LongName);
     }
-    if holds_one_byte(rt, path) {
-        return unopened(rt, path, "one byte is no database");
+    if !matches!(call.action, Action::Init { .. }) && is_missing(call.rt, path) {
+        return on_nothing(call);
     }
-    if !names_no_file(path) {
-        return serve_opened(rt, action, path, output);
+    if holds_one_byte(call.rt, path) {
+        return unopened(call, path, Cause::OneByte);
     }
-    match format!(in rt.alloc(); "./{path}") {
-        Ok(path) => serve_opened(rt, action, path.as_str(), output),
-        Err(_) => out_of_memory(rt),
+    match access_of(call.action, call.effect) {
+        Access::Write => on_file(call, path),
+        Access::Try => on_copy(call, path),
+        Access::TryThenWrite => on_copy_and_file(call, path),
+        Access::Read if is_empty(call.rt, path) => on_copy(call, path),
+        Access::Read => on_file_or_copy(call, path),
     }
 }
 
-/// Does the same, where the library of the database takes the path for that of a file.
-fn serve_opened(rt: &HostRuntime, action: &Action, path: &str, output: &mut Output<'_>) -> u8 {
-    match Connection::open(rt, path) {
-        Ok(conn) => {
-            let served = served(rt, action, output, conn);
-            advise(rt, path, served.halt);
-            closed(served)
-        }
-        Err(Error::SqliteFailure(ErrorCode::OutOfMemory)) => out_of_memory(rt),
-        Err(error) => unopened(rt, path, error),
+/// Does what a call is for on an empty database in memory.
+fn on_nothing(call: &Call<'_>) -> u8 {
+    match Connection::open_in_memory(call.rt.alloc()) {
+        Ok(conn) => dropped(call.answer(call.rt.reader(), conn)),
+        Err(_) => out_of_memory(call.rt),
     }
+}
+
+/// Does it on the file.
+fn on_file(call: &Call<'_>, path: &str) -> u8 {
+    match open(call.rt, path) {
+        Ok(conn) => closed(call.answer(call.rt.reader(), conn)),
+        Err(cause) => unopened(call, path, cause),
+    }
+}
+
+/// Does it on a copy, which is dropped.
+fn on_copy(call: &Call<'_>, path: &str) -> u8 {
+    match open_copy(call.rt, path) {
+        Ok(conn) => dropped(call.answer(call.rt.reader(), conn)),
+        Err(cause) => unopened(call, path, cause),
+    }
+}
+
+/// Does it on the file, or on a copy where the file can't be opened for writing.
+fn on_file_or_copy(call: &Call<'_>, path: &str) -> u8 {
+    match open(call.rt, path) {
+        Ok(conn) => closed(call.answer(call.rt.reader(), conn)),
+        Err(Cause::NoPermission | Cause::ReadOnly | Cause::InUse) => on_copy(call, path),
+        Err(cause) => unopened(call, path, cause),
+    }
+}
+
+/// Does it on a copy, and then on the file. The file is open meanwhile, so no other program writes it
+/// in between.
+fn on_copy_and_file(call: &Call<'_>, path: &str) -> u8 {
+    match open(call.rt, path) {
+        Ok(file) => match open_copy(call.rt, path) {
+            Ok(copy) => all_or_none(call, copy, file),
+            Err(cause) => unopened(call, path, cause),
+        },
+        Err(cause) => unopened(call, path, cause),
+    }
+}
+
+/// Does it on the copy, with the replies held back; and then, with the same input, on the file where
+/// the copy accepted every command. Else the replies of the copy are those of the call.
+fn all_or_none(
+    call: &Call<'_>,
+    copy: Connection<FileStore<Image>>,
+    file: Connection<FileStore<File>>,
+) -> u8
+    requires outside { copy.in_transaction ≡ false }
+    requires unlimited { copy.step_limit ≡ None }
+    requires outside_in_file { file.in_transaction ≡ false }
+    requires unlimited_in_file { file.step_limit ≡ None }
+{
+    let alloc = call.rt.alloc();
+    let mut reader = Keeper::new(call.rt.reader(), Some(Vec::new(alloc)));
+    let mut writer = Witness::new(alloc, Held::new(alloc), call.notes);
+    let Served {
+        status,
+        halt,
+        mut conn,
+    } = call.serve(&mut reader, &mut writer, copy);
+    let (held, heard) = writer.into_parts();
+    let (Some(input), Some(replies)) = (reader.into_kept(), held.into_text()) else {
+        return out_of_memory(call.rt);
+    };
+    if status == DONE {
+        return closed(call.answer(input.as_slice(), file));
+    }
+    let status = write_out(call.rt, &replies, status);
+    call.speak(Some(input), &heard, halt, &mut conn);
+    if halt.is_none() {
+        withdraw(call);
+    }
+    status
+}
+
+/// Lets the copy of an action go, and returns the status.
+fn dropped<S: Alter + Drop>(served: Served<S>) -> u8 {
+    let Served {
+        status,
+        halt: _,
+        conn: _,
+    } = served;
+    status
 }
 
 /// Closes the file of an action that ran to its end, and returns the status.
@@ -96,99 +202,14 @@ fn closed(served: Served<FileStore<File>>) -> u8 {
     status
 }
 
-/// Says on standard error what helps where the book isn't taken up.
-fn advise(rt: &HostRuntime, path: &str, halt: Option<Halt>) {
-    if let Some(Halt::Adopt(AdoptFault::OlderEdition)) = halt {
-        let _ = eprintln!(rt;
-            "lotbook: {path} is a book of edition 1: `lotbook migrate --book {path}` takes it over"
-        );
-    }
-}
-
-/// Does what an action asks for on an empty database in memory.
-fn serve_nothing(rt: &HostRuntime, action: &Action, output: &mut Output<'_>) -> u8 {
-    match Connection::open_in_memory(rt.alloc()) {
-        Ok(conn) => {
-            let Served {
-                status,
-                halt: _,
-                conn: _,
-            } = served(rt, action, output, conn);
-            status
-        }
-        Err(_) => out_of_memory(rt),
-    }
-}
-
-/// Does what an action asks for on the book that the connection leads to, with standard input. All that `serve` says is left out
-/// here, so that its callers are proved without it.
-fn served<S: Alter>(
-    rt: &HostRuntime,
-    action: &Action,
-    output: &mut Output<'_>,
-    conn: Connection<S>,
-) -> Served<S>
-    requires outside { conn.in_transaction ≡ false }
-    requires unlimited { conn.step_limit ≡ None }
-{
-    let mut input = Counted::new(rt.reader());
-    let mut output = CountedWriter::new(output);
-    serve(rt.alloc(), action, &mut input, &mut output, conn)
-}
-
-/// Returns whether there is no file of that path in a folder that is there.
-fn is_missing(rt: &HostRuntime, path: &str) -> bool {
-    let is_absent =
-        matches!(fs::metadata(rt, path), Err(error) if error.kind() == io::ErrorKind::NotFound);
-    is_absent && has_folder(rt, path)
-}
-
-/// Returns whether the folder of that path is there.
-fn has_folder(rt: &HostRuntime, path: &str) -> bool {
-    match Path::new(path).parent() {
-        // A name alone is one in the folder in which the program runs.
-        Some(folder) if !folder.as_str().is_empty() => {
-            matches!(fs::metadata(rt, folder), Ok(found) if found.is_dir())
-        }
-        _ => !path.is_empty(),
-    }
-}
-
-/// Returns whether the name of the file of that path is too long for that of a book.
-fn has_long_name(path: &str) -> bool {
-    match Path::new(path).file_name() {
-        Some(name) => name.len() > LONGEST_NAME,
-        None => false,
-    }
-}
-
-/// Returns whether the file of that path holds one byte, and not the zero that a stopped `init` may leave. The library of the
-/// database would take it for an empty file, and write a database over it.
-fn holds_one_byte(rt: &HostRuntime, path: &str) -> bool {
-    match fs::metadata(rt, path) {
-        Ok(found) => found.is_file() && found.len() == 1 && !begins_with_zero(rt, path),
-        Err(_) => false,
-    }
-}
-
-/// Returns whether the first byte of the file of that path is zero.
-fn begins_with_zero(rt: &HostRuntime, path: &str) -> bool {
-    let mut first = [1];
-    match fs::File::open(rt, path) {
-        Ok(mut file) => matches!(file.read(&mut first), Ok(1)) && first == [0],
-        Err(_) => false,
-    }
-}
-
-/// Returns whether the library of the database takes the path for something else than that of a file: for a database in memory,
-/// or for a URI. The file of such a name is in the folder in which the program runs.
-fn names_no_file(path: &str) -> bool {
-    path == ":memory:" || path.starts_with("file:")
-}
-
 /// Reports that the file can't be opened: the line on standard output, and why on standard error.
-fn unopened<T: Display + Drop>(rt: &HostRuntime, path: &str, why: T) -> u8 {
-    let _ = println!(rt; "fault open");
-    let _ = eprintln!(rt; "lotbook: {path}: {why}");
+fn unopened(call: &Call<'_>, path: &str, cause: Cause) -> u8 {
+    if matches!(cause, Cause::Memory) {
+        return out_of_memory(call.rt);
+    }
+    let _ = println!(call.rt; "fault open");
+    if !call.is_quiet() {
+        let _ = eprintln!(call.rt; "lotbook: {path}: {cause}");
+    }
     STOPPED
 }

@@ -1,23 +1,27 @@
 //! The words of the program.
 
 use crate::{STOPPED, out_of_memory};
-use lot_cli::{Action, WordsFault, parse_words};
+use clap::error::ErrorKind as UsageKind;
+use lot_cli::{BadOption, Request, WordsFault, parse_words};
 use std::env;
 use std::io::{self, ErrorKind};
 
 /// The status where help or the version was shown.
 const SHOWN: u8 = 0;
 
-/// The status of words that can't be used.
-const UNUSABLE: u8 = 2;
+/// The longest value of an option that is shown where it is bad, in bytes.
+const LONGEST_SHOWN: usize = 80;
 
-/// Returns the action that the words ask for; else the status of the program, once help or the version was shown, or words
+/// The status of words that can't be used.
+pub const UNUSABLE: u8 = 2;
+
+/// Returns what the words ask for; else the status of the program, once help or the version was shown, or words
 /// that can't be used were reported.
-pub fn understand(rt: &HostRuntime) -> Result<Action, u8> {
+pub fn understand(rt: &HostRuntime) -> Result<Request, u8> {
     match words(rt) {
         Ok(words) => match parse_words(rt.alloc(), &words) {
-            Ok(action) => Ok(action),
-            Err(fault) => Err(answer(rt, &fault)),
+            Ok(request) => Ok(request),
+            Err(fault) => Err(answer(rt, &words, &fault)),
         },
         Err(error) if error.kind() == ErrorKind::OutOfMemory => Err(out_of_memory(rt)),
         Err(_) => {
@@ -33,17 +37,97 @@ fn words(rt: &HostRuntime) -> io::Result<Vec<String>> {
 }
 
 /// Shows help or the version, or reports why words can't be used, and returns the status.
-fn answer(rt: &HostRuntime, fault: &WordsFault) -> u8 {
+fn answer(rt: &HostRuntime, words: &[String], fault: &WordsFault) -> u8 {
     match fault {
         WordsFault::Usage(error) => match error.print(rt) {
-            _ if error.use_stderr() => UNUSABLE,
+            _ if error.use_stderr() => {
+                if matches!(error.kind(), UsageKind::MissingRequiredArgument) {
+                    show_example(rt, words);
+                }
+                UNUSABLE
+            }
             Ok(()) => SHOWN,
             Err(_) => STOPPED,
         },
         WordsFault::BadValue(option) => {
             let _ = eprintln!(rt; "fault U2 BadValue {option}");
+            show_form(rt, words, *option);
             UNUSABLE
         }
         WordsFault::Memory => out_of_memory(rt),
     }
+}
+
+/// Shows on standard error how the word is called that stands among the words.
+fn show_example(rt: &HostRuntime, words: &[String]) {
+    if let Some(example) = words.iter().skip(1).find_map(|word| example(word.as_str())) {
+        let _ = eprintln!(rt; "\nExample: {example}");
+    }
+}
+
+/// Returns a call of that word, where it needs options.
+fn example(word: &str) -> Option<&'static str> {
+    match word {
+        "init" => Some("lotbook init --book family.book"),
+        "migrate" => Some("lotbook migrate --book family.book"),
+        "post" => Some("lotbook post --book family.book --batch 2024 < 2024.ledger"),
+        "import" => Some(
+            "lotbook import --book family.book --batch broker --invest Assets:Broker --cash Assets:Cash --fees Expenses:Fees --gains Income:Gains < deals.csv",
+        ),
+        "holdings" => Some("lotbook holdings --book family.book"),
+        "gains" => Some("lotbook gains --book family.book --first 2024-01-01 --last 2024-12-31"),
+        "journal" => Some("lotbook journal --book family.book > family.ledger"),
+        _ => None,
+    }
+}
+
+/// Shows on standard error the value of an option that is outside its rule, where it isn't long, and the form that it should
+/// have.
+fn show_form(rt: &HostRuntime, words: &[String], option: BadOption) {
+    let form = form(option);
+    match value_of(words, option.name()) {
+        Some(value) if value.len() <= LONGEST_SHOWN => {
+            let _ = eprintln!(rt; "lotbook: {value:?} isn't {form}");
+        }
+        _ => {
+            let _ = eprintln!(rt; "lotbook: {option} wants {form}");
+        }
+    }
+}
+
+/// Returns the form that the value of an option has.
+fn form(option: BadOption) -> &'static str {
+    match option {
+        BadOption::Batch | BadOption::PostBatch => {
+            "1 to 32 letters, digits, '.', '_' or '-', as in --batch 2024, and stands without --row-of"
+        }
+        BadOption::RowOf => "the batch of a broker file, as in --row-of broker --ref A17",
+        BadOption::Ref => "the ref of a row, as in --row-of broker --ref A17",
+        BadOption::From => "1 beside --row-of, whose text has one command",
+        BadOption::Invest => "an account, as in --invest Assets:Broker",
+        BadOption::Cash => "an account, as in --cash Assets:Cash",
+        BadOption::Fees => "an account, as in --fees Expenses:Fees",
+        BadOption::Gains => "an account, as in --gains Income:Gains",
+        BadOption::Day => "a day, as in --day 2024-12-31",
+        BadOption::First => "a day, as in --first 2024-01-01",
+        BadOption::Last => "a day, as in --last 2024-12-31",
+    }
+}
+
+/// Returns the value of the option of that name, as it was written.
+fn value_of<'a>(words: &'a [String], name: &str) -> Option<&'a str> {
+    let mut words = words.iter();
+    while let Some(word) = words.next() {
+        let Some(option) = word.as_str().strip_prefix("--") else {
+            continue;
+        };
+        if option == name {
+            return words.next().map(|value| value.as_str());
+        }
+        match option.split_once('=') {
+            Some((before, value)) if before == name => return Some(value),
+            _ => {}
+        }
+    }
+    None
 }

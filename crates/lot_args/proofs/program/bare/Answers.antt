@@ -1,18 +1,8 @@
-use Rattle.std.proofs.Common.{ap, codes, true, ◌≡◌, ◌∙◌}
-use Rattle.clap.specs.Simple.{app_of_fields}
-use Rattle.clap.specs.Words.{App, app_of, new_app}
+use Rattle.std.proofs.lemmas.Result.{IfOk-weaker}
+use Rattle.lot_args.proofs.ProgramLemmas.{one_option}
 use Rattle.lot_args.proofs.program.bare.Goals as goal
-
--- with a version
-abbrev versioned : App → App
-versioned app = record app { top = record app.top { has_version = true } }
-
--- without a word for help
-abbrev helpless : App → App
-helpless app = record app { top = record app.top { disable_help_subcommand = true } }
 
 pub returns : goal.returns
 returns c =
-    let named : app_of c.about.result ≡ new_app (codes "lotbook") = ap app_of_fields c.about.ensures ∙ c.new.ensures.app in
-    let told : app_of c.version.result ≡ versioned (new_app (codes "lotbook")) = ap app_of_fields c.version.ensures ∙ ap versioned named in
-    ap app_of_fields c.disable_help_subcommand.ensures ∙ ap helpless told
+    let one = one_option _ _ _ _ _ c.named.ensures c.quiet.ensures.rule c.in_ok-program.ensures in
+    IfOk-weaker c.with_option-2.result _ _ (λ command h. one_option _ _ _ _ _ one c.explain_all.ensures.rule h) c.with_option-2.ensures

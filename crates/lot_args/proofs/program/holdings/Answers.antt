@@ -4,5 +4,4 @@ use Rattle.lot_args.proofs.program.holdings.Goals as goal
 
 pub returns : goal.returns
 returns c =
-    let one = one_option _ _ _ _ _ c.word-word.ensures c.book.ensures.rule c.in_ok-word.ensures in
-    IfOk-weaker c.with_option-2.result _ _ (λ command h. one_option _ _ _ _ _ one c.day.ensures.rule h) c.with_option-2.ensures
+    IfOk-weaker c.with_option.result _ _ (λ command h. one_option _ _ _ _ _ c.in_ok-word.ensures c.given.ensures.rule h) c.with_option.ensures

@@ -4,4 +4,4 @@ use Rattle.lot_args.proofs.program.migrate.Goals as goal
 
 pub returns : goal.returns
 returns c =
-    IfOk-weaker c.with_option.result _ _ (λ command h. one_option _ _ _ _ _ c.word-word.ensures c.book.ensures.rule h) c.with_option.ensures
+    IfOk-weaker c.with_option.result _ _ (λ command h. one_option _ _ _ _ _ c.in_ok-word.ensures c.flag.ensures.rule h) c.with_option.ensures

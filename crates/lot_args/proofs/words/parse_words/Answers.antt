@@ -1,6 +1,6 @@
-use Rattle.std.proofs.Common.{ap, sym, ◌∙◌, List, map}
+use Rattle.std.proofs.Common.{ap, refl, sym, ◌∙◌, List, map}
 use Rattle.std.specs.String.{string_bytes}
-use Rattle.clap.specs.Words.{App, Text, fault_of, is_simple, is_simple_and_free, subcommand_of, takes}
+use Rattle.clap.specs.Words.{App, Text, fault_of, is_simple, is_simple_and_free, matches_of, subcommand_of, takes}
 use Rattle.lot_args.proofs.ProgramLemmas.{is_plain, is_told, met_is_word}
 use Rattle.lot_args.proofs.WordsLemmas.{ask_of_none, ask_of_word, bad_of_word, kind_told, met_none, met_word, no_usage}
 use Rattle.lot_args.proofs.words.parse_words.Goals as goal
@@ -11,21 +11,26 @@ returns-in_err-matches-clause-taken c =
     λ taken. no_usage _ _ c.from_residual-in_err-matches.ensures.1
     (c.in_err-matches.ensures.passes (ap (λ (a : App). takes a words) c.in_ok-program.ensures ∙ taken))
 
-pub returns-in-None-clause-action : goal.returns-in-None-clause-action
-returns-in-None-clause-action c =
+pub returns-in-None-clause-request : goal.returns-in-None-clause-request
+returns-in-None-clause-request c =
     let words : List Text = map string_bytes c.args.words.now in
     let same = c.in_ok-program.ensures in
-    let met = sym (c.in_ok-matches.ensures.matches (ap is_simple same ∙ is_plain)).1 ∙ met_none c.in_ok-matches.matches (sym c.in-None.ensures.name) in
+    let matched = c.in_ok-matches.ensures.matches (ap is_simple same ∙ is_plain) in
+    let met = sym matched.1 ∙ met_none c.in_ok-matches.matches (sym c.in-None.ensures.name) in
     let none = c.in_ok-matches.ensures.kinds (ap is_simple_and_free same ∙ is_told) in
-    ask_of_none _ _ (ap (λ (a : App). subcommand_of a words) (sym same) ∙ met) (ap (λ (a : App). fault_of a words) (sym same) ∙ none)
+    ask_of_none _ _ _ _ _ (ap (λ (a : App). subcommand_of a words) (sym same) ∙ met) (ap (λ (a : App). fault_of a words) (sym same) ∙ none)
+    (matched.0 ∙ ap (λ (a : App). matches_of a words) same) (refl, refl, c.notes.ensures)
 
-pub returns-clause-action : goal.returns-clause-action
-returns-clause-action c =
+pub returns-clause-request : goal.returns-clause-request
+returns-clause-request c =
     let words : List Text = map string_bytes c.args.words.now in
     let same = c.in_ok-program.ensures in
-    let met = sym (c.in_ok-matches.ensures.matches (ap is_simple same ∙ is_plain)).1 ∙ met_word c.in_ok-matches.matches _ _ (sym c.in-Some.ensures.name) (sym c.in-Some.ensures.rows) in
+    let matched = c.in_ok-matches.ensures.matches (ap is_simple same ∙ is_plain) in
+    let met = sym matched.1 ∙ met_word c.in_ok-matches.matches _ _ (sym c.in-Some.ensures.name) (sym c.in-Some.ensures.rows) in
     let none = c.in_ok-matches.ensures.kinds (ap is_simple_and_free same ∙ is_told) in
-    ask_of_word _ _ c.asked.result _ _ (ap (λ (a : App). subcommand_of a words) (sym same) ∙ met) (ap (λ (a : App). fault_of a words) (sym same) ∙ none) c.asked.ensures.action c.asked.ensures.judges
+    ask_of_word _ _ _ _ c.asked.result _ _ (ap (λ (a : App). subcommand_of a words) (sym same) ∙ met)
+    (ap (λ (a : App). fault_of a words) (sym same) ∙ none) (matched.0 ∙ ap (λ (a : App). matches_of a words) same)
+    c.asked.ensures.request c.asked.ensures.judges
 
 pub returns-clause-bad : goal.returns-clause-bad
 returns-clause-bad c bad e =
@@ -47,4 +52,5 @@ asked-requires c =
     let words : List Text = map string_bytes c.args.words.now in
     let same = c.in_ok-program.ensures in
     let met = sym (c.in_ok-matches.ensures.matches (ap is_simple same ∙ is_plain)).1 ∙ met_word c.in_ok-matches.matches _ _ (sym c.in-Some.ensures.name) (sym c.in-Some.ensures.rows) in
-    met_is_word words _ _ (ap (λ (a : App). subcommand_of a words) (sym same) ∙ met)
+    let none = c.in_ok-matches.ensures.kinds (ap is_simple_and_free same ∙ is_told) in
+    met_is_word words _ _ (ap (λ (a : App). fault_of a words) (sym same) ∙ none) (ap (λ (a : App). subcommand_of a words) (sym same) ∙ met)

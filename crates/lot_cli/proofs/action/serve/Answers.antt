@@ -3,6 +3,9 @@ use Rattle.lot_cli.proofs.action.serve.Goals as goal
 pub returns-in-Post-clause-serves : goal.returns-in-Post-clause-serves
 returns-in-Post-clause-serves g c = rw c.in-Post.is c.post.ensures.posts
 
+pub returns-in-PostRow-clause-serves : goal.returns-in-PostRow-clause-serves
+returns-in-PostRow-clause-serves g c = rw c.in-PostRow.is c.post_row.ensures.posts
+
 pub returns-in-Import-clause-serves : goal.returns-in-Import-clause-serves
 returns-in-Import-clause-serves g c = rw c.in-Import.is c.import.ensures.imports
 

@@ -1,24 +1,23 @@
-use Rattle.std.proofs.Common.{subst, sym}
+use Rattle.std.proofs.Common.{None, refl, subst, sym}
 use Rattle.sqlite.specs.Held.{state}
 use Rattle.lot_stream.specs.declared.status.Status.TheVariants.{Accepted}
-use Rattle.lot_cli.specs.Serve.{TakesOver, migrated_line}
+use Rattle.lot_cli.specs.Serve.{SaysMigrated, migrated_line}
 use Rattle.lot_cli.proofs.HaltLemmas.{failed_before, said}
 use Rattle.lot_cli.proofs.MigrationLemmas.{takes_none_over, takes_over}
 use Rattle.lot_cli.proofs.migration.migrate.Goals as goal
 
 pub returns-in-Ok-clause-takes_over : goal.returns-in-Ok-clause-takes_over
 returns-in-Ok-clause-takes_over g c =
-    takes_over (state g.S.Store c.args.conn) (state g.S.Store c.in-Ok.conn) _ _ (record { before = g.W.CountedWrite.calls c.args.writer.now; after = g.W.CountedWrite.calls c.tell.new.writer }) c.tell.result c.in-Ok.ensures.migrates c.in-Ok.ensures.crash_ok
-    (said migrated_line Accepted _ _ _ _ _ _ c.print_texts-printed.result c.tell.result c.print_texts-printed.ensures.bytes c.tell.ensures.kept c.print_texts-printed.ensures.none_failed
-    (failed_before g.W.CountedWrite.calls c.print_texts-printed.new.writer c.tell.new.writer c.print_texts-printed.result c.print_texts-printed.ensures.cause c.tell.ensures.unasked)
-    c.tell.ensures.end)
+    takes_over (state g.S.Store c.args.conn) (state g.S.Store c.in-Ok.conn) _ _ (record { before = g.W.CountedWrite.calls c.args.writer.now; after = g.W.CountedWrite.calls c.tell.new.writer }) (record { status = c.tell.result; halt = None }) c.in-Ok.ensures.migrates c.in-Ok.ensures.crash_ok (
+      said migrated_line Accepted _ _ _ _ _ _ c.print_texts-printed.result c.tell.result c.print_texts-printed.ensures.bytes c.tell.ensures.kept c.print_texts-printed.ensures.none_failed
+          (failed_before g.W.CountedWrite.calls c.print_texts-printed.new.writer c.tell.new.writer c.print_texts-printed.result c.print_texts-printed.ensures.cause c.tell.ensures.unasked)
+          c.tell.ensures.end,
+      refl,
+    )
 
 pub returns-in-Err-clause-takes_over : goal.returns-in-Err-clause-takes_over
 returns-in-Err-clause-takes_over g c =
-    subst (λ conn. TakesOver (state g.S.Store c.args.conn) (state g.S.Store conn) (g.W.CountedWrite.contents c.args.writer.now) (g.W.CountedWrite.contents c.halted.new.writer) (record { before = g.W.CountedWrite.calls c.args.writer.now; after = g.W.CountedWrite.calls c.halted.new.writer }) c.halted.result.status)
+    subst (λ conn. SaysMigrated (state g.S.Store c.args.conn) (state g.S.Store conn) (g.W.CountedWrite.contents c.args.writer.now) (g.W.CountedWrite.contents c.halted.new.writer) (record { before = g.W.CountedWrite.calls c.args.writer.now; after = g.W.CountedWrite.calls c.halted.new.writer }) (record { status = c.halted.result.status; halt = c.halted.result.halt }))
     (sym c.halted.ensures.same)
-    (takes_none_over (state g.S.Store c.args.conn) (state g.S.Store c.in-Err.field-0.conn) _ _ (record { before = g.W.CountedWrite.calls c.args.writer.now; after = g.W.CountedWrite.calls c.halted.new.writer }) c.halted.result.status c.in-Err.field-0.fault c.in-Err.ensures.refused c.in-Err.ensures.of_first c.in-Err.ensures.of_second c.in-Err.ensures.handed_back c.in-Err.ensures.kept c.in-Err.ensures.crash_err
+    (takes_none_over (state g.S.Store c.args.conn) (state g.S.Store c.in-Err.field-0.conn) _ _ (record { before = g.W.CountedWrite.calls c.args.writer.now; after = g.W.CountedWrite.calls c.halted.new.writer }) (record { status = c.halted.result.status; halt = c.halted.result.halt }) c.in-Err.field-0.fault c.in-Err.ensures.refused c.in-Err.ensures.of_first c.in-Err.ensures.of_second c.in-Err.ensures.handed_back c.in-Err.ensures.kept c.in-Err.ensures.crash_err
     c.halted.ensures.says)
-
-pub returns-in-Err-clause-told : goal.returns-in-Err-clause-told
-returns-in-Err-clause-told g c = rw (c.halted.ensures.halt) c.halted.ensures.says

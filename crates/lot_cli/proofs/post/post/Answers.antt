@@ -4,5 +4,5 @@ use Rattle.lot_cli.proofs.post.post.Goals as goal
 
 pub returns-in-Ok-clause-posts : goal.returns-in-Ok-clause-posts
 returns-in-Ok-clause-posts g c =
-    runs_given (TextMeans c.args.batch.now) IsFaultyText c.args.from _ _ _ _ c.run.result.status _ _ c.number-first.result c.in-Ok.commands.items c.deref.result.now
+    runs_given (TextMeans c.args.batch.now) IsFaultyText c.args.from _ _ _ _ (record { status = c.run.result.status; halt = c.run.result.halt }) _ _ c.number-first.result c.in-Ok.commands.items c.deref.result.now
     c.number-first.ensures.value c.deref.ensures.value c.in-Ok.ensures.ok c.run.ensures.runs

@@ -1,4 +1,4 @@
-use Rattle.std.proofs.Common.{subst, sym}
+use Rattle.std.proofs.Common.{None, subst, sym}
 use Rattle.sqlite.specs.Held.{state}
 use Rattle.lot_cli.specs.Reports.{Reports}
 use Rattle.lot_cli.proofs.ReportLemmas.{report_refused, reported}
@@ -6,7 +6,7 @@ use Rattle.lot_cli.proofs.report.write_report.Goals as goal
 
 pub returns-in-Ok-clause-reports : goal.returns-in-Ok-clause-reports
 returns-in-Ok-clause-reports g c =
-    subst (λ conn. Reports c.args.report (state g.S.Store c.args.conn) (state g.S.Store conn) (g.W.CountedWrite.contents c.args.writer.now) (g.W.CountedWrite.contents c.conclude.new.writer) (record { before = g.W.CountedWrite.calls c.args.writer.now; after = g.W.CountedWrite.calls c.conclude.new.writer }) c.conclude.result)
+    subst (λ conn. Reports c.args.report (state g.S.Store c.args.conn) (state g.S.Store conn) (g.W.CountedWrite.contents c.args.writer.now) (g.W.CountedWrite.contents c.conclude.new.writer) (record { before = g.W.CountedWrite.calls c.args.writer.now; after = g.W.CountedWrite.calls c.conclude.new.writer }) (record { status = c.conclude.result; halt = None }))
     (sym c.into_connection.ensures.same)
     (reported g.S.Store c.args.report (state g.S.Store c.args.conn) c.in-Ok.book c.show-shown.new.book c.show-shown.result _ _ _ (g.W.CountedWrite.calls c.args.writer.now) (g.W.CountedWrite.calls c.show-shown.new.writer) (g.W.CountedWrite.calls c.conclude.new.writer) c.conclude.result
     c.in-Ok.ensures.taken c.in-Ok.ensures.same c.in-Ok.ensures.crash_ok c.in-Ok.ensures.ready c.show-shown.ensures.reads c.show-shown.ensures.shows c.show-shown.ensures.some c.show-shown.ensures.rows c.show-shown.ensures.cause
@@ -14,8 +14,8 @@ returns-in-Ok-clause-reports g c =
 
 pub returns-in-Err-clause-reports : goal.returns-in-Err-clause-reports
 returns-in-Err-clause-reports g c =
-    subst (λ conn. Reports c.args.report (state g.S.Store c.args.conn) (state g.S.Store conn) (g.W.CountedWrite.contents c.args.writer.now) (g.W.CountedWrite.contents c.halted.new.writer) (record { before = g.W.CountedWrite.calls c.args.writer.now; after = g.W.CountedWrite.calls c.halted.new.writer }) c.halted.result.status)
+    subst (λ conn. Reports c.args.report (state g.S.Store c.args.conn) (state g.S.Store conn) (g.W.CountedWrite.contents c.args.writer.now) (g.W.CountedWrite.contents c.halted.new.writer) (record { before = g.W.CountedWrite.calls c.args.writer.now; after = g.W.CountedWrite.calls c.halted.new.writer }) (record { status = c.halted.result.status; halt = c.halted.result.halt }))
     (sym c.halted.ensures.same)
-    (report_refused c.args.report (state g.S.Store c.args.conn) (state g.S.Store c.in-Err.field-0.conn) _ _ (record { before = g.W.CountedWrite.calls c.args.writer.now; after = g.W.CountedWrite.calls c.halted.new.writer }) c.in-Err.field-0.fault c.halted.result.status
+    (report_refused c.args.report (state g.S.Store c.args.conn) (state g.S.Store c.in-Err.field-0.conn) _ _ (record { before = g.W.CountedWrite.calls c.args.writer.now; after = g.W.CountedWrite.calls c.halted.new.writer }) c.in-Err.field-0.fault (record { status = c.halted.result.status; halt = c.halted.result.halt })
     c.in-Err.ensures.tells_err c.in-Err.ensures.refused c.in-Err.ensures.handed_back c.in-Err.ensures.undone c.in-Err.ensures.crash_err
     c.halted.ensures.says)

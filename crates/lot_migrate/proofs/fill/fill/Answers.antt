@@ -1,7 +1,6 @@
 use Rattle.std.proofs.lemmas.Result.{err_from_is_err_and}
 use Rattle.sqlite.specs.Held.{state}
 use Rattle.lot_rows.proofs.StateLemmas.{early}
-use Rattle.lot_migrate.specs.Put.{with_all}
 use Rattle.lot_migrate.proofs.FillLemmas.{is_filled, put_refused, read_refused}
 use Rattle.lot_migrate.proofs.fill.fill.Goals as goal
 
@@ -18,12 +17,11 @@ pub returns-in_err-put_all-clause-refused : goal.returns-in_err-put_all-clause-r
 returns-in_err-put_all-clause-refused g c clean =
     let fault = err_from_is_err_and c.from_residual-in_err-put_all.result c.from_residual-in_err-put_all.ensures.1 in
     let added = c.in_ok-add_later.ensures in
-    let reading = c.in_ok-reading.reading in
     let read = c.in_ok-reading.ensures.reads in
     rw (fault.1, fault.2)
     (put_refused (state g.S.Store c.args.tx.now.conn.now) (state g.S.Store c.add_later.new.tx.conn.now)
     (state g.S.Store c.read_book.new.tx.conn.now) (state g.S.Store c.put_all.new.tx.conn.now)
-    (with_all reading.openings.items reading.entries) c.in_err-put_all.field-0.0 added.crash added.made read.crash read.same
+    c.in_ok-reading.reading c.in_err-put_all.field-0.0 added.crash added.made read.crash read.same read.says
     c.requires.unlimited clean c.in_err-put_all.ensures.puts)
 
 pub returns-clause-made : goal.returns-clause-made

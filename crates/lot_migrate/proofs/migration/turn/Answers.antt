@@ -3,7 +3,7 @@ use Rattle.sqlite.specs.Held.{state}
 use Rattle.sqlite.specs.State.{HasCleanDisk, Survives}
 use Rattle.lot_table.proofs.BookLemmas.{on_ok}
 use Rattle.lot_store.proofs.CommitLemmas.{commit_leaves}
-use Rattle.lot_migrate.specs.Migrate.{LeavesTakenOver, TakesOverMarked}
+use Rattle.lot_migrate.specs.Migrate.{IsCommitted, LeavesTakenOver, MigratesMarked}
 use Rattle.lot_migrate.proofs.TurnLemmas.{leaves_migrated, makes_begun, on_migrated, taken_over}
 use Rattle.lot_migrate.proofs.migration.turn.Goals as goal
 
@@ -13,7 +13,7 @@ returns-clause-taken g c clean =
     let begun = c.transaction-tx.result.conn.now in
     let last = c.fill.new.tx.conn.now in
     let end = c.commit.new.self.0 in
-    let at_end : HasCleanDisk (state g.S.Store end) → OnOk c.commit.result (TakesOverMarked (state g.S.Store old) (state g.S.Store end)) =
+    let at_end : HasCleanDisk (state g.S.Store end) → OnOk c.commit.result (MigratesMarked (state g.S.Store old) (state g.S.Store end) × IsCommitted (state g.S.Store end)) =
     λ clean_end.
     let early : HasCleanDisk (state g.S.Store last) = omega (arith, clean_end, c.commit.ensures.survives.clean) in
     on_ok c.commit.result _ _
@@ -22,7 +22,7 @@ returns-clause-taken g c clean =
     (c.commit.ensures.ok clean_end) in
     let same : c.commit.new.self.0 ≡ c.conn-2-1.given.0 = search rules in
     let there =
-    subst (λ h. HasCleanDisk (state g.S.Store h) → OnOk c.commit.result (TakesOverMarked (state g.S.Store old) (state g.S.Store h))) same at_end in
+    subst (λ h. HasCleanDisk (state g.S.Store h) → OnOk c.commit.result (MigratesMarked (state g.S.Store old) (state g.S.Store h) × IsCommitted (state g.S.Store h))) same at_end in
     rw c.after_commit.ensures (on_migrated c.commit.result _ (there clean))
 
 pub returns-clause-crash : goal.returns-clause-crash

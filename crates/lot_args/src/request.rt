@@ -1,0 +1,38 @@
+use crate::action::Action;
+
+/// What the words ask for.
+#[derive(Drop)]
+pub enum Request {
+    /// Something is done with a book, or with a text alone.
+    Act {
+        action: Action,
+        effect: Effect,
+        notes: Notes,
+    },
+    /// What the codes mean that the program prints: that one, as it was written, or all of them.
+    Explain {
+        code: Option<String>,
+    },
+}
+
+/// What a call may leave in the book.
+#[derive(Clone, Copy)]
+pub enum Effect {
+    /// What is accepted is kept.
+    Keep,
+    /// Nothing is kept.
+    DryRun,
+    /// All is kept, or nothing.
+    AllOrNone,
+}
+
+/// Which of its refusals and faults a call explains on standard error.
+#[derive(Clone, Copy)]
+pub enum Notes {
+    /// The first ten.
+    Ten,
+    /// All of them.
+    All,
+    /// None.
+    Quiet,
+}

@@ -1,0 +1,79 @@
+//! Broker files.
+
+use super::{Code, Examples};
+
+pub(super) static CODES: [Code; 4] = [
+    Code {
+        code: "C1",
+        name: "BadHeader",
+        brief: "the first record isn't the header of a broker file",
+        rule: "The first record of a broker file is exactly \
+            ref,date,action,symbol,units,price,currency,fee, with ,lot behind it where the file \
+            has that column.",
+        examples: Examples::Rows {
+            refused: r#"
+Ref,Date,Action,Symbol,Units,Price,Currency,Fee
+D-1,2024-01-15,BUY,HOOL,10,102.50,USD,
+"#,
+            accepted: r#"
+ref,date,action,symbol,units,price,currency,fee
+D-1,2024-01-15,BUY,HOOL,10,102.50,USD,
+"#,
+        },
+        help: "Name and order the columns of the broker's file so; fields are separated by commas.",
+        page: "docs/FORMATS.md, Broker files",
+    },
+    Code {
+        code: "C2",
+        name: "BadRow",
+        brief: "a field is outside the rule of its column",
+        rule: "A field of a row is outside the rule of its column, which the fault names. Length \
+            says that the row has more or fewer fields than the header. Then no row of the file is \
+            posted.",
+        examples: Examples::Rows {
+            refused: r#"
+ref,date,action,symbol,units,price,currency,fee
+D-1,2024-01-15,Buy,HOOL,10,102.50,USD,
+"#,
+            accepted: r#"
+ref,date,action,symbol,units,price,currency,fee
+D-1,2024-01-15,BUY,HOOL,10,102.50,USD,
+"#,
+        },
+        help: "Actions are BUY and SELL, days have the year first, units aren't negative, and a \
+            number with a comma stands in quotes. Take rows of other kinds out, and post what they \
+            say.",
+        page: "docs/FORMATS.md, Broker files",
+    },
+    Code {
+        code: "C3",
+        name: "TooManyRows",
+        brief: "there are more than 100,000 rows",
+        rule: "A broker file has at most 100,000 rows.",
+        examples: Examples::Absent,
+        help: "Split the file, with the header before each part, and import the parts under the \
+            same batch.",
+        page: "docs/RULES.md, Limits",
+    },
+    Code {
+        code: "C4",
+        name: "InexactAmount",
+        brief: "the cash of the row has more than eight decimals, or is too large",
+        rule: "The cash of a row is units times price, with the fee. It has to have at most eight \
+            decimals and to be below 10,000,000,000: nothing is rounded. Then no row of the file \
+            is posted.",
+        examples: Examples::Rows {
+            refused: r#"
+ref,date,action,symbol,units,price,currency,fee
+D-1,2024-01-15,BUY,HOOL,0.3170215,78.8594,USD,
+"#,
+            accepted: r#"
+ref,date,action,symbol,units,price,currency,fee
+D-1,2024-01-15,BUY,HOOL,0.3170,78.8594,USD,
+"#,
+        },
+        help: "The decimals of units and price are at most eight together: give the price fewer, \
+            and post what is left over to an account of its own.",
+        page: "docs/FORMATS.md, Broker files",
+    },
+];

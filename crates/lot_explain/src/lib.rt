@@ -1,0 +1,34 @@
+//! Why a command was refused, for people, on standard error: what each code means, and for each
+//! refusal and fault of a call the place in the input with the facts of it.
+//!
+//! - `codes`: the codes, as data; `explained`: what there is to say of a code (`explain`), and of
+//!   all (`list`); `nearest`: which of some names is meant.
+//! - `call`: what there is to say of a call (`notes`), from what it read and said (`said`); a
+//!   `note` is a line, and a `notebook` has as many as are wanted.
+//! - `faulty`: lines and rows that are faulty, with the part that is at fault (`culprit`).
+//! - `refused`: commands and rows that are refused, with what is known of them (`fact`,
+//!   `residual`).
+//! - `warning`: what may have been meant otherwise (`warnings`).
+//! - `site`: on which line a command stands; `records`: the records of a broker file.
+//! - `shown`: how texts of the input are written on a line.
+#![tactic(auto)]
+
+mod call;
+mod codes;
+mod culprit;
+mod explained;
+mod fact;
+mod faulty;
+mod nearest;
+mod note;
+mod notebook;
+mod records;
+mod refused;
+mod residual;
+mod said;
+mod shown;
+mod site;
+mod warning;
+
+pub use call::{Call, Source, notes, warnings};
+pub use explained::{explain, is_code, list, nearest_code};

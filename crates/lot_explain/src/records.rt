@@ -1,0 +1,136 @@
+//! The records of a broker file, one after another.
+
+use crate::note::Place;
+use csv::{ByteRecord, ErrorKind, Reader, ReaderBuilder};
+use lot_import::{Cause, RowsFault, read_rows};
+use std::alloc::{AllocError, Global};
+
+/// The byte order mark, which may stand at the start of a file.
+const MARK: &[u8] = b"\xef\xbb\xbf";
+
+/// How far a broker file was read.
+#[derive(Drop)]
+pub(crate) struct Records<'a> {
+    alloc: Global,
+    /// Without a byte order mark.
+    file: &'a [u8],
+    reader: Reader<&'a [u8]>,
+    /// The header, as it stands in the file, with its line end.
+    pub(crate) header: &'a [u8],
+    /// The last record.
+    pub(crate) record: ByteRecord,
+    /// That record as it stands in the file.
+    written: &'a [u8],
+    /// How many rows were read.
+    pub(crate) row: u64,
+}
+
+impl<'a> Records<'a> {
+    /// Returns the records of a file, behind its header. The only error is out of memory.
+    pub(crate) fn new(alloc: Global, file: &'a [u8]) -> Result<Records<'a>, AllocError> {
+        let file = file.strip_prefix(MARK).unwrap_or(file);
+        let reader = ReaderBuilder::new()
+            .has_headers(false)
+            .flexible(true)
+            .from_reader(alloc, file);
+        let mut records = Records {
+            alloc,
+            file,
+            reader,
+            header: b"",
+            record: ByteRecord::new(alloc),
+            written: b"",
+            row: 0,
+        };
+        if records.advance()? {
+            records.header = records.written;
+        }
+        Ok(records)
+    }
+
+    /// Reads the next row, and returns whether there is one. The only error is out of memory.
+    pub(crate) fn next_row(&mut self) -> Result<bool, AllocError> {
+        let is_there = self.advance()?;
+        if is_there {
+            self.row = self.row.saturating_add(1);
+        }
+        Ok(is_there)
+    }
+
+    /// Reads on to the row of that number, from 1, or to the end. The only error is out of memory.
+    pub(crate) fn go_to(&mut self, row: u64) -> Result<(), AllocError> {
+        for _row in self.row..row {
+            if !self.next_row()? {
+                return Ok(());
+            }
+        }
+        Ok(())
+    }
+
+    /// Returns why the last row is faulty, if it is, by the reader of broker files. The only error
+    /// is out of memory.
+    pub(crate) fn cause(&self) -> Result<Option<Cause>, AllocError> {
+        let mut file = Vec::new(self.alloc);
+        file.extend_from_slice(self.header)?;
+        file.extend_from_slice(self.written)?;
+        match read_rows(self.alloc, &file) {
+            Err(RowsFault::BadRow { cause, .. }) => Ok(Some(cause)),
+            Err(RowsFault::Memory) => Err(AllocError),
+            Ok(_) | Err(RowsFault::BadHeader | RowsFault::TooManyRows) => Ok(None),
+        }
+    }
+
+    /// Returns a field of the last record, counted from 0; it is empty where the record is shorter.
+    pub(crate) fn field(&self, column: usize) -> &[u8] {
+        self.record.get(column).unwrap_or(b"")
+    }
+
+    /// Returns the place of the row of that number, from 1, if it is the last record.
+    pub(crate) fn place_of(&self, row: u64) -> Place<'_> {
+        if self.row == row {
+            self.place()
+        } else {
+            Place::Number(row)
+        }
+    }
+
+    /// Returns the place of the last record.
+    pub(crate) fn place(&self) -> Place<'_> {
+        Place::Row {
+            row: self.row,
+            name: self.field(0),
+            line: self.written.trim_ascii(),
+        }
+    }
+
+    /// Reads the next record, and returns whether there is one.
+    fn advance(&mut self) -> Result<bool, AllocError> {
+        let start = self.reader.position().byte() as usize;
+        let found = match self.reader.read_byte_record(&mut self.record) {
+            Ok(found) => found,
+            Err(error) => match error.into_kind() {
+                ErrorKind::OutOfMemory | ErrorKind::Io(_) => return Err(AllocError),
+                _ => false,
+            },
+        };
+        let end = self.reader.position().byte() as usize;
+        self.written = self.file.get(start..end).unwrap_or(b"");
+        Ok(found)
+    }
+}
+
+/// Returns the column that is at fault, counted from 0, if it is one alone.
+pub(crate) fn column(cause: Cause) -> Option<usize> {
+    match cause {
+        Cause::Length => None,
+        Cause::Ref => Some(0),
+        Cause::Date => Some(1),
+        Cause::Action => Some(2),
+        Cause::Symbol => Some(3),
+        Cause::Units => Some(4),
+        Cause::Price => Some(5),
+        Cause::Currency => Some(6),
+        Cause::Fee => Some(7),
+        Cause::Lot => Some(8),
+    }
+}

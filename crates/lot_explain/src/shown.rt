@@ -1,0 +1,71 @@
+//! How texts are written on a line, or on several.
+
+use std::{fmt, str};
+
+/// The most columns that are shown of a line of the input.
+const MOST_COLUMNS: usize = 80;
+
+/// A text of the input on one line: without blanks before it, cut at 80 columns, and with a
+/// question mark for each character that would move the cursor or isn't UTF-8.
+#[derive(Clone, Copy)]
+pub(crate) struct Shown<'a>(pub(crate) &'a [u8]);
+
+impl fmt::Display for Shown<'_> {
+    fn fmt<W: fmt::Write>(&self, f: &mut fmt::Formatter<W>) -> fmt::Result {
+        match str::from_utf8(self.0) {
+            Ok(text) => write_text(text.trim_start(), f),
+            Err(_) => write_bytes(self.0, f),
+        }
+    }
+}
+
+/// Writes as much of a text as is shown, and two points where there is more.
+fn write_text<W: fmt::Write>(text: &str, f: &mut fmt::Formatter<W>) -> fmt::Result {
+    for (column, character) in text.chars().take(MOST_COLUMNS + 1).enumerate() {
+        if column == MOST_COLUMNS {
+            return f.write_str("..");
+        }
+        f.write_char(if character.is_control() {
+            '?'
+        } else {
+            character
+        })?;
+    }
+    Ok(())
+}
+
+/// Writes the same of bytes that are no text.
+fn write_bytes<W: fmt::Write>(bytes: &[u8], f: &mut fmt::Formatter<W>) -> fmt::Result {
+    for (column, byte) in bytes.iter().take(MOST_COLUMNS + 1).enumerate() {
+        if column == MOST_COLUMNS {
+            return f.write_str("..");
+        }
+        let is_shown = byte.is_ascii_graphic() || *byte == b' ';
+        f.write_char(if is_shown { char::from(*byte) } else { '?' })?;
+    }
+    Ok(())
+}
+
+/// Prose, in lines of at most 80 columns where its words are no longer.
+#[derive(Clone, Copy)]
+pub(crate) struct Wrapped<'a>(pub(crate) &'a str);
+
+impl fmt::Display for Wrapped<'_> {
+    fn fmt<W: fmt::Write>(&self, f: &mut fmt::Formatter<W>) -> fmt::Result {
+        let mut column = 0usize;
+        for word in self.0.split(' ') {
+            let behind = column.saturating_add(word.len()).saturating_add(1);
+            if column == 0 {
+                column = word.len();
+            } else if behind > MOST_COLUMNS {
+                f.write_str("\n")?;
+                column = word.len();
+            } else {
+                f.write_str(" ")?;
+                column = behind;
+            }
+            f.write_str(word)?;
+        }
+        f.write_str("\n")
+    }
+}

@@ -1,0 +1,102 @@
+//! A copy in memory of a book: of its file and its log, which are opened for reading alone.
+
+ghost use Rattle.std.specs.Prelude.{◌≡◌, IfOk, None, false};
+
+use crate::cause::Cause;
+use crate::files::{Located, is_missing, locate};
+use crate::image::Image;
+use sqlite::{Connection, ErrorCode, FileStore, Files, Options};
+use std::fs;
+use std::io::{ErrorKind, Read};
+use std::os::unix::fs::MetadataExt;
+
+/// How often files that change meanwhile are read.
+const TRIES: usize = 100;
+
+/// How many bytes at the head of a log say from when on it is written.
+const HEAD: usize = 32;
+
+/// What the marks in the log of a copy begin with, which nobody reads.
+const SEED: u64 = 0;
+
+/// Opens a copy of the database in the file of that path. A file that isn't there is copied as an
+/// empty one.
+pub fn open_copy(rt: &HostRuntime, path: &str) -> Result<Connection<FileStore<Image>>, Cause>
+    ensures outside { IfOk result (λ conn. conn.in_transaction ≡ false) }
+    ensures unlimited { IfOk result (λ conn. conn.step_limit ≡ None) }
+{
+    let files = if is_missing(rt, path) && fs::symlink_metadata(rt, path).is_err() {
+        Files {
+            log: Image::new(Vec::new(rt.alloc())),
+            db: Image::new(Vec::new(rt.alloc())),
+        }
+    } else {
+        copied(rt, &locate(rt, path)?)?
+    };
+    match Connection::open_files(rt.alloc(), files, Options::new(SEED)) {
+        Ok(conn) => Ok(conn),
+        Err((error, _left)) => Err(match Cause::of_library(error) {
+            // A file in memory fails where memory ends, and for nothing else.
+            Cause::Library(ErrorCode::SystemIoFailure) => Cause::Memory,
+            cause => cause,
+        }),
+    }
+}
+
+/// Reads the files of a book into memory, as they were at one moment.
+fn copied(rt: &HostRuntime, located: &Located) -> Result<Files<Image>, Cause> {
+    for _try in 0..TRIES {
+        let before = Stamp::of(rt, located)?;
+        let db = image(rt, located.book.as_str())?;
+        let log = image(rt, located.log.as_str())?;
+        if before == Stamp::of(rt, located)? {
+            return Ok(Files { log, db });
+        }
+    }
+    Err(Cause::InUse)
+}
+
+/// What tells two states of the files of a book apart, unless commits were only put behind the log.
+///
+/// A program that writes puts each commit behind the log, and copies the log into the book's file
+/// from time to time; the log then begins anew, with another head. So a file, and a log with the same
+/// head that was read behind it, hold the commits up to a moment.
+#[derive(PartialEq, Eq, Drop)]
+struct Stamp {
+    /// The number of the book's file on its disk, its length, and when it was changed last.
+    book: (u64, u64, i64, i64),
+    head: [u8; HEAD],
+}
+
+impl Stamp {
+    fn of(rt: &HostRuntime, located: &Located) -> Result<Stamp, Cause> {
+        let found = fs::metadata(rt, located.book.as_str())?;
+        Ok(Stamp {
+            book: (found.ino(), found.len(), found.mtime(), found.mtime_nsec()),
+            head: head(rt, located.log.as_str())?,
+        })
+    }
+}
+
+/// Returns the head of a log, all zeros where there is none.
+fn head(rt: &HostRuntime, path: &str) -> Result<[u8; HEAD], Cause> {
+    let mut head = [0; HEAD];
+    match fs::File::open(rt, path) {
+        Ok(mut file) => match file.read_exact(&mut head) {
+            Err(error) if error.kind() == ErrorKind::UnexpectedEof => Ok([0; HEAD]),
+            Err(error) => Err(error.into()),
+            Ok(()) => Ok(head),
+        },
+        Err(error) if error.kind() == ErrorKind::NotFound => Ok(head),
+        Err(error) => Err(error.into()),
+    }
+}
+
+/// Reads a file into memory; one that isn't there is empty.
+fn image(rt: &HostRuntime, path: &str) -> Result<Image, Cause> {
+    match fs::read(rt, path) {
+        Ok(bytes) => Ok(Image::new(bytes)),
+        Err(error) if error.kind() == ErrorKind::NotFound => Ok(Image::new(Vec::new(rt.alloc()))),
+        Err(error) => Err(error.into()),
+    }
+}

@@ -1,0 +1,129 @@
+//! The files of a book: its own, and its log beside it.
+
+ghost use Rattle.std.specs.Prelude.{◌≡◌, IfOk, None, false};
+
+use crate::cause::{Cause, why};
+use sqlite::{Connection, File, FileStore};
+use std::fs;
+use std::io::{self, ErrorKind, Read};
+use std::os::unix::fs::MetadataExt;
+use std::path::Path;
+
+/// The most bytes that the name of a book's file may have. Beside it stands its log, and may stand a
+/// journal of another program: their names have up to eight bytes more, and no file's name has more
+/// than 255.
+const LONGEST_NAME: usize = 247;
+
+/// Opens the database in the file of that path, and makes one where there is none.
+pub fn open(rt: &HostRuntime, path: &str) -> Result<Connection<FileStore<File>>, Cause>
+    ensures outside { IfOk result (λ conn. conn.in_transaction ≡ false) }
+    ensures unlimited { IfOk result (λ conn. conn.step_limit ≡ None) }
+{
+    match Connection::open(rt, path) {
+        Ok(conn) => Ok(conn),
+        Err(error) => Err(why(rt, path, error)),
+    }
+}
+
+/// The files of a book, by paths without a link in them.
+#[derive(Drop)]
+pub struct Located {
+    pub book: String,
+    pub log: String,
+}
+
+/// Finds the files of the book at that path. The error is why they can't be those of a book,
+/// whatever they hold.
+pub fn locate(rt: &HostRuntime, path: &str) -> Result<Located, Cause> {
+    let real = match fs::canonicalize(rt, path) {
+        Ok(real) => real,
+        Err(error) if error.kind() == ErrorKind::NotFound && !has_folder(rt, path) => {
+            return Err(Cause::NoFolder);
+        }
+        Err(error) => return Err(error.into()),
+    };
+    let book = real.as_str();
+    let found = fs::metadata(rt, book)?;
+    if found.is_dir() {
+        return Err(Cause::Folder);
+    }
+    if !found.is_file() {
+        return Err(Cause::Irregular);
+    }
+    if found.nlink() != 1 {
+        return Err(Cause::SecondName);
+    }
+    if has_journal(rt, format!(in rt.alloc(); "{book}-journal")?.as_str())? {
+        return Err(Cause::Journal);
+    }
+    Ok(Located {
+        book: String::from_str(rt.alloc(), book)?,
+        log: format!(in rt.alloc(); "{book}-wal")?,
+    })
+}
+
+/// Returns whether there is something of that path other than a journal with nothing to play back.
+fn has_journal(rt: &HostRuntime, path: &str) -> io::Result<bool> {
+    match fs::symlink_metadata(rt, path) {
+        Ok(found) if found.is_file() => Ok(!matches!(first_byte(rt, path)?, None | Some(0))),
+        Ok(_) => Ok(true),
+        Err(error) if error.kind() == ErrorKind::NotFound => Ok(false),
+        Err(error) => Err(error),
+    }
+}
+
+/// Returns whether there is no file of that path in a folder that is there.
+pub fn is_missing(rt: &HostRuntime, path: &str) -> bool {
+    let is_absent =
+        matches!(fs::metadata(rt, path), Err(error) if error.kind() == ErrorKind::NotFound);
+    is_absent && has_folder(rt, path)
+}
+
+/// Returns whether the folder of that path is there.
+fn has_folder(rt: &HostRuntime, path: &str) -> bool {
+    match Path::new(path).parent() {
+        // A name alone is one in the folder in which the program runs.
+        Some(folder) if !folder.as_str().is_empty() => {
+            matches!(fs::metadata(rt, folder), Ok(found) if found.is_dir())
+        }
+        _ => !path.is_empty(),
+    }
+}
+
+/// Returns whether the file of that path is there and empty.
+pub fn is_empty(rt: &HostRuntime, path: &str) -> bool {
+    matches!(fs::metadata(rt, path), Ok(found) if found.is_file() && found.len() == 0)
+}
+
+/// Returns whether the name of the file of that path is too long for that of a book.
+pub fn has_long_name(path: &str) -> bool {
+    match Path::new(path).file_name() {
+        Some(name) => name.len() > LONGEST_NAME,
+        None => false,
+    }
+}
+
+/// Returns whether the file of that path holds one byte, and not the zero that a stopped `init` may
+/// leave. The library of the database would take it for an empty file, and write a database over it.
+pub fn holds_one_byte(rt: &HostRuntime, path: &str) -> bool {
+    match fs::metadata(rt, path) {
+        Ok(found) => {
+            found.is_file() && found.len() == 1 && !matches!(first_byte(rt, path), Ok(Some(0)))
+        }
+        Err(_) => false,
+    }
+}
+
+/// Returns the first byte of the file of that path, where there is one.
+fn first_byte(rt: &HostRuntime, path: &str) -> io::Result<Option<u8>> {
+    let mut first = [1];
+    let count = fs::File::open(rt, path)?.read(&mut first)?;
+    Ok(if count == 0 { None } else { Some(first[0]) })
+}
+
+/// Returns whether the library of the database takes the path for something else than that of a
+/// file: for a database in memory, or for a URI. The file of such a name is in the folder in which
+/// the program runs.
+pub fn names_no_file(path: &str) -> bool {
+    path == ":memory:" || path.starts_with("file:")
+}

@@ -1,0 +1,224 @@
+#!/usr/bin/env bash
+# Calls with --dry-run: each prints what the call without it prints of a copy of the files, with its status, and leaves every file of the
+# folder as it was: bytes, times, names.
+source "$(dirname "$(readlink -f "${BASH_SOURCE[0]}")")/lib/cases.sh"
+need_program
+
+accounts=(--invest Assets:Broker --cash Assets:Cash --fees Expenses:Fees --gains Income:Gains)
+first=$examples/first-purchase.ledger
+tables() { python3 -B "$root/tests/book/tables.py" "$@"; }
+
+# state FOLDER: the files there, with their numbers, lengths, modes, times and bytes. Reading changes none of these.
+state() {
+    find "$1" -printf '%P %i %s %m %T@ %C@\n' | sort
+    find "$1" -type f -readable -exec sha256sum {} + | sort
+}
+
+# place NAME: an empty folder for a case, in which the book is to be.
+place() {
+    home=$scratch/$1 book=$scratch/$1/family.book
+    mkdir "$home"
+}
+
+# dry NAME INPUT WORDS..: the words on the book, with --dry-run and without, where that is done on a copy of the folder.
+dry() {
+    local before real_status
+    before=$(state "$home")
+    run "${@:3}" --book "$book" --dry-run <"$2"
+    if [[ $(state "$home") != "$before" ]]; then
+        fail "$1" "files changed: $(diff <(echo "$before") <(state "$home") | head -n 4 | tr '\n' '|')"
+        return
+    fi
+    rm -rf "$scratch/real" && cp -a "$home" "$scratch/real"
+    timeout 120 "$program" "${@:3}" --book "$scratch/real/${book##*/}" <"$2" >"$scratch/expected" 2>"$scratch/real.err"
+    real_status=$?
+    expect "$1" "$real_status" "$scratch/expected"
+}
+
+# as NAME STATUS LINE: the call before ended so, and the first line is that one.
+as() {
+    if ((status == $2)) && [[ $(head -n 1 "$scratch/out") == "$3" ]]; then
+        pass "$1"
+    else
+        fail "$1" "status $status, $(head -n 1 "$scratch/out")"
+    fi
+}
+
+printf '2020-01-31 open Assets:Euro EUR\n2020-01-01 open Assets:Broker\n2020-02-01 *\n  Assets:Euro 1 EUR\n' >"$scratch/mixed"
+printf '2020-01-31 open Assets:Euro EUR\n2020-13-01 open Assets:Pound\n' >"$scratch/faulty"
+{ echo ref,date,action,symbol,units,price,currency,fee && printf 'R-1,2020-02-0%d,BUY,HOOL,1,100,USD,\n' 3 2; } >"$scratch/rows.csv"
+printf '2020-01-01 open Expenses:Fees\n2020-01-01 open Income:Gains\n' >"$scratch/more"
+
+# ---- a book
+
+place book
+"$program" init --book "$book" </dev/null >/dev/null
+"$program" post --book "$book" --batch a <"$first" >/dev/null
+"$program" post --book "$book" --batch accounts <"$scratch/more" >/dev/null
+dry "a batch that is there" "$first" post --batch a
+as "it is repeated" 0 "1 repeat"
+dry "a batch with refusals" "$scratch/mixed" post --batch b
+as "it is accepted and refused" 1 "1 accepted"
+dry "the same once more" "$scratch/mixed" post --batch b
+as "nothing stood in between" 1 "1 accepted"
+dry "a batch from its second command on" "$scratch/mixed" post --batch b --from 2
+as "the first is left out" 1 "2 refused L2 AlreadyOpen"
+dry "a faulty text" "$scratch/faulty" post --batch b
+as "the fault is reported" 3 "fault line 2 X6 BadDay"
+dry "no commands" /dev/null post --batch b
+dry "a broker file" "$scratch/rows.csv" import --batch deals "${accounts[@]}"
+as "its rows are judged" 1 "1 accepted"
+dry "a broker file without its header" "$first" import --batch deals "${accounts[@]}"
+dry "making a book that is there" /dev/null init
+as "it is there" 4 "fault S1 NotABook"
+dry "migrating a book of edition 2" /dev/null migrate
+as "nothing is left to do" 0 "book migrated"
+awk 'BEGIN { for (n = 0; n < 3000; n++) printf "2020-01-01 open Assets:A%d\n", n }' >"$scratch/many"
+dry "3,000 commands" "$scratch/many" post --batch many
+as "they are accepted" 0 "1 accepted"
+
+# What was committed and isn't copied into the book's file yet stands in the log.
+mkfifo "$scratch/slow"
+"$program" post --book "$book" --batch slow <"$scratch/slow" >"$scratch/posted" 2>&1 &
+exec 8>"$scratch/slow"
+for _ in {1..200}; do
+    run init --book "$book" </dev/null
+    if [[ $(<"$scratch/out") == "fault open" ]]; then break; fi
+    sleep 0.05
+done
+for _ in {1..100}; do # it has opened the file once nothing changes any more
+    before=$(state "$home")
+    sleep 0.1
+    if [[ $(state "$home") == "$before" ]]; then break; fi
+done
+prints "a book that another program has open" 0 $'1 repeat\n2 repeat\n3 repeat' post --book "$book" --batch a --dry-run <"$first"
+if [[ $(state "$home") == "$before" ]]; then pass "it is as it was"; else fail "it is as it was" "a file changed"; fi
+cat "$scratch/many" >&8 && exec 8>&-
+wait
+if [[ $(grep -c ' accepted$' "$scratch/posted") == 3000 ]]; then pass "that program goes on"; else fail "that program goes on" "$(tail -n 1 "$scratch/posted")"; fi
+place killed
+"$program" init --book "$book" </dev/null >/dev/null
+(trap '' XFSZ && ulimit -f 600 && exec "$program" post --book "$book" --batch a <"$scratch/many") >/dev/null 2>&1 # it leaves a long log
+dry "a book with a long log" "$scratch/many" post --batch a
+as "what stands in the log is there" 0 "1 repeat"
+
+# ---- files that are no book
+
+place missing
+dry "post on a missing file" "$first" post --batch a
+as "there is no book" 4 "fault S1 NotABook"
+dry "a faulty text on a missing file" "$scratch/faulty" post --batch a
+dry "migrating a missing file" /dev/null migrate
+dry "making a book" /dev/null init
+as "it could be made" 0 "book ready"
+if [[ ! -e $book ]]; then pass "it isn't made"; else fail "it isn't made" "there is a file"; fi
+book=$home/nowhere/family.book
+run init --book "$book" --dry-run </dev/null
+as "making a book in no folder" 4 "fault open"
+says "it says so" "lotbook: $book: there is no such folder"
+ln -s nowhere "$home/link.book" && book=$home/link.book
+dry "making a book behind a link that leads nowhere" /dev/null init
+
+place empty
+: >"$book"
+dry "post on an empty file" "$first" post --batch a
+as "it is no book" 4 "fault S1 NotABook"
+dry "making a book of an empty file" /dev/null init
+as "it can be made" 0 "book ready"
+dry "migrating an empty file" /dev/null migrate
+printf '\0' >"$book"
+dry "making a book of a zero byte" /dev/null init
+printf x >"$book"
+dry "making a book of a letter" /dev/null init
+as "it can't be made" 4 "fault open"
+
+place foreign
+tables foreign "$book" notes
+dry "post on a database of another program" "$first" post --batch a
+as "it is no book" 4 "fault S1 NotABook"
+dry "making a book of it" /dev/null init
+place text
+head -c 3000 /dev/urandom | base64 >"$book"
+dry "post on a text file" "$first" post --batch a
+as "it is no database" 4 "fault open"
+dry "making a book of it" /dev/null init
+place folder
+mkdir "$book"
+dry "post on a folder" "$first" post --batch a
+as "it is no file" 4 "fault open"
+place second
+"$program" init --book "$book" </dev/null >/dev/null
+ln "$book" "$home/other.book"
+dry "a file with a second name" "$first" post --batch a
+as "it isn't opened" 4 "fault open"
+place journal
+"$program" init --book "$book" </dev/null >/dev/null
+echo journal >"$book-journal"
+dry "a file beside a journal" "$first" post --batch a
+as "it isn't opened" 4 "fault open"
+place long
+book=$home/$(printf 'a%.0s' {1..248})
+dry "a name that is too long" /dev/null init
+as "it isn't opened" 4 "fault open"
+
+# ---- books of other editions
+
+place older
+gzip -dc "$root/tests/migrate/ties/book.gz" >"$book"
+dry "post on a book of edition 1" "$first" post --batch a
+as "it isn't taken up" 4 "fault S3 OlderEdition"
+dry "migrating a book of edition 1" /dev/null migrate
+as "it can be migrated" 0 "book migrated"
+place newer
+"$program" init --book "$book" </dev/null >/dev/null
+tables edition "$book" 9
+dry "post on a book of edition 9" "$first" post --batch a
+as "it isn't taken up" 4 "fault S2 NewerEdition"
+dry "migrating it" /dev/null migrate
+
+# ---- without rights; root may do all, so root runs the program as nobody
+
+chmod 755 "$scratch" && cp "$program" "$scratch/lotbook"
+cat >"$scratch/unprivileged" <<'END'
+#!/usr/bin/env python3
+import os, sys
+if os.getuid() == 0:
+    os.setgroups([])
+    os.setgid(65534)
+    os.setuid(65534)
+os.execv(os.path.join(os.path.dirname(sys.argv[0]), "lotbook"), ["lotbook", *sys.argv[1:]])
+END
+chmod +x "$scratch/unprivileged"
+place fixed
+"$program" init --book "$book" </dev/null >/dev/null
+chmod 444 "$book" "$book-wal" && chmod 555 "$home"
+before=$(state "$home")
+program=$scratch/unprivileged prints "a book that may only be read" 0 $'1 accepted\n2 accepted\n3 accepted' \
+    post --book "$book" --batch a --dry-run <"$first"
+if [[ $(state "$home") == "$before" ]]; then pass "it is as it was"; else fail "it is as it was" "a file changed"; fi
+chmod 000 "$book"
+program=$scratch/unprivileged run post --book "$book" --batch a --dry-run <"$first"
+as "a book that may not be read" 4 "fault open"
+says "it says so" "lotbook: $book: no permission"
+
+# ---- output that can't be written
+
+place output
+"$program" init --book "$book" </dev/null >/dev/null
+before=$(state "$home")
+"$program" post --book "$book" --batch a --dry-run <"$first" >/dev/full 2>"$scratch/err" && status=0 || status=$?
+stops "a full disk"
+"$program" init --book "$home/other.book" --dry-run </dev/null >/dev/full 2>"$scratch/err" && status=0 || status=$?
+stops "making a book, with output to a full disk"
+{ "$program" post --book "$book" --batch many --dry-run <"$scratch/many" 2>"$scratch/err" && echo 0 >"$scratch/status" || echo $? >"$scratch/status"; } |
+    head -n 20 >"$scratch/taken"
+status=$(<"$scratch/status")
+stops "a pipe that is closed in the middle"
+"$program" post --book "$book" --batch slow --dry-run <"$scratch/slow" >"$scratch/out" 2>&1 &
+exec 8>"$scratch/slow"
+cat "$first" >&8
+kill -9 $!
+{ wait; } 2>/dev/null
+exec 8>&-
+if [[ $(state "$home") == "$before" ]]; then pass "the files are as they were, also after a kill"; else fail "the files are as they were" "a file changed"; fi
+finish

@@ -1,0 +1,128 @@
+#!/usr/bin/env bash
+# What `lotbook explain` says: held to the codes of docs/RULES.md, and each of its examples is run. The refused one gets exactly the code,
+# the accepted one none.
+source "$(dirname "$(readlink -f "${BASH_SOURCE[0]}")")/lib/cases.sh"
+need_program
+
+accounts=(--invest Assets:Broker --cash Assets:Cash --fees Expenses:Fees --gains Income:Gains)
+
+# The codes of the pages, a line each: the code and its name. Those without a code stand in the paragraph behind the table.
+awk '/^## All codes/ { inside = 1 } /^Two faults have no code/ { exit } inside && /^\| / { print }' "$root/docs/RULES.md" |
+    grep -oE '[A-Z][0-9]+ [A-Z][A-Za-z0-9]+' >"$scratch/codes"
+printf 'Memory\nopen\n' >>"$scratch/codes"
+
+run explain </dev/null
+cp "$scratch/out" "$scratch/all"
+if ((status == 0)) && [[ ! -s $scratch/err ]]; then pass "all codes, a line each"; else fail "all codes, a line each" "status $status"; fi
+sed -E 's/^([A-Za-z0-9]+( [A-Za-z0-9]+)?): .+$/\1/' "$scratch/all" | sort >"$scratch/listed"
+sort "$scratch/codes" >"$scratch/sorted"
+if cmp -s "$scratch/listed" "$scratch/sorted"; then
+    pass "the codes of the pages, with their names"
+else
+    fail "the codes of the pages, with their names" "$(diff "$scratch/sorted" "$scratch/listed" | head -n 4 | tr '\n' '|')"
+fi
+
+# example FILE WORD: the lines of the example under the heading that begins with that word.
+example() {
+    awk -v word="$2" '
+        /^[A-Z]/ { inside = index($0, word) == 1 }
+        inside && /^    / { print substr($0, 5) }
+    ' "$1"
+}
+
+# book FOLDER: a book there with the four accounts.
+book() {
+    "$program" init --book "$1/rows.book" </dev/null >/dev/null &&
+        printf '2019-01-01 open %s\n' Assets:Broker Assets:Cash Expenses:Fees Income:Gains |
+        "$program" post --book "$1/rows.book" --batch accounts >/dev/null
+}
+
+# answer KIND FILE: what the program writes of an example, on both streams.
+answer() {
+    local folder=$scratch/example
+    rm -rf "$folder" && mkdir "$folder" || return
+    case $1 in
+        "ledger text") "$program" <"$2" 2>&1 ;;
+        "a broker file") book "$folder" && "$program" import --book "$folder/rows.book" --batch deals "${accounts[@]}" <"$2" 2>/dev/null ;;
+        calls)
+            ln -s "$program" "$folder/lotbook"
+            sed 's/^\$ //' "$2" | (cd "$folder" && PATH=.:$PATH timeout 60 sh) 2>&1
+            ;;
+    esac
+}
+
+# codes FILE: the codes that an answer has, each once.
+codes() { grep -E '^([0-9]+ refused|([0-9]+ )?fault) ' "$1" | grep -oE '\b([A-Z][0-9]+ [A-Z][A-Za-z0-9]+|Memory|open)\b' | sort -u; }
+
+# A number, a name or a day that is outside its rule is told by another code of the text or the file.
+told_as() {
+    case $1 in
+        N1 | M3) echo "C2 BadRow" ;;
+        N2 | N3 | N4) echo "X4 BadNumber" ;;
+        M1 | M2 | M5) echo "X5 BadName" ;;
+        M4) echo "X6 BadDay" ;;
+        open) echo open ;;
+        *) echo "$1 $2" ;;
+    esac
+}
+
+while read -r code name; do
+    run explain "$code" </dev/null
+    cp "$scratch/out" "$scratch/explained"
+    first=$(head -n 1 "$scratch/explained")
+    if ((status != 0)) || [[ $first != "$code${name:+ $name}: "* ]]; then
+        fail "$code" "status $status, and the first line is $first"
+        continue
+    fi
+    if ! grep -q '^Read on: docs/[A-Z]*\.md, ' "$scratch/explained"; then
+        fail "$code" "it names no page to read on"
+        continue
+    fi
+    page=$(sed -n 's/^Read on: \(docs\/[A-Z]*\.md\), \(.*\)$/\1:\2/p' "$scratch/explained" | head -n 1)
+    if ! grep -qx "#* ${page#*:}" "$root/${page%%:*}"; then
+        fail "$code" "$page has no such part"
+        continue
+    fi
+    kind=$(sed -n 's/^Refused, \(.*\):$/\1/p' "$scratch/explained" | head -n 1)
+    if [[ -z $kind ]]; then
+        pass "$code, without an example"
+        continue
+    fi
+    example "$scratch/explained" Refused >"$scratch/refused"
+    example "$scratch/explained" Accepted >"$scratch/accepted"
+    answer "$kind" "$scratch/refused" >"$scratch/answer"
+    wanted=$(told_as "$code" "$name")
+    found=$(codes "$scratch/answer" | tr '\n' ',')
+    if [[ $code == U1 ]]; then wanted="" found=$(grep -q '^Usage:' "$scratch/answer" || echo "no usage,"); fi
+    if [[ $found == "${wanted:+$wanted,}" ]]; then pass "$code: the refused example"; else fail "$code: the refused example" "codes $found"; fi
+    answer "$kind" "$scratch/accepted" >"$scratch/answer"
+    found=$(codes "$scratch/answer" | tr '\n' ',')
+    if [[ -s $scratch/answer && -z $found ]]; then pass "$code: the accepted example"; else fail "$code: the accepted example" "codes $found"; fi
+done <"$scratch/codes"
+
+# Other words.
+"$program" explain B2 >"$scratch/one" 2>/dev/null </dev/null
+for word in b2 Ambiguous ambiguous AMBIGUOUS; do
+    run explain "$word" </dev/null
+    expect "$word is B2 Ambiguous" 0 "$scratch/one"
+done
+run explain Range </dev/null
+if ((status == 0)) && [[ $(grep -cE '^(I1|L11|P1) Range: ' "$scratch/out") == 3 ]]; then
+    pass "a name of several codes"
+else
+    fail "a name of several codes" "status $status"
+fi
+for words in "L17 L1" "Ambigous Ambiguous" "unknownacount UnknownAccount" "x X1"; do
+    read -r word nearest <<<"$words"
+    run explain "$word" </dev/null
+    if ((status == 2)) && [[ ! -s $scratch/out && $(<"$scratch/err") == "lotbook: there is no code '$word'; the nearest is $nearest: "* ]]; then
+        pass "no code: $word"
+    else
+        fail "no code: $word" "status $status: $(head -c 200 "$scratch/err")"
+    fi
+done
+"$program" explain </dev/null 2>"$scratch/err" >/dev/full && status=0 || status=$?
+stops "all codes on a full disk"
+"$program" explain B2 </dev/null 2>"$scratch/err" >/dev/full && status=0 || status=$?
+stops "a code on a full disk"
+finish

@@ -1,0 +1,112 @@
+"""What the program says on standard error beside its answer: why commands were refused, and what may have been meant otherwise."""
+
+import re
+import unicodedata
+
+FIRST = b"lotbook: "
+MOST = 10  # notes, and warnings, of a call
+A_PLACE = r"(line [1-9][0-9]*, command {0}|row {0} \(.*\)|number {0}): "
+REFUSED = re.compile(r"([1-9][0-9]*) (?:refused|fault) ([A-Z][0-9]+ [A-Za-z]+)(?: .*)?")
+FAULTY = re.compile(r"fault (line|row) ([1-9][0-9]*) ([A-Z][0-9] [A-Za-z0-9]+)(?: .*)?")
+FAULT = re.compile(r"fault (?:header )?([A-Z][0-9] [A-Za-z0-9]+)")
+WARNING = re.compile(r"(?:line [1-9][0-9]*: |row [1-9][0-9]* \(.*\): )?warning: .+")
+MORE = re.compile(r"\.\.\. and [1-9][0-9]* more")
+MEMORY = re.compile(rf"({A_PLACE.format('[1-9][0-9]*')})?(Memory )?Memory: memory ended(: .+)?")
+OF_LINES = re.compile(r"line [1-9][0-9]*: X[1-7] [A-Za-z0-9]+: .+")
+OF_ROWS = re.compile(r"row [1-9][0-9]* \(.*\): C2 BadRow: .+")
+
+
+NOTHING_KEPT = b": nothing is kept, since not all was accepted\n"
+
+
+def before_the_end(errors, ample):
+    """The messages but for the last line of those with ample memory, where that says that nothing is kept and ends these, too."""
+    last = ample[ample.rfind(b"\n", 0, -1) + 1 :]
+    return errors[: -len(last)] if last.endswith(NOTHING_KEPT) and errors.endswith(last) else errors
+
+
+def is_note(line, begin=""):
+    """Whether a line without its end begins with `lotbook: ` and then with this text, in UTF-8 without control characters."""
+    try:
+        text = line.decode()
+    except UnicodeDecodeError:
+        return False
+    return text.startswith("lotbook: " + begin) and not any(unicodedata.category(it) == "Cc" for it in text)
+
+
+def without(errors):
+    """The messages of a call but for those lines, each with its line end."""
+    *lines, rest = errors.split(b"\n")
+    return b"\n".join([*(line for line in lines if not is_note(line)), rest])
+
+
+def are(errors, *begins):
+    """Whether the messages of a call are so many of those lines, and each begins with its text; nothing where none is given."""
+    *lines, rest = errors.encode().split(b"\n")
+    return not rest and len(lines) == len(begins) and all(map(is_note, lines, begins))
+
+
+def wrong(errors, status=None, output=None, may_warn=True):
+    """What is wrong with these messages, or nothing. They are lines of the program's own. Where the status is known they are warnings alone
+    if it is 0, and where the output is, all that was written or should have been, they say of each refusal and of the fault what is due."""
+    try:
+        *lines, rest = errors.decode().split("\n")
+    except UnicodeDecodeError:
+        return "a message that isn't UTF-8"
+    if rest:
+        return f"a message without a line end: {rest[:200]!r}"
+    for line in lines:
+        if not line.encode().startswith(FIRST) or any(ord(letter) < 32 or 127 <= ord(letter) < 160 for letter in line):
+            return f"the message {line[:200]!r}"
+    lines = [line[len(FIRST) :] for line in lines]
+    first = next((at for at, line in enumerate(lines) if WARNING.fullmatch(line)), len(lines))
+    noted, warned = lines[:first], lines[first:]
+    if warned and not may_warn:
+        return f"the warning {warned[0][:200]!r}"
+    if len(warned) == MOST + 1 and MORE.fullmatch(warned[-1]):
+        warned = warned[:-1]
+    if len(warned) > MOST or not all(map(WARNING.fullmatch, warned)):
+        return f"other messages than warnings behind {warned[0][:200]!r}"
+    if status == 0 and noted:
+        return f"no warning: {noted[0][:200]!r}"
+    return "" if output is None else missing(noted, output.decode().split("\n")[:-1])
+
+
+def wrong_where_memory_ended(errors, ample, output):
+    """What is wrong with these messages, or nothing, where memory ended the call: first lines of what there is to say with ample memory,
+    then what is said of memory, and then warnings that there are then, too."""
+    if found := wrong(errors):
+        return found
+    lines, whole = ([line[len(FIRST) :] for line in text.decode().split("\n")[:-1]] for text in (errors, ample))
+    of_warnings = [line for line in whole if WARNING.fullmatch(line)]
+    of_refusals = [line for line in whole if not WARNING.fullmatch(line)]
+    refused = sum(" refused " in line for line in output.decode().split("\n"))
+    count = next((at for at, line in enumerate(lines) if at >= len(of_refusals) or line != of_refusals[at]), len(lines))
+    rest = lines[count:]
+    if rest and (MEMORY.fullmatch(rest[0]) and count == refused or count == MOST and rest[0] == f"... and {refused + 1 - MOST} more"):
+        rest = rest[1:]
+    is_told = count <= refused and rest == of_warnings[: len(rest)]
+    return "" if is_told else f"messages {lines[-3:]} where memory ended behind {refused} refusals"
+
+
+def missing(noted, said):
+    """What is wrong with the messages, without warnings, beside this output, or nothing."""
+    last = said[-1] if said else ""
+    if faulty := FAULTY.fullmatch(last):
+        kind, number, code = faulty.groups()
+        place = f"line {number}: " if kind == "line" else rf"row {number} \(.*\): "
+        others = noted[1:-1] if noted and MORE.fullmatch(noted[-1]) and len(noted) == MOST + 1 else noted[1:]
+        is_told = noted and re.fullmatch(f"{place}{code}: .+", noted[0]) and len(others) < MOST
+        is_told = is_told and all((OF_LINES if kind == "line" else OF_ROWS).fullmatch(line) for line in others)
+        return "" if is_told else f"not of {last!r} first: {noted[:2]}"
+    due = [A_PLACE.format(it[1]) + f"{it[2]}: .+" for it in map(REFUSED.fullmatch, said) if it]
+    if (fault := FAULT.fullmatch(last)) and not fault[1].startswith(("S1 ", "S3 ")):
+        due.append(f"{fault[1]}: .+")
+    if len(due) > MOST:
+        due[MOST:] = [rf"\.\.\. and {len(due) - MOST} more"]
+    if last in ("fault S1 NotABook", "fault S3 OlderEdition", "fault open"):  # what helps
+        due += [".+"] * min(1, len(noted) - len(due))
+    if last.endswith("fault Memory") and len(due) == len(noted) - 1 and MEMORY.fullmatch(noted[-1]):
+        due.append(MEMORY.pattern)
+    is_told = len(due) == len(noted) and all(map(re.fullmatch, due, noted))
+    return "" if is_told else f"messages {noted[:3]} where these are due: {due[:3]}"

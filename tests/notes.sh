@@ -1,0 +1,264 @@
+#!/usr/bin/env bash
+# What standard error says of refused commands, of faults and of what may have been meant otherwise. Standard output and the status are
+# those of the same call with --quiet, which says nothing there.
+source "$(dirname "$(readlink -f "${BASH_SOURCE[0]}")")/lib/cases.sh"
+need_program
+
+accounts=(--invest Assets:Broker --cash Assets:Cash --fees Expenses:Fees --gains Income:Gains)
+book=$scratch/noted.book
+
+# opened: a new book with four accounts.
+opened() {
+    rm -f "$book"*
+    "$program" init --book "$book" </dev/null >/dev/null 2>&1 &&
+        printf '2019-01-01 open %s\n' Assets:Broker Assets:Cash Expenses:Fees Income:Gains |
+        "$program" post --book "$book" --batch accounts >/dev/null 2>&1 || fail "a book for a case" "it can't be made"
+}
+
+# notes NAME STATUS WORDS..: the call on the file `in` ends with that status and says exactly what the file `told` has; with --quiet it
+# says nothing, and answers the same.
+notes() {
+    opened
+    run "${@:3}" <"$scratch/in"
+    cp "$scratch/out" "$scratch/first"
+    if ((status != $2)); then
+        fail "$1" "status $status instead of $2"
+        return
+    elif ! cmp -s "$scratch/told" "$scratch/err"; then
+        fail "$1" "$(diff "$scratch/told" "$scratch/err" | head -n 6 | cut -c 1-200 | tr '\n' '|')"
+        return
+    fi
+    opened
+    run "${@:3}" --quiet <"$scratch/in"
+    expect "$1" "$2" "$scratch/first"
+    if [[ -s $scratch/err ]]; then fail "$1, quiet" "it says $(head -n 1 "$scratch/err")"; fi
+}
+
+post=(post --book "$book" --batch a)
+import=(import --book "$book" --batch d "${accounts[@]}")
+
+# What was read, and what standard error says of it: behind a line `> WORDS NAME` the input, then lines that begin with `lotbook`.
+cases() {
+    local line name="" status=0 kind=""
+    while IFS= read -r line; do
+        case $line in
+            "== "*)
+                if [[ -n $name ]]; then tried "$name" "$status" "$kind"; fi
+                read -r _ status kind name <<<"$line"
+                : >"$scratch/in" >"$scratch/told"
+                ;;
+            lotbook:*) printf '%s\n' "$line" >>"$scratch/told" ;;
+            *) printf '%s\n' "$line" >>"$scratch/in" ;;
+        esac
+    done
+    tried "$name" "$status" "$kind"
+}
+
+# tried NAME STATUS KIND: a case, by a call without a word, by a post or by an import.
+tried() {
+    case $3 in
+        text)
+            notes "$1, without a word" "$2"
+            notes "$1, of a post" "$2" "${post[@]}"
+            ;;
+        check) notes "$1" "$2" ;;
+        post) notes "$1" "$2" "${post[@]}" ;;
+        rows) notes "$1" "$2" "${import[@]}" ;;
+    esac
+}
+
+cases <<'CASES'
+== 1 post what postings leave
+2024-01-02 * "Buy"
+  Assets:Broker 10 HOOL {502.12 USD}
+  Assets:Cash -5031.19830 USD
+lotbook: line 1, command 1: L14 NotBalanced: the postings don't balance: they leave -9.9983 USD: 2024-01-02 * "Buy"
+== 1 post what postings leave, by price and by whole cost
+2024-01-02 * "Exchange"
+  Assets:Cash 100 EUR @ 1.1 USD
+  Assets:Cash -109 USD
+2024-01-02 * "Exchange"
+  Assets:Cash -100 EUR @@ 110 USD
+  Assets:Cash 109.5 USD
+2024-01-02 * "Buy"
+  Assets:Broker 4 HOOL {{1000 USD}}
+  Assets:Cash -1000.01 USD
+2024-01-02 * "Two currencies"
+  Assets:Cash 1 EUR
+  Assets:Cash -1 USD
+lotbook: line 1, command 1: L14 NotBalanced: the postings don't balance: they leave 1.00 USD: 2024-01-02 * "Exchange"
+lotbook: line 4, command 2: L14 NotBalanced: the postings don't balance: they leave -0.50 USD: 2024-01-02 * "Exchange"
+lotbook: line 7, command 3: L14 NotBalanced: the postings don't balance: they leave -0.01 USD: 2024-01-02 * "Buy"
+lotbook: line 10, command 4: L14 NotBalanced: the postings don't balance: they leave 1.00 EUR: 2024-01-02 * "Two currencies"
+== 1 post what lots weigh isn't in the text
+2024-01-02 * "Buy"
+  Assets:Broker 10 HOOL {502.12 USD}
+  Assets:Cash
+2024-01-03 * "Sell"
+  Assets:Broker -10 HOOL {} @ 510 USD
+  Assets:Cash 5100 USD
+lotbook: line 4, command 2: L14 NotBalanced: the postings don't balance: 2024-01-03 * "Sell"
+== 1 post digits that don't fit
+2024-01-02 * "Buy"
+  Assets:Broker 0.3170215 HOOL {78.8594 USD}
+  Assets:Cash
+2024-01-02 * "Buy"
+  Assets:Broker 3 HOOL {{1000 USD}}
+  Assets:Cash
+lotbook: line 1, command 1: L12 InexactFill: what the others leave has more than eight decimals, or is too large: they leave 25.0001252771 USD, which has 10 decimals: 2024-01-02 * "Buy"
+lotbook: line 5, command 2: B5 InexactCost: the whole cost can't be divided by the units: 1000 / 3 = 333.33333333..: Assets:Broker 3 HOOL {{1000 USD}}
+== 1 post the line of the posting
+* a heading
+; a comment
+
+2024-01-02 * "Wages"
+  ; a comment
+  Assets:Cash 100 USD
+
+  Income:Wages -100 USD
+2024-01-02 * "Again"
+  Assets:Cash 1 USD
+  Assets:Cash -1 USD
+2024-01-03 close Assets:Other
+lotbook: line 8, command 1: L3 UnknownAccount: no account of this name was opened: Income:Wages -100 USD
+lotbook: line 12, command 3: L3 UnknownAccount: no account of this name was opened: 2024-01-03 close Assets:Other
+== 3 text lines that are faulty
+2020-01-31 open Assets:Yen JPY
+2020-01-31 * "Gift" $100
+  Assets:Yen 1 yen
+2020-13-01 open Assets:B
+2020-01-01 balance Assets:A 0 USD
+Assets:Cash 10 USD
+  Assets:Cash 1
+  Assets:Cash 1.123456789 USD {{1 USD}}
+  Assets:Cash 1.5 USD {-3 USD}
+  Assets:Cash 1.5 USD {3 USD, 2020-01-01, 2020-01-02}
+lotbook: line 2: X2 Syntax: the line has none of the forms: column 21: `$100`: 2020-01-31 * "Gift" $100
+lotbook: line 3: X5 BadName: a name is outside its rule: column 16: `yen`: Assets:Yen 1 yen
+lotbook: line 4: X6 BadDay: the day isn't in the calendar: column 1: `2020-13-01`: 2020-13-01 open Assets:B
+lotbook: line 5: X3 UnknownDirective: the line begins with no day, or behind the day stands no directive: column 12: `balance`: 2020-01-01 balance Assets:A 0 USD
+lotbook: line 6: X3 UnknownDirective: the line begins with no day, or behind the day stands no directive: column 1: `Assets:Cash`: Assets:Cash 10 USD
+lotbook: line 7: X2 Syntax: the line has none of the forms: the line ends too early: Assets:Cash 1
+lotbook: line 8: X4 BadNumber: a number is outside its rule: a number has at most eight decimals: column 15: `1.123456789`: Assets:Cash 1.123456789 USD {{1 USD}}
+lotbook: line 9: X4 BadNumber: a number is outside its rule: this number may not be negative: column 24: `-3`: Assets:Cash 1.5 USD {-3 USD}
+lotbook: line 10: X2 Syntax: the line has none of the forms: column 43: `2020-01-02`: Assets:Cash 1.5 USD {3 USD, 2020-01-01, 2020-01-02}
+== 3 text a posting without a transaction
+2020-01-01 open Assets:A
+  Assets:A 1 USD
+lotbook: line 2: X2 Syntax: the line has none of the forms: no transaction is before this posting: Assets:A 1 USD
+== 3 text openings that are faulty
+2020-01-02 close Assets:Cash USD
+2020-01-02 open Assets:Cash USD,
+2020-01-02 open Assets:Cash "fifo"
+2020-01-02 open
+2020-01-02 price USD 1
+2020-01-02 * "a\q"
+2020-01-02
+lotbook: line 1: X2 Syntax: the line has none of the forms: column 30: `USD`: 2020-01-02 close Assets:Cash USD
+lotbook: line 2: X2 Syntax: the line has none of the forms: the line ends too early: 2020-01-02 open Assets:Cash USD,
+lotbook: line 3: X5 BadName: a name is outside its rule: column 29: `"fifo"`: 2020-01-02 open Assets:Cash "fifo"
+lotbook: line 4: X2 Syntax: the line has none of the forms: the line ends too early: 2020-01-02 open
+lotbook: line 5: X2 Syntax: the line has none of the forms: the line ends too early: 2020-01-02 price USD 1
+lotbook: line 6: X2 Syntax: the line has none of the forms: column 14: `"a\q"`: 2020-01-02 * "a\q"
+lotbook: line 7: X2 Syntax: the line has none of the forms: the line ends too early: 2020-01-02
+== 0 post numbers with a comma, and a method without quotes
+2024-01-01 open Assets:First FIFO
+2024-01-02 * "Buy"
+  Assets:Broker 1,000 HOOL {111,64 USD}
+  Assets:Cash -11,164,000.0 USD
+lotbook: line 1: warning: FIFO is read as a currency: the method of an account stands in quotes: 2024-01-01 open Assets:First FIFO
+lotbook: line 3: warning: 111,64 is read as 11164: decimals stand behind a point: Assets:Broker 1,000 HOOL {111,64 USD}
+== 1 rows refused rows
+ref,date,action,symbol,units,price,currency,fee
+D-1,2024-01-15,BUY,HOOL,10,102.50,USD,4.95
+D-2,2024-01-16,BUY,HOOL,10,103.50,USD,4.95
+"D-3",2024-02-16,SELL,HOOL,5,"1,103.50",USD,4.95
+lotbook: row 3 (D-3): B2 Ambiguous: several lots fit the braces, and STRICT doesn't choose among them: "D-3",2024-02-16,SELL,HOOL,5,"1,103.50",USD,4.95
+== 3 rows faulty rows
+ref,date,action,symbol,units,price,currency,fee
+D-1,2024-01-15,BUY,HOOL,10,102.50,USD,4.95
+D-2,2024-01-16,Buy,HOOL,10,102.50,USD,4.95
+D-3,2024-01-16,BUY,HOOL,"1,000.5x",102.50,USD,4.95
+D-4,15.1.2024,BUY,HOOL,10,102.50,USD,4.95
+D-5,2024-01-16,BUY,HOOL,10,102,50,USD,4.95
+lotbook: row 2 (D-2): C2 BadRow: a field is outside the rule of its column: action is neither BUY nor SELL: `Buy`: D-2,2024-01-16,Buy,HOOL,10,102.50,USD,4.95
+lotbook: row 3 (D-3): C2 BadRow: a field is outside the rule of its column: units isn't a number of units, or is below zero: `1,000.5x`: D-3,2024-01-16,BUY,HOOL,"1,000.5x",102.50,USD,4.95
+lotbook: row 4 (D-4): C2 BadRow: a field is outside the rule of its column: date isn't a day: `15.1.2024`: D-4,15.1.2024,BUY,HOOL,10,102.50,USD,4.95
+lotbook: row 5 (D-5): C2 BadRow: a field is outside the rule of its column: another number of fields than the header: 9: D-5,2024-01-16,BUY,HOOL,10,102,50,USD,4.95
+== 3 rows cash that isn't exact
+ref,date,action,symbol,units,price,currency,fee
+D-1,2024-01-15,BUY,HOOL,10,102.50,USD,4.95
+D-2,2024-01-15,BUY,HOOL,0.3170215,78.8594,USD,1
+lotbook: row 2 (D-2): C4 InexactAmount: the cash of the row has more than eight decimals, or is too large: 26.0001252771 USD, which has 10 decimals: D-2,2024-01-15,BUY,HOOL,0.3170215,78.8594,USD,1
+== 3 rows another header
+ref,date,action,symbol,units,price,currency,Fee
+lotbook: C1 BadHeader: the first record isn't the header of a broker file
+== 1 rows newest first, a decimal comma and a ref twice
+ref,date,action,symbol,units,price,currency,fee
+D-9,2024-03-15,SELL,HOOL,10,"102,50",USD,4.95
+D-2,2024-02-15,BUY,HOOL,5,102.50,USD,4.95
+D-3,2024-01-15,BUY,HOOL,5,102.50,USD,4.95
+D-2,2024-01-15,BUY,HOOL,6,102.50,USD,4.95
+lotbook: row 1 (D-9): B4 IncompleteCost: the braces open a lot, and don't give its cost and currency: D-9,2024-03-15,SELL,HOOL,10,"102,50",USD,4.95
+lotbook: row 3 (D-3): L10 BackDated: a later day of this account and commodity is booked at cost already: D-3,2024-01-15,BUY,HOOL,5,102.50,USD,4.95
+lotbook: row 4 (D-2): L1 KeyReused: another command has this key already: D-2,2024-01-15,BUY,HOOL,6,102.50,USD,4.95
+lotbook: warning: the first row is of 2024-03-15, the last of 2024-01-15: rows stand in the order of their days, the oldest first
+lotbook: row 1 (D-9): warning: 102,50 is read as 10250: decimals stand behind a point: D-9,2024-03-15,SELL,HOOL,10,"102,50",USD,4.95
+lotbook: row 4 (D-2): warning: row 2 has this ref, too: a deal is known by it, so this one is a repeat or refused: D-2,2024-01-15,BUY,HOOL,6,102.50,USD,4.95
+== 0 rows rows without a fault
+ref,date,action,symbol,units,price,currency,fee
+D-1,2024-01-15,BUY,HOOL,10,102.50,USD,4.95
+D-2,2024-01-16,BUY,HOOL,"1,010",103.50,USD,4.95
+CASES
+
+# Bytes that no line may bring to a terminal, marks and line ends of other systems, and long lines.
+printf '\357\273\2772020-01-01 open Assets:A\r\n2020-01-02 * "Z\374rich"\r\n' >"$scratch/in"
+printf 'lotbook: line 2: X1 NotUtf8: the line isn'"'"'t UTF-8: 2020-01-02 * "Z?rich"\n' >"$scratch/told"
+notes "bytes that aren't UTF-8" 3
+printf '2020-01-01 open Assets:A\n2020-01-02 * "\303\274" \033[2J\n' >"$scratch/in"
+printf 'lotbook: line 2: X2 Syntax: the line has none of the forms: column 18: `?[2J`: 2020-01-02 * "\303\274" ?[2J\n' >"$scratch/told"
+notes "control characters" 3
+long=$(printf 'x%.0s' {1..200})
+printf '2020-01-01 open Assets:A\n2020-01-02 * "%s"\n  Assets:A 1 USD\n' "$long" >"$scratch/in"
+printf 'lotbook: line 2, command 2: L14 NotBalanced: the postings don'"'"'t balance: they leave 1.00 USD: 2020-01-02 * "%s..\n' "${long:0:66}" >"$scratch/told"
+notes "a long line" 1
+head -c 5000 /dev/zero | tr '\0' ';' >"$scratch/in"
+printf 'lotbook: line 1: X7 LineTooLong: the line has more than 4,096 bytes: %s..\n' "$(printf ';%.0s' {1..80})" >"$scratch/told"
+notes "a line that is too long" 3
+
+# How many.
+for n in {10..34}; do echo "2020-01-$((n % 28 + 1)) open Assets:Cash"; done >"$scratch/in"
+for n in {1..25}; do
+    printf 'lotbook: line %d, command %d: L2 AlreadyOpen: the account was opened before: %s\n' "$n" "$n" "$(sed -n "${n}p" "$scratch/in")"
+done >"$scratch/each"
+{ head -n 10 "$scratch/each" && echo "lotbook: ... and 15 more"; } >"$scratch/told"
+notes "the first ten" 1 "${post[@]}"
+opened
+run "${post[@]}" --explain-all <"$scratch/in"
+if cmp -s "$scratch/each" "$scratch/err"; then pass "all of them"; else fail "all of them" "$(head -n 1 "$scratch/err")"; fi
+head -n 10 "$scratch/in" >"$scratch/ten" && mv "$scratch/ten" "$scratch/in"
+head -n 10 "$scratch/each" >"$scratch/told"
+notes "ten and no more" 1 "${post[@]}"
+
+# A start past the end; a fault of the input; no input.
+printf '2020-01-01 open Assets:A\n2020-01-01 open Assets:B\n' >"$scratch/in"
+echo "lotbook: warning: --from 3 is past the end of 2 commands: none was run" >"$scratch/told"
+notes "a start past the end" 0 "${post[@]}" --from 3
+: >"$scratch/told"
+notes "a start at the last command" 0 "${post[@]}" --from 2
+head -c 16777217 /dev/zero >"$scratch/in"
+echo "lotbook: K2 TooLong: the input has more than 16,777,216 bytes" >"$scratch/told"
+notes "too much input" 3 "${post[@]}"
+: >"$scratch/in" >"$scratch/told"
+notes "no input" 0 "${post[@]}"
+
+# Standard error that can't be written changes nothing.
+printf '2020-01-01 open Assets:Cash\n' >"$scratch/in"
+echo "1 refused L2 AlreadyOpen" >"$scratch/told"
+opened
+"$program" "${post[@]}" <"$scratch/in" >"$scratch/out" 2>/dev/full && status=0 || status=$?
+: >"$scratch/err"
+expect "standard error on a full disk" 1 "$scratch/told"
+"$program" "${post[@]}" <"$scratch/in" >"$scratch/out" 2>&- && status=0 || status=$?
+expect "standard error closed" 1 "$scratch/told"
+finish
