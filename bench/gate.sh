@@ -2,8 +2,10 @@
 # What a run of ./test costs, in processor minutes and by the clock: for each crate its proofs, its tests and its must-fail edits; then
 # the scripts.
 #
-#   bench/gate.sh        runs ./test, keeps its output and what it cost in bench/out/gate.log, and prints the table
-#   bench/gate.sh LOG    prints the table of such a log
+#   bench/gate.sh               runs ./test, keeps its output and what it cost in bench/out/gate.log, and prints the table
+#   bench/gate.sh LOG           prints the table of such a log
+#   bench/gate.sh --proofs LOG  prints what the proofs of each crate took by such a log, as JSON. Of a run from nothing it is kept as
+#                               bench/prover.json, which tools/pages.py shows in docs/RESEARCH.md
 #
 # What earlier runs on this machine passed is taken over by the gate: only where nothing was kept is it a run from nothing. As
 # `taskset -c 0,1 bench/gate.sh` it runs on two processors.
@@ -87,7 +89,21 @@ table() {
         }' "$1"
 }
 
-if (($#)); then
+# Prints the seconds of the proofs of a log, by crate, with its day and the processors of the machine, as JSON.
+proofs() {
+    awk -v day="$(date -r "$1" +%F)" '
+        $1 == "cost" && $3 == "proofs" && NF == 4 { lines = lines (lines ? ",\n" : "") "\"" $2 "\": " $4 }
+        $1 == "total" && NF == 4 { processors = $4 }
+        END {
+            if (!lines || !processors) { print "gate: this log has no costs of a whole run" >"/dev/stderr"; exit 1 }
+            printf "{\n\"day\": \"%s\",\n\"processors\": %d,\n\"seconds\": {\n%s\n}\n}\n", day, processors, lines
+        }' "$1"
+}
+
+if [[ ${1:-} == --proofs ]]; then
+    proofs "$2"
+    exit
+elif (($#)); then
     table "$1"
     exit
 fi

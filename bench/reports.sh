@@ -49,9 +49,10 @@ clock() {
     done | sort -n | head -n 1
 }
 
-# rows_of REPORT: the rows that the last call printed: lots, legs of sales, or entries.
+# rows_of REPORT: the rows that the last call printed: lots, legs of sales, or entries; of CSV plain positions, too.
 rows_of() {
     case $1 in
+        *csv) tail -n +2 "$scratch/out" | wc -l ;;
         holdings*) grep -c ' {' "$scratch/out" ;;
         gains) grep -c '^  ' "$scratch/out" ;;
         journal) grep -c '^; entry ' "$scratch/out" ;;
@@ -62,7 +63,7 @@ rows_of() {
 table() {
     local report book words runs opened taken room rows first each
     printf '%-26s %9s %9s %9s %9s %9s %9s\n' report "$size" rows 'rows/ms' 'us/row' ratio KiB
-    for report in holdings "holdings --day 2020-12-31" gains journal; do
+    for report in holdings "holdings --day 2020-12-31" "holdings --format csv" gains "gains --format csv" journal; do
         read -ra words <<<"$report"
         first=""
         for book in "$@"; do

@@ -2,7 +2,7 @@
 # tests/completion.sh holds it to the help of the program.
 
 # The words of the program, and those of `explain` and `help`.
-_lotbook_words="init migrate post import holdings gains journal explain help"
+_lotbook_words="init migrate post import holdings gains journal verify explain help"
 
 # _lotbook_options WORD: prints the options of a word, or of a call without one.
 _lotbook_options() {
@@ -13,9 +13,9 @@ _lotbook_options() {
             echo --book --batch --invest --cash --fees --gains --from
             echo --dry-run --all-or-none --explain-all --quiet --help
             ;;
-        holdings) echo --book --day --quiet --help ;;
-        gains) echo --book --first --last --quiet --help ;;
-        journal) echo --book --quiet --help ;;
+        holdings) echo --book --day --format --quiet --help ;;
+        gains) echo --book --first --last --format --quiet --help ;;
+        journal | verify) echo --book --quiet --help ;;
         explain) echo --help ;;
         help) ;;
         *) echo --quiet --explain-all --help --version ;;
@@ -46,6 +46,10 @@ _lotbook() {
         --book)
             compopt -o filenames 2>/dev/null
             _lotbook_offer -f
+            return
+            ;;
+        --format)
+            _lotbook_offer -W "text csv"
             return
             ;;
         --batch | --row-of | --ref | --from | --invest | --cash | --fees | --gains | --day | --first | --last) return ;;

@@ -64,6 +64,7 @@ for word in $words; do
             --quiet | --dry-run | --all-or-none | --explain-all | --help)
                 offers "$word $option" "$(options_in_help "$word")" "$word" "$option" ""
                 ;;
+            --format) offers "$word $option" $'csv\ntext' "$word" "$option" "" ;;
             *) offers "$word $option" "" "$word" "$option" "" ;;
         esac
     done

@@ -120,8 +120,141 @@ lotbook: line 5, command 2: B5 InexactCost: the whole cost can't be divided by t
   Assets:Cash 1 USD
   Assets:Cash -1 USD
 2024-01-03 close Assets:Other
-lotbook: line 8, command 1: L3 UnknownAccount: no account of this name was opened: Income:Wages -100 USD
-lotbook: line 12, command 3: L3 UnknownAccount: no account of this name was opened: 2024-01-03 close Assets:Other
+lotbook: line 8, command 1: L3 UnknownAccount: no account of this name was opened: the nearest is Income:Gains: Income:Wages -100 USD
+lotbook: line 12, command 3: L3 UnknownAccount: no account of this name was opened: the nearest is Assets:Broker: 2024-01-03 close Assets:Other
+== 1 post names that were opened
+2024-01-01 open Assets:DEPOT
+2024-01-02 * "Wages"
+  Assets:Cahs 100 USD
+  Income:Bonus -100 USD
+2024-01-02 close Assets:Depot
+2024-01-03 open Income:Bonus
+2024-01-03 * "Wages"
+  Assets:Cash 100 USD
+  Income:Bonuses -100 USD
+lotbook: line 3, command 2: L3 UnknownAccount: no account of this name was opened: the nearest is Assets:Cash: Assets:Cahs 100 USD
+lotbook: line 5, command 3: L3 UnknownAccount: no account of this name was opened: the nearest is Assets:DEPOT: 2024-01-02 close Assets:Depot
+lotbook: line 9, command 5: L3 UnknownAccount: no account of this name was opened: the nearest is Income:Bonus: Income:Bonuses -100 USD
+== 1 text an account that is opened behind
+2024-01-02 * "Wages"
+  Assets:New 100 USD
+  Assets:New -100 USD
+2024-01-01 open Assets:New
+lotbook: line 2, command 1: L3 UnknownAccount: no account of this name was opened: it is opened further down: Assets:New 100 USD
+== 1 check names in a check
+2020-01-01 open Assets:Cash
+2020-01-01 open Expenses:Food
+2020-01-02 * "Shopping"
+  Assets:Cash -1 USD
+  Expenses:Fodo 1 USD
+2020-01-03 close Assets:Cahs
+lotbook: line 5, command 3: L3 UnknownAccount: no account of this name was opened: the nearest is Expenses:Food: Expenses:Fodo 1 USD
+lotbook: line 6, command 4: L3 UnknownAccount: no account of this name was opened: the nearest is Assets:Cash: 2020-01-03 close Assets:Cahs
+== 1 check a check has no names
+2020-01-02 * "Shopping"
+  Assets:Cash -1 USD
+  Expenses:Food 1 USD
+lotbook: line 2, command 1: L3 UnknownAccount: no account of this name was opened: Assets:Cash -1 USD
+== 1 check a check has no book
+2024-01-01 open Assets:Broker
+2024-01-01 open Assets:Cash
+2024-01-03 * "Buy"
+  Assets:Broker 5 HOOL {480 USD}
+  Assets:Cash
+2024-01-02 * "Buy, found later"
+  Assets:Broker 5 HOOL {480 USD}
+  Assets:Cash
+2024-01-04 * "Sell"
+  Assets:Broker -6 HOOL {}
+  Assets:Cash
+2024-01-05 close Assets:Broker
+lotbook: line 7, command 4: L10 BackDated: a later day of this account and commodity is booked at cost already: Assets:Broker 5 HOOL {480 USD}
+lotbook: line 10, command 5: B3 NotEnough: the lots that fit hold less than the units: Assets:Broker -6 HOOL {}
+== 1 post lots that fit
+2024-01-02 * "Buy"
+  Assets:Broker 10 HOOL {500 USD, "a"}
+  Assets:Broker 5 HOOL {500 USD, "b"}
+  Assets:Cash
+2024-01-03 * "Buy"
+  Assets:Broker 3 HOOL {510 EUR}
+  Assets:Cash
+2024-01-04 * "Sell some of all"
+  Assets:Broker -4 HOOL {}
+  Assets:Cash
+2024-01-04 * "Sell some of two"
+  Assets:Broker -4 HOOL {500 USD}
+  Assets:Cash
+2024-01-04 * "Sell some, for a whole cost"
+  Assets:Broker -4 HOOL {{2000 USD}}
+  Assets:Cash
+2024-01-05 * "Sell more than there is"
+  Assets:Broker -7.5 HOOL {"b"}
+  Assets:Cash
+lotbook: line 9, command 3: B2 Ambiguous: several lots fit the braces, and STRICT doesn't choose among them: lots that fit now: 3, with 18 units; they differ in day, cost, currency, label: Assets:Broker -4 HOOL {}
+lotbook: line 12, command 4: B2 Ambiguous: several lots fit the braces, and STRICT doesn't choose among them: lots that fit now: 2, with 15 units; they differ in label: Assets:Broker -4 HOOL {500 USD}
+lotbook: line 15, command 5: B2 Ambiguous: several lots fit the braces, and STRICT doesn't choose among them: lots that fit now: 2, with 15 units; they differ in label: Assets:Broker -4 HOOL {{2000 USD}}
+lotbook: line 18, command 6: B3 NotEnough: the lots that fit hold less than the units: held now: 5; wanted: 7.5: Assets:Broker -7.5 HOOL {"b"}
+== 1 post what is held once the run is over
+2024-01-02 * "Sell short"
+  Assets:Broker -10 HOOL {500 USD}
+  Assets:Broker -5 HOOL {510 USD}
+  Assets:Cash
+2024-01-03 * "Buy some of it back"
+  Assets:Broker 4 HOOL {}
+  Assets:Cash
+2024-01-04 * "Buy back too much"
+  Assets:Broker 12 HOOL {500 USD}
+  Assets:Cash
+2024-01-05 * "Buy one lot back, and nearly all of the other"
+  Assets:Broker 5 HOOL {510 USD}
+  Assets:Broker 9.5 HOOL {500 USD}
+  Assets:Cash
+lotbook: line 6, command 2: B2 Ambiguous: several lots fit the braces, and STRICT doesn't choose among them: lots that fit now: 1, with 0.5 units: Assets:Broker 4 HOOL {}
+lotbook: line 9, command 3: B3 NotEnough: the lots that fit hold less than the units: held now: 0.5; wanted: 12: Assets:Broker 12 HOOL {500 USD}
+== 1 post lots that are sold once the run is over
+2024-01-02 * "Buy"
+  Assets:Broker 3 HOOL {500 USD}
+  Assets:Cash
+2024-01-03 * "Sell too many"
+  Assets:Broker -5 HOOL {}
+  Assets:Cash
+2024-01-04 * "Sell all"
+  Assets:Broker -3 HOOL {}
+  Assets:Cash
+lotbook: line 5, command 2: B3 NotEnough: the lots that fit hold less than the units: Assets:Broker -5 HOOL {}
+== 1 post the latest day
+2024-02-01 * "Buy"
+  Assets:Broker 10 HOOL {500 USD}
+  Assets:Cash
+2024-01-01 * "Buy, found later"
+  Assets:Broker 1 HOOL {400 USD}
+  Assets:Cash
+2024-02-02 * "Another commodity, units without a cost, another account"
+  Assets:Broker 1 OTHR {400 USD}
+  Assets:Broker 1 HOOL
+  Assets:Cash -1 HOOL
+  Assets:Cash 2 HOOL {500 USD}
+  Assets:Cash
+2024-01-31 * "Buy, found later"
+  Assets:Cash
+  Assets:Broker 1 HOOL {400 USD}
+lotbook: line 5, command 2: L10 BackDated: a later day of this account and commodity is booked at cost already: the latest is 2024-02-01, of entry 5: Assets:Broker 1 HOOL {400 USD}
+lotbook: line 15, command 4: L10 BackDated: a later day of this account and commodity is booked at cost already: the latest is 2024-02-01, of entry 5: Assets:Broker 1 HOOL {400 USD}
+== 0 post closings of accounts that hold something
+2024-01-02 * "Buy"
+  Assets:Broker 10 HOOL {500 USD}
+  Assets:Cash
+2024-01-03 close Expenses:Fees
+2024-01-03 close Assets:Broker
+2024-01-03 close Assets:Cash
+lotbook: line 5: warning: the account is closed, and still holds HOOL: 2024-01-03 close Assets:Broker
+lotbook: line 6: warning: the account is closed, and still holds USD: 2024-01-03 close Assets:Cash
+== 1 post a closing that is refused
+2024-01-02 * "Gift"
+  Assets:Cash 10 USD
+  Income:Gains
+2018-01-03 close Assets:Cash
+lotbook: line 4, command 2: L4 NotOpenYet: the day is before the account's opening: 2018-01-03 close Assets:Cash
 == 3 text lines that are faulty
 2020-01-31 open Assets:Yen JPY
 2020-01-31 * "Gift" $100
@@ -173,7 +306,7 @@ ref,date,action,symbol,units,price,currency,fee
 D-1,2024-01-15,BUY,HOOL,10,102.50,USD,4.95
 D-2,2024-01-16,BUY,HOOL,10,103.50,USD,4.95
 "D-3",2024-02-16,SELL,HOOL,5,"1,103.50",USD,4.95
-lotbook: row 3 (D-3): B2 Ambiguous: several lots fit the braces, and STRICT doesn't choose among them: "D-3",2024-02-16,SELL,HOOL,5,"1,103.50",USD,4.95
+lotbook: row 3 (D-3): B2 Ambiguous: several lots fit the braces, and STRICT doesn't choose among them: lots that fit now: 2, with 20 units; they differ in day, cost: "D-3",2024-02-16,SELL,HOOL,5,"1,103.50",USD,4.95
 == 3 rows faulty rows
 ref,date,action,symbol,units,price,currency,fee
 D-1,2024-01-15,BUY,HOOL,10,102.50,USD,4.95
@@ -200,8 +333,8 @@ D-2,2024-02-15,BUY,HOOL,5,102.50,USD,4.95
 D-3,2024-01-15,BUY,HOOL,5,102.50,USD,4.95
 D-2,2024-01-15,BUY,HOOL,6,102.50,USD,4.95
 lotbook: row 1 (D-9): B4 IncompleteCost: the braces open a lot, and don't give its cost and currency: D-9,2024-03-15,SELL,HOOL,10,"102,50",USD,4.95
-lotbook: row 3 (D-3): L10 BackDated: a later day of this account and commodity is booked at cost already: D-3,2024-01-15,BUY,HOOL,5,102.50,USD,4.95
-lotbook: row 4 (D-2): L1 KeyReused: another command has this key already: D-2,2024-01-15,BUY,HOOL,6,102.50,USD,4.95
+lotbook: row 3 (D-3): L10 BackDated: a later day of this account and commodity is booked at cost already: the latest is 2024-02-15, of entry 5: D-3,2024-01-15,BUY,HOOL,5,102.50,USD,4.95
+lotbook: row 4 (D-2): L1 KeyReused: another command has this key already: entry 5, with the line `2024-02-15 * "D-2"`: D-2,2024-01-15,BUY,HOOL,6,102.50,USD,4.95
 lotbook: warning: the first row is of 2024-03-15, the last of 2024-01-15: rows stand in the order of their days, the oldest first
 lotbook: row 1 (D-9): warning: 102,50 is read as 10250: decimals stand behind a point: D-9,2024-03-15,SELL,HOOL,10,"102,50",USD,4.95
 lotbook: row 4 (D-2): warning: row 2 has this ref, too: a deal is known by it, so this one is a repeat or refused: D-2,2024-01-15,BUY,HOOL,6,102.50,USD,4.95
@@ -251,6 +384,35 @@ echo "lotbook: K2 TooLong: the input has more than 16,777,216 bytes" >"$scratch/
 notes "too much input" 3 "${post[@]}"
 : >"$scratch/in" >"$scratch/told"
 notes "no input" 0 "${post[@]}"
+
+# The text that stands under a key: of a text sent again with another one, and of a row that was posted by hand.
+reused() {
+    opened
+    "$program" "${@:3}" <"$scratch/sent" >/dev/null 2>&1
+    run "${@:3}" <"$scratch/in"
+    if ((status == 1)) && grep -qxF "lotbook: $2" "$scratch/err" && [[ $(wc -l <"$scratch/err") == 1 ]]; then
+        pass "$1"
+    else
+        fail "$1" "status $status, and $(head -n 2 "$scratch/err" | tr '\n' '|')"
+    fi
+}
+key="L1 KeyReused: another command has this key already: entry 5, with the line"
+printf '2024-01-02 * "Gift"\n  Assets:Cash 10 USD\n  Income:Gains -10 USD\n' >"$scratch/sent"
+printf '2024-01-02 * "Gift"\n  Assets:Cash 11 USD\n  Income:Gains -11 USD\n' >"$scratch/in"
+reused "a key that stands with another line" "line 1, command 1: $key \`Assets:Cash 10 USD\`: 2024-01-02 * \"Gift\"" "${post[@]}"
+printf '2024-01-02 * "Gift"\n  Assets:Cash 10 USD\n  Income:Gains -10 USD\n  Assets:Cash 0 USD\n' >"$scratch/in"
+reused "a key that stands with fewer lines" "line 1, command 1: $key \`2024-01-02 * \"Gift\"\`: 2024-01-02 * \"Gift\"" "${post[@]}"
+printf '2024-01-02 close Assets:Cash\n' >"$scratch/in"
+reused "the key of a row" "line 1, command 1: $key \`2024-01-02 * \"Gift\"\`: 2024-01-02 close Assets:Cash" \
+    post --book "$book" --row-of b --ref D-1
+
+# What is kept nowhere: a dry run, and a call that keeps all or nothing. Their facts are those of the copy on which they ran.
+printf '2024-01-02 * "Buy"\n  Assets:Broker 3 HOOL {500 USD}\n  Assets:Cash\n2024-01-03 * "Sell"\n  Assets:Broker -5 HOOL {}\n  Assets:Cash\n' >"$scratch/in"
+fact='line 5, command 2: B3 NotEnough: the lots that fit hold less than the units: held now: 3; wanted: 5: Assets:Broker -5 HOOL {}'
+echo "lotbook: $fact" >"$scratch/told"
+notes "facts of a dry run" 1 "${post[@]}" --dry-run
+echo "lotbook: $book: nothing is kept, since not all was accepted" >>"$scratch/told"
+notes "facts of a call that keeps all or nothing" 1 "${post[@]}" --all-or-none
 
 # Standard error that can't be written changes nothing.
 printf '2020-01-01 open Assets:Cash\n' >"$scratch/in"

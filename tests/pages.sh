@@ -1,9 +1,10 @@
 #!/usr/bin/env bash
 # The pages: their links lead somewhere, the README is short, its text is the stored one and it names
 # the kit that is here and that of release/, the version is that of the program, no cell of a table is
-# long, PROVED.md and RESEARCH.md are short, the names that PROVED.md, the wrong bodies of PROMISES.md
-# and the map of RULES.md cite are those of the crates and of tests/, the paths that CONTRIBUTING.md
-# names are there, and a section that code names is one of the page.
+# long, PROVED.md and RESEARCH.md are short, people wrote at most 25,000 words of all pages, the names
+# that PROVED.md, the wrong bodies of PROMISES.md and the map of RULES.md cite are those of the crates
+# and of tests/, the paths that CONTRIBUTING.md names are there, and a section that code names is one
+# of the page.
 source "$(dirname "$(readlink -f "${BASH_SOURCE[0]}")")/lib/cases.sh"
 cd "$root" || exit 1
 
@@ -43,6 +44,20 @@ short() {
 short README.md 900
 short docs/PROVED.md 3000
 short docs/RESEARCH.md 1500
+
+# by_hand PAGE..: the words that people wrote there: none that tools/pages.py writes, none of a block of code, no mark of a table.
+by_hand() {
+    awk 'FNR == 1 { off = code = 0 }
+        /^<!-- pages.py: end/ { off = 0; next }
+        /^<!-- pages.py: / { off = 1 }
+        /^```/ { code = !code; next }
+        off || code || /^    / { next }
+        { for (at = 1; at <= NF; at++) words += $at ~ /[[:alnum:]]/ }
+        END { print words + 0 }' "$@"
+}
+mapfile -t written < <(printf '%s\n' "${pages[@]}" | grep -vE '^docs/(CALLS|DEFINITIONS)\.md$')
+words=$(by_hand "${written[@]}")
+if ((words <= 25000)); then pass "the words by hand"; else fail "the words by hand" "$words, of at most 25,000"; fi
 
 # The kits that README names have to be those that it was proved and built with: the one that is here, and that of release/.
 { if command -v rt >/dev/null; then rt version; fi && sed -n 's/^kit //p' release/sums 2>/dev/null; } | sort -u |

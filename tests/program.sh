@@ -84,13 +84,15 @@ unusable "hold" hold --book f
 unusable "sell" help sell
 for word in holdings gains journal import; do unusable "--book" "$word" --batch a; done
 unusable "--book" migrate
+unusable "--book" verify
 unusable "--batch" migrate --book f --batch a
+unusable "--dry-run" verify --book f --dry-run
 unusable "--batch" post --book f
 unusable "--book" post --batch a
 unusable "--book" init
 unusable "''" ''
 for value in 0 10000001 -1 x ''; do unusable "--from" post --book f --batch a "--from=$value"; done
-for word in post import init migrate holdings gains journal; do unusable "Example: lotbook $word --book" "$word"; done
+for word in post import init migrate holdings gains journal verify; do unusable "Example: lotbook $word --book" "$word"; done
 unusable "fault U2 BadValue --batch" --quiet post --book f
 unusable "fault U2 BadValue --batch" post --book f --batch a --row-of b --ref r
 unusable "fault U2 BadValue --row-of" post --book f --row-of a/b --ref r
@@ -118,6 +120,10 @@ unusable "fault U2 BadValue --day" holdings --book f --day 2020-02-30
 unusable "\"2020-02-30\" isn't a day" holdings --book f --day 2020-02-30
 unusable "fault U2 BadValue --first" gains --book f --last x --first ''
 unusable "fault U2 BadValue --last" gains --book f --last x --first 2020-01-01
+for word in holdings gains; do
+    for format in json CSV ''; do unusable "fault U2 BadValue --format" "$word" --book f --format "$format"; done
+done
+unusable "--format" journal --book f --format csv
 
 # Of the options of an import each has to be there, and the first one that is bad is named.
 good=(--batch a --invest Assets:A --cash Assets:B --fees Expenses:F --gains Income:G)
@@ -142,7 +148,7 @@ helps "lotbook < " --help
 helps "lotbook < " -h
 helps "lotbook < " help
 helps "explain" help
-for word in init post import holdings gains journal migrate; do helps "lotbook $word --book" help "$word"; done
+for word in init post import holdings gains journal migrate verify; do helps "lotbook $word --book" help "$word"; done
 helps "lotbook explain B2" help explain
 helps "lotbook explain B2" explain --help
 helps "[CODE]" explain -h
@@ -150,13 +156,13 @@ helps "lotbook init --book" init --help
 helps "lotbook post --book" post --help
 helps "lotbook import --book" import --help
 helps "the oldest first" import --help
-for word in holdings gains journal migrate; do helps "lotbook $word --book" "$word" --help; done
-for word in init post import holdings gains journal migrate; do helps "--book family.book" "$word" -h; done
+for word in holdings gains journal migrate verify; do helps "lotbook $word --book" "$word" --help; done
+for word in init post import holdings gains journal migrate verify; do helps "--book family.book" "$word" -h; done
 helps "--batch 2024" post -h
 helps "--row-of broker --ref A17" post -h
 for word in post import init migrate; do helps "--dry-run" "$word" -h; done
 for word in post import; do helps "--all-or-none" "$word" -h && helps "--explain-all" "$word" -h; done
-for word in init post import holdings gains journal migrate; do helps "--quiet" "$word" -h; done
+for word in init post import holdings gains journal migrate verify; do helps "--quiet" "$word" -h; done
 helps "--quiet" -h
 helps "--explain-all" -h
 helps "--from 120" post -h
@@ -167,13 +173,15 @@ helps "--fees Expenses:Fees" import -h
 helps "--gains Income:Gains" import -h
 helps "--from 120" import -h
 helps "--day 2024-12-31" holdings -h
+helps "it chooses prices alone" holdings -h
+for word in holdings gains; do helps "--format csv" "$word" -h; done
 helps "--first 2024-01-01" gains -h
 helps "--last 2024-12-31" gains -h
 "$program" --help </dev/null 2>"$scratch/err" >/dev/full && status=0 || status=$?
 stops "help on a full disk"
 
 # The example that is shown beside what is missing is that of the help.
-for word in init post import holdings gains journal migrate; do
+for word in init post import holdings gains journal migrate verify; do
     run "$word" </dev/null
     example=$(sed -n 's/^Example: //p' "$scratch/err")
     helps "$example" "$word" --help

@@ -360,9 +360,23 @@ total                                          4.0
 END
 "$root/bench/gate.sh" "$scratch/log" >"$scratch/out" 2>"$scratch/err" && status=0 || status=$?
 expect "gate: the table of a log" 0 "$scratch/expected"
+touch -d 2026-01-31 "$scratch/log"
+cat >"$scratch/expected" <<'END'
+{
+"day": "2026-01-31",
+"processors": 4,
+"seconds": {
+"low": 90.0
+}
+}
+END
+"$root/bench/gate.sh" --proofs "$scratch/log" >"$scratch/out" 2>"$scratch/err" && status=0 || status=$?
+expect "gate: the proofs of a log" 0 "$scratch/expected"
 echo "5 passed, 0 failed" >"$scratch/log"
 "$root/bench/gate.sh" "$scratch/log" >"$scratch/out" 2>"$scratch/err" && status=0 || status=$?
 if ((status == 1)); then pass "gate: a log without costs"; else fail "gate: a log without costs" "status $status"; fi
+"$root/bench/gate.sh" --proofs "$scratch/log" >"$scratch/out" 2>"$scratch/err" && status=0 || status=$?
+if ((status == 1)); then pass "gate: the proofs of a log without costs"; else fail "gate: the proofs of a log without costs" "status $status"; fi
 
 # A run of it, on a stand-in of the test command.
 mkdir -p "$scratch/cost/bench" && cp "$root/bench/gate.sh" "$scratch/cost/bench/"

@@ -1,16 +1,19 @@
 #!/usr/bin/env python3
 """Writes what the pages take from the sources: docs/CALLS.md, docs/DEFINITIONS.md, the crates and
-the scripts in docs/ARCHITECTURE.md, and the sizes in docs/RESEARCH.md.
+the scripts in docs/ARCHITECTURE.md, limits, words, codes and the map in docs/RULES.md, the
+headline in docs/PROVED.md, and that, the sizes and the prover's time in docs/RESEARCH.md.
 
     tools/pages.py            writes them
-    tools/pages.py --check    compares them with the sources, and so the limits and the codes of
-                              docs/RULES.md, which are written by hand: a line `ok NAME` or
-                              `FAILED NAME: WHY` for each
+    tools/pages.py --check    compares them with the sources, and so the codes that pages and
+                              definitions name: a line `ok NAME` or `FAILED NAME: WHY` for each
 
 What is written comes from crates.txt, the `//!` of each crate, the `///` and the contracts of its
-public items, its `ghost use` lines, the comments of its definitions in specs/, and the comments
-with which scripts begin, and from nothing else.
+public items, its `ghost use` lines, the comments of its definitions in specs/, the numbers of its
+constants, the words of lot_args, what lot_explain says of each code, the comments with which
+scripts begin, and bench/prover.json; but for the words beside a limit, and parts of the map, which
+stand below.
 """
+import json
 import re
 import sys
 from collections import OrderedDict, namedtuple
@@ -20,6 +23,7 @@ ROOT = Path(__file__).resolve().parent.parent
 CRATES = ROOT / "crates"
 NOTICE = "<!-- Written by tools/pages.py from the sources: change those, and run it again. -->\n"
 LONGEST_CLAUSE = 120  # a clause without a name is written out up to this length
+MOST_CALLS = 12  # the calls of a crate are named up to this many
 TEST_CRATES = ("lot_tests", "lot_stops")
 
 FUNCTION = re.compile(r"^( *)(pub )?(?:const )?fn (\w+)", re.M)
@@ -387,14 +391,35 @@ def definition_lines(text):
         yield "- also " + quoted(bare)
 
 
+def calls_by_module(crates):
+    """For each module of definitions the calls and laws whose contracts cite it."""
+    found = {}
+    for crate in crates.values():
+        for item in crate.items:
+            for module in item.modules:
+                of_crate = found.setdefault(module, OrderedDict()).setdefault(crate.name, [])
+                if item.title not in of_crate:
+                    of_crate.append(item.title)
+    return found
+
+
+def citing_text(by_crate):
+    """The calls that cite a module; of a crate with many how many they are."""
+    for name, titles in by_crate.items():
+        many = len(titles) > MOST_CALLS
+        yield ("%d calls" % len(titles) if many else quoted(titles)) + " of `%s`" % name
+
+
 def definitions(crates):
     """docs/DEFINITIONS.md"""
+    cited = calls_by_module(crates)
     yield "# Definitions\n\n" + NOTICE
     yield (
         "Where a definition lives: each public definition of `specs/`, by crate and module in the "
         "order of `crates.txt`, with the comment that stands above it, its parts or cases with "
-        "theirs, and behind *over* the definitions of our crates that it cites. Which contracts "
-        "cite it is in [CALLS.md](CALLS.md).\n"
+        "theirs, and behind *over* the definitions of our crates that it cites. Behind *In the "
+        "contracts of* stand the public calls and laws whose contracts cite the module; "
+        "[CALLS.md](CALLS.md) has their clauses.\n"
     )
     for name in crates:
         folder = CRATES / name / "specs"
@@ -411,6 +436,9 @@ def definitions(crates):
             lines = list(definition_lines(text))
             if lines:
                 yield "\n".join(lines) + "\n"
+            by_crate = cited.get((name, ".".join(parts)))
+            if by_crate:
+                yield "In the contracts of %s.\n" % "; ".join(citing_text(by_crate))
 
 
 def crate_table(crates, below):
@@ -507,6 +535,173 @@ def sizes(below):
     yield "Wrong bodies: %d in the gate, %d beside it." % tuple(edits)
 
 
+# ---- the prover's time
+
+
+def prover_time(below):
+    """What the proofs of each crate took, by bench/prover.json, which bench/gate.sh writes."""
+    path = ROOT / "bench/prover.json"
+    if not path.exists():
+        yield "The time of each crate wasn't measured."
+        return
+    kept = json.loads(path.read_text())
+    seconds = kept["seconds"]
+    seconds = OrderedDict((name, seconds[name]) for name in below if name in seconds)
+    said = "Processor time of the proofs, from nothing, on %s, on a machine of %d processors%s:"
+    yield said % (kept["day"], kept["processors"], " that was busy with other work, too" if kept.get("busy") else "")
+    yield ""
+    yield "| Crate | Seconds | A function |"
+    yield "|---|---|---|"
+    for name, spent in seconds.items():
+        yield "| `%s` | %s | %.1f |" % (name, "{:,.0f}".format(spent), spent / (size(name)[0] or 1))
+    whole, functions = sum(seconds.values()), sum(size(name)[0] for name in seconds)
+    yield "| all | %s | %.1f |" % ("{:,.0f}".format(whole), whole / functions)
+
+
+# ---- the headline and the codes
+
+
+def headline():
+    """The law that the_headline is, as lot_cli has it."""
+    text = (CRATES / "lot_cli/src/laws.rt").read_text()
+    at = text.index("pub fn the_headline()")
+    yield "```text"
+    yield text[at : text.index("\n{}", at)]
+    yield "```"
+
+
+def explained():
+    """The codes that lot_explain tells of: code, name, what is wrong, and where to read on."""
+    home = CRATES / "lot_explain/src/codes"
+    order = re.findall(r"&(\w+)::CODES", home.with_suffix(".rt").read_text())
+    told = re.compile(
+        r'code: "([^"]*)",\s*name: "([^"]*)",\s*brief: "((?:[^"\\]|\\.)*)".*?page: "docs/([^"]*)"',
+        re.S,
+    )
+    for part in order:
+        for code, name, brief, page in told.findall((home / (part + ".rt")).read_text()):
+            if code != name:
+                yield code, name, re.sub(r"\\\n\s*", "", brief), page
+
+
+def codes():
+    """The table of all codes."""
+    yield "| Code | What is wrong | Read on |"
+    yield "|---|---|---|"
+    for code, name, brief, page in explained():
+        file, part = page.split(", ", 1)
+        target = ("" if file == "RULES.md" else file) + "#" + part.lower().replace(" ", "-")
+        yield "| `%s %s` | %s | [%s](%s) |" % (code, name, brief, part, target)
+
+
+# ---- the words of the program
+
+
+def words():
+    """The table of the words of the program: the options of each, and what its help begins with."""
+    text = (CRATES / "lot_args/src/program.rt").read_text()
+    told = re.compile(r'((?:^///[^\n]*\n)+)fn (\w+)<.*?"\2",\s*"((?:[^"\\]|\\.)*)"', re.M | re.S)
+    yield "| Word and options | What it does |"
+    yield "|---|---|"
+    for comment, name, about in told.findall(text):
+        usage = " ".join(line[3:].strip() for line in comment.splitlines())
+        if usage.startswith("`%s" % name):
+            what = re.split(r": lotbook |\\n", about)[0]
+            yield "| %s | %s |" % (usage.replace("|", "\\|"), what[0].lower() + what[1:])
+
+
+# ---- the map from rules to definitions
+
+# Parts of pages and modules of definitions that belong together though no comment of the module
+# says so. Where a comment is written anew, the part is named there, and goes from here.
+ALSO = (
+    ("RULES.md, Numbers", "lot_num Sum"),
+    ("RULES.md, Texts of numbers", "lot_num AmountText"),
+    ("RULES.md, Days", "lot_base Day"),
+    ("RULES.md, Names", "lot_base Name, lot_base Text"),
+    ("RULES.md, Commands", "lot_command Currencies, lot_command Sayable"),
+    ("RULES.md, Inventory", "lot_cost LotKey, lot_book Leg, lot_book Holding"),
+    ("RULES.md, Opening numbers", "lot_book OpeningNumber, lot_book Openings"),
+    ("RULES.md, Cost specification", "lot_cost CostSpec"),
+    ("RULES.md, Reduce or augment", "lot_booking Booking"),
+    ("RULES.md, Methods", "lot_booking Method"),
+    ("RULES.md, Method orders", "lot_booking OpeningOrder"),
+    ("RULES.md, Refusals of a posting with braces", "lot_booking Booking"),
+    ("RULES.md, Legs", "lot_booking Choice, lot_book Booking"),
+    ("RULES.md, Weight", "lot_book Balance"),
+    ("RULES.md, Balance and fill", "lot_book Balance"),
+    ("RULES.md, Gain", "lot_book Sale"),
+    ("RULES.md, Prices", "lot_walk Prices"),
+    ("RULES.md, Keys and repeats", "lot_book Facts, lot_book Step"),
+    ("RULES.md, Limits", "lot_command Currencies, lot_book Refusals, lot_table Cell"),
+    ("RULES.md, Limits", "lot_read Line, lot_import File, lot_report Written"),
+    ("RULES.md, Out of memory", "lot_check Answer"),
+    ("RULES.md, The program", "lot_check Answer, lot_check Way, lot_input Text, lot_input Rows"),
+    ("RULES.md, The program", "lot_args Program, lot_args Words, lot_args Options"),
+    ("RULES.md, The program", "lot_verify Verify"),
+    ("RULES.md, All codes", "lot_store Apply, lot_store Create, lot_migrate Migrate"),
+    ("RULES.md, All codes", "lot_verify Fault"),
+    ("FORMATS.md, Lines", "lot_read Line"),
+    ("FORMATS.md, Forms", "lot_read Text"),
+    ("FORMATS.md, Tokens", "lot_meaning Meaning"),
+    ("FORMATS.md, Canonical text", "lot_read Text"),
+    ("FORMATS.md, Replies", "lot_report Printed"),
+    ("FORMATS.md, Faults", "lot_stream FaultLine, lot_cli Says"),
+    ("FORMATS.md, Holdings", "lot_walk Holdings"),
+    ("FORMATS.md, Gains", "lot_walk Gains"),
+    ("FORMATS.md, Tables for a spreadsheet", "lot_csv Shares"),
+    ("FORMATS.md, Tables", "lot_table Rows, lot_table Call"),
+    ("PROMISES.md, The headline", "lot_store Session, lot_store Run"),
+    ("PROMISES.md, Safe and total", "lot_store Walk, lot_book_report Show"),
+    ("PROMISES.md, Migration", "lot_migrate First"),
+)
+PAGE_NAMED = re.compile(r"docs/(\w+\.md), ([^()]*?)(?=\)|; docs/)")
+
+
+def parts_of_pages():
+    """The parts that definitions may belong to: page and heading, in the order of the pages."""
+    found = OrderedDict()
+    for page in ("RULES.md", "FORMATS.md", "PROMISES.md"):
+        for heading in re.findall(r"^##+ (.*)$", (ROOT / "docs" / page).read_text(), re.M):
+            found[page, heading] = []
+    return found
+
+
+def definitions_by_part(below):
+    """For each part of the pages the modules of definitions whose comments name it."""
+    found, modules = parts_of_pages(), []
+    for name in below:
+        for path in sorted((CRATES / name / "specs").rglob("*.antt")):
+            modules.append("%s %s" % (name, path.stem))
+            said = re.sub(r"\n *--", "", path.read_text())
+            for page, parts in PAGE_NAMED.findall(said):
+                for part in re.split(r"[,;] ", parts):
+                    found.setdefault((page, part.strip()), []).append(modules[-1])
+    for place, names in ALSO:
+        if tuple(place.split(", ", 1)) not in found or not set(names.split(", ")) <= set(modules):
+            sys.exit("pages: %s, or one of %s, isn't there" % (place, names))
+        found[tuple(place.split(", ", 1))] += names.split(", ")
+    order = {module: at for at, module in enumerate(modules)}
+    return {place: sorted(set(names), key=order.get) for place, names in found.items()}
+
+
+def rule_map(below):
+    """The table of the parts of pages and their definitions."""
+    by_part = definitions_by_part(below)
+    yield "| Part | Definitions |"
+    yield "|---|---|"
+    for page, part in parts_of_pages():
+        crates = OrderedDict()
+        for module in by_part[page, part]:
+            crates.setdefault(module.split()[0], []).append(module.split()[1])
+        if crates:
+            file = "" if page == "RULES.md" else page
+            link = "[%s](%s#%s)" % (part, file, part.lower().replace(" ", "-"))
+            link += " of " + page if file else ""
+            said = ("`%s` %s" % (name, quoted(words)) for name, words in crates.items())
+            yield "| %s | %s |" % (link, "; ".join(said))
+
+
 def between(text, name, lines):
     """The text of a page with these lines between its markers of that name."""
     begin, end = "<!-- pages.py: %s -->\n" % name, "<!-- pages.py: end -->\n"
@@ -521,18 +716,89 @@ def generated():
     architecture = (ROOT / "docs/ARCHITECTURE.md").read_text()
     architecture = between(architecture, "crates", crate_table(crates, below))
     architecture = between(architecture, "scripts", scripts())
-    research = between((ROOT / "docs/RESEARCH.md").read_text(), "sizes", sizes(below))
+    proved = between((ROOT / "docs/PROVED.md").read_text(), "headline", headline())
+    rules = between((ROOT / "docs/RULES.md").read_text(), "limits", limits())
+    rules = between(rules, "words", words())
+    rules = between(rules, "codes", codes())
+    rules = between(rules, "map", rule_map(below))
+    research = between((ROOT / "docs/RESEARCH.md").read_text(), "headline", headline())
+    research = between(research, "sizes", sizes(below))
+    research = between(research, "prover", prover_time(below))
     return OrderedDict(
         [
             ("docs/CALLS.md", "\n".join(calls(crates))),
             ("docs/DEFINITIONS.md", "\n".join(definitions(crates))),
             ("docs/ARCHITECTURE.md", architecture),
+            ("docs/RULES.md", rules),
+            ("docs/PROVED.md", proved),
             ("docs/RESEARCH.md", research),
         ]
     )
 
 
-# ---- limits and codes of docs/RULES.md
+# ---- limits, and codes that are compared
+
+# What is limited, with `%s` for the number (`%d` for that of a year); what is beyond it; the
+# constant of the code, with its module where others have one of that name, and the word of the
+# definitions.
+LIMITS = (
+    (
+        "below %s: the absolute mantissa of units and totals",
+        "`N3` in a text, `I1` in an inventory, `L11` in a book, `L12` for a residual",
+        "`Units::LIMIT`, `units_limit`",
+    ),
+    (
+        "below %s: the mantissa of a rate",
+        "`N3` in a text, `B5` for a whole cost",
+        "`Rate::LIMIT`, `rate_limit`",
+    ),
+    (
+        "%s: the absolute mantissa of a wide number",
+        "`P1 Range` of a report",
+        "`Wide::GREATEST`, `greatest_wide`",
+    ),
+    ("%s decimals of a number that aren't zero", "`N2 TooManyDecimals`", "a number, `one`"),
+    ("years 1 to %d", "`M4 BadDay`", "those of `jiff`, `last_year`"),
+    ("%s bytes in an account", "`M1 BadAccount`", "`MAX_ACCOUNT`, `longest_account`"),
+    ("%s bytes in a commodity", "`M2 BadCommodity`", "`MAX_COMMODITY`, `longest_commodity`"),
+    ("%s bytes in a label, at least 1", "`M3 BadLabel`", "`MAX_LABEL`, `longest_label`"),
+    ("%s bytes in a note", "`M5 BadNote`", "`MAX_NOTE` and `LONGEST_NOTE`, `longest_note`"),
+    ("%s postings in a transaction", "`L8 TooManyPostings`", "`MOST_POSTINGS`, `most_postings`"),
+    ("%s lots of one commodity in one account", "`L15 TooManyLots`", "`MOST_LOTS`, `most_lots`"),
+    ("%s currencies in an opening", "`X2 Syntax`", "`MOST_CURRENCIES`, `most_currencies`"),
+    ("%s entries in a book", "`L16 BookFull`", "`MOST_ENTRIES`, `most_entries`"),
+    (
+        "%s bytes in a line of text, its line end not counted",
+        "`X7 LineTooLong`",
+        "`LONGEST_LINE`, `longest_line`",
+    ),
+    ("%s rows in a broker file", "`C3 TooManyRows`", "`MOST_ROWS`, `most_rows`"),
+    ("%s bytes of input", "`K2 TooLong`", "`LONGEST` of `input`, `longest_input`"),
+    ("%s calls of `read` on one input", "`K1 Read`", "`CALLS` of `input`"),
+    (
+        "%s for a number or a place in the tables",
+        "`S4 Device`; no command comes to so many",
+        "32 bits, `IsOrdinal` and `IsPlace`",
+    ),
+    (
+        "%s for an opening number in the tables",
+        "`S4 Device`; no command comes to so many",
+        "`OpeningNumber::LIMIT`, `IsOpeningNumber`",
+    ),
+    (
+        "1 to %s ASCII letters, digits, `.`, `_` or `-` in a batch",
+        "`U2 BadValue`",
+        "`MAX_BATCH`, `longest_batch`",
+    ),
+    ("1 to %s for the value of `--from`", "`U1 Usage`", "`GREATEST_START`, `greatest_start`"),
+    ("%s bytes in the name of a book's file", "`fault open`", "`LONGEST_NAME` of `files`"),
+    (
+        "%s bytes in a line of a reply, a fault, the holdings or the gains, its line end counted",
+        "doesn't occur",
+        "`LONGEST` of `line`, `longest_written`",
+    ),
+)
+NAMED = re.compile(r"`([A-Za-z_:]+)`(?: of `(\w+)`)?")
 
 
 def number(said):
@@ -581,28 +847,37 @@ def values_of(name, of, words, named):
     return values
 
 
-def wrong_limits(rules):
-    """The rows of *Limits* that have another number than a constant or a word that they name."""
-    table = rules[rules.index("| Limit | Beyond it |") :].split("\n\n")[0].splitlines()[2:]
+def number_of(names, words, named):
+    """The number that the constants and the words of a limit have in common."""
+    values = [values_of(name, of, words, named) for name, of in NAMED.findall(names)]
+    values = [found for found in values if found]
+    if not values or any(len(found | values[0]) != 1 for found in values):
+        sys.exit("pages: %s have no number in common: %s" % (names, values))
+    return values[0].pop()
+
+
+def shown(value):
+    """A number as a page shows it: `10^18`, `2,000,000,000`."""
+    zeros = len(str(value)) - 1
+    return "10^%d" % zeros if zeros > 15 and value == 10**zeros else "{:,}".format(value)
+
+
+def limits():
+    """The table of limits, with the numbers of the constants and of the words."""
     words, named = words_with_values(), constants()
-    for row in table:
-        limit, _, last = row.strip("| ").split(" | ")
-        powers = re.findall(r"\d+\^\d+", limit)
-        plain = re.findall(r"\d[\d,]*", re.sub(r"\d+\^\d+", "", limit))
-        shown = {number(part.replace("^", " ^ ")) for part in powers}
-        shown |= {int(part.replace(",", "")) for part in plain}
-        for name, of in re.findall(r"`([A-Za-z_:]+)`(?: of `(\w+)`)?", last):
-            values = values_of(name, of, words, named)
-            if name != "jiff" and not (values and values <= shown):
-                yield "`%s` of '%s' is %s" % (name, limit, sorted(values) or "nowhere")
+    yield "| Limit | Beyond it | Constant, word |"
+    yield "|---|---|---|"
+    for said, beyond, names in LIMITS:
+        value = number_of(names, words, named)
+        said = said.replace("%s", shown(value)).replace("%d", str(value))
+        yield "| %s | %s | %s |" % (said, beyond, names)
 
 
-def wrong_codes(rules):
-    """The codes of *All codes* that the definitions of printed lines have otherwise or not at all,
-    and the other way round. Those of numbers, names and inventories are never printed, and those of
-    words by the program alone."""
-    table = rules[rules.index("## All codes") :].split("\n\n")[1]
-    said = dict(re.findall(r"\b([A-Z]\d+) ([A-Z]\w+)", table))
+def wrong_codes():
+    """The codes that lot_explain names otherwise than the definitions of printed lines do, or than
+    a page does, or that only one of the two has. Those of numbers, names and inventories are never
+    printed, and those of words by the program alone."""
+    said = {code: name for code, name, _, _ in explained()}
     printed = {}
     for path in CRATES.glob("*/specs/*.antt"):
         for text in re.findall(r'"([^"]*)"', path.read_text()):
@@ -611,6 +886,10 @@ def wrong_codes(rules):
     for code in sorted(set(said) | set(printed)):
         if code[0] not in "NMIU" and {said.get(code)} != printed.get(code):
             yield "%s is %s, not %s" % (code, sorted(printed.get(code, ())), said.get(code))
+    for path in sorted(ROOT.glob("docs/*.md")):
+        for code, name in re.findall(r"`([A-Z]\d+) ([A-Z]\w+)", path.read_text()):
+            if said.get(code) != name:
+                yield "%s of %s is %s" % (code, path.name, name)
 
 
 # ---- the call
@@ -627,9 +906,7 @@ def check_all():
         path = ROOT / page
         is_same = path.exists() and path.read_text() == wanted
         check("what %s takes from the sources" % page, () if is_same else ["run tools/pages.py"])
-    rules = (ROOT / "docs/RULES.md").read_text()
-    check("the limits of docs/RULES.md", wrong_limits(rules))
-    check("the codes of docs/RULES.md", wrong_codes(rules))
+    check("the codes of lot_explain, of the definitions and of the pages", wrong_codes())
 
 
 def main(words):

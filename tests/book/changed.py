@@ -5,8 +5,9 @@
 Each case changes a copy of one book: a value of a row that no book has, a table that is gone, one of another form, columns that hold
 other types. Then a report or a post that reads this row ends with S7, or with S1, S2 or S3 where it is the table `book`, and the book
 is as it was changed. What tests/reports/ shows of damaged rows doesn't stand here again. A row of `opening` without its row of `lot`, or
-the other way round, is S7 of a post to that account and commodity with braces. No report reads `opening`, no call reads `migration`
-yet, and `migrate` reads `book` alone of a book of this edition: whatever stands there, these answer as ever. It prints a line `ok NAME` or `FAILED NAME: ..` for each case.
+the other way round, is S7 of a post to that account and commodity with braces. No report reads `opening`, `verify` alone reads `migration`,
+and `migrate` reads `book` alone of a book of this edition: whatever stands there, the others answer as ever. `verify` meets each change.
+It prints a line `ok NAME` or `FAILED NAME: ..` for each case.
 """
 
 import concurrent.futures
@@ -46,6 +47,7 @@ PROBES = {
     "gains": (["gains"], ""),
     "journal": (["journal"], ""),
     "migrate": (["migrate"], ""),
+    "verify": (["verify"], ""),
     "buy": (["post", "--batch", "b"], "2020-03-01 *\n  Assets:Broker 1 HOOL {100 USD}\n  Assets:Cash\n"),
     "sell": (["post", "--batch", "b"], "2020-03-01 *\n  Assets:Broker -1 HOOL {} @ 100 USD\n  Assets:Cash 100 USD\n"),
     "back": (["post", "--batch", "b"], "2020-03-01 *\n  Assets:Old 1 USD\n  Assets:Cash\n"),
@@ -148,7 +150,7 @@ ROWS = [
 ]
 
 # Values of the table `book`, as a mark and an edition, and what every call answers; but `migrate` finds the tables that it would make.
-NOT_A_BOOK, NEWER, OLDER = "fault S1 NotABook", "fault S2 NewerEdition", "fault S3 OlderEdition"
+NOT_A_BOOK, NEWER, OLDER, DAMAGED = "fault S1 NotABook", "fault S2 NewerEdition", "fault S3 OlderEdition", "fault S7 Damaged"
 MARKS = {
     "no row": ("", NOT_A_BOOK),
     "another mark": ("('lot-books', 2)", NOT_A_BOOK),
@@ -188,7 +190,10 @@ APART = {
     "a row of opening of another account": (f"INSERT INTO opening SELECT {OTHERS}, opening FROM opening", ()),
 }
 
-# Rows of `opening` that no report reads, and of `migration`, that no call reads. A posting asks for the table `opening`.
+# All but the one that reads every row.
+OTHERS = [name for name in PROBES if name != "verify"]
+
+# Rows of `opening` that no report reads, and of `migration`, that only `verify` reads. A posting asks for the table `opening`.
 UNREAD = {
     "holdings values gains journal migrate declare quote again other": [
         "DROP TABLE opening", "ALTER TABLE opening RENAME COLUMN opening TO other",
@@ -196,12 +201,15 @@ UNREAD = {
     "holdings values gains journal migrate declare quote again other back": [
         "DELETE FROM opening", "UPDATE opening SET opening = 0", "UPDATE opening SET account = 'x'",
     ],
-    " ".join(PROBES): [
+    " ".join(OTHERS): [
         "DELETE FROM migration", "UPDATE migration SET entries = 9", "UPDATE migration SET entries = -1", "DROP TABLE migration",
         "UPDATE migration SET entries = 9223372036854775807", "INSERT INTO migration VALUES (1)",
         "ALTER TABLE migration RENAME COLUMN entries TO other",
     ],
 }  # fmt: skip
+
+# Of the place of migration: values of other types.
+UNTYPED = ["'0'", "0.5", "x'30'", "NULL"]
 
 # Of each table but `book` and `migration` the columns that are read, and the probe that reads a row, found by its key or in the order of it.
 COLUMNS = {
@@ -282,6 +290,10 @@ def note_of(line, book):
     }.get(line, line.replace("1 fault ", "line 1, command 1: ").removeprefix("fault ") + ": ")
 
 
+# A place of migration that is one of the book, too: ties were decided alike.
+STILL_A_BOOK = "UPDATE migration SET entries = 9"
+
+
 def is_within(lines, all_lines):
     """Whether lines are some of the others, in their order."""
     rest = iter(all_lines)
@@ -293,7 +305,10 @@ def fault_of(program, book, statements, name, fault, sound):
     held = changed(book, statements)
     output, errors, status = probe(program, book, name)
     lines = output.splitlines()
-    if status != 4 or not lines or lines[-1] not in (fault, f"1 {fault}") or not notes.are(errors, note_of(lines[-1], book)):
+    said = [note_of(lines[-1], book)] if lines else []
+    if name == "verify" and fault == DAMAGED:
+        said.append(f"{book}: ")  # where the damage is
+    if status != 4 or not lines or lines[-1] not in (fault, f"1 {fault}") or not notes.are(errors, *said):
         return f"status {status}, {lines[-1:]}, '{errors[:60]}'"
     if not is_within(lines[:-1], sound):
         return f"other lines before the fault: {lines[:3]}"
@@ -320,30 +335,37 @@ def wrong_types(db, table, column, row):
 
 def damages(db):
     """The name, the statements, the probe and the fault of each case of a changed book."""
-    damaged = "fault S7 Damaged"
-    for table, row, column, values, name in ROWS:
+    for table, row, column, values, probe_of in ROWS:
         for value in values:
-            yield f"{name} with {table}.{column} = {value}", [f"UPDATE {table} SET {column} = {value} WHERE {row}"], name, damaged
-    for table, (columns, row, name) in COLUMNS.items():
+            for name in (probe_of, "verify"):
+                yield f"{name} with {table}.{column} = {value}", [f"UPDATE {table} SET {column} = {value} WHERE {row}"], name, DAMAGED
+    for table, (columns, row, probe_of) in COLUMNS.items():
         for column in columns.split():
             for value in wrong_types(db, table, column, row):
                 statements = [*without_types(db, table), f"UPDATE {table} SET {column} = {value} WHERE {row}"]
-                yield f"{name} with {table}.{column} = {value} in a column without a type", statements, name, damaged
+                for name in (probe_of, "verify"):
+                    yield f"{name} with {table}.{column} = {value} in a column without a type", statements, name, DAMAGED
     for table, names in NEEDED.items():
-        for name in names:
+        for name in (*names, "verify"):
             gone = [f"DROP TABLE {table}"]
             if name not in ("values", "journal", "gains", "holdings") and table != "lot":
-                yield f"{name} without the table {table}", gone, name, damaged
-            yield f"{name} with a table {table} of another form", [*gone, f"CREATE TABLE {table} (other)"], name, damaged
+                yield f"{name} without the table {table}", gone, name, DAMAGED
+            yield f"{name} with a table {table} of another form", [*gone, f"CREATE TABLE {table} (other)"], name, DAMAGED
     for what, (rows, fault) in MARKS.items():
         statements = [*without_types(db, "book"), "DELETE FROM book", *[f"INSERT INTO book VALUES {rows}"] * bool(rows)]
-        for name in ("buy", "holdings", "migrate"):
+        for name in ("buy", "holdings", "migrate", "verify"):
             told = NOT_A_BOOK if (name, fault) == ("migrate", OLDER) else fault
             yield f"{name} with {what} in the table book", statements, name, told
     yield "buy with a table book of another form", ["DROP TABLE book", "CREATE TABLE book (other)"], "buy", NOT_A_BOOK
     for what, (statement, names) in APART.items():
-        for name in names:
-            yield f"{name} where there is {what}", [statement], name, damaged
+        for name in (*names, "verify"):
+            yield f"{name} where there is {what}", [statement], name, DAMAGED
+    for statement in [it for statements in UNREAD.values() for it in statements]:
+        if statement != STILL_A_BOOK:
+            yield f"verify after {statement}", [statement], "verify", DAMAGED
+    for value in UNTYPED:
+        statements = [*without_types(db, "migration"), f"UPDATE migration SET entries = {value}"]
+        yield f"verify with migration.entries = {value} in a column without a type", statements, "verify", DAMAGED
 
 
 def unread(db):
@@ -352,12 +374,13 @@ def unread(db):
         for statement in statements:
             for name in names.split():
                 yield f"{name} after {statement}", [statement], name
-    for value in ("'0'", "0.5", "x'30'", "NULL"):
+    yield f"verify after {STILL_A_BOOK}", [STILL_A_BOOK], "verify"
+    for value in UNTYPED:
         statements = [*without_types(db, "migration"), f"UPDATE migration SET entries = {value}"]
-        for name in PROBES:
+        for name in OTHERS:
             yield f"{name} with migration.entries = {value} in a column without a type", statements, name
     for what, (statement, names) in APART.items():
-        for name in PROBES:
+        for name in OTHERS:
             is_of_lots = "lot" in what.split() and name in ("holdings", "values")
             if name not in names and not is_of_lots:
                 yield f"{name} where there is {what}", [statement], name

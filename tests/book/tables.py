@@ -12,7 +12,9 @@
 """
 
 import contextlib
+import csv
 import datetime
+import io
 import os
 import shutil
 import sqlite3
@@ -108,6 +110,35 @@ def holdings(path, day=None):
     return lines + totals_of("cost", totals) + totals_of("value", values) or ["nothing held"]
 
 
+def record_text(fields):
+    """The line of a record, without its end."""
+    text = io.StringIO()
+    csv.writer(text, lineterminator="").writerow(fields)
+    return text.getvalue()
+
+
+def holdings_csv(path, day=None):
+    """The lines that the program prints of these rows as CSV, with values at that day (docs/FORMATS.md, Tables for a spreadsheet)."""
+    lines = []
+    with connect(path) as db:
+        rows = [((account, commodity, 0), units) for account, commodity, units in db.execute("SELECT account, commodity, units FROM plain")]
+        lots = db.execute("SELECT account, commodity, cost_day, cost_currency, cost_number, cost_label, units FROM lot")
+        rows += [((account, commodity, 1, *key), units) for account, commodity, *key, units in lots]
+        for (account, commodity, is_lot, *key), units in sorted(rows):
+            record = [account, commodity, model.number_text(units)]
+            rate = None
+            if is_lot:
+                cost_day, currency, number, label = key
+                record += [day_text(cost_day), label, model.number_text(number), currency, model.money_text(units * number, 16)]
+                rate = None if day is None else price_at(db, number_of(day), commodity, currency)
+            else:
+                record += [""] * 5
+            if day is not None:
+                record += ["", ""] if rate is None else [model.number_text(rate), model.money_text(units * rate, 16)]
+            lines.append(record_text(record))
+    return ["account,commodity,units,acquired,label,unit_cost,currency,cost" + ("" if day is None else ",price,value"), *lines]
+
+
 def opening_text(key, opening):
     account, commodity, day, currency, number, label = key
     return f"{account} {commodity} {lot_text(number, currency, day, label)} {opening}"
@@ -151,6 +182,32 @@ def gains(path):
                 lines.append(line + " unpriced")
             lines += [f"  {model.number_text(leg[0])} {commodity} {lot_text(*leg[1:])}" for leg in legs]
     return lines + totals_of("gain", totals) or ["no gains"]
+
+
+def proceeds_of(kind, amount, units, legs):
+    """What each leg of a sale goes for, at scale 16: so much for each unit, or its share of the price of all, the last what is left."""
+    if kind == 1:
+        return [-leg[0] * amount for leg in legs]
+    parts = [amount * abs(leg[0]) // abs(units) for leg in legs[:-1]]
+    return [share * model.ONE * (-1 if units > 0 else 1) for share in (*parts, amount - sum(parts))]
+
+
+def gains_csv(path):
+    """The lines that the program prints of these rows as CSV (docs/FORMATS.md, Tables for a spreadsheet)."""
+    lines = ["entry,posting,account,commodity,units,acquired,sold,days_held,label,unit_cost,currency,proceeds,cost,gain"]
+    with connect(path) as db:
+        sales = "SELECT entry, posting, day, account, commodity, units, kind, amount, currency FROM sale ORDER BY entry, posting"
+        legs_of = "SELECT units, cost_number, cost_currency, cost_day, cost_label FROM leg WHERE entry = ? AND posting = ? ORDER BY place"
+        for entry, posting, day, account, commodity, units, kind, amount, currency in db.execute(sales):
+            legs = list(db.execute(legs_of, (entry, posting)))
+            is_priced = kind and all(leg[2] == currency for leg in legs)
+            proceeds = proceeds_of(kind, amount, units, legs) if is_priced else [None] * len(legs)
+            for (taken, number, cost_currency, acquired, label), got in zip(legs, proceeds):
+                cost = -taken * number
+                money = ["" if it is None else model.money_text(it, 16) for it in (got, cost, None if got is None else got - cost)]
+                record = [entry, posting, account, commodity, model.number_text(taken), day_text(acquired), day_text(day), day - acquired]
+                lines.append(record_text([*record, label, model.number_text(number), cost_currency, *money]))
+    return lines
 
 
 def journal(path):

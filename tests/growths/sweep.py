@@ -250,8 +250,9 @@ class Sweep:
         return True
 
     def may_fail_behind_its_lines(self):
-        """Whether memory may lack once all lines are written: a journal has none of its own at its end, and then looks for more entries."""
-        return self.call.words[:1] == ["journal"]
+        """Whether memory may lack once all lines are written: a journal and a table have no line of their own at the end, and then look
+        for more rows."""
+        return self.call.words[:1] == ["journal"] or "csv" in self.call.words
 
     def judge(self, copy, status, state):
         """Raises where a copy answered or left what it may not."""
@@ -390,6 +391,7 @@ def short_calls(texts):
     yield Call("a report of a file that is no database", ["gains", "--book", BOOK], file=b"no database\n" * 1000)
     yield Call("init", INIT)
     yield Call("post of the first purchase", POST, texts["the first purchase"], [MAKE])
+    yield Call("verify of a sale", ["verify", "--book", BOOK], before=filled)
     yield Call("a report of an empty file", ["journal", "--book", BOOK], file=b"")
     yield Call("a dry run of init", [*INIT, "--dry-run"])
     yield Call("a dry run of the first purchase", [*POST, "--dry-run"], texts["the first purchase"], [MAKE])
@@ -425,7 +427,8 @@ def longer_calls(texts, broker, older):
     yield Call("init of a book of edition 1", INIT, file=older)
     books = {"an empty book": [MAKE], "a book with a sale": filled, "a book of every kind": [MAKE, (POST, texts["every kind"])]}
     for book, before in books.items():
-        for words in (["holdings"], ["holdings", "--day", "2020-12-31"], ["gains"], ["journal"]):
+        day, table = ["--day", "2020-12-31"], ["--format", "csv"]
+        for words in (["holdings"], ["holdings", *day], ["holdings", *day, *table], ["gains"], ["gains", *table], ["journal"]):
             yield Call(f"{' '.join(words)} of {book}", [words[0], "--book", BOOK, *words[1:]], before=before)
 
 

@@ -3,7 +3,8 @@
     changed_bytes.py PROGRAM SCRATCH [--whole] [--changes N] [--seed SEED]
 
 The answer is that of the sound book, or names a fault, or, where the change made another row that a book can have, it is the answer of
-that row: what SQLite's own library reads there, printed by plain functions. A log with a changed byte holds the commits before it.
+that row: what SQLite's own library reads there, printed by plain functions. `verify` finds each change of a row, but of an entry that says
+another book, and of the place of migration. A log with a changed byte holds the commits before it.
 Each answer is counted. Without --whole it is a sample, drawn from a fixed seed.
 """
 
@@ -99,6 +100,18 @@ def outcome_of_migrate(got, book):
     return (got.fault(), "") if got.fault() not in ("", "S3 OlderEdition") else ("another", "no fault, and another answer than of the book")
 
 
+def outcome_of_verify(got, book, path):
+    """What is verified has the rows of the book, where SQLite finds nothing wrong with the file. Another text of an entry, or another
+    place of migration, may be that of another book."""
+    if got.fault():
+        return got.fault(), ""
+    if got != book.answers["verify"]:
+        return "another", "neither a fault nor the answer of the book"
+    held = read(path)
+    others = [table for table in tables.TABLES if table not in ("entry", "migration") and held[table] != book.held[table]]
+    return "right", f"verified, with other rows in {others}" if others and is_sound(path) else ""
+
+
 def count_of_entries(path):
     with tables.connect(path) as db:
         return db.execute("SELECT count(*) FROM entry NOT INDEXED").fetchone()[0]
@@ -130,6 +143,8 @@ def outcome_of(word, got, book, path, asked):
         is_kept = is_kept or outcome == MADE
     elif word == "migrate":
         outcome, wrong = outcome_of_migrate(got, book)
+    elif word == "verify":
+        outcome, wrong = outcome_of_verify(got, book, sqlite_reads)
     else:
         outcome, wrong = outcome_of_report(word, got, book, sqlite_reads)
     return outcome, wrong or ("" if is_kept else "the file changed")

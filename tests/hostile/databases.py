@@ -15,7 +15,7 @@ import sweep
 
 import changed
 import tables
-from small_book import REPORTS, WORDS, WRITERS, ask, small_book, with_log
+from small_book import READERS, WORDS, WRITERS, ask, small_book, with_log
 
 IN_THE_GATE = 200  # calls on tables of another form, and on values that no book has, of some two thousand each
 NOBODY = 65534
@@ -223,8 +223,8 @@ def modes(program, sound, scratch):
 
     for name, (make, wanted_of_others) in MODES.items():
         for word in WORDS:
-            # A report needs the right to read alone.
-            wanted = RIGHT if word in REPORTS and name != "a book that can't be read" else wanted_of_others
+            # A report needs the right to read alone, and so does `verify`.
+            wanted = RIGHT if word in READERS and name != "a book that can't be read" else wanted_of_others
             wrong = kind_fault(allowed, sound, folder, make, wanted, word, preexec_fn=as_nobody)
             done.saw(wanted, wrong and f"{word} on {name}: {wrong}")
     emptied(folder)

@@ -20,17 +20,20 @@ POST = changed.LEDGER + "".join(changed.PROBES[name][1] for name in ("buy", "sel
 ROWS = "ref,date,action,symbol,units,price,currency,fee\nB1,2020-03-01,BUY,HOOL,1,100,USD,\nB2,2020-03-02,SELL,HOOL,1,120,USD,0.5\n"
 DAY = "2020-12-31"
 
-# Each report with its options, and the plain function that prints it from the rows of the tables.
+# Each report, the words that ask for it, and the plain function that prints it from the rows of the tables.
 REPORTS = {
-    "holdings": (["--day", DAY], functools.partial(tables.holdings, day=DAY)),
-    "gains": ([], tables.gains),
-    "journal": ([], tables.journal),
+    "holdings": (["holdings", "--day", DAY], functools.partial(tables.holdings, day=DAY)),
+    "holdings as CSV": (["holdings", "--day", DAY, "--format", "csv"], functools.partial(tables.holdings_csv, day=DAY)),
+    "gains": (["gains"], tables.gains),
+    "gains as CSV": (["gains", "--format", "csv"], tables.gains_csv),
+    "journal": (["journal"], tables.journal),
 }
 WRITERS = {
     "post": (["--batch", "a"], POST),
     "import": ("--batch b --invest Assets:Broker --cash Assets:Cash --fees Assets:Cash --gains Income:Gains".split(), ROWS),
 }
-WORDS = ("init", "migrate", *REPORTS, *WRITERS)
+READERS = (*REPORTS, "verify")
+WORDS = ("init", "migrate", *READERS, *WRITERS)
 COUNT = sum(line[:1].isdigit() for line in changed.LEDGER.splitlines())  # of its entries
 
 PAGE = 4096
@@ -40,9 +43,10 @@ UNREADABLE = (sqlite3.Error, UnicodeError)  # the second where SQLite's message 
 
 
 def ask(program, book, word, **streams):
-    """The answer of one word on a book, which messages call BOOK wherever it lies."""
-    more, text = WRITERS[word] if word in WRITERS else (REPORTS[word][0] if word in REPORTS else [], "")
-    got = sweep.call(program, [word, "--book", book, *more], text.encode(), **streams)
+    """The answer of one word, or of one report, on a book, which messages call BOOK wherever it lies."""
+    options, text = WRITERS.get(word, ([], ""))
+    words = REPORTS[word][0] if word in REPORTS else [word, *options]
+    got = sweep.call(program, [*words, "--book", book], text.encode(), **streams)
     return got._replace(errors=got.errors.replace(book.encode(), b"BOOK"))
 
 

@@ -56,15 +56,24 @@ FAULT = re.compile(
 REPORT = re.compile(
     rf"{ACCOUNT} {NUMBER} {COMMODITY}( {LOT}( value (none|{NUMBER} {COMMODITY}))?)?|total (cost|value|gain) {NUMBER} {COMMODITY}"
     rf"|{DAY} {ACCOUNT} {NUMBER} {COMMODITY} (unpriced|proceeds {NUMBER} cost {NUMBER} gain {NUMBER} {COMMODITY})"
-    rf"|  {NUMBER} {COMMODITY} {LOT}|nothing held|no gains|book ready|book migrated"
+    rf"|  {NUMBER} {COMMODITY} {LOT}|nothing held|no gains|book ready|book migrated|book verified"
+)
+FIELD = r'([^",\\\x00-\x1f\x7f]*|"[^"\\\x00-\x1f\x7f]+")'
+TABLE = re.compile(
+    r"account,commodity,units,acquired,label,unit_cost,currency,cost(,price,value)?"
+    r"|entry,posting,account,commodity,units,acquired,sold,days_held,label,unit_cost,currency,proceeds,cost,gain"
+    rf"|{ACCOUNT},{COMMODITY},{NUMBER},({DAY},{FIELD},{NUMBER},{COMMODITY},{NUMBER}|,,,,)(,({NUMBER},{NUMBER}|,))?"
+    rf"|{COUNT},{COUNT},{ACCOUNT},{COMMODITY},{NUMBER},{DAY},{DAY},-?[0-9]+,{FIELD},{NUMBER},{COMMODITY}"
+    rf",({NUMBER},{NUMBER},{NUMBER}|,{NUMBER},)"
 )
 REPLY = re.compile(rf"{COUNT} (accepted|repeat|refused [LB][0-9]+ [A-Za-z]+( posting {COUNT}| {COMMODITY})?)")
 KEY = re.compile(rf"; entry {COUNT} key [^\x00-\x1f\x7f]+")
 
 
 def is_ours(line):
-    """Whether the program may write this line: a reply, a fault, a row of a report, or a line of a journal, which is ledger text."""
-    if any(kind.fullmatch(line) for kind in (FAULT, REPORT, REPLY, KEY)):
+    """Whether the program may write this line: a reply, a fault, a row of a report or of a table, or a line of a journal, which is
+    ledger text."""
+    if any(kind.fullmatch(line) for kind in (FAULT, REPORT, TABLE, REPLY, KEY)):
         return True
     try:
         if line.startswith(" "):  # a posting is one of the transaction before it

@@ -25,15 +25,16 @@ OPTIONS = {
         "--book": "f", "--batch": "a", "--invest": "Assets:A", "--cash": "Assets:B", "--fees": "Expenses:F", "--gains": "Income:G",
         "--from": "1",
     },
-    "holdings": {"--book": "f", "--day": "2020-01-01"},
-    "gains": {"--book": "f", "--first": "2020-01-01", "--last": "2020-01-01"},
+    "holdings": {"--book": "f", "--day": "2020-01-01", "--format": "csv"},
+    "gains": {"--book": "f", "--first": "2020-01-01", "--last": "2020-01-01", "--format": "text"},
     "journal": {"--book": "f"},
     "migrate": {"--book": "f"},
+    "verify": {"--book": "f"},
 }  # fmt: skip
 HEADER = b"ref,date,action,symbol,units,price,currency,fee\n"
 REQUIRED = ("--book", "--batch", "--invest", "--cash", "--fees", "--gains")
 # Values outside each option's rule, of which the program itself says which option it is: `clap` reads the value of --from.
-BAD = {"--batch": "/", "--invest": "A", "--cash": "A", "--fees": "A", "--gains": "A", "--day": "x", "--first": "x", "--last": "x"}
+BAD = {"--batch": "/", "--invest": "A", "--cash": "A", "--fees": "A", "--gains": "A", "--day": "x", "--first": "x", "--last": "x", "--format": "x"}
 
 
 def words_of(word, options):

@@ -13,7 +13,15 @@ WARNING = re.compile(r"(?:line [1-9][0-9]*: |row [1-9][0-9]* \(.*\): )?warning: 
 MORE = re.compile(r"\.\.\. and [1-9][0-9]* more")
 MEMORY = re.compile(rf"({A_PLACE.format('[1-9][0-9]*')})?(Memory )?Memory: memory ended(: .+)?")
 OF_LINES = re.compile(r"line [1-9][0-9]*: X[1-7] [A-Za-z0-9]+: .+")
+OF_DAMAGE = r".+: (entry|table|a row) .+"  # of `verify`
 OF_ROWS = re.compile(r"row [1-9][0-9]* \(.*\): C2 BadRow: .+")
+# What the book says at the end of a run, which another run ends otherwise with, or that can't be read.
+OF_THE_BOOK = re.compile(
+    r": (entry [1-9][0-9]*, with the line `[^`]*`|the nearest is [^ ]+(?=: )|it is opened further down"
+    r"|the latest is [0-9]{4}-[0-9]{2}-[0-9]{2}, of entry [1-9][0-9]*"
+    r"|lots that fit now: [0-9]+, with [0-9.]+ units(; they differ in [a-z, ]+)?|held now: [0-9.]+; wanted: [0-9.]+)"
+)
+HELD = re.compile(r".*: warning: the account is closed, and still holds .+")
 
 
 NOTHING_KEPT = b": nothing is kept, since not all was accepted\n"
@@ -77,7 +85,10 @@ def wrong_where_memory_ended(errors, ample, output):
     then what is said of memory, and then warnings that there are then, too."""
     if found := wrong(errors):
         return found
-    lines, whole = ([line[len(FIRST) :] for line in text.decode().split("\n")[:-1]] for text in (errors, ample))
+    lines, whole = (
+        [OF_THE_BOOK.sub("", line[len(FIRST) :], count=1) for line in text.decode().split("\n")[:-1] if not HELD.fullmatch(line)]
+        for text in (errors, ample)
+    )
     of_warnings = [line for line in whole if WARNING.fullmatch(line)]
     of_refusals = [line for line in whole if not WARNING.fullmatch(line)]
     refused = sum(" refused " in line for line in output.decode().split("\n"))
@@ -106,6 +117,8 @@ def missing(noted, said):
         due[MOST:] = [rf"\.\.\. and {len(due) - MOST} more"]
     if last in ("fault S1 NotABook", "fault S3 OlderEdition", "fault open"):  # what helps
         due += [".+"] * min(1, len(noted) - len(due))
+    if last == "fault S7 Damaged" and len(noted) > len(due):
+        due.append(OF_DAMAGE)
     if last.endswith("fault Memory") and len(due) == len(noted) - 1 and MEMORY.fullmatch(noted[-1]):
         due.append(MEMORY.pattern)
     is_told = len(due) == len(noted) and all(map(re.fullmatch, due, noted))

@@ -8,7 +8,7 @@ use Rattle.lot_base.specs.Name.{is_account, is_label}
 use Rattle.lot_args.specs.Batch.{is_batch}
 use Rattle.lot_args.specs.From.{from_of}
 use Rattle.lot_args.specs.declared.fault.BadOption.{BadOption}
-use Rattle.lot_args.specs.declared.fault.BadOption.TheVariants.{Batch, PostBatch, RowOf, Ref, From, Invest, Cash, Fees, Gains, Day, First, Last}
+use Rattle.lot_args.specs.declared.fault.BadOption.TheVariants.{Batch, PostBatch, RowOf, Ref, From, Invest, Cash, Fees, Gains, Day, First, Last, Format}
 
 -- ---- values
 
@@ -36,6 +36,7 @@ name_of Gains = codes "gains"
 name_of Day = codes "day"
 name_of First = codes "first"
 name_of Last = codes "last"
+name_of Format = codes "format"
 
 -- whether the value of an account option is within its rule
 abbrev pub has_account : Text → List Row → Bool
@@ -44,6 +45,10 @@ has_account name rows = is_account (value_of name rows)
 -- whether that of a day option is, which need not be given
 abbrev pub has_day : Text → List Row → Bool
 has_day name rows = option_map_or (λ text. is_some (named_day text)) (first_of name rows) true
+
+-- whether the text says how a report is written
+abbrev pub is_format : Text → Bool
+is_format text = bytes_eq text (codes "text") || bytes_eq text (codes "csv")
 
 -- whether the option is given
 abbrev pub is_given : Text → List Row → Bool
@@ -68,6 +73,7 @@ is_good rows Gains = has_account (codes "gains") rows
 is_good rows Day = has_day (codes "day") rows
 is_good rows First = has_day (codes "first") rows
 is_good rows Last = has_day (codes "last") rows
+is_good rows Format = option_map_or is_format (first_of (codes "format") rows) true
 
 -- ---- the first bad one
 
@@ -79,8 +85,8 @@ abbrev pub options_of : Text → List BadOption
 options_of word =
     if bytes_eq word (codes "post") then PostBatch ∷ RowOf ∷ Ref ∷ From ∷ []
     else (if bytes_eq word (codes "import") then Batch ∷ account_options
-    else (if bytes_eq word (codes "holdings") then Day ∷ []
-    else (if bytes_eq word (codes "gains") then First ∷ Last ∷ [] else [])))
+    else (if bytes_eq word (codes "holdings") then Day ∷ Format ∷ []
+    else (if bytes_eq word (codes "gains") then First ∷ Last ∷ Format ∷ [] else [])))
 
 -- the first of the options whose value is outside its rule
 abbrev pub first_bad : List Row → List BadOption → Option BadOption

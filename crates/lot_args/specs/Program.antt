@@ -60,13 +60,17 @@ import_app =
     ∷ required_rule (codes "fees") ∷ required_rule (codes "gains") ∷ [])
 
 abbrev pub holdings_app : App
-holdings_app = book_app (codes "holdings") (option_rule (codes "day") ∷ [])
+holdings_app = book_app (codes "holdings") (option_rule (codes "day") ∷ option_rule (codes "format") ∷ [])
 
 abbrev pub gains_app : App
-gains_app = book_app (codes "gains") (option_rule (codes "first") ∷ option_rule (codes "last") ∷ [])
+gains_app =
+    book_app (codes "gains") (option_rule (codes "first") ∷ option_rule (codes "last") ∷ option_rule (codes "format") ∷ [])
 
 abbrev pub journal_app : App
 journal_app = book_app (codes "journal") []
+
+abbrev pub verify_app : App
+verify_app = book_app (codes "verify") []
 
 abbrev pub explain_app : App
 explain_app = word_app (codes "explain") (place_rule (codes "code") ∷ [])
@@ -90,4 +94,5 @@ bare_app = with_rules named_app (flag_rule (codes "quiet") ∷ flag_rule (codes 
 abbrev pub program_app : App
 program_app =
     with_words bare_app
-    (init_app ∷ migrate_app ∷ post_app ∷ import_app ∷ holdings_app ∷ gains_app ∷ journal_app ∷ explain_app ∷ [])
+    (init_app ∷ migrate_app ∷ post_app ∷ import_app ∷ holdings_app ∷ gains_app ∷ journal_app
+    ∷ verify_app ∷ explain_app ∷ [])

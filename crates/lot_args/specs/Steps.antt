@@ -14,7 +14,8 @@ IsOneOf (name ∷ names) word = (word ≡ name) ⊎ IsOneOf names word
 -- the words on a book
 abbrev pub book_words : List Text
 book_words =
-    codes "init" ∷ codes "migrate" ∷ codes "post" ∷ codes "import" ∷ codes "holdings" ∷ codes "gains" ∷ codes "journal" ∷ []
+    codes "init" ∷ codes "migrate" ∷ codes "post" ∷ codes "import" ∷ codes "holdings" ∷ codes "gains" ∷ codes "journal"
+    ∷ codes "verify" ∷ []
 
 -- there is such a word on a book
 abbrev pub IsBookWord : Text → Type 0

@@ -9,7 +9,9 @@ use Rattle.lot_args.specs.From.{from_of}
 use Rattle.lot_args.specs.Options.{day_of, first_bad, has_row, options_of, value_of}
 use Rattle.lot_args.specs.Program.{program_app}
 use Rattle.lot_args.specs.declared.action.Action.{Action}
-use Rattle.lot_args.specs.declared.action.Action.TheVariants.{Check, Init, Migrate, Post, PostRow, Import, Holdings, Gains, Journal}
+use Rattle.lot_args.specs.declared.action.Action.TheVariants.{Check, Init, Migrate, Post, PostRow, Import, Holdings, Gains, Journal, Verify}
+use Rattle.lot_args.specs.declared.action.Format.{Format}
+use Rattle.lot_args.specs.declared.action.Format.TheVariants.{Text as AsText, Csv}
 use Rattle.lot_args.specs.declared.fault.BadOption.{BadOption}
 use Rattle.lot_args.specs.declared.request.Effect.{Effect}
 use Rattle.lot_args.specs.declared.request.Effect.TheVariants.{AllOrNone, DryRun, Keep}
@@ -19,6 +21,10 @@ use Rattle.lot_args.specs.declared.request.Request.{Request}
 use Rattle.lot_args.specs.declared.request.Request.TheVariants.{Act, Explain}
 
 -- ---- the values of a word
+
+-- how a report is written: as lines to be read where nothing is said
+abbrev pub format_of : List Row → Format
+format_of rows = if bytes_eq (value_of (codes "format") rows) (codes "csv") then Csv else AsText
 
 abbrev pub accounts_of : List Row → Accounts
 accounts_of rows = record {
@@ -70,12 +76,13 @@ WordAsks word rows (PostRow book batch reference) =
 WordAsks word rows (Import book batch accounts from) =
     (word ≡ codes "import") × IsBook rows (string_bytes book) × (batch ≡ value_of (codes "batch") rows)
     × (accounts ≡ accounts_of rows) × (from ≡ from_of rows)
-WordAsks word rows (Holdings book day) =
-    (word ≡ codes "holdings") × IsBook rows (string_bytes book) × (day ≡ day_of (codes "day") rows)
-WordAsks word rows (Gains book first last) =
+WordAsks word rows (Holdings book day format) =
+    (word ≡ codes "holdings") × IsBook rows (string_bytes book) × (day ≡ day_of (codes "day") rows) × (format ≡ format_of rows)
+WordAsks word rows (Gains book first last format) =
     (word ≡ codes "gains") × IsBook rows (string_bytes book) × (first ≡ day_of (codes "first") rows)
-    × (last ≡ day_of (codes "last") rows)
+    × (last ≡ day_of (codes "last") rows) × (format ≡ format_of rows)
 WordAsks word rows (Journal book) = (word ≡ codes "journal") × IsBook rows (string_bytes book)
+WordAsks word rows (Verify book) = (word ≡ codes "verify") × IsBook rows (string_bytes book)
 
 -- ---- the request
 

@@ -3,6 +3,15 @@ use crate::start::Start;
 use lot_base::{Day, Label};
 use lot_import::Accounts;
 
+/// How a report is written.
+#[derive(Clone, Copy)]
+pub enum Format {
+    /// As lines to be read.
+    Text,
+    /// As a table for a spreadsheet.
+    Csv,
+}
+
 /// What the program is asked to do. A book is named by the path of its file.
 #[derive(Drop)]
 pub enum Action {
@@ -40,15 +49,21 @@ pub enum Action {
     Holdings {
         book: String,
         day: Option<Day>,
+        format: Format,
     },
     /// What the sales of a book gained is written: those from the first to the last day, both included, where they are given.
     Gains {
         book: String,
         first: Option<Day>,
         last: Option<Day>,
+        format: Format,
     },
     /// The entries of a book are written.
     Journal {
+        book: String,
+    },
+    /// A book is judged again from its entries, and every table compared.
+    Verify {
         book: String,
     },
 }

@@ -34,6 +34,8 @@ pub enum BadOption {
     First,
     /// `--last`, whose value is no day.
     Last,
+    /// `--format`, whose value is neither `text` nor `csv`.
+    Format,
 }
 
 impl BadOption {
@@ -53,6 +55,7 @@ impl BadOption {
             BadOption::Day => "day",
             BadOption::First => "first",
             BadOption::Last => "last",
+            BadOption::Format => "format",
         }
     }
 }

@@ -20,7 +20,7 @@ mod start;
 mod values;
 mod words;
 
-pub use action::Action;
+pub use action::{Action, Format};
 pub use batch::Batch;
 pub use fault::{BadOption, WordsFault};
 pub use request::{Effect, Notes, Request};

@@ -3,7 +3,7 @@ ghost use Rattle.std.specs.Prelude.{◌≡◌, [], IfOk, false, true};
 ghost use Rattle.clap.specs.Words.{app_of, new_app, rule_of, with_rule, with_subcommand};
 ghost use Rattle.lot_args.specs.Program.{bare_app, book_app, explain_app};
 ghost use Rattle.lot_args.specs.Program.{gains_app, holdings_app, import_app, init_app, journal_app};
-ghost use Rattle.lot_args.specs.Program.{migrate_app, named_app, post_app, program_app, run_rules, with_rules};
+ghost use Rattle.lot_args.specs.Program.{migrate_app, named_app, post_app, program_app, run_rules, verify_app, with_rules};
 
 use crate::options::{account, batch, book, explain_all, flag, from, given, place, quiet};
 use clap::{Arg, Command};
@@ -24,6 +24,7 @@ pub(crate) fn program<'a>(alloc: Global) -> Result<Command<'a>, AllocError>
     let program = with_word(program, holdings(alloc)?)?;
     let program = with_word(program, gains(alloc)?)?;
     let program = with_word(program, journal(alloc)?)?;
+    let program = with_word(program, verify(alloc)?)?;
     with_word(program, explain(alloc)?)
 }
 
@@ -193,27 +194,36 @@ fn run_word<'a>(
     with_option(word, explain_all(alloc))
 }
 
-/// `holdings --book FILE [--day DAY]`
+/// `holdings --book FILE [--day DAY] [--format text|csv]`
 fn holdings<'a>(alloc: Global) -> Result<Command<'a>, AllocError>
     ensures { IfOk result (λ command. app_of command ≡ holdings_app) }
 {
     let word = book_word(
         alloc,
         "holdings",
-        "Prints what a book holds and what it cost: lotbook holdings --book family.book",
+        "Prints what a book holds now and what it cost: lotbook holdings --book family.book",
     )?;
-    with_option(
+    let word = with_option(
         word,
         given(
             alloc,
             "day",
             "DAY",
-            "The day at whose prices the lots are valued, as in --day 2024-12-31. Without it no value is printed",
+            "The day whose prices value the lots, as in --day 2024-12-31: it chooses prices alone, what is held is as of now. Without it no value is printed",
+        ),
+    )?;
+    with_option(
+        word,
+        given(
+            alloc,
+            "format",
+            "FORMAT",
+            "How it is written: text, or csv for a spreadsheet, as in --format csv. Without it as text",
         ),
     )
 }
 
-/// `gains --book FILE [--first DAY] [--last DAY]`
+/// `gains --book FILE [--first DAY] [--last DAY] [--format text|csv]`
 fn gains<'a>(alloc: Global) -> Result<Command<'a>, AllocError>
     ensures { IfOk result (λ command. app_of command ≡ gains_app) }
 {
@@ -231,13 +241,22 @@ fn gains<'a>(alloc: Global) -> Result<Command<'a>, AllocError>
             "The first day whose sales are printed, as in --first 2024-01-01. Without it they begin with the first sale",
         ),
     )?;
-    with_option(
+    let word = with_option(
         word,
         given(
             alloc,
             "last",
             "DAY",
             "The last day whose sales are printed, as in --last 2024-12-31. Without it they end with the last sale",
+        ),
+    )?;
+    with_option(
+        word,
+        given(
+            alloc,
+            "format",
+            "FORMAT",
+            "How it is written: text, or csv for a spreadsheet, as in --format csv. Without it as text",
         ),
     )
 }
@@ -250,6 +269,17 @@ fn journal<'a>(alloc: Global) -> Result<Command<'a>, AllocError>
         alloc,
         "journal",
         "Prints the accepted commands of a book as ledger text: lotbook journal --book family.book > family.ledger",
+    )
+}
+
+/// `verify --book FILE`
+fn verify<'a>(alloc: Global) -> Result<Command<'a>, AllocError>
+    ensures { IfOk result (λ command. app_of command ≡ verify_app) }
+{
+    book_word(
+        alloc,
+        "verify",
+        "Judges a book again from its entries, compares every table, and prints book verified where they are those of a book: lotbook verify --book family.book\n\nElse it prints fault S7 Damaged, and on standard error the first table that differs, or the first entry that isn't accepted again. It changes nothing.",
     )
 }
 

@@ -6,11 +6,12 @@ ghost use Rattle.lot_base.specs.Name.{is_label};
 ghost use Rattle.std.specs.String.{string_bytes};
 ghost use Rattle.clap.specs.Words.{first_of, found_of, rows_of};
 ghost use Rattle.lot_args.specs.Batch.{is_batch};
-ghost use Rattle.lot_args.specs.Options.{account_options, day_of, first_bad, has_account, has_row, is_good, is_given, name_of, options_of, value_of};
+ghost use Rattle.lot_args.specs.Options.{account_options, day_of, first_bad, has_account, has_row, is_format, is_good, is_given, name_of, options_of, value_of};
 ghost use Rattle.lot_args.specs.From.{from_of};
-ghost use Rattle.lot_args.specs.Words.{IsCode, accounts_of, effect_of, is_in_either, is_set, notes_of};
+ghost use Rattle.lot_args.specs.Words.{IsCode, accounts_of, effect_of, format_of, is_in_either, is_set, notes_of};
 ghost use Rattle.lot_args.specs.declared.fault.WordsFault.TheVariants.{Memory};
 
+use crate::action::Format;
 use crate::batch::Batch;
 use crate::fault::{BadOption, WordsFault};
 use crate::request::{Effect, Notes};
@@ -54,8 +55,8 @@ fn options_of(word: &str) -> &'static [BadOption]
             BadOption::Fees,
             BadOption::Gains,
         ],
-        "holdings" => &[BadOption::Day],
-        "gains" => &[BadOption::First, BadOption::Last],
+        "holdings" => &[BadOption::Day, BadOption::Format],
+        "gains" => &[BadOption::First, BadOption::Last, BadOption::Format],
         _ => &[],
     }
 }
@@ -78,6 +79,10 @@ fn is_good(options: &ArgMatches<'_>, option: BadOption) -> bool
         }
         BadOption::Day | BadOption::First | BadOption::Last => match given(options, name) {
             Some(text) => Day::parse(text).is_ok(),
+            None => true,
+        },
+        BadOption::Format => match given(options, name) {
+            Some(text) => is_format(text),
             None => true,
         },
     }
@@ -159,6 +164,24 @@ pub(crate) fn day(options: &ArgMatches<'_>, option: BadOption) -> Option<Day>
     ensures { result ≡ day_of (name_of option) (rows_of (found_of options.now)) }
 {
     Day::parse(given(options, option.name())?).ok()
+}
+
+/// Returns whether a text says how a report is written.
+fn is_format(text: &str) -> bool
+    ensures { result ≡ is_format text.now }
+{
+    text == "text" || text == "csv"
+}
+
+/// Returns how a report is written.
+pub(crate) fn format(options: &ArgMatches<'_>) -> Format
+    ensures { result ≡ format_of (rows_of (found_of options.now)) }
+{
+    if value(options, "format") == "csv" {
+        Format::Csv
+    } else {
+        Format::Text
+    }
 }
 
 /// Returns the number of the first command or row to run.

@@ -13,7 +13,7 @@ use crate::fault::{BadOption, WordsFault};
 use crate::program::program;
 use crate::request::{Effect, Request};
 use crate::values::{
-    accounts, batch, book, code, day, effect, first_bad, from, has_row, notes, reference,
+    accounts, batch, book, code, day, effect, first_bad, format, from, has_row, notes, reference,
 };
 use clap::ArgMatches;
 use std::alloc::Global;
@@ -116,12 +116,15 @@ fn action(alloc: Global, word: &str, options: &ArgMatches<'_>) -> Result<Action,
         "holdings" => Ok(Action::Holdings {
             book,
             day: day(options, BadOption::Day),
+            format: format(options),
         }),
         "gains" => Ok(Action::Gains {
             book,
             first: day(options, BadOption::First),
             last: day(options, BadOption::Last),
+            format: format(options),
         }),
-        _ => Ok(Action::Journal { book }),
+        "journal" => Ok(Action::Journal { book }),
+        _ => Ok(Action::Verify { book }),
     }
 }

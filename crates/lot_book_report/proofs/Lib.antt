@@ -1,6 +1,6 @@
 pub mod CauseLemmas
+pub mod CsvLemmas
 pub mod FeedLemmas
-pub mod GainLemmas
 pub mod GivenLemmas
 pub mod HoldingLemmas
 pub mod JournalLemmas

@@ -1,5 +1,6 @@
 -- A book that a walk reads: what its calls leave of it, and what a fault tells.
 use Rattle.std.proofs.Common.{◌≡◌, ◌≢◌, ◌∙◌, Bool, false, true, List, Option, Some, None, Result, Ok, Err, IsFalse, IsTrue, refl, sym, ap, subst}
+use Rattle.std.specs.Prelude.{IfSome}
 use Rattle.sqlite.specs.Held.{state}
 use Rattle.sqlite.specs.State.{HasCleanDisk, State, Survives}
 use Rattle.sqlite.specs.Store.{Ghosts}
@@ -181,7 +182,7 @@ module _ {S : Type 0} (g : Ghosts S) where
       pub was_clean : (result : Result (Option Row) WalkFault) → Called result → HasCleanDisk (state g after.book.now.conn) → HasCleanDisk (state g before.book.now.conn)
       was_clean result walks clean = early (state g before.book.now.conn) (state g after.book.now.conn) walks.crash clean
 
-      read_on : (found : Option Row) → Called (Ok found) → IsRead start after.book.now
+      pub read_on : (found : Option Row) → Called (Ok found) → IsRead start after.book.now
       read_on found walks =
           read_then start before.book.now after.book.now reading.read
           (record { condition = walks.condition; same = walks.same; crash = walks.crash })
@@ -197,6 +198,10 @@ module _ {S : Type 0} (g : Ghosts S) where
             (λ ended. let is : false ≡ true = walks.ends.1 ended in cc);
         read = read_on (Some row) walks;
       }
+
+      pub goes_if_some : (found : Option Row) → Called (Ok found) → IfSome found (λ row. after.stage ≡ Going)
+      goes_if_some (Some row) walks = (walks_on row walks).going
+      goes_if_some None walks = tt
 
       pub walked_out : Called (Ok None) → IsRead start after.book.now
       walked_out walks = read_on None walks

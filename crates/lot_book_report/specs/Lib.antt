@@ -1,3 +1,4 @@
+pub mod Csv
 pub mod Fault
 pub mod Gains
 pub mod Holdings

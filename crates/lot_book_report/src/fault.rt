@@ -1,7 +1,7 @@
 ghost use Rattle.std.specs.Prelude.{◌≡◌};
 ghost use Rattle.lot_book_report.specs.Fault.{fault_name, is_of_writer, report_fault_name, walk_fault_name};
 
-use lot_report::{JournalFault, ReportFault, RowFault};
+use lot_report::{JournalFault, PrintFault, ReportFault, RowFault};
 use lot_store::{StoreFault, WalkFault};
 use std::alloc::AllocError;
 use thiserror::Error;
@@ -100,6 +100,19 @@ impl From<RowFault> for ShowFault {
 
     fn from(fault: RowFault) -> ShowFault {
         ShowFault::Row(fault)
+    }
+}
+
+impl From<PrintFault> for ShowFault {
+    ghost use Rattle.std.specs.Prelude.{◌≡◌};
+    ghost use Rattle.lot_book_report.specs.declared.fault.ShowFault.TheVariants.{Row};
+    ghost use Rattle.lot_report.specs.Report.{report_fault};
+    ghost use Rattle.lot_report.specs.declared.fault.RowFault.TheVariants.{Report};
+
+    ghost from_gives = { λ fault e. e ≡ Row (Report (report_fault fault)) };
+
+    fn from(fault: PrintFault) -> ShowFault {
+        ShowFault::Row(RowFault::Report(ReportFault::from(fault)))
     }
 }
 

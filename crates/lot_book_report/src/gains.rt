@@ -36,10 +36,10 @@ pub fn show_gains<S: Alter, W: CountedWrite>(
     let mut report = Gains::new(alloc);
     let mut walk = book.gains(first, last);
     'sales: for _ in 0..u64::MAX {
-        let Some(sale) = walk.next()? else {
+        let Some(sold) = walk.next()? else {
             return Ok(report.end(writer)?);
         };
-        report.row(&sale, writer)?;
+        report.row(&sold.sale, writer)?;
     }
     // No book has so many sales.
     Err(ShowFault::from(StoreFault::Memory))

@@ -76,7 +76,7 @@ fn write_holdings<S: Alter, W: CountedWrite>(
 }
 
 /// Returns a holding with its valuation.
-fn valued(prices: &Option<DayPrices>, holding: Holding) -> ValuedHolding
+pub(crate) fn valued(prices: &Option<DayPrices>, holding: Holding) -> ValuedHolding
     ensures { result ≡ valued_with prices.now holding }
 {
     let valuation = match prices {

@@ -3,15 +3,18 @@
 //! - `journal`: the entries of the book.
 //! - `holdings`: what the book holds, and what its lots are worth at a day; `prices`: the prices at that day.
 //! - `gains`: what its sales gained on the days of a range.
+//! - `csv`: the holdings and the gains as CSV.
 //! - `fault`: why a report ends before its end.
 #![tactic(auto)]
 
+mod csv;
 mod fault;
 mod gains;
 mod holdings;
 mod journal;
 mod prices;
 
+pub use csv::{show_gains_csv, show_holdings_csv};
 pub use fault::ShowFault;
 pub use gains::show_gains;
 pub use holdings::show_holdings;

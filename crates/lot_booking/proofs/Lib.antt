@@ -5,7 +5,7 @@ pub mod ChoiceLemmas
 pub mod EnoughLemmas
 pub mod ListLemmas
 pub mod TakeLemmas
-pub mod NumberLemmas
 pub mod OpeningOrders
 pub mod SameTies
 pub mod SomeOutcome
+pub mod FrontLemmas

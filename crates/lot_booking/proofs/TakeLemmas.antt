@@ -2,14 +2,14 @@
 use Rattle.std.specs.Prelude.{◌≡◌, ◌≢◌, ℕ, ◌+◌, ◌-◌, ◌≤◌, min, nat_eq, Bool, true, false, ◌||◌, cond, if◌then◌else◌, List, [], ◌∷◌, ◌++◌, map, ℤ, unsigned_abs, IsPermutation, ⊤}
 use Rattle.std.specs.Cmp.{IsStrictWeakOrder}
 use Rattle.std.specs.List.{AllByRecursion}
-use Rattle.std.specs.List.Sorted.{IsSortedBy}
 use Rattle.std.specs.Map.{keys_of}
 use Rattle.std.specs.Ordering.{is_eq}
 use Rattle.std.proofs.Common.{arith, refl, sym, ap, ◌∙◌, add-one, append_assoc, get_or, subst}
 use Rattle.std.proofs.lemmas.Bool.Decides.{nat_tests}
 use Rattle.std.proofs.lemmas.Cmp.{tied_itself}
-use Rattle.std.proofs.lemmas.List.Elements.{recursion_from_All}
-use Rattle.std.proofs.lemmas.List.Sorted.{IsPermutation-map, IsPermutation-sym, sorted_far}
+use Rattle.std.proofs.lemmas.List.{map-append}
+use Rattle.std.proofs.lemmas.List.Sorted.{IsPermutation-map, IsPermutation-sym}
+use Rattle.std.proofs.lemmas.List.Sums.{sum_by-append}
 use Rattle.std.proofs.lemmas.Map.Keys.{IsDistinct-head, IsDistinct-tail}
 use Rattle.lot_cost.specs.declared.lot_key.LotKey.{LotKey}
 use Rattle.lot_cost.specs.LotKey.{lot_cmp}
@@ -19,6 +19,7 @@ use Rattle.lot_inv.specs.Inventory.{held_in}
 use Rattle.lot_inv.specs.Lot.{AreNumberedBy, key_and_units}
 use Rattle.lot_inv.proofs.AvailableLemmas.{held_in-cons}
 use Rattle.lot_booking.specs.Choice.{AreInOrder, Choice, HaveDistinctKeys, InTurn, IsWhole, Takes, chosen_legs, given, with_sign_of}
+use Rattle.lot_booking.specs.Front.{AreAscending, IsFrontOf, is_earlier}
 use Rattle.lot_booking.specs.OpeningOrder.{OpenedLot, by_numbers}
 use Rattle.lot_booking.specs.Order.{IsOrder}
 use Rattle.lot_booking.specs.Way.{walked}
@@ -52,6 +53,36 @@ pub all_after_some : (units : ℤ) (left part : ℕ) (lot : LotKey × ℤ) (lots
     → legs ++ walked units left (lot ∷ lots) ≡ all → longer ++ walked units (left - part) lots ≡ all
 all_after_some units left part lot lots legs longer all is some pushed walk =
     rw (pushed, is) (append_assoc legs _ _ ∙ ap (λ w. legs ++ w) (sym (walked_some units left lot lots (λ e. some (is ∙ e)))) ∙ walk)
+
+-- where nothing is left to take there are no further legs
+walked_nothing : (units : ℤ) (lots : List (LotKey × ℤ)) → walked units 0 lots ≡ []
+walked_nothing units [] = refl
+walked_nothing units (lot ∷ lots) = walked_none units 0 lot lots (omega arith) ∙ walked_nothing units lots
+
+-- where the first lots hold enough, the others give nothing
+walked_enough : (units : ℤ) (left : ℕ) (first others : List (LotKey × ℤ)) → left ≤ held_in first
+    → walked units left (first ++ others) ≡ walked units left first
+walked_enough units left [] others enough =
+    let none : left ≡ 0 = omega arith in
+    ap (λ n. walked units n others) none ∙ walked_nothing units others
+walked_enough units left (lot ∷ first) others enough =
+    by_part (nat_eq (min left (unsigned_abs lot.1)) 0) refl (walked_enough units left first others)
+    (walked_enough units (left - min left (unsigned_abs lot.1)) first others (omega (arith, enough, held_in-cons lot first)))
+  where
+    by_part : (none : Bool) → nat_eq (min left (unsigned_abs lot.1)) 0 ≡ none
+        → (left ≤ held_in first → walked units left (first ++ others) ≡ walked units left first)
+        → walked units (left - min left (unsigned_abs lot.1)) (first ++ others) ≡ walked units (left - min left (unsigned_abs lot.1)) first
+        → walked units left ((lot ∷ first) ++ others) ≡ walked units left (lot ∷ first)
+    by_part true none same after =
+        let zero : min left (unsigned_abs lot.1) ≡ 0 = grind (arith, nat_tests) in
+        walked_none units left lot (first ++ others) zero
+        ∙ same (omega (arith, zero, enough, held_in-cons lot first))
+        ∙ sym (walked_none units left lot first zero)
+    by_part false some same after =
+        let more : min left (unsigned_abs lot.1) ≢ 0 = grind (arith, nat_tests) in
+        walked_some units left lot (first ++ others) more
+        ∙ ap (λ legs. (lot.0, with_sign_of units (min left (unsigned_abs lot.1))) ∷ legs) after
+        ∙ sym (walked_some units left lot first more)
 
 -- what the lots leave of what is still to be taken
 pub left_after : (left : ℕ) (lot : LotKey × ℤ) (lots : List (LotKey × ℤ)) (end : ℕ)
@@ -164,10 +195,6 @@ other_first one other not_one either = rw not_one at either
 next_place : {X : Type 0} (x : X) (xs : List X) (k : ℕ) (d : X) → get_or (x ∷ xs) (k + 1) d ≡ get_or xs k d
 next_place x xs k d = rw add-one refl
 
--- an order of lots as a sort asks it
-abbrev pub is_earlier : (OpenedLot → OpenedLot → Bool) → Lot → Lot → Bool
-is_earlier before a b = before (a.key, a.opening) (b.key, b.opening)
-
 module _ (before : OpenedLot → OpenedLot → Bool) (weak : IsStrictWeakOrder before) where
   pub orders_lots : IsStrictWeakOrder (is_earlier before)
   orders_lots = record {
@@ -176,29 +203,25 @@ module _ (before : OpenedLot → OpenedLot → Bool) (weak : IsStrictWeakOrder b
   }
 
   module _ (opening : LotKey → ℕ) (order : IsOrder (by_numbers before opening)) where
-    -- numbered lots with distinct keys that are sorted by an order are in that order
-    in_order-from_sorted : (lots : List Lot) → HaveDistinctKeys (map key_and_units lots) → AreNumberedBy opening lots → IsSortedBy (is_earlier before) lots
+    -- numbered lots with distinct keys that ascend by an order are in that order
+    in_order-from_ascending : (lots : List Lot) → HaveDistinctKeys (map key_and_units lots) → AreNumberedBy opening lots → AreAscending (is_earlier before) lots
         → AreInOrder (by_numbers before opening) (map key_and_units lots)
-    in_order-from_sorted [] distinct numbered sorted = tt
-    in_order-from_sorted (lot ∷ lots) distinct numbered sorted =
+    in_order-from_ascending [] distinct numbered ascend = tt
+    in_order-from_ascending (lot ∷ lots) distinct numbered ascend =
         let same = λ (a b : LotKey). is_eq (lot_cmp a b) in
         let first = by_numbers before opening in
         let rest = map key_and_units lots in
         let others = all_keys (λ (key : LotKey). same lot.key key ≡ false) rest (IsDistinct-head same lot.key (keys_of rest) distinct) in
-        let none_below = recursion_from_All (λ (later : Lot). is_earlier before later lot ≡ false) lots (λ k d short.
-        rw (next_place lot lots k d) at (sorted_far (is_earlier before) orders_lots (lot ∷ lots) sorted 0 (k + 1) d (omega arith) (omega arith))) in
         let none_first = all_mapped key_and_units (λ (later : LotKey × ℤ). first later.0 lot.key ≡ false) lots
         (all_both (λ (later : Lot). is_earlier before later lot ≡ false) (λ (later : Lot). later.opening ≡ opening later.key)
         (λ (later : Lot). first later.key lot.key ≡ false)
         (λ later not_below number. (λ i. before (later.key, sym number i) (lot.key, sym numbered.0 i)) ∙ not_below)
-        lots none_below numbered.1) in
-        let tail : IsSortedBy (is_earlier before) lots = λ k d low high.
-        rw (next_place lot lots (k + 1) d, next_place lot lots k d) at (sorted (k + 1) d (omega arith) (omega arith)) in (
+        lots ascend.0 numbered.1) in (
           all_both (λ (later : LotKey × ℤ). first later.0 lot.key ≡ false) (λ (later : LotKey × ℤ). same lot.key later.0 ≡ false)
               (λ (later : LotKey × ℤ). first lot.key later.0 ≡ true) (λ later not_first other.
               let apart : later.0 ≢ lot.key = λ e. let itself = tied_itself lots_total lot.key in let tied = subst (λ (key : LotKey). same lot.key key ≡ false) e other in cc in
               other_first (first later.0 lot.key) (first lot.key later.0) not_first (order.total later.0 lot.key apart)) rest none_first others,
-          in_order-from_sorted lots (IsDistinct-tail same lot.key (keys_of rest) distinct) numbered.1 tail,
+          in_order-from_ascending lots (IsDistinct-tail same lot.key (keys_of rest) distinct) numbered.1 ascend.1,
         )
 
 -- ---- what is taken
@@ -225,15 +248,23 @@ takes-in_order before order lots listed units legs distinct same ordered enough 
       chosen = walked_legs ∙ sym (walk-legs units choice amount listed walk);
     }
 
--- the same of lots that a sort put in their order
+-- the same of the lots that come first, where they hold enough
 pub takes-walked : (before : OpenedLot → OpenedLot → Bool) → IsStrictWeakOrder before → (opening : LotKey → ℕ) → IsOrder (by_numbers before opening)
-    → (lots listed : List Lot) (units : ℤ) (legs : List (LotKey × ℤ))
-    → HaveDistinctKeys (map key_and_units lots) → AreNumberedBy opening lots → IsPermutation lots listed → IsSortedBy (is_earlier before) listed
-    → unsigned_abs units ≤ held_in (map key_and_units listed) → legs ≡ walked units (unsigned_abs units) (map key_and_units listed)
+    → (lots front : List Lot) (units : ℤ) (legs : List (LotKey × ℤ))
+    → HaveDistinctKeys (map key_and_units lots) → AreNumberedBy opening lots → IsFrontOf (is_earlier before) lots front
+    → unsigned_abs units ≤ held_in (map key_and_units front) → legs ≡ walked units (unsigned_abs units) (map key_and_units front)
     → Takes (InTurn (by_numbers before opening)) (by_numbers before opening) (map key_and_units lots) units legs
-takes-walked before weak opening order lots listed units legs distinct numbered moved sorted enough walked_legs =
-    let same = IsPermutation-map key_and_units lots listed moved in
-    let numbered_listed = all_permuted (λ (lot : Lot). lot.opening ≡ opening lot.key) lots listed moved numbered in
+takes-walked before weak opening order lots front units legs distinct numbered leads enough walked_legs =
+    let amount = unsigned_abs units in
+    let first = map key_and_units front in
+    let others = map key_and_units leads.others in
+    let listed = front ++ leads.others in
+    let apart : map key_and_units listed ≡ first ++ others = map-append key_and_units front leads.others in
+    let same = IsPermutation-map key_and_units lots listed leads.same in
+    let numbered_listed = all_permuted (λ (lot : Lot). lot.opening ≡ opening lot.key) lots listed leads.same numbered in
+    let held = sum_by-append (λ (lot : LotKey × ℤ). unsigned_abs lot.1) first others in
     takes-in_order (by_numbers before opening) order (map key_and_units lots) (map key_and_units listed) units legs distinct same
-    (in_order-from_sorted before weak opening order listed (distinct-permuted (map key_and_units lots) (map key_and_units listed) same distinct) numbered_listed sorted)
-    enough walked_legs
+    (in_order-from_ascending before weak opening order listed (distinct-permuted (map key_and_units lots) (map key_and_units listed) same distinct)
+    numbered_listed leads.sorted)
+    (rw apart (omega (arith, held, enough)))
+    (walked_legs ∙ sym (walked_enough units amount first others enough) ∙ ap (walked units amount) (sym apart))

@@ -6,3 +6,4 @@ pub mod OpeningOrderLaws
 pub mod Order
 pub mod OrderLaws
 pub mod Way
+pub mod Front

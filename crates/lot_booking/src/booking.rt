@@ -10,15 +10,15 @@ ghost use Rattle.lot_booking.specs.Choice.{HaveDistinctKeys, Takes};
 ghost use Rattle.lot_booking.specs.Method.{may_reduce, order_by, rule_by, ties_by};
 ghost use Rattle.lot_booking.specs.Way.{FallShort, StopsOpening, Suffice};
 
-use crate::choice::take_enough;
 use crate::cost::{given, number};
 use crate::edition::Edition;
 use crate::fault::BookingFault;
+use crate::front::take_enough;
 use crate::order::{Highest, HighestOpened, Newest, NewestOpened, Oldest, OldestOpened};
 use crate::selection::Selection;
 use lot_base::{Commodity, Day};
 use lot_cost::{Cost, CostSpec, LotKey, Method};
-use lot_inv::{Available, Inventory, Lot, is_other_sign};
+use lot_inv::{Available, Inventory, LentLot, Lot, is_other_sign};
 use lot_num::{Rate, Units};
 use std::alloc::{AllocError, Global};
 
@@ -141,15 +141,15 @@ pub fn fitting(
     Ok(lots)
 }
 
-/// Returns the lots that a reduction may take at that number, as `fitting` does with the number in the specification. The
-/// only error is out of memory.
-fn fitting_at(
-    inventory: &Inventory,
+/// Returns the lots that a reduction may take at that number, as `fitting` does with the number in the specification, with
+/// their keys lent. The only error is out of memory.
+fn fitting_at<'a>(
+    inventory: &'a Inventory,
     commodity: &Commodity,
     units: Units,
     number: &Option<Rate>,
     spec: &CostSpec,
-) -> Result<Vec<Lot>, AllocError>
+) -> Result<Vec<LentLot<'a>>, AllocError>
     requires { (spec.now.number ≡ None) ⊎ (spec.now.number ≡ number.now) }
     ensures all { IfOk result (λ lots. map key_and_units lots.items
         ≡ fitting inventory.now.held commodity.now units (with_number number.now spec.now)) }
@@ -157,28 +157,24 @@ fn fitting_at(
         AreNumberedBy (opening_at inventory.now commodity.now) lots.items) }
     ensures distinct { IfOk result (λ lots. HaveDistinctKeys (map key_and_units lots.items)) }
 {
-    let mut lots = fitting(inventory, commodity, units, spec)?;
-    if let Some(number) = number {
-        lots.retain(|lot| lot.key.number == *number);
-    }
-    Ok(lots)
+    inventory.takeable(commodity, units, number, spec)
 }
 
 /// Returns the legs that units take by a selection of lots that suffice for them. The only error is out of memory.
 fn take_by(
     alloc: Global,
     selection: Selection,
-    lots: Vec<Lot>,
+    lots: Vec<LentLot<'_>>,
     units: Units,
 ) -> Result<Vec<(LotKey, Units)>, AllocError>
     requires reduces { may_reduce selection.method ≡ true }
     requires distinct { HaveDistinctKeys (map key_and_units lots.items) }
     requires suffice { Suffice selection.method (length (map key_and_units lots.items))
         (held_in (map key_and_units lots.items)) (unsigned_abs units) }
-    ensures taken { IfOk result (λ legs. (opening : LotKey → ℕ) → AreNumberedBy opening lots.items
+    ensures taken { IfOk result (λ legs. (opening : LotKey → ℕ) → AreNumberedBy opening lots.entry.items
         → Takes (rule_by (ties_by selection.edition opening) selection.method)
         (order_by (ties_by selection.edition opening) selection.method)
-        (map key_and_units lots.items) units legs.items) }
+        (map key_and_units lots.entry.items) units legs.items) }
 {
     match (selection.method, selection.edition) {
         // It lists its legs in the order of the keys in both editions.

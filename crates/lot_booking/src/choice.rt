@@ -12,7 +12,7 @@ ghost use Rattle.lot_booking.specs.declared.fault.TakeFault.TheVariants.{Memory,
 use crate::fault::TakeFault;
 use crate::order::LotOrder;
 use lot_cost::LotKey;
-use lot_inv::Lot;
+use lot_inv::{LentLot, Lot};
 use lot_num::Units;
 use std::alloc::{AllocError, Global};
 use std::cmp::Ordering;
@@ -45,11 +45,11 @@ pub fn take<O: LotOrder>(
     if held_in(&lots) < u128::from(units.mantissa().unsigned_abs()) {
         return Err(TakeFault::NotEnough);
     }
-    Ok(take_enough::<O>(alloc, lots, units)?)
+    Ok(take_sorted::<O>(alloc, lots, units)?)
 }
 
-/// The same of lots that hold enough. The only error is out of memory.
-pub(crate) fn take_enough<O: LotOrder>(
+/// The same of lots that hold enough, which are sorted. The only error is out of memory.
+fn take_sorted<O: LotOrder>(
     alloc: Global,
     lots: Vec<Lot>,
     units: Units,
@@ -62,12 +62,12 @@ pub(crate) fn take_enough<O: LotOrder>(
     ensures memory { OnErr result (0 < unsigned_abs units) }
 {
     let mut lots = lots;
-    lots.sort_unstable_by(|a, b| compare::<O>(a, b));
+    lots.sort_unstable_by(|a, b| compare::<O>(&a.lend(), &b.lend()));
     in_turn(alloc, lots, units)
 }
 
 /// Returns what the lots hold, sign aside.
-fn held_in(lots: &[Lot]) -> u128
+pub(crate) fn held_in(lots: &[Lot]) -> u128
     ensures { result ≡ held_in (map key_and_units lots.now) }
 {
     let mut held = 0;
@@ -78,7 +78,7 @@ fn held_in(lots: &[Lot]) -> u128
 }
 
 /// Returns how an order compares two lots.
-fn compare<O: LotOrder>(a: &Lot, b: &Lot) -> Ordering
+pub(crate) fn compare<O: LotOrder>(a: &LentLot<'_>, b: &LentLot<'_>) -> Ordering
     ensures { is_lt result ≡ O.before (a.now.key, a.now.opening) (b.now.key, b.now.opening) }
 {
     if O::before(a, b) {
@@ -91,7 +91,11 @@ fn compare<O: LotOrder>(a: &Lot, b: &Lot) -> Ordering
 }
 
 /// Returns the legs that take lots as they stand in the list, each whole before the next one, until the units are used up.
-fn in_turn(alloc: Global, lots: Vec<Lot>, units: Units) -> Result<Vec<(LotKey, Units)>, AllocError>
+pub(crate) fn in_turn(
+    alloc: Global,
+    lots: Vec<Lot>,
+    units: Units,
+) -> Result<Vec<(LotKey, Units)>, AllocError>
     ensures legs { IfOk result (λ legs. legs.items
         ≡ walked units (unsigned_abs units) (map key_and_units lots.items)) }
     ensures memory { OnErr result (0 < unsigned_abs units) }

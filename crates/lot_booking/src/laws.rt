@@ -37,6 +37,7 @@ pub fn orders_are_those_of_their_names(a: &Lot, b: &Lot) -> ((bool, bool, bool),
       highest_opened_first (a.now.key, a.now.opening) (b.now.key, b.now.opening),
     ) }
 {
+    let (a, b) = (&a.lend(), &b.lend());
     (
         (
             Oldest::before(a, b),

@@ -5,6 +5,7 @@
 //! - `selection`: `Selection`, how lots are selected: by which method, in which edition.
 //! - `order`: `LotOrder`, in which order lots are taken, and its six orders: three of each edition.
 //! - `choice`: `take`, the lots that units take in an order.
+//! - `front`: the lots that come first in an order.
 //! - `cost`: what a cost gives of a lot.
 //! - `booking`: `book`, the legs of a posting with braces, and `fitting`, the lots that it may take.
 //! - `fault`: `BookingFault` and `TakeFault`, why there are none.
@@ -16,6 +17,7 @@ mod choice;
 mod cost;
 mod edition;
 mod fault;
+mod front;
 pub mod laws;
 mod order;
 mod selection;

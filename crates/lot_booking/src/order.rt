@@ -4,7 +4,7 @@ ghost use Rattle.lot_cost.specs.declared.lot_key.LotKey.{LotKey};
 ghost use Rattle.lot_booking.specs.OpeningOrder.{OpenedLot, by_numbers, opened_cmp};
 ghost use Rattle.lot_booking.specs.Order.{IsOrder};
 
-use lot_inv::Lot;
+use lot_inv::LentLot;
 use std::cmp::Ordering;
 
 mod highest;
@@ -30,7 +30,7 @@ pub trait LotOrder {
     ghost before: { OpenedLot → OpenedLot → Bool };
 
     /// Returns whether the first lot is taken before the second.
-    fn before(a: &Lot, b: &Lot) -> bool
+    fn before(a: &LentLot<'_>, b: &LentLot<'_>) -> bool
         ensures { result ≡ before (a.now.key, a.now.opening) (b.now.key, b.now.opening) };
 
     ghost is_order: { (opening : LotKey → ℕ) → IsOrder (by_numbers before opening) };
@@ -41,8 +41,8 @@ pub trait LotOrder {
 
 /// Returns how two lots compare by their openings: the lot that was opened first is less, and of lots with one opening number
 /// the first by key.
-fn opened_cmp(a: &Lot, b: &Lot) -> Ordering
+fn opened_cmp(a: &LentLot<'_>, b: &LentLot<'_>) -> Ordering
     ensures { result ≡ opened_cmp (a.now.key, a.now.opening) (b.now.key, b.now.opening) }
 {
-    a.opening.cmp(&b.opening).then_with(|| a.key.cmp(&b.key))
+    a.opening.cmp(&b.opening).then_with(|| a.key.cmp(b.key))
 }

@@ -7,3 +7,4 @@ pub mod RowLemmas
 pub mod RunLemmas
 pub mod HeadlineLemmas
 pub mod ReopenLemmas
+pub mod VerificationLemmas

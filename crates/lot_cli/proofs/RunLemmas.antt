@@ -1,7 +1,6 @@
 -- A run on a database that was only looked at before is a run on the database as it was.
-use Rattle.std.proofs.Common.{◌≡◌, ◌≢◌, inl, inr, ℕ, List, [], ◌∷◌, ◌++◌, None, Ok, Err, Option, Result, arith, refl, subst, sym}
+use Rattle.std.proofs.Common.{◌≡◌, ◌≢◌, inl, inr, ℕ, List, [], ◌∷◌, ◌++◌, None, Ok, Err, Option, Result, arith, refl}
 use Rattle.sqlite.proofs.StateLemmas.{survives_then}
-use Rattle.sqlite.specs.Effect.{Database}
 use Rattle.sqlite.specs.State.{HasCleanDisk, IsUnchanged, State, Survives}
 use Rattle.sqlite.specs.Tree.{Trees}
 use Rattle.lot_book.specs.Facts.{Entry}
@@ -11,7 +10,7 @@ use Rattle.lot_command.specs.declared.command.Command.{Command}
 use Rattle.lot_command.specs.declared.key.Key.{Key}
 use Rattle.lot_stream.specs.Status.{code_of}
 use Rattle.lot_stored.specs.StandFor.{Stands}
-use Rattle.lot_rows.specs.Tables.{Has, Tables, layout}
+use Rattle.lot_rows.specs.Tables.{Has, Tables}
 use Rattle.lot_cli.specs.Runs.{RunsOn, status_of_run}
 use Rattle.lot_cli.specs.Says.{Halts, Told}
 use Rattle.lot_cli.specs.declared.halt.Halt.TheVariants as halt
@@ -35,7 +34,7 @@ use Rattle.lot_store.specs.declared.run.Ending.{Ending}
 use Rattle.lot_store.specs.declared.run.Ending.TheVariants.{Complete, Output, Stopped}
 use Rattle.lot_store.specs.declared.run.RunEnd.{RunEnd}
 use Rattle.lot_rows.proofs.StateLemmas.{failed_then}
-use Rattle.lot_table.specs.Book.{Holds, IsUndone}
+use Rattle.lot_table.specs.Book.{IsUndone}
 use Rattle.lot_table.specs.Statement.{DiskFailed}
 
 -- a crash may leave no more after the look than before, and a disk that failed since then has failed since before

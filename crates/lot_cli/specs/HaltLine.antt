@@ -6,13 +6,15 @@ use Rattle.lot_stream.specs.declared.status.Status.TheVariants.{Stopped}
 use Rattle.lot_report.specs.Printed.{line}
 use Rattle.lot_input.specs.InputLine.{input_line, status_of_input}
 use Rattle.lot_cli.specs.declared.halt.Halt.{Halt}
-use Rattle.lot_cli.specs.declared.halt.Halt.TheVariants.{Adopt, Create, Input, Migrate}
+use Rattle.lot_cli.specs.declared.halt.Halt.TheVariants.{Adopt, Create, Input, Migrate, Verify}
 use Rattle.lot_migrate.specs.declared.fault.MigrateFault.{MigrateFault}
 use Rattle.lot_migrate.specs.declared.fault.MigrateFault.TheVariants as migrate
 use Rattle.lot_store.specs.declared.fault.AdoptFault.{AdoptFault}
 use Rattle.lot_store.specs.declared.fault.AdoptFault.TheVariants as adopt
 use Rattle.lot_store.specs.declared.fault.CreateFault.{CreateFault}
 use Rattle.lot_store.specs.declared.fault.CreateFault.TheVariants as create
+use Rattle.lot_verify.specs.declared.fault.VerifyFault.{VerifyFault}
+use Rattle.lot_verify.specs.declared.fault.VerifyFault.TheVariants as verify
 
 -- the code and the name of a fault of making a book
 abbrev pub create_name : CreateFault → List ℕ
@@ -38,11 +40,21 @@ migrate_name migrate.InDoubt = codes "S5 InDoubt"
 migrate_name migrate.Damaged = codes "S7 Damaged"
 migrate_name migrate.Memory = codes "Memory"
 
+-- the code and the name of a fault of verifying a book
+abbrev pub verify_name : VerifyFault → List ℕ
+verify_name verify.NotABook = codes "S1 NotABook"
+verify_name verify.NewerEdition = codes "S2 NewerEdition"
+verify_name verify.OlderEdition = codes "S3 OlderEdition"
+verify_name verify.Device = codes "S4 Device"
+verify_name verify.Damaged = codes "S7 Damaged"
+verify_name verify.Memory = codes "Memory"
+
 abbrev pub halt_line : Halt → List ℕ
 halt_line (Input fault) = input_line fault
 halt_line (Create fault) = line (codes "fault " ++ create_name fault)
 halt_line (Adopt fault) = line (codes "fault " ++ adopt_name fault)
 halt_line (Migrate fault) = line (codes "fault " ++ migrate_name fault)
+halt_line (Verify fault) = line (codes "fault " ++ verify_name fault)
 
 -- a fault of the input has its own status; one of the store stops the action
 abbrev pub status_of_halt : Halt → Status
@@ -50,3 +62,4 @@ status_of_halt (Input fault) = status_of_input fault
 status_of_halt (Create fault) = Stopped
 status_of_halt (Adopt fault) = Stopped
 status_of_halt (Migrate fault) = Stopped
+status_of_halt (Verify fault) = Stopped

@@ -15,8 +15,10 @@ use Rattle.lot_cli.specs.Runs.{IsLeft}
 use Rattle.lot_store.specs.Create.{IsTaken}
 use Rattle.lot_cli.specs.Says.{Halts, Says, Told}
 use Rattle.lot_cli.specs.declared.halt.Halt.TheVariants as halt
+use Rattle.lot_args.specs.declared.action.Format.TheVariants.{Csv, Text}
 use Rattle.lot_cli.specs.declared.report.Report.{Report}
 use Rattle.lot_cli.specs.declared.report.Report.TheVariants.{Holdings, Gains, Journal}
+use Rattle.lot_book_report.specs.Csv.{ShowsAllHoldingsCsv, ShowsAllSalesCsv, ShowsGainsCsv, ShowsHoldingsCsv, ShowsSomeGainsCsv, ShowsSomeHoldingsCsv}
 use Rattle.lot_book_report.specs.Fault.{HasCause, fault_name, is_of_writer}
 use Rattle.lot_book_report.specs.Gains.{ShowsAllSales, ShowsGains, ShowsSomeGains}
 use Rattle.lot_book_report.specs.Holdings.{ShowsAllHoldings, ShowsHoldings, ShowsSomeHoldings}
@@ -67,23 +69,29 @@ pub record IsRead (old new : State) (shown : Result (Unit {0}) ShowFault) : Type
 -- ---- a report
 
 -- How much of a report of a book with these entries is written: of what it holds, with what its lots are worth on a day; of
--- what its sales gained, from the first to the last day, both included; or of its entries.
+-- what its sales gained, from the first to the last day, both included; or of its entries. The first two are as text or as CSV.
 abbrev pub ShowsReport : Report → List Entry → Option (List ℕ) → Option (List ℕ) → Result (Unit {0}) ShowFault → Type 0
-ShowsReport (Holdings day) entries = ShowsHoldings entries day
-ShowsReport (Gains first last) entries = ShowsGains entries (first, last)
+ShowsReport (Holdings day Text) entries = ShowsHoldings entries day
+ShowsReport (Holdings day Csv) entries = ShowsHoldingsCsv entries day
+ShowsReport (Gains first last Text) entries = ShowsGains entries (first, last)
+ShowsReport (Gains first last Csv) entries = ShowsGainsCsv entries (first, last)
 ShowsReport Journal entries = ShowsJournal (entry_rows 1 entries)
 
 -- whatever the tables are, the report of some rows is written, or as much of it as its fault leaves
 abbrev pub ShowsSome : Report → Option (List ℕ) → Option (List ℕ) → Result (Unit {0}) ShowFault → Type 0
-ShowsSome (Holdings day) = ShowsSomeHoldings
-ShowsSome (Gains first last) = ShowsSomeGains
+ShowsSome (Holdings day Text) = ShowsSomeHoldings
+ShowsSome (Holdings day Csv) = ShowsSomeHoldingsCsv day
+ShowsSome (Gains first last Text) = ShowsSomeGains
+ShowsSome (Gains first last Csv) = ShowsSomeGainsCsv
 ShowsSome Journal = ShowsSomeJournal
 
 -- Where no fault ends it, the report is that of all rows of its tables, whatever those stand for: of plain units and of lots,
 -- of the sales on the days of the range, or of the entries.
 abbrev pub ShowsAllRows : Report → Tables → Option (List ℕ) → Option (List ℕ) → Result (Unit {0}) ShowFault → Type 0
-ShowsAllRows (Holdings day) tables = ShowsAllHoldings tables day
-ShowsAllRows (Gains first last) tables = ShowsAllSales tables (first, last)
+ShowsAllRows (Holdings day Text) tables = ShowsAllHoldings tables day
+ShowsAllRows (Holdings day Csv) tables = ShowsAllHoldingsCsv tables day
+ShowsAllRows (Gains first last Text) tables = ShowsAllSales tables (first, last)
+ShowsAllRows (Gains first last Csv) tables = ShowsAllSalesCsv tables (first, last)
 ShowsAllRows Journal tables = ShowsAllEntries tables
 
 -- a report of the book that is there is written, as far as its fault lets it, and concluded; or the database isn't taken up

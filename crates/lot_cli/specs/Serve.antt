@@ -20,8 +20,13 @@ use Rattle.lot_store.specs.Create.{IsHandedBack, RefusedFor}
 use Rattle.lot_store.specs.declared.fault.CreateFault.{CreateFault}
 use Rattle.lot_store.specs.declared.fault.CreateFault.TheVariants.{NotABook}
 use Rattle.lot_table.specs.Shape.{schema_of}
+use Rattle.lot_table.specs.Statement.{DiskFailed}
+use Rattle.lot_page.specs.Cursor.{Stays}
+use Rattle.lot_rows.specs.Tables.{Has, Tables}
+use Rattle.lot_verify.specs.declared.fault.VerifyFault.{VerifyFault}
+use Rattle.lot_verify.specs.declared.fault.VerifyFault.TheVariants as verify
 use Rattle.lot_args.specs.declared.action.Action.{Action}
-use Rattle.lot_args.specs.declared.action.Action.TheVariants.{Check, Init, Migrate, Post, PostRow, Import, Holdings, Gains, Journal}
+use Rattle.lot_args.specs.declared.action.Action.TheVariants.{Check, Init, Migrate, Post, PostRow, Import, Holdings, Gains, Journal, Verify}
 use Rattle.std.specs.Io.KnownBytes.{Appends}
 
 -- ---- making a book
@@ -80,6 +85,33 @@ SaysMigrated old new before written calls told =
     ⊎ ((fault : MigrateFault) × IsNotMigrated old new fault
     × Halts (halt.Migrate fault) before written calls told)
 
+-- ---- verifying a book
+
+abbrev pub verified_line : List ℕ
+verified_line = line (codes "book verified")
+
+-- where the database has the tables of a book alone, they stand for one; nothing is changed
+pub record IsVerified (old new : State) : Type 0 where
+  pub stands : HasCleanDisk new → (tables : Tables) → Has old tables → (entries : List Entry) × Stands old entries
+  pub same : HasCleanDisk new → Stays old new
+  pub crash : Survives old new (λ _. ⊥)
+
+-- It isn't verified, and stands for no book of this edition, unless memory or the disk failed. The database is handed back as
+-- it was.
+pub record IsNotVerified (old new : State) (fault : VerifyFault) : Type 0 where
+  pub refused : HasCleanDisk new → fault ≢ verify.Device → fault ≢ verify.Memory
+      → (entries : List Entry) → ¬ Stands old entries
+  pub device : HasCleanDisk new → fault ≡ verify.Device → DiskFailed old new
+  pub handed_back : HasCleanDisk new → IsHandedBack old new
+  pub crash : Survives old new (λ _. ⊥)
+
+abbrev pub SaysVerified : State → State → Option (List ℕ) → Option (List ℕ) → WritesMade → Told
+    → Type 0
+SaysVerified old new before written calls told =
+    (IsVerified old new × Succeeds verified_line before written calls told)
+    ⊎ ((fault : VerifyFault) × IsNotVerified old new fault
+    × Halts (halt.Verify fault) before written calls told)
+
 -- ---- any action
 
 -- the action asks the reader for nothing
@@ -90,9 +122,10 @@ ReadsNothing (Migrate book) = ⊤
 ReadsNothing (Post book batch from) = ⊥
 ReadsNothing (PostRow book batch reference) = ⊥
 ReadsNothing (Import book batch accounts from) = ⊥
-ReadsNothing (Holdings book day) = ⊤
-ReadsNothing (Gains book first last) = ⊤
+ReadsNothing (Holdings book day format) = ⊤
+ReadsNothing (Gains book first last format) = ⊤
 ReadsNothing (Journal book) = ⊤
+ReadsNothing (Verify book) = ⊤
 
 -- the numbers with which an action ends: a post in place of a row may find that its text doesn't fit
 abbrev pub EndsWith : Action → ℕ → Type 0
@@ -102,9 +135,10 @@ EndsWith (Init book) status = IsStatus status
 EndsWith (Migrate book) status = IsStatus status
 EndsWith (Post book batch from) status = IsStatus status
 EndsWith (Import book batch accounts from) status = IsStatus status
-EndsWith (Holdings book day) status = IsStatus status
-EndsWith (Gains book first last) status = IsStatus status
+EndsWith (Holdings book day format) status = IsStatus status
+EndsWith (Gains book first last format) status = IsStatus status
 EndsWith (Journal book) status = IsStatus status
+EndsWith (Verify book) status = IsStatus status
 
 -- a call: what is known of the reader, the database before it and after it, what is known of the bytes that were
 -- written before it and after it, and of the calls of the writer, and what it tells of its end
@@ -129,6 +163,7 @@ Serves (Migrate book) c = SaysMigrated c.old c.new c.before c.written c.calls c.
 Serves (Post book batch from) c = Posts batch from c.input c.old c.new c.before c.written c.calls c.told
 Serves (PostRow book batch reference) c = PostsRow batch reference c.input c.old c.new c.before c.written c.calls c.told
 Serves (Import book batch accounts from) c = Imports batch accounts from c.input c.old c.new c.before c.written c.calls c.told
-Serves (Holdings book day) c = Reports (report.Holdings day) c.old c.new c.before c.written c.calls c.told
-Serves (Gains book first last) c = Reports (report.Gains first last) c.old c.new c.before c.written c.calls c.told
+Serves (Holdings book day format) c = Reports (report.Holdings day format) c.old c.new c.before c.written c.calls c.told
+Serves (Gains book first last format) c = Reports (report.Gains first last format) c.old c.new c.before c.written c.calls c.told
 Serves (Journal book) c = Reports report.Journal c.old c.new c.before c.written c.calls c.told
+Serves (Verify book) c = SaysVerified c.old c.new c.before c.written c.calls c.told

@@ -10,6 +10,7 @@ use crate::migration::migrate;
 use crate::post::{post, post_row};
 use crate::report::{Report, write_report};
 use crate::run::{halted, tell};
+use crate::verification::verify;
 use lot_args::Action;
 use lot_check::check;
 use lot_migrate::Progress;
@@ -39,12 +40,15 @@ pub struct Served<S: Alter> {
 ///   the input changes nothing.
 /// - `post` in place of a row of a broker file reads all that the reader has as ledger text, and applies its one command under
 ///   the key of the row. Where the text has no command, or several, nothing is written and nothing changes.
-/// - `holdings`, `gains` and `journal` take the book up and write the report, each row as it is read; they read no input and
-///   change nothing. Behind a report that ends before its end stands one line with the fault, unless the writer failed.
+/// - `holdings`, `gains` and `journal` take the book up and write the report, the first two as text or as CSV, each row as it
+///   is read; they read no input and change nothing. Behind a report that ends before its end stands one line with the fault,
+///   unless the writer failed.
+/// - `verify` judges the book again from its entries, compares every table, and writes `book verified`; it reads no input
+///   and changes nothing.
 /// - No words ask for a check, which leaves the book alone.
 ///
 /// A fault is one line (docs/FORMATS.md, Faults). Returns the status of the program: 0 where all
-/// commands were accepted or repeated, the book was made or migrated, or the report is whole; 1
+/// commands were accepted or repeated, the book was made, migrated or verified, or the report is whole; 1
 /// where some were refused; 2 where the text for a row isn't one command; 3 for a fault of the
 /// input; 4 for a fault of the book, of the output or of memory, which goes before 1. It is told
 /// how far a migration is, and nothing of other actions.
@@ -97,17 +101,28 @@ pub fn serve<R: CountedRead, W: CountedWrite, P: Progress, S: Alter>(
             from,
             ..
         } => import(alloc, batch, accounts, *from, reader, writer, conn),
-        Action::Holdings { day, .. } => {
-            write_report(alloc, Report::Holdings { day: *day }, writer, conn)
+        Action::Holdings { day, format, .. } => {
+            let asked = Report::Holdings {
+                day: *day,
+                format: *format,
+            };
+            write_report(alloc, asked, writer, conn)
         }
-        Action::Gains { first, last, .. } => {
+        Action::Gains {
+            first,
+            last,
+            format,
+            ..
+        } => {
             let asked = Report::Gains {
                 first: *first,
                 last: *last,
+                format: *format,
             };
             write_report(alloc, asked, writer, conn)
         }
         Action::Journal { .. } => write_report(alloc, Report::Journal, writer, conn),
+        Action::Verify { .. } => verify(alloc, writer, conn),
     }
 }
 

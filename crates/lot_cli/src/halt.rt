@@ -7,6 +7,7 @@ ghost use Rattle.lot_cli.specs.HaltLine.{
   halt_line,
   migrate_name,
   status_of_halt,
+  verify_name,
 };
 
 use lot_input::{InputFault, print_input_fault};
@@ -14,6 +15,7 @@ use lot_migrate::MigrateFault;
 use lot_report::{CountedWrite, PrintFault, print_texts};
 use lot_store::{AdoptFault, CreateFault};
 use lot_stream::Status;
+use lot_verify::VerifyFault;
 
 /// Why an action ends before its first command.
 #[derive(Clone, Copy, Debug, PartialEq, Eq)]
@@ -26,6 +28,8 @@ pub enum Halt {
     Adopt(AdoptFault),
     /// The book isn't migrated.
     Migrate(MigrateFault),
+    /// The book isn't verified.
+    Verify(VerifyFault),
 }
 
 impl Halt {
@@ -35,7 +39,9 @@ impl Halt {
     {
         match self {
             Halt::Input(fault) => fault.status(),
-            Halt::Create(_) | Halt::Adopt(_) | Halt::Migrate(_) => Status::Stopped,
+            Halt::Create(_) | Halt::Adopt(_) | Halt::Migrate(_) | Halt::Verify(_) => {
+                Status::Stopped
+            }
         }
     }
 }
@@ -54,6 +60,7 @@ pub(crate) fn print_halt<W: CountedWrite>(writer: &mut W, halt: Halt) -> Result<
         Halt::Create(fault) => print_texts(writer, &["fault ", create_name(fault), "\n"]),
         Halt::Adopt(fault) => print_texts(writer, &["fault ", adopt_name(fault), "\n"]),
         Halt::Migrate(fault) => print_texts(writer, &["fault ", migrate_name(fault), "\n"]),
+        Halt::Verify(fault) => print_texts(writer, &["fault ", verify_name(fault), "\n"]),
     }
 }
 
@@ -93,5 +100,19 @@ fn migrate_name(fault: MigrateFault) -> &'static str
         MigrateFault::InDoubt => "S5 InDoubt",
         MigrateFault::Damaged => "S7 Damaged",
         MigrateFault::Memory => "Memory",
+    }
+}
+
+/// Returns the code and the name of a fault of verifying a book.
+fn verify_name(fault: VerifyFault) -> &'static str
+    ensures { result.now ≡ verify_name fault }
+{
+    match fault {
+        VerifyFault::NotABook => "S1 NotABook",
+        VerifyFault::NewerEdition => "S2 NewerEdition",
+        VerifyFault::OlderEdition => "S3 OlderEdition",
+        VerifyFault::Device => "S4 Device",
+        VerifyFault::Damaged => "S7 Damaged",
+        VerifyFault::Memory => "Memory",
     }
 }

@@ -55,10 +55,10 @@ pub fn sending_again_is_one_run()
         → SentAgain before commands replied again book → IsOneRun before commands replied again book }
 {}
 
-/// A row of a broker file acts once. Where it is accepted, its text stands under its key. While it stands there, the row is a
-/// repeat where it comes again to the same accounts, and another row with its `ref` is refused; neither changes anything.
-/// While a command stands there that was posted in place of the row, the row is refused when its file comes, or a repeat where
-/// it says that same command, and changes nothing.
+/// A row of a broker file acts once. Where it is accepted, its text stands under its key. While it stands there, the row is
+/// a repeat where it comes again to the same accounts, and another row with its `ref` is refused; neither changes anything.
+/// While a command stands there that was posted in place of the row, the row changes nothing when its file comes: it is a
+/// repeat if it says that command, else it is refused.
 pub fn a_row_acts_once()
     ensures stands { (book after : List Entry) (source : List ℕ) (accounts : Accounts) (row : Row) (keyed : Key × Command)
         → IsKeyed source accounts row keyed → JudgesOn book keyed.0 keyed.1 Accepted after

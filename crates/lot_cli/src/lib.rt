@@ -5,7 +5,7 @@
 //! - `action`: `serve`, and what an action leaves.
 //! - `post`: ledger text posted to the book that is there; `import`: a broker file. What an input gives is the affair of
 //!   `lot_input`.
-//! - `migration`: a book of edition 1 taken over.
+//! - `migration`: a book of edition 1 taken over; `verification`: a book verified.
 //! - `run`: commands run on the book that is there.
 //! - `report`: reports of the book that is there.
 //! - `halt`: why an action ends before its first command.
@@ -20,14 +20,16 @@ mod migration;
 mod post;
 mod report;
 mod run;
+mod verification;
 
 pub use action::{Served, serve};
 pub use halt::Halt;
 pub use lot_args::{
-    Action, BadOption, Batch, Effect, Notes, Request, Start, WordsFault, parse_words,
+    Action, BadOption, Batch, Effect, Format, Notes, Request, Start, WordsFault, parse_words,
 };
 pub use lot_input::InputFault;
 pub use lot_migrate::{MigrateFault, Progress, Unwatched};
 pub use lot_report::{CountedWrite, CountedWriter};
 pub use lot_store::{AdoptFault, CreateFault};
 pub use lot_stream::{Counted, CountedRead, SlurpFault, slurp};
+pub use lot_verify::{Spot, Table, VerifyFault, Watch, judge_book};

@@ -12,8 +12,11 @@ ghost use Rattle.sqlite.specs.Held.{state};
 use crate::action::Served;
 use crate::halt::Halt;
 use crate::run::{halted, tell};
+use lot_args::Format;
 use lot_base::Day;
-use lot_book_report::{ShowFault, show_gains, show_holdings, show_journal};
+use lot_book_report::{
+    ShowFault, show_gains, show_gains_csv, show_holdings, show_holdings_csv, show_journal,
+};
 use lot_report::{CountedWrite, print_texts};
 use lot_store::{Book, HandedBack, adopt};
 use lot_stream::Status;
@@ -21,16 +24,18 @@ use sqlite::{Alter, Connection};
 use std::alloc::Global;
 
 /// A report of a book.
-#[derive(Clone, Copy, Debug, PartialEq, Eq)]
+#[derive(Clone, Copy)]
 pub(crate) enum Report {
     /// What it holds, with what its lots are worth on the day, where one is given.
     Holdings {
         day: Option<Day>,
+        format: Format,
     },
     /// What its sales gained: those from the first to the last day, both included, where they are given.
     Gains {
         first: Option<Day>,
         last: Option<Day>,
+        format: Format,
     },
     /// Its entries.
     Journal,
@@ -84,8 +89,24 @@ fn show<W: CountedWrite, S: Alter>(
     }) }
 {
     match report {
-        Report::Holdings { day } => show_holdings(alloc, book, day, writer),
-        Report::Gains { first, last } => show_gains(alloc, book, first, last, writer),
+        Report::Holdings {
+            day,
+            format: Format::Text,
+        } => show_holdings(alloc, book, day, writer),
+        Report::Holdings {
+            day,
+            format: Format::Csv,
+        } => show_holdings_csv(alloc, book, day, writer),
+        Report::Gains {
+            first,
+            last,
+            format: Format::Text,
+        } => show_gains(alloc, book, first, last, writer),
+        Report::Gains {
+            first,
+            last,
+            format: Format::Csv,
+        } => show_gains_csv(alloc, book, first, last, writer),
         Report::Journal => show_journal(book, writer),
     }
 }

@@ -1,21 +1,40 @@
 //! What there is to say of the refusals and the faults of a call.
 
-use crate::faulty::{faulty_lines, faulty_rows};
+use crate::book::Known;
 use crate::notebook::Notebook;
-use crate::refused::{refused_commands, refused_rows};
-use crate::said::{Said, Subject, heard};
+use crate::reading::Reading;
+use crate::refused::note_lines;
 use crate::warning::{warn_of_rows, warn_of_text};
 use lot_import::Accounts;
 use std::alloc::Global;
 use std::io::{self, Write};
 
-/// What a call was given.
+/// What a call was given, and the batch that it is of.
 #[derive(Clone, Copy)]
 pub enum Source<'a> {
     /// Ledger text.
-    Text,
+    Text {
+        batch: &'a str,
+    },
+    /// Ledger text of one command, in place of the row with that `ref`.
+    Row {
+        batch: &'a str,
+        reference: &'a str,
+    },
     /// A broker file, whose rows are posted to these accounts.
-    Rows(&'a Accounts),
+    Rows {
+        batch: &'a str,
+        accounts: &'a Accounts,
+    },
+}
+
+/// The key of a command.
+#[derive(Clone, Copy)]
+pub(crate) struct Key<'a> {
+    /// The word that sent it, which its source begins with; behind it stands the batch.
+    pub(crate) word: &'static str,
+    pub(crate) batch: &'a str,
+    pub(crate) name: &'a str,
 }
 
 /// What a call read, and what it said of it.
@@ -29,56 +48,41 @@ pub struct Call<'a> {
     /// The lines that say that a command was refused or that there was a fault, as they were
     /// written.
     pub lines: &'a [u8],
-    /// How many commands were refused, of which as many as are explained stand in `lines`.
-    pub refused: u64,
+    /// How many more commands were refused than `lines` says.
+    pub left_out: u64,
+}
+
+impl<'a> Call<'a> {
+    /// Returns the key of a command, of which that is the number or, in a broker file, the `ref`.
+    pub(crate) fn key(&self, name: &'a str) -> Key<'a> {
+        let (word, batch, name) = match self.source {
+            Source::Text { batch } => ("post", batch, name),
+            Source::Row { batch, reference } => ("import", batch, reference),
+            Source::Rows { batch, .. } => ("import", batch, name),
+        };
+        Key { word, batch, name }
+    }
 }
 
 /// Writes a line for each refusal and each fault of a call, as many as are wanted: where it stands
-/// in the input, its code and rule, and what is known of it. Where memory ends nothing more is
-/// written.
-pub fn notes<W: Write>(
+/// in the input, its code and rule, and what is known of it, from the input and from the book. Then
+/// as many warnings, each of a place that may have been meant otherwise. Where memory ends nothing
+/// more is written.
+pub fn notes<W: Write, B: Known>(
     alloc: Global,
     writer: &mut W,
+    book: &mut B,
     call: &Call<'_>,
     most: u64,
 ) -> io::Result<()> {
+    let mut reading = Reading::of(alloc, call)?;
     let mut notes = Notebook::new(alloc, writer, most);
-    let first = call.lines.split(|byte| *byte == b'\n').next();
-    match first.and_then(heard) {
-        Some(
-            Said {
-                of: Subject::Line(_),
-                ..
-            },
-        ) => faulty_lines(alloc, &mut notes, call.input)?,
-        Some(
-            Said {
-                of: Subject::Row(_),
-                code: "C2",
-                ..
-            },
-        ) => { faulty_rows(alloc, &mut notes, call.input)? }
-        Some(_) => match call.source {
-            Source::Text => refused_commands(alloc, &mut notes, call)?,
-            Source::Rows(accounts) => refused_rows(alloc, &mut notes, call, accounts)?,
-        },
-        None => {}
+    note_lines(alloc, &mut notes, book, call, &mut reading)?;
+    notes.end()?;
+    let mut warnings = Notebook::new(alloc, writer, most);
+    match &reading {
+        Reading::Text { .. } => warn_of_text(alloc, &mut warnings, book, call)?,
+        Reading::Rows { rows, .. } => warn_of_rows(alloc, &mut warnings, call, rows)?,
     }
-    notes.end()
-}
-
-/// Writes a line for each place of an input that may have been meant otherwise than it is read, as
-/// many as are wanted. Where memory ends nothing more is written.
-pub fn warnings<W: Write>(
-    alloc: Global,
-    writer: &mut W,
-    call: &Call<'_>,
-    most: u64,
-) -> io::Result<()> {
-    let mut notes = Notebook::new(alloc, writer, most);
-    match call.source {
-        Source::Text => warn_of_text(alloc, &mut notes, call)?,
-        Source::Rows(_) => warn_of_rows(alloc, &mut notes, call)?,
-    }
-    notes.end()
+    warnings.end()
 }

@@ -67,12 +67,9 @@ pub(crate) fn tables() -> [&'static [Code]; 8] {
 
 /// What a line on a code begins with: the code and its name, or what a fault without a code is
 /// called.
-#[derive(Clone, Copy)]
-pub(crate) struct Heading<'a>(pub(crate) &'a Code);
-
-impl fmt::Display for Heading<'_> {
+impl fmt::Display for Code {
     fn fmt<W: fmt::Write>(&self, f: &mut fmt::Formatter<W>) -> fmt::Result {
-        let (code, name) = (self.0.code, self.0.name);
+        let (code, name) = (self.code, self.name);
         if code == name {
             f.write_str(code)
         } else {

@@ -8,19 +8,11 @@ use lot_token::{Mark, Token, Tokens};
 use std::alloc::{AllocError, Global};
 use std::str;
 
-/// A part of a line.
-#[derive(Clone, Copy)]
-pub(crate) struct Part<'a> {
-    /// Its first column, from 1.
-    pub(crate) column: usize,
-    pub(crate) text: &'a [u8],
-}
-
 /// What of a line is at fault.
 #[derive(Clone, Copy)]
 pub(crate) enum Culprit<'a> {
-    /// This part.
-    Part(Part<'a>),
+    /// This part, by its first column, from 1.
+    Part { column: usize, text: &'a str },
     /// It ends too early.
     End,
     /// It is a posting, and no transaction stands before it.
@@ -98,27 +90,25 @@ pub(crate) fn before(line: &[u8]) -> &'static [u8] {
 }
 
 /// Returns what of a line with that fault is at fault. The only error is out of memory.
-pub(crate) fn part_at_fault(
+pub(crate) fn culprit_of(
     alloc: Global,
     line: &[u8],
     fault: LineFault,
 ) -> Result<Culprit<'_>, AllocError> {
-    if matches!(fault, LineFault::TooLong) {
-        return Ok(Culprit::Unknown);
-    }
     let Ok(text) = str::from_utf8(line) else {
         return Ok(Culprit::Unknown);
     };
     match Tokens::new(text) {
-        Ok(tokens) => first_amiss(alloc, line, tokens, fault),
-        Err(_) => Ok(uncut(line)),
+        _ if matches!(fault, LineFault::TooLong) => Ok(Culprit::Unknown),
+        Ok(tokens) => first_amiss(alloc, text, tokens, fault),
+        Err(_) => Ok(uncut(text)),
     }
 }
 
 /// Returns the first token of a line with which no line begins that has no such fault.
 fn first_amiss<'a>(
     alloc: Global,
-    line: &'a [u8],
+    line: &'a str,
     tokens: Tokens<'a>,
     fault: LineFault,
 ) -> Result<Culprit<'a>, AllocError> {
@@ -130,12 +120,12 @@ fn first_amiss<'a>(
         let start = skip_blanks(line, end);
         end = start.saturating_add(width(token));
         let begun = line.get(..end).unwrap_or(line);
-        if !begins_some(alloc, begun, fault)? {
+        if !begins_some(alloc, begun.as_bytes(), fault)? {
             return Ok(part_of(line, start, end));
         }
         rest = behind;
     }
-    match judge(alloc, before(line), line, b"")? {
+    match judge(alloc, before(line.as_bytes()), line.as_bytes(), b"")? {
         Ok(_) => Ok(Culprit::Place),
         Err(_) => Ok(Culprit::End),
     }
@@ -164,10 +154,10 @@ fn is_of_form(fault: LineFault) -> bool {
 }
 
 /// Returns the place in a line, from that one on, at which no blank stands.
-fn skip_blanks(line: &[u8], from: usize) -> usize {
-    let rest = line.get(from..).unwrap_or(b"");
-    let blanks = rest.iter().take_while(|byte| matches!(byte, b' ' | b'\t'));
-    from.saturating_add(blanks.count())
+fn skip_blanks(line: &str, from: usize) -> usize {
+    let rest = line.get(from..).unwrap_or("");
+    let behind = rest.trim_start_matches([' ', '\t']);
+    line.len().saturating_sub(behind.len())
 }
 
 /// Returns how many bytes a token has in its line.
@@ -182,24 +172,22 @@ fn width(token: Token<'_>) -> usize {
 }
 
 /// Returns the part of a line from one byte to another.
-fn part_of(line: &[u8], start: usize, end: usize) -> Culprit<'_> {
-    let before = line.get(..start).unwrap_or(b"");
-    let column = match str::from_utf8(before) {
-        Ok(text) => text.chars().count(),
-        Err(_) => start,
-    };
-    Culprit::Part(Part {
-        column: column.saturating_add(1),
-        text: line.get(start..end).unwrap_or(b""),
-    })
+fn part_of(line: &str, start: usize, end: usize) -> Culprit<'_> {
+    let before = line.get(..start).unwrap_or("");
+    Culprit::Part {
+        column: before.chars().count().saturating_add(1),
+        text: line.get(start..end).unwrap_or(""),
+    }
 }
 
 /// Returns the part of a line that can't be cut into tokens which stands behind the last token.
-fn uncut(line: &[u8]) -> Culprit<'_> {
+fn uncut(line: &str) -> Culprit<'_> {
     let most = line.len().min(MOST_UNCUT);
     let mut cut = 0;
     for end in 0..=most {
-        if can_be_cut(line.get(..end).unwrap_or(b"")) {
+        if let Some(begun) = line.get(..end)
+            && Tokens::new(begun).is_ok()
+        {
             cut = end;
         }
     }
@@ -207,15 +195,7 @@ fn uncut(line: &[u8]) -> Culprit<'_> {
         return Culprit::Unknown;
     }
     let start = skip_blanks(line, cut);
-    let rest = line.get(start..).unwrap_or(b"");
-    let word = rest.iter().take_while(|byte| !matches!(byte, b' ' | b'\t'));
-    part_of(line, start, start.saturating_add(word.count()))
-}
-
-/// Returns whether bytes are the tokens of a line.
-fn can_be_cut(bytes: &[u8]) -> bool {
-    match str::from_utf8(bytes) {
-        Ok(text) => Tokens::new(text).is_ok(),
-        Err(_) => false,
-    }
+    let rest = line.get(start..).unwrap_or("");
+    let word = rest.split([' ', '\t']).next().unwrap_or(rest);
+    part_of(line, start, start.saturating_add(word.len()))
 }

@@ -1,83 +1,52 @@
 //! What there is to say of a code.
 
-use crate::codes::{Code, Examples, Heading, tables};
-use crate::nearest::Nearest;
+use crate::codes::{Code, Examples, tables};
+use crate::nearest::nearest;
 use crate::shown::Wrapped;
 use std::alloc::{AllocError, Global};
-use std::fmt;
 use std::io::{self, Write};
 
 /// Writes what there is to say of each code that a word names: by its code or its name, in any
-/// letter case.
-pub fn explain<W: Write>(writer: &mut W, word: &str) -> io::Result<()> {
-    for table in tables() {
-        explain_table(writer, table, word)?;
-    }
-    writer.flush()
-}
-
-/// Writes the same of the codes of one table.
-fn explain_table<W: Write>(writer: &mut W, table: &[Code], word: &str) -> io::Result<()> {
-    for code in table {
+/// letter case. Returns whether it names one; else nothing is written.
+pub fn explain<W: Write>(writer: &mut W, word: &str) -> io::Result<bool> {
+    let mut names_one = false;
+    for code in tables().into_iter().flatten() {
         if code.is_named(word) {
-            write!(writer, "{code}")?;
+            names_one = true;
+            write_code(writer, code)?;
         }
     }
-    Ok(())
+    writer.flush()?;
+    Ok(names_one)
 }
 
 /// Writes all codes, a line each.
 pub fn list<W: Write>(writer: &mut W) -> io::Result<()> {
-    for table in tables() {
-        list_table(writer, table)?;
+    for code in tables().into_iter().flatten() {
+        let brief = code.brief;
+        writeln!(writer, "{code}: {brief}")?;
     }
     writer.flush()
 }
 
-/// Writes the codes of one table, a line each.
-fn list_table<W: Write>(writer: &mut W, table: &[Code]) -> io::Result<()> {
-    for code in table {
-        let (heading, brief) = (Heading(code), code.brief);
-        writeln!(writer, "{heading}: {brief}")?;
-    }
-    Ok(())
-}
-
-/// Returns whether a word names a code.
-pub fn is_code(word: &str) -> bool {
-    find(word).is_some()
-}
-
-/// Returns the first code of a table that a word names.
-fn find_in<'a>(table: &'a [Code], word: &str) -> Option<&'a Code> {
-    table.iter().find(|code| code.is_named(word))
-}
-
-/// Returns what there is to say of a code.
+/// Returns the first code that a word names.
 pub(crate) fn find(word: &str) -> Option<&'static Code> {
-    tables().iter().find_map(|table| find_in(table, word))
+    for code in tables().into_iter().flatten() {
+        if code.is_named(word) {
+            return Some(code);
+        }
+    }
+    None
 }
 
 /// Returns the code or name that is nearest to a word. The only error is out of memory.
 pub fn nearest_code(alloc: Global, word: &str) -> Result<&str, AllocError> {
-    let mut nearest = Nearest::to(word);
-    for table in tables() {
-        look_through(alloc, table, &mut nearest)?;
+    let mut names = Vec::new(alloc);
+    for code in tables().into_iter().flatten() {
+        names.push(code.code)?;
+        names.push(code.name)?;
     }
-    Ok(nearest.name.unwrap_or(word))
-}
-
-/// Looks at the codes and names of a table.
-fn look_through<'a>(
-    alloc: Global,
-    table: &'a [Code],
-    nearest: &mut Nearest<'a>,
-) -> Result<(), AllocError> {
-    for code in table {
-        nearest.look_at(alloc, code.code)?;
-        nearest.look_at(alloc, code.name)?;
-    }
-    Ok(())
+    Ok(nearest(alloc, word, &names)?.unwrap_or(word))
 }
 
 impl Code {
@@ -87,37 +56,35 @@ impl Code {
     }
 }
 
-impl fmt::Display for Code {
-    fn fmt<W: fmt::Write>(&self, f: &mut fmt::Formatter<W>) -> fmt::Result {
-        let (heading, brief, page) = (Heading(self), self.brief, self.page);
-        let (rule, help) = (Wrapped(self.rule), Wrapped(self.help));
-        let examples = &self.examples;
-        write!(f, "{heading}: {brief}\n\n{rule}\n{examples}")?;
-        write!(f, "What helps:\n\n{help}\nRead on: {page}\n\n")
-    }
+/// Writes what there is to say of a code.
+fn write_code<W: Write>(writer: &mut W, code: &Code) -> io::Result<()> {
+    let (brief, page) = (code.brief, code.page);
+    let (rule, help) = (Wrapped(code.rule), Wrapped(code.help));
+    write!(writer, "{code}: {brief}\n\n{rule}\n")?;
+    write_examples(writer, &code.examples)?;
+    write!(writer, "What helps:\n\n{help}\nRead on: {page}\n\n")
 }
 
-impl fmt::Display for Examples {
-    fn fmt<W: fmt::Write>(&self, f: &mut fmt::Formatter<W>) -> fmt::Result {
-        let (what, refused, accepted) = match self {
-            Examples::Ledger { refused, accepted } => ("ledger text", refused, accepted),
-            Examples::Rows { refused, accepted } => ("a broker file", refused, accepted),
-            Examples::Calls { refused, accepted } => ("calls", refused, accepted),
-            Examples::Absent => return Ok(()),
-        };
-        write!(f, "Refused, {what}:\n\n")?;
-        write_indented(refused, f)?;
-        write!(f, "Accepted:\n\n")?;
-        write_indented(accepted, f)
-    }
+/// Writes what gets a code, and what gets none.
+fn write_examples<W: Write>(writer: &mut W, examples: &Examples) -> io::Result<()> {
+    let (what, refused, accepted) = match examples {
+        Examples::Ledger { refused, accepted } => ("ledger text", refused, accepted),
+        Examples::Rows { refused, accepted } => ("a broker file", refused, accepted),
+        Examples::Calls { refused, accepted } => ("calls", refused, accepted),
+        Examples::Absent => return Ok(()),
+    };
+    write!(writer, "Refused, {what}:\n\n")?;
+    write_indented(writer, refused)?;
+    write!(writer, "Accepted:\n\n")?;
+    write_indented(writer, accepted)
 }
 
 /// Writes the lines of an example, indented by four columns, and an empty line.
-fn write_indented<W: fmt::Write>(text: &str, f: &mut fmt::Formatter<W>) -> fmt::Result {
+fn write_indented<W: Write>(writer: &mut W, text: &str) -> io::Result<()> {
     for line in text.split('\n') {
         if !line.is_empty() {
-            writeln!(f, "    {line}")?;
+            writeln!(writer, "    {line}")?;
         }
     }
-    f.write_str("\n")
+    writer.write_all(b"\n")
 }

@@ -1,9 +1,9 @@
-//! The facts of a refusal: what the text of the command says of it.
+//! The facts of a refusal: what the text of the command says of it, and the book.
 
+use crate::book::{Known, back_dated, fitting, key_reused, unknown_account};
+use crate::refused::{Refused, item};
 use crate::residual::residual;
-use crate::said::{Argument, Said};
-use lot_base::Commodity;
-use lot_command::{Amount, Command, Cost, Posting, Transaction};
+use lot_command::{Amount, Command, Cost, Posting};
 use lot_import::{Action, Row};
 use lot_num::{NumberFault, Rate, Units, Wide, weight};
 use std::alloc::{AllocError, Global};
@@ -14,53 +14,51 @@ const DECIMALS: usize = 8;
 /// One, at the scale of units and rates.
 const ONE: u128 = 100_000_000;
 
-/// Returns what there is to say of the refusal of a command, beside its rule: each with a colon
-/// before it. The only error is out of memory.
-pub(crate) fn fact(
+/// Returns what there is to say of the refusal of a command, beside its rule, with a colon before
+/// it; or nothing. The only error is out of memory.
+pub(crate) fn fact<B: Known>(
     alloc: Global,
-    command: &Command,
-    said: &Said<'_>,
-) -> Result<Option<String>, AllocError> {
-    let Command::Transaction(transaction) = command else {
-        return Ok(None);
+    book: &mut B,
+    refused: &Refused<'_>,
+) -> Result<String, AllocError> {
+    let (said, postings) = (refused.said, postings_of(refused.command));
+    let posting = match said.posting {
+        Some(place) => item(postings, place),
+        None => None,
     };
-    match said.code {
-        "L8" => many(alloc, transaction).map(Some),
-        "L12" | "L14" => left_over(alloc, transaction, said.argument),
-        "B5" => quotient(alloc, transaction, said.argument),
-        _ => Ok(None),
+    match (said.code, posting) {
+        ("L1", _) => key_reused(alloc, book, refused),
+        ("L3", _) => unknown_account(alloc, book, refused, posting),
+        ("L8", _) => {
+            let count = postings.len();
+            format!(in alloc; ": there are {count}")
+        }
+        ("L10", Some(posting)) => back_dated(alloc, book, posting),
+        ("L12" | "L14", _) => left_over(alloc, postings, said.word),
+        ("B2" | "B3", Some(posting)) => fitting(alloc, book, posting, said.code),
+        ("B5", Some(posting)) => quotient(alloc, posting),
+        _ => Ok(String::new(alloc)),
     }
 }
 
-/// Says how many postings a transaction has.
-fn many(alloc: Global, transaction: &Transaction) -> Result<String, AllocError> {
-    let count = transaction.postings.as_slice().len();
-    format!(in alloc; ": there are {count}")
-}
-
-/// Says what the postings of a transaction leave in the currency that the reply names.
-fn left_over(
-    alloc: Global,
-    transaction: &Transaction,
-    argument: Argument<'_>,
-) -> Result<Option<String>, AllocError> {
-    let Argument::Word(word) = argument else {
-        return Ok(None);
-    };
-    if !Commodity::is_name(word) {
-        return Ok(None);
-    }
-    let Ok(currency) = Commodity::new(alloc, word) else {
-        return Err(AllocError);
-    };
-    match residual(transaction.postings.as_slice(), &currency) {
-        Some(sum) => amount_left(alloc, ": they leave ", sum, word).map(Some),
-        None => Ok(None),
+/// Returns the postings of a command, none where it is no transaction.
+fn postings_of(command: &Command) -> &[Posting] {
+    match command {
+        Command::Transaction(transaction) => transaction.postings.as_slice(),
+        _ => &[],
     }
 }
 
-/// Says an amount of a currency, and which of its digits are more than an amount has.
-pub(crate) fn amount_left(
+/// Says what postings leave in a currency.
+fn left_over(alloc: Global, postings: &[Posting], currency: &str) -> Result<String, AllocError> {
+    match residual(postings, currency) {
+        Some(sum) => amount_left(alloc, ": they leave ", sum, currency),
+        None => Ok(String::new(alloc)),
+    }
+}
+
+/// Says an amount of a currency, and how many decimals it has where these are too many.
+fn amount_left(
     alloc: Global,
     before: &str,
     sum: Wide,
@@ -68,9 +66,8 @@ pub(crate) fn amount_left(
 ) -> Result<String, AllocError> {
     let text = sum.text_money(alloc)?;
     let amount = text.as_str();
-    let decimals = amount.split_once('.').map_or("", |(_, decimals)| decimals);
-    match decimals.as_bytes().get(DECIMALS..) {
-        Some([_, ..]) => {
+    match amount.split_once('.') {
+        Some((_, decimals)) if decimals.len() > DECIMALS => {
             let count = decimals.len();
             format!(in alloc; "{before}{amount} {currency}, which has {count} decimals")
         }
@@ -78,69 +75,58 @@ pub(crate) fn amount_left(
     }
 }
 
-/// Says what the whole cost of the posting that the reply names comes to for a unit.
-fn quotient(
-    alloc: Global,
-    transaction: &Transaction,
-    argument: Argument<'_>,
-) -> Result<Option<String>, AllocError> {
+/// Says what the whole cost of a posting comes to for a unit.
+fn quotient(alloc: Global, posting: &Posting) -> Result<String, AllocError> {
     let Some(
         Amount {
             units,
             cost: Some(Cost::Whole(whole)),
             ..
         },
-    ) = amount_at(transaction, argument)
+    ) = &posting.amount
     else {
-        return Ok(None);
-    };
-    let units = if units.mantissa() < 0 {
-        units.negated()
-    } else {
-        *units
+        return Ok(String::new(alloc));
     };
     let divisor = u128::from(units.mantissa().unsigned_abs());
     let total = u128::from(whole.total().mantissa().unsigned_abs()) * ONE;
     let (Some(each), Some(rest)) = (total.checked_div(divisor), total.checked_rem(divisor)) else {
-        return Ok(None);
+        return Ok(String::new(alloc));
     };
     let more = if rest == 0 { "" } else { ".." };
-    let (total, units) = (whole.total().text(alloc)?, units.text(alloc)?);
+    let (total, units) = (
+        whole.total().text(alloc)?,
+        without_sign(*units).text(alloc)?,
+    );
     let (total, units) = (total.as_str(), units.as_str());
     let (whole, decimals) = (each / ONE, each % ONE);
-    format!(in alloc; ": {total} / {units} = {whole}.{decimals:08}{more}").map(Some)
+    format!(in alloc; ": {total} / {units} = {whole}.{decimals:08}{more}")
 }
 
-/// Returns the amount of the posting that a reply names.
-fn amount_at<'a>(transaction: &'a Transaction, argument: Argument<'_>) -> Option<&'a Amount> {
-    let Argument::Posting(place) = argument else {
-        return None;
-    };
-    let index = usize::try_from(place).ok()?.checked_sub(1)?;
-    let posting: &Posting = transaction.postings.as_slice().get(index)?;
-    posting.amount.as_ref()
-}
-
-/// Says the cash that a row moves.
-pub(crate) fn cash(alloc: Global, row: &Row) -> Result<Option<String>, AllocError> {
-    let worth = weight(row.units, row.price);
-    let Some(fee) = fee(row) else {
-        return Ok(None);
-    };
-    let moved = match row.action {
-        Action::Buy => worth.checked_add(fee),
-        Action::Sell => worth.checked_add(fee.negated()),
-    };
-    match moved {
-        Some(moved) => amount_left(alloc, ": ", moved, row.currency.as_str()).map(Some),
-        None => Ok(None),
+/// Returns the same units without their sign.
+pub(crate) fn without_sign(units: Units) -> Units {
+    if units.mantissa() < 0 {
+        units.negated()
+    } else {
+        units
     }
 }
 
-/// Returns the fee of a row at scale 16.
-fn fee(row: &Row) -> Option<Wide> {
-    let one = Units::from_mantissa(100_000_000)?;
-    Some(weight(one, row.fee))
+/// Says the cash that a row moves.
+pub(crate) fn cash(alloc: Global, row: &Row) -> Result<String, AllocError> {
+    match moved(row) {
+        Some(moved) => amount_left(alloc, ": ", moved, row.currency.as_str()),
+        None => Ok(String::new(alloc)),
+    }
+}
+
+/// Returns the cash that a row moves, without its sign, where it is in range.
+fn moved(row: &Row) -> Option<Wide> {
+    let worth = weight(row.units, row.price);
+    let fee = weight(Units::from_mantissa(100_000_000)?, row.fee);
+    worth.checked_add(match row.action {
+        Action::Buy => fee,
+        Action::Sell => fee.negated(),
+    })
 }
 
 /// Returns why a number is outside its rule, whatever its kind is, or `None` where it can't be

@@ -1,10 +1,10 @@
 //! Each faulty line of a ledger text, and each faulty row of a broker file.
 
-use crate::culprit::{Culprit, Part, Sense, before, judge, part_at_fault};
+use crate::culprit::{Culprit, Sense, before, culprit_of, judge};
 use crate::explained::find;
 use crate::fact::number_fault;
-use crate::note::{Note, Place};
 use crate::notebook::Notebook;
+use crate::place::Place;
 use crate::records::{Records, column};
 use crate::shown::Shown;
 use crate::site::{Kind, Site, is_indented, kind_of};
@@ -13,7 +13,6 @@ use lot_read::LineFault;
 use lot_token::Lines;
 use std::alloc::{AllocError, Global};
 use std::io::{self, Write};
-use std::str;
 
 /// Notes each faulty line of a ledger text.
 pub(crate) fn faulty_lines<W: Write>(
@@ -74,15 +73,11 @@ fn note_line<W: Write>(
         notes.pass(1);
         return Ok(());
     }
-    let fact = fact_of(alloc, part_at_fault(alloc, site.line, fault)?, fault)?;
-    notes.note(Note {
-        place: Place::Line {
-            number: site.number,
-            line: site.line,
-        },
-        code,
-        fact: fact.as_str(),
-    })
+    let Site { number, line } = site;
+    let brief = code.brief;
+    let fact = fact_of(alloc, culprit_of(alloc, line, fault)?, fault)?;
+    let place = Place::Line { number, line };
+    notes.note(place, format_args!("{code}: {brief}{fact}"))
 }
 
 /// Returns the code of a fault.
@@ -98,26 +93,22 @@ fn code_of(fault: LineFault) -> &'static str {
     }
 }
 
-/// Says what of a line with that fault is at fault.
+/// Says what of a line with that fault is at fault, and of a number why.
 fn fact_of(alloc: Global, culprit: Culprit<'_>, fault: LineFault) -> Result<String, AllocError> {
     match culprit {
-        Culprit::Part(part) => part_fact(alloc, part, fault),
+        Culprit::Part { column, text } => {
+            let shown = Shown(text.as_bytes());
+            match number_fault(text) {
+                Some(why) if matches!(fault, LineFault::BadNumber) => {
+                    format!(in alloc; ": {why}: column {column}: `{shown}`")
+                }
+                _ => format!(in alloc; ": column {column}: `{shown}`"),
+            }
+        }
         Culprit::End => String::from_str(alloc, ": the line ends too early"),
         Culprit::Place => String::from_str(alloc, ": no transaction is before this posting"),
         Culprit::Unknown => Ok(String::new(alloc)),
     }
-}
-
-/// Says which part of a line with that fault is at fault, and of a number why.
-fn part_fact(alloc: Global, part: Part<'_>, fault: LineFault) -> Result<String, AllocError> {
-    let Part { column, text } = part;
-    let shown = Shown(text);
-    if matches!(fault, LineFault::BadNumber)
-        && let Some(why) = str::from_utf8(text).ok().and_then(number_fault)
-    {
-        return format!(in alloc; ": {why}: column {column}: `{shown}`");
-    }
-    format!(in alloc; ": column {column}: `{shown}`")
 }
 
 /// Notes each faulty row of a broker file.
@@ -132,7 +123,7 @@ pub(crate) fn faulty_rows<W: Write>(
             break;
         }
         if let Some(cause) = records.cause()? {
-            note_row(alloc, notes, &records, cause)?;
+            note_row(notes, &records, cause)?;
         }
     }
     Ok(())
@@ -140,7 +131,6 @@ pub(crate) fn faulty_rows<W: Write>(
 
 /// Notes the last row, which is faulty.
 fn note_row<W: Write>(
-    alloc: Global,
     notes: &mut Notebook<'_, W>,
     records: &Records<'_>,
     cause: Cause,
@@ -148,19 +138,15 @@ fn note_row<W: Write>(
     let Some(code) = find("C2") else {
         return Ok(());
     };
-    let fact = match column(cause) {
+    let (place, brief) = (records.place(), code.brief);
+    match column(cause) {
         Some(column) => {
             let field = Shown(records.field(column));
-            format!(in alloc; ": {cause}: `{field}`")?
+            notes.note(place, format_args!("{code}: {brief}: {cause}: `{field}`"))
         }
         None => {
             let count = records.record.len();
-            format!(in alloc; ": {cause}: {count}")?
+            notes.note(place, format_args!("{code}: {brief}: {cause}: {count}"))
         }
-    };
-    notes.note(Note {
-        place: records.place(),
-        code,
-        fact: fact.as_str(),
-    })
+    }
 }

@@ -4,15 +4,17 @@
 //! - `codes`: the codes, as data; `explained`: what there is to say of a code (`explain`), and of
 //!   all (`list`); `nearest`: which of some names is meant.
 //! - `call`: what there is to say of a call (`notes`), from what it read and said (`said`); a
-//!   `note` is a line, and a `notebook` has as many as are wanted.
+//!   `notebook` has as many lines as are wanted, each with its `place`.
 //! - `faulty`: lines and rows that are faulty, with the part that is at fault (`culprit`).
-//! - `refused`: commands and rows that are refused, with what is known of them (`fact`,
-//!   `residual`).
-//! - `warning`: what may have been meant otherwise (`warnings`).
-//! - `site`: on which line a command stands; `records`: the records of a broker file.
+//! - `refused`: commands and rows that are refused, with what is known of them (`fact`): from their
+//!   text (`residual`), and from the book once the run is over (`book`, `Known`).
+//! - `warning`: what may have been meant otherwise.
+//! - `reading`: the commands of an input. `site`: on which line a command stands; `records`: the
+//!   records of a broker file.
 //! - `shown`: how texts of the input are written on a line.
 #![tactic(auto)]
 
+mod book;
 mod call;
 mod codes;
 mod culprit;
@@ -20,8 +22,9 @@ mod explained;
 mod fact;
 mod faulty;
 mod nearest;
-mod note;
 mod notebook;
+mod place;
+mod reading;
 mod records;
 mod refused;
 mod residual;
@@ -30,5 +33,6 @@ mod shown;
 mod site;
 mod warning;
 
-pub use call::{Call, Source, notes, warnings};
-pub use explained::{explain, is_code, list, nearest_code};
+pub use book::{Entry, Known, Latest, Lot};
+pub use call::{Call, Source, notes};
+pub use explained::{explain, list, nearest_code};

@@ -1,5 +1,6 @@
 //! What is noted of a call, a line each: as many as are wanted, and then how many there were more.
 
+use crate::place::Place;
 use std::alloc::Global;
 use std::fmt::Display;
 use std::io::{self, Write};
@@ -31,10 +32,14 @@ impl<'a, W: Write> Notebook<'a, W> {
         self.made < self.most
     }
 
-    /// Writes one more note in one piece, or counts it where enough are written.
-    pub(crate) fn note<T: Display + Drop>(&mut self, note: T) -> io::Result<()> {
+    /// Writes one more note in one piece, or counts it where enough are written: a place, what is
+    /// said of it, and what stands there.
+    pub(crate) fn note<T: Display + Drop>(&mut self, place: Place<'_>, text: T) -> io::Result<()> {
         if self.has_room() {
-            self.write(note)?;
+            match place.line() {
+                Some(line) => self.write(format_args!("{place}{text}: {line}"))?,
+                None => self.write(format_args!("{place}{text}"))?,
+            }
         }
         self.made = self.made.saturating_add(1);
         Ok(())
@@ -55,8 +60,8 @@ impl<'a, W: Write> Notebook<'a, W> {
     }
 
     /// Writes a line in one piece.
-    fn write<T: Display + Drop>(&mut self, note: T) -> io::Result<()> {
-        let line = format!(in self.alloc; "lotbook: {note}\n")?;
+    fn write<T: Display + Drop>(&mut self, text: T) -> io::Result<()> {
+        let line = format!(in self.alloc; "lotbook: {text}\n")?;
         self.writer.write_all(line.as_str().as_bytes())
     }
 }

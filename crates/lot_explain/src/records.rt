@@ -1,6 +1,6 @@
 //! The records of a broker file, one after another.
 
-use crate::note::Place;
+use crate::place::Place;
 use csv::{ByteRecord, ErrorKind, Reader, ReaderBuilder};
 use lot_import::{Cause, RowsFault, read_rows};
 use std::alloc::{AllocError, Global};
@@ -22,7 +22,7 @@ pub(crate) struct Records<'a> {
     /// That record as it stands in the file.
     written: &'a [u8],
     /// How many rows were read.
-    pub(crate) row: u64,
+    pub(crate) row: usize,
 }
 
 impl<'a> Records<'a> {
@@ -42,29 +42,42 @@ impl<'a> Records<'a> {
             written: b"",
             row: 0,
         };
-        if records.advance()? {
+        if records.next_row()? {
             records.header = records.written;
+            records.row = 0;
         }
         Ok(records)
     }
 
     /// Reads the next row, and returns whether there is one. The only error is out of memory.
     pub(crate) fn next_row(&mut self) -> Result<bool, AllocError> {
-        let is_there = self.advance()?;
-        if is_there {
-            self.row = self.row.saturating_add(1);
-        }
-        Ok(is_there)
+        let start = self.reader.position().byte() as usize;
+        let found = match self.reader.read_byte_record(&mut self.record) {
+            Ok(found) => found,
+            Err(error) => match error.into_kind() {
+                ErrorKind::OutOfMemory | ErrorKind::Io(_) => return Err(AllocError),
+                _ => false,
+            },
+        };
+        let end = self.reader.position().byte() as usize;
+        self.written = self.file.get(start..end).unwrap_or(b"");
+        self.row = self.row.saturating_add(usize::from(found));
+        Ok(found)
     }
 
-    /// Reads on to the row of that number, from 1, or to the end. The only error is out of memory.
-    pub(crate) fn go_to(&mut self, row: u64) -> Result<(), AllocError> {
+    /// Reads on to the row of that number, from 1, and returns its place. The only error is out of
+    /// memory.
+    pub(crate) fn go_to(&mut self, row: usize) -> Result<Place<'_>, AllocError> {
         for _row in self.row..row {
             if !self.next_row()? {
-                return Ok(());
+                break;
             }
         }
-        Ok(())
+        Ok(if self.row == row {
+            self.place()
+        } else {
+            Place::Number(row)
+        })
     }
 
     /// Returns why the last row is faulty, if it is, by the reader of broker files. The only error
@@ -85,15 +98,6 @@ impl<'a> Records<'a> {
         self.record.get(column).unwrap_or(b"")
     }
 
-    /// Returns the place of the row of that number, from 1, if it is the last record.
-    pub(crate) fn place_of(&self, row: u64) -> Place<'_> {
-        if self.row == row {
-            self.place()
-        } else {
-            Place::Number(row)
-        }
-    }
-
     /// Returns the place of the last record.
     pub(crate) fn place(&self) -> Place<'_> {
         Place::Row {
@@ -101,21 +105,6 @@ impl<'a> Records<'a> {
             name: self.field(0),
             line: self.written.trim_ascii(),
         }
-    }
-
-    /// Reads the next record, and returns whether there is one.
-    fn advance(&mut self) -> Result<bool, AllocError> {
-        let start = self.reader.position().byte() as usize;
-        let found = match self.reader.read_byte_record(&mut self.record) {
-            Ok(found) => found,
-            Err(error) => match error.into_kind() {
-                ErrorKind::OutOfMemory | ErrorKind::Io(_) => return Err(AllocError),
-                _ => false,
-            },
-        };
-        let end = self.reader.position().byte() as usize;
-        self.written = self.file.get(start..end).unwrap_or(b"");
-        Ok(found)
     }
 }
 

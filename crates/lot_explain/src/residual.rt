@@ -11,7 +11,7 @@ use lot_num::{Units, Wide, weight};
 /// Returns what the postings with amounts leave in a currency. It isn't known where braces don't
 /// say what a unit costs, since the lots that are taken say it then, or where the sum is out of
 /// range.
-pub(crate) fn residual(postings: &[Posting], currency: &Commodity) -> Option<Wide>
+pub(crate) fn residual(postings: &[Posting], currency: &str) -> Option<Wide>
     ensures { IfSome result (λ sum. residual_said currency.now postings.now ≡ Some sum) }
 {
     let mut sum = Wide::ZERO;
@@ -22,7 +22,7 @@ pub(crate) fn residual(postings: &[Posting], currency: &Commodity) -> Option<Wid
 }
 
 /// Returns the sum with what an amount weighs in the currency, where its text says it.
-fn add(sum: Wide, amount: &Option<Amount>, currency: &Commodity) -> Option<Wide>
+fn add(sum: Wide, amount: &Option<Amount>, currency: &str) -> Option<Wide>
     ensures { IfSome result (λ next. with_posting currency.now sum amount.now ≡ Some next) }
 {
     let Some(amount) = amount else {
@@ -31,7 +31,7 @@ fn add(sum: Wide, amount: &Option<Amount>, currency: &Commodity) -> Option<Wide>
     let Some((weighed, weight)) = weight_said(amount) else {
         return None;
     };
-    if weighed == currency {
+    if weighed.as_str() == currency {
         sum.checked_add(weight)
     } else {
         Some(sum)

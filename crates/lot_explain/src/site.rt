@@ -13,7 +13,7 @@ pub(crate) struct Site<'a> {
 }
 
 /// What a line is to the lines around it.
-#[derive(Clone, Copy, PartialEq, Eq)]
+#[derive(Clone, Copy)]
 pub(crate) enum Kind {
     /// A command begins on it.
     Begins,
@@ -28,7 +28,8 @@ pub(crate) fn kind_of(line: &[u8]) -> Kind {
     let Ok(text) = str::from_utf8(line) else {
         return Kind::Other;
     };
-    if text.starts_with('*') || !has_tokens(text) {
+    let has_tokens = matches!(Tokens::new(text), Ok(tokens) if tokens.split_first().is_some());
+    if text.starts_with('*') || !has_tokens {
         Kind::Other
     } else if is_indented(line) {
         Kind::Posts
@@ -37,16 +38,20 @@ pub(crate) fn kind_of(line: &[u8]) -> Kind {
     }
 }
 
-fn has_tokens(line: &str) -> bool {
-    match Tokens::new(line) {
-        Ok(tokens) => tokens.split_first().is_some(),
-        Err(_) => false,
-    }
-}
-
 /// Returns whether a line begins with a space or a tab, as a posting does.
 pub(crate) fn is_indented(line: &[u8]) -> bool {
     matches!(line, [b' ' | b'\t', ..])
+}
+
+/// Returns how many commands begin on the lines of a text.
+pub(crate) fn commands_in(text: &[u8]) -> usize {
+    let mut commands = 0usize;
+    for line in Lines::new(text) {
+        if matches!(kind_of(line), Kind::Begins) {
+            commands = commands.saturating_add(1);
+        }
+    }
+    commands
 }
 
 /// How far a ledger text was gone through.
@@ -56,9 +61,9 @@ pub(crate) struct Sites<'a> {
     /// The number of the last line.
     number: u64,
     /// How many commands began on the lines so far.
-    begun: u64,
+    begun: usize,
     /// How many postings the last of them has so far.
-    posted: u64,
+    posted: usize,
 }
 
 impl<'a> Sites<'a> {
@@ -74,20 +79,18 @@ impl<'a> Sites<'a> {
 
     /// Goes on to the line on which the command of that number begins, or to that of its posting at
     /// that place; both count from 1.
-    pub(crate) fn find(&mut self, command: u64, posting: Option<u64>) -> Option<Site<'a>> {
+    pub(crate) fn find(&mut self, command: usize, posting: Option<usize>) -> Option<Site<'a>> {
         for line in &mut self.lines {
             self.number = self.number.saturating_add(1);
-            let kind = kind_of(line);
-            match kind {
+            match kind_of(line) {
                 Kind::Begins => {
                     self.begun = self.begun.saturating_add(1);
                     self.posted = 0;
                 }
                 Kind::Posts => self.posted = self.posted.saturating_add(1),
-                Kind::Other => {}
+                Kind::Other => continue,
             }
-            let is_there = self.begun == command && self.posted == posting.unwrap_or(0);
-            if is_there && kind != Kind::Other {
+            if self.begun == command && self.posted == posting.unwrap_or(0) {
                 return Some(Site {
                     number: self.number,
                     line,

@@ -1,108 +1,108 @@
 //! What is read otherwise than it may have been meant, though no rule is broken.
 
+use crate::book::Known;
 use crate::call::Call;
-use crate::note::Place;
 use crate::notebook::Notebook;
+use crate::place::Place;
 use crate::records::Records;
-use crate::refused::rows_in;
-use crate::site::{Kind, kind_of};
-use lot_command::Command;
+use crate::site::{Kind, commands_in, is_indented, kind_of};
+use lot_command::{Command, Opening};
 use lot_cost::Method;
 use lot_import::Row;
 use lot_num::Units;
 use lot_read::{TextFault, read};
 use lot_token::{Lines, Token, Tokens};
+use memchr::memchr;
+use memchr::memmem::Finder;
 use std::alloc::{AllocError, Global};
 use std::collections::BTreeMap;
 use std::io::{self, Write};
-use std::{fmt, str};
-
-/// A place of the input, and what it says that it may not have been meant to say.
-#[derive(Clone, Copy)]
-struct Warning<'a> {
-    place: Place<'a>,
-    text: &'a str,
-}
-
-impl fmt::Display for Warning<'_> {
-    fn fmt<W: fmt::Write>(&self, f: &mut fmt::Formatter<W>) -> fmt::Result {
-        let text = self.text;
-        self.place.write_front(f)?;
-        write!(f, "warning: {text}")?;
-        self.place.write_back(f)
-    }
-}
+use std::str;
 
 /// The columns of a broker file with numbers, counted from 0: units, price and fee.
 const COLUMNS_OF_NUMBERS: [usize; 3] = [4, 5, 7];
 
 /// Warns of lines of a ledger text, and of a start past its end.
-pub(crate) fn warn_of_text<W: Write>(
+pub(crate) fn warn_of_text<W: Write, B: Known>(
     alloc: Global,
     notes: &mut Notebook<'_, W>,
+    book: &mut B,
     call: &Call<'_>,
 ) -> io::Result<()> {
-    let (mut number, mut commands) = (0u64, 0u64);
+    // Few other lines have one of these words, and lines without one aren't read.
+    let (opening, closing) = (Finder::new(b"open"), Finder::new(b"close"));
+    let mut number = 0u64;
     for line in Lines::new(call.input) {
         number = number.saturating_add(1);
         let place = Place::Line { number, line };
-        match kind_of(line) {
-            Kind::Begins => {
-                commands = commands.saturating_add(1);
-                warn_of_method(alloc, notes, place, line)?;
-            }
-            Kind::Posts => {}
-            Kind::Other => continue,
+        if !is_indented(line) && (opening.find(line).is_some() || closing.find(line).is_some()) {
+            warn_of_command(alloc, notes, book, place, line)?;
         }
         if let Some(number) = odd_number(line) {
             warn_of_number(alloc, notes, place, number)?;
         }
     }
-    warn_of_start(alloc, notes, call.from, commands, "commands")
+    if call.from > 1 {
+        warn_of_start(notes, call.from, commands_in(call.input), "commands")?;
+    }
+    Ok(())
+}
+
+/// Warns of a line on which a command begins: of a method that stands among the currencies of an
+/// opening, and of the closing of an account that holds something.
+fn warn_of_command<W: Write, B: Known>(
+    alloc: Global,
+    notes: &mut Notebook<'_, W>,
+    book: &mut B,
+    place: Place<'_>,
+    line: &[u8],
+) -> io::Result<()> {
+    let commands = match read(alloc, line) {
+        Ok(commands) => commands,
+        Err(TextFault::Line { .. }) => return Ok(()),
+        Err(TextFault::Memory { .. }) => return Err(AllocError.into()),
+    };
+    match commands.first() {
+        Some(Command::Opening(opening)) => warn_of_method(notes, place, opening),
+        Some(Command::Closing(closing)) => match book.locked(&closing.account)? {
+            Some(commodity) => {
+                let commodity = commodity.as_str();
+                notes.note(
+                    place,
+                    format_args!("warning: the account is closed, and still holds {commodity}"),
+                )
+            }
+            None => Ok(()),
+        },
+        _ => Ok(()),
+    }
 }
 
 /// Warns of a method that stands among the currencies of an opening.
 fn warn_of_method<W: Write>(
-    alloc: Global,
     notes: &mut Notebook<'_, W>,
     place: Place<'_>,
-    line: &[u8],
+    opening: &Opening,
 ) -> io::Result<()> {
-    let Some(method) = method_in(alloc, line)? else {
-        return Ok(());
-    };
-    let word = method.name();
-    let text = format!(in alloc;
-        "{word} is read as a currency: the method of an account stands in quotes"
-    )?;
-    notes.note(Warning {
-        place,
-        text: text.as_str(),
-    })
+    for currency in opening.currencies.as_slice() {
+        if let Some(method) = Method::from_name(currency.as_str()) {
+            let word = method.name();
+            return notes.note(
+                place,
+                format_args!(
+                    "warning: {word} is read as a currency: the method of an account stands in quotes"
+                ),
+            );
+        }
+    }
+    Ok(())
 }
 
-/// Returns the first method among the currencies of an opening. The only error is out of memory.
-fn method_in(alloc: Global, line: &[u8]) -> Result<Option<Method>, AllocError> {
-    let commands = match read(alloc, line) {
-        Ok(commands) => commands,
-        Err(TextFault::Line { .. }) => return Ok(None),
-        Err(TextFault::Memory { .. }) => return Err(AllocError),
-    };
-    let Some(Command::Opening(opening)) = commands.first() else {
-        return Ok(None);
-    };
-    let mut methods = opening
-        .currencies
-        .as_slice()
-        .iter()
-        .filter_map(|currency| Method::from_name(currency.as_str()));
-    Ok(methods.next())
-}
-
-/// Returns the first number of a line with a comma that doesn't stand before a group of three
-/// digits.
+/// Returns the first number, of a line that isn't skipped, with a comma that doesn't stand before a
+/// group of three digits.
 fn odd_number(line: &[u8]) -> Option<&str> {
-    if !line.contains(&b',') {
+    memchr(b',', line)?;
+    if matches!(kind_of(line), Kind::Other) {
         return None;
     }
     let mut rest = Tokens::new(str::from_utf8(line).ok()?).ok()?;
@@ -122,7 +122,12 @@ fn is_odd(number: &str) -> bool {
         Some((whole, _)) => whole,
         None => number,
     };
-    whole.split(',').skip(1).any(|group| group.len() != 3)
+    for group in whole.split(',').skip(1) {
+        if group.len() != 3 {
+            return true;
+        }
+    }
+    false
 }
 
 /// Warns of a number with a comma that doesn't stand before a group of three digits.
@@ -137,29 +142,26 @@ fn warn_of_number<W: Write>(
     };
     let value = units.text(alloc)?;
     let value = value.as_str();
-    let text = format!(in alloc; "{number} is read as {value}: decimals stand behind a point")?;
-    notes.note(Warning {
+    notes.note(
         place,
-        text: text.as_str(),
-    })
+        format_args!("warning: {number} is read as {value}: decimals stand behind a point"),
+    )
 }
 
 /// Warns of a start past the end of an input that has so many of these.
 fn warn_of_start<W: Write>(
-    alloc: Global,
     notes: &mut Notebook<'_, W>,
     from: u32,
-    count: u64,
+    count: usize,
     these: &str,
 ) -> io::Result<()> {
-    if u64::from(from) <= count.max(1) {
+    if u64::from(from) <= (count as u64).max(1) {
         return Ok(());
     }
-    let text = format!(in alloc; "--from {from} is past the end of {count} {these}: none was run")?;
-    notes.note(Warning {
-        place: Place::Whole,
-        text: text.as_str(),
-    })
+    notes.note(
+        Place::Whole,
+        format_args!("warning: --from {from} is past the end of {count} {these}: none was run"),
+    )
 }
 
 /// Warns of rows of a broker file, and of a start past its end; of a faulty file it says nothing.
@@ -167,22 +169,27 @@ pub(crate) fn warn_of_rows<W: Write>(
     alloc: Global,
     notes: &mut Notebook<'_, W>,
     call: &Call<'_>,
+    rows: &[Row],
 ) -> io::Result<()> {
-    let rows = rows_in(alloc, call.input)?;
-    warn_of_order(alloc, notes, &rows)?;
+    warn_of_order(alloc, notes, rows)?;
     let mut records = Records::new(alloc, call.input)?;
     let mut seen = BTreeMap::new(alloc);
-    for row in &rows {
+    for row in rows {
         records.next_row()?;
         warn_of_fields(alloc, notes, &records)?;
         if let Some(before) = seen.insert(row.name.as_str(), records.row)? {
-            warn_of_name(alloc, notes, &records, before)?;
+            notes.note(
+                records.place(),
+                format_args!(
+                    "warning: row {before} has this ref, too: a deal is known by it, so this one is a repeat or refused"
+                ),
+            )?;
         }
     }
     if rows.is_empty() {
         return Ok(());
     }
-    warn_of_start(alloc, notes, call.from, rows.len() as u64, "rows")
+    warn_of_start(notes, call.from, rows.len(), "rows")
 }
 
 /// Warns of rows that are newest first.
@@ -199,14 +206,12 @@ fn warn_of_order<W: Write>(
     }
     let (first, last) = (first.day.text(alloc)?, last.day.text(alloc)?);
     let (first, last) = (first.as_str(), last.as_str());
-    let text = format!(in alloc;
-        "the first row is of {first}, the last of {last}: rows stand in the order of their days, \
-        the oldest first"
-    )?;
-    notes.note(Warning {
-        place: Place::Whole,
-        text: text.as_str(),
-    })
+    notes.note(
+        Place::Whole,
+        format_args!(
+            "warning: the first row is of {first}, the last of {last}: rows stand in the order of their days, the oldest first"
+        ),
+    )
 }
 
 /// Warns of numbers of the last row with a comma that doesn't stand before a group of three digits.
@@ -223,20 +228,4 @@ fn warn_of_fields<W: Write>(
         }
     }
     Ok(())
-}
-
-/// Warns of the last row, whose `ref` is that of an earlier one.
-fn warn_of_name<W: Write>(
-    alloc: Global,
-    notes: &mut Notebook<'_, W>,
-    records: &Records<'_>,
-    before: u64,
-) -> io::Result<()> {
-    let text = format!(in alloc;
-        "row {before} has this ref, too: a deal is known by it, so this one is a repeat or refused"
-    )?;
-    notes.note(Warning {
-        place: records.place(),
-        text: text.as_str(),
-    })
 }

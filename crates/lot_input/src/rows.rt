@@ -11,7 +11,7 @@ use lot_import::{Accounts, keyed_commands, read_rows};
 use lot_stream::{CountedRead, slurp};
 use std::alloc::Global;
 
-/// Returns the commands of the rows of all that a reader has, which is a broker file, from that number on: each posts to the
+/// Reads all that a reader has as a broker file. Returns the commands of its rows from that number on: each posts to the
 /// accounts, under the key of its row in the batch. The first row has the number 1.
 ///
 /// The errors are `Unread`, `Rows` and `Cash`, and `Unasked` where nothing is read: the source of the keys is made before.

@@ -11,7 +11,7 @@ use lot_stream::{CountedRead, slurp};
 use lot_text::read;
 use std::alloc::Global;
 
-/// Returns the commands of all that a reader has, which is ledger text, from that number on: each under the key of its number
+/// Reads all that a reader has as ledger text. Returns its commands from that number on, each under the key of its number
 /// in the batch. The first command of the text has the number 1.
 ///
 /// The errors are `Unread`, `Text` and `Memory`.
@@ -37,7 +37,7 @@ pub fn keyed_text<R: CountedRead>(
     commands_in(alloc, batch, from, &text)
 }
 
-/// Returns the one command of all that a reader has, which is ledger text, under the key of the row with that `ref` in the
+/// Reads all that a reader has as ledger text. Returns its one command, under the key of the row with that `ref` in the
 /// broker files of the batch; `None` where the text has no command, or several.
 ///
 /// The errors are `Unread`, `Text` and `Memory`.

@@ -14,7 +14,8 @@ use Rattle.lot_cost.specs.LotKey.{lot_cmp}
 use Rattle.lot_cost.proofs.OrderLemmas.{exact_lots, is_equal, lots_total}
 use Rattle.lot_inv.specs.declared.inventory.OpenLot.{OpenLot}
 use Rattle.lot_inv.specs.declared.lot.Lot.{Lot}
-use Rattle.lot_inv.specs.Holding.{listed, units_in}
+use Rattle.lot_inv.specs.Holding.{listed, takeable, takeable_lots, units_in}
+use Rattle.lot_inv.specs.Inventory.{other_sign}
 use Rattle.lot_inv.specs.Lot.{AreNumberedBy, key_and_units}
 use Rattle.lot_inv.proofs.RowLemmas.{none_isnt_some}
 
@@ -35,6 +36,25 @@ units-listed spec (lot ∷ lots) =
       | true ↦ ap (λ ls. (lot.0, lot.1.units) ∷ ls) (units-listed spec lots)
       | false ↦ units-listed spec lots
     ]
+
+-- those among lots that have the other sign than units
+signs-kept : (units : ℤ) (lots : List Lot)
+    → map key_and_units (filter (λ (lot : Lot). other_sign lot.units units) lots)
+    ≡ filter (λ (lot : LotKey × ℤ). other_sign lot.1 units) (map key_and_units lots)
+signs-kept units [] = refl
+signs-kept units (lot ∷ lots) =
+    let rest = filter (λ (lot : Lot). other_sign lot.units units) lots in
+    let others = filter (λ (lot : LotKey × ℤ). other_sign lot.1 units) (map key_and_units lots) in
+    elim (other_sign lot.units units) as (λ b. map key_and_units (cond b (lot ∷ rest) rest) ≡ cond b (key_and_units lot ∷ others) others) [
+      | true ↦ ap (λ ls. key_and_units lot ∷ ls) (signs-kept units lots)
+      | false ↦ signs-kept units lots
+    ]
+
+pub takeable-listed : (units : ℤ) (spec : CostSpec) (lots : List (LotKey × OpenLot))
+    → map key_and_units (takeable_lots units spec (listed lots)) ≡ takeable units spec (units_in lots)
+takeable-listed units spec lots =
+    signs-kept units (filter (λ (lot : Lot). fits spec lot.key) (listed lots))
+    ∙ ap (filter (λ (lot : LotKey × ℤ). other_sign lot.1 units)) (units-listed spec lots)
 
 pub none-listed : (lots : List Lot) → map key_and_units lots ≡ [] → lots ≡ []
 none-listed [] e = refl

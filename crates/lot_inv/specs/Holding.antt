@@ -93,6 +93,11 @@ abbrev pub takeable : ℤ → CostSpec → List (LotKey × ℤ) → List (LotKey
 takeable units spec lots =
     filter (λ (lot : LotKey × ℤ). other_sign lot.1 units) (filter (λ (lot : LotKey × ℤ). fits spec lot.0) lots)
 
+-- the same of lots as they are listed
+abbrev pub takeable_lots : ℤ → CostSpec → List Lot → List Lot
+takeable_lots units spec lots =
+    filter (λ (lot : Lot). other_sign lot.units units) (filter (λ (lot : Lot). fits spec lot.key) lots)
+
 -- setting units at a key stores a new lot
 abbrev pub NeedsLot : Holding → Option LotKey → Type 0
 NeedsLot holding None = ⊥

@@ -13,12 +13,12 @@ ghost use Rattle.lot_inv.specs.Lot.{AreNumberedBy, key_and_units};
 ghost use Rattle.lot_cost.specs.CostSpec.{fits};
 ghost use Rattle.lot_inv.specs.Zeros.{HasNoZeros};
 ghost use Rattle.lot_cost.specs.LotKey.{lot_cmp};
-ghost use Rattle.lot_inv.specs.Holding.{AreAlike, AreHoldings, ChangesPosition, NeedsPosition, NoneIsEmpty, NoOtherIsEmpty, kept, kept_at, lot_rows, plain_rows, rows_of, takeable, units_in, with_lots};
+ghost use Rattle.lot_inv.specs.Holding.{AreAlike, AreHoldings, ChangesPosition, NeedsPosition, NoneIsEmpty, NoOtherIsEmpty, kept, kept_at, lot_rows, plain_rows, rows_of, takeable, takeable_lots, units_in, with_lots};
 ghost use Rattle.lot_cost.specs.declared.lot_key.LotKey.{LotKey};
 ghost use Rattle.lot_inv.specs.declared.fault.InventoryFault.TheVariants.{Memory, Range};
 
 use crate::fault::InventoryFault;
-use crate::lot::Lot;
+use crate::lot::{LentLot, Lot};
 use lot_base::Commodity;
 use lot_cost::{CostSpec, LotKey};
 use lot_num::{Rate, Units, Wide};
@@ -189,6 +189,28 @@ impl Inventory {
         match self.held.get(commodity) {
             Some(holding) => holding.available(units, number, spec),
             None => Available { lots: 0, held: 0 },
+        }
+    }
+
+    /// Returns the lots that `available` counts, in the order of their keys, which aren't copied. The only error is out of memory.
+    ///
+    /// The specification has that number itself, or none.
+    pub fn takeable(
+        &self,
+        commodity: &Commodity,
+        units: Units,
+        number: &Option<Rate>,
+        spec: &CostSpec,
+    ) -> Result<Vec<LentLot<'_>>, AllocError>
+        requires { (spec.now.number ≡ None) ⊎ (spec.now.number ≡ number.now) }
+        ensures all { IfOk result (λ lots. map key_and_units lots.items
+            ≡ fitting self.now.held commodity.now units (with_number number.now spec.now)) }
+        ensures numbers { IfOk result (λ lots.
+            AreNumberedBy (opening_at self.now commodity.now) lots.items) }
+    {
+        match self.held.get(commodity) {
+            Some(holding) => holding.takeable(self.alloc, units, number, spec),
+            None => Ok(Vec::new(self.alloc)),
         }
     }
 
@@ -376,6 +398,32 @@ impl Holding {
             }
         }
         available
+    }
+
+    /// Returns the lots that `available` counts, in the order of their keys.
+    fn takeable(
+        &self,
+        alloc: Global,
+        units: Units,
+        number: &Option<Rate>,
+        spec: &CostSpec,
+    ) -> Result<Vec<LentLot<'_>>, AllocError>
+        requires { (spec.now.number ≡ None) ⊎ (spec.now.number ≡ number.now) }
+        ensures { IfOk result (λ lots. lots.items ≡ takeable_lots units
+            (with_number number.now spec.now) (listed self.now.lots.entries)) }
+    {
+        let mut lots = Vec::new(alloc);
+        for (key, lot) in &self.lots {
+            if is_other_sign(lot.units, units) && fits_at(number, spec, key) {
+                let OpenLot { units, opening } = *lot;
+                lots.push(LentLot {
+                    key,
+                    units,
+                    opening,
+                })?;
+            }
+        }
+        Ok(lots)
     }
 
     /// Returns an inventory of these lots, as lots of the commodity.

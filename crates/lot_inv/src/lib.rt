@@ -3,7 +3,7 @@
 //! Lot keys and cost specifications are those of `lot_cost`.
 //!
 //! - `inventory`: `Inventory`, the units of each position of an account, and `Available`, the lots that units may take.
-//! - `lot`: `Lot`, a lot that is held.
+//! - `lot`: `Lot`, a lot that is held, and `LentLot`, one whose key is lent.
 //! - `fault`: `InventoryFault`, why units aren't added.
 //! - `laws`: what holds of the definitions that the contracts cite.
 #![tactic(auto)]
@@ -15,5 +15,5 @@ mod lot;
 
 pub use fault::InventoryFault;
 pub use inventory::{Available, Inventory, is_other_sign};
-pub use lot::Lot;
+pub use lot::{LentLot, Lot};
 pub use lot_cost::{CostSpec, LotKey};

@@ -29,8 +29,8 @@ pub fn further_legs_make_the_opening_numbers_over_all_legs()
         (opening_in (legs_of book ++ legs) account commodity) }
 {}
 
-/// The step of edition 2 on a book is what the command comes to on the facts of the book with its opening numbers, or with
-/// numbers that are those of each lot that is held.
+/// The step of edition 2 on a book is what the command comes to on the book's facts and opening numbers. Other numbers do
+/// as well, if they are the same for each lot that is held.
 pub fn a_step_of_edition_2_is_one_on_facts_with_openings()
     ensures book { (book : List Entry) (key : Key) (command : Command) (outcome : Outcome)
         → StepIn Second book key command outcome

@@ -43,9 +43,9 @@ pub enum Outcome {
 /// Returns what becomes of a command on what a view knows, or why it is refused, or out of memory. The view is that of the
 /// command's key: it has the text that stands under it, if there is one. Ties between lots are decided as the edition says.
 ///
-/// Memory may lack where a text stands under the key, since it is compared with that of the command. Where the key is new it
-/// may lack for a transaction alone, and only where no check that comes before its booking refuses it and its first posting
-/// with an amount has legs, which without braces stay in range (`MayLackMemory`).
+/// Memory may lack where a text stands under the key, since it is compared with that of the command. Where the key is new,
+/// memory may lack for a transaction alone, once the checks before its booking are passed, and where its first posting with an
+/// amount has legs. Those of a posting without braces stay in range then (`MayLackMemory`).
 pub fn decide(
     alloc: Global,
     edition: Edition,

@@ -28,12 +28,12 @@ use std::alloc::Global;
 /// Makes a book of edition 2 of one of edition 1, in one commit, and gives the connection back.
 ///
 /// The entries stay, each of which is of edition 1 from then on, and so does every row but that of
-/// the edition. A book of edition 2 stays as it is. On a book of edition 1 the error is `Device`,
-/// also for want of room, `InDoubt`, where the disk failed in the commit and the book was migrated
-/// or not, or `Memory`. After any error the connection is outside a transaction and, while it is
-/// open, shows every row as it was. A crash during the call leaves what it could leave before, or
-/// the book of edition 2 that one of an older edition becomes. How many legs are read is told as
-/// they are.
+/// the edition. A book of edition 2 stays as it is. On a book of edition 1 the error is `Device`
+/// (the disk failed, or room may lack), `InDoubt` (the disk failed in the commit, and the book was
+/// migrated or not) or `Memory`. After any error the connection is outside a transaction and, while
+/// it is open, shows every row as it was. A crash during the call leaves what it could leave
+/// before, or the book of edition 2 that one of an older edition becomes. How many legs are read is
+/// told as they are.
 pub fn migrate<S: Alter, P: Progress>(
     alloc: Global,
     conn: Connection<S>,

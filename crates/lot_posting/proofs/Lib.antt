@@ -5,3 +5,4 @@ pub mod TallyLemmas
 pub mod TallyCount
 pub mod TallyOpenings
 pub mod TallyLots
+pub mod TallyReducing

@@ -89,7 +89,7 @@ lot-parts account commodity p e =
       one_text p.commodity commodity (second_true (same_text p.account account) (same_text p.commodity commodity) names),
     )
 
-lot-itself : (account commodity : List ℕ) (key : LotKey) → is_lot_of account commodity (at account (commodity, Some key)) ≡ true
+pub lot-itself : (account commodity : List ℕ) (key : LotKey) → is_lot_of account commodity (at account (commodity, Some key)) ≡ true
 lot-itself account commodity key = λ i. same_text-itself account i && same_text-itself commodity i
 
 -- another position is not at a key of the commodity

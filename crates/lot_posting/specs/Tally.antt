@@ -3,7 +3,7 @@ use Rattle.std.specs.Prelude.{◌≡◌, ℕ, Bool, true, false, ◌&&◌, is_no
 use Rattle.std.specs.List.{AllByRecursion}
 use Rattle.std.specs.Ordering.{int_eq}
 use Rattle.lot_num.specs.Amount.{IsUnits}
-use Rattle.lot_inv.specs.Inventory.{Held}
+use Rattle.lot_inv.specs.Inventory.{Held, other_sign}
 use Rattle.lot_base.specs.Text.{same_text}
 use Rattle.lot_book.specs.declared.leg.Position.{Position}
 use Rattle.lot_book.specs.declared.leg.Leg.{Leg}
@@ -65,6 +65,10 @@ is_lot_of account commodity position =
 abbrev pub is_plain_of : List ℕ → List ℕ → Position → Bool
 is_plain_of account commodity position =
     is_none position.lot && (same_text position.account account && same_text position.commodity commodity)
+
+-- whether a row is of a lot of the commodity in the account, which has the other sign than the units
+abbrev pub is_lot_against : List ℕ → List ℕ → ℤ → Position × ℤ → Bool
+is_lot_against account commodity units row = is_lot_of account commodity row.0 && other_sign row.1 units
 
 -- how many lots units make: none where they are zero
 abbrev pub lot_count : ℤ → ℕ

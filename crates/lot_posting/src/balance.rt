@@ -144,7 +144,7 @@ impl Residuals {
         true
     }
 
-    /// Returns `FillNotAllowed` with the first currency whose residual isn't zero and that an account that stands so doesn't
+    /// Returns `FillNotAllowed` with the first currency, of those whose residual isn't zero, that the account doesn't
     /// allow, if there is one. The refusal takes that currency over, so it needs no memory.
     pub fn allowed(self, standing: &Standing) -> Result<(), Refusal>
         ensures ok { OnOk result

@@ -1,9 +1,11 @@
-ghost use Rattle.std.specs.Prelude.{◌≡◌, ◌-◌, suc, IfErr, IfOk, IsErrOf, OnOk, Some, None};
+ghost use Rattle.std.specs.Prelude.{◌≡◌, ◌-◌, ◌&&◌, suc, false, IfErr, IfOk, IsErrOf, IsFalse, OnOk, Some, None};
+ghost use Rattle.lot_inv.specs.Inventory.{reduces};
 ghost use Rattle.lot_booking.specs.Booking.{ComesTo, ComesToLegs, Legs, posting_on};
+ghost use Rattle.lot_booking.specs.Method.{may_reduce};
 ghost use Rattle.lot_book.specs.declared.refusal.Stop.TheVariants.{Memory};
 ghost use Rattle.lot_book.specs.Balance.{AreWithin};
 ghost use Rattle.lot_book.specs.Booking.{braced, method_of};
-ghost use Rattle.lot_book.specs.Leg.{leg_at, legs_at_lots};
+ghost use Rattle.lot_book.specs.Leg.{leg_at, legs_at_lots, with_legs};
 ghost use Rattle.lot_posting.specs.Posting.{BooksAt, IsStopOf, MayLackMemory, StopsOn, StopsPosting, StopsWithoutLegs, line_at};
 ghost use Rattle.lot_book.specs.Refusals.{most_postings};
 ghost use Rattle.lot_book.specs.Sale.{AreLegsOf};
@@ -142,6 +144,10 @@ fn book_lots(
         edition: site.edition,
         method: method_of(view, site.account),
     };
+    if !may_reduce(view, tally, site, selection.method) {
+        // It opens a lot or adds to one, whatever lots there are.
+        return book_on(alloc, selection, &Inventory::new(alloc), site, cost);
+    }
     if tally.has_changed(site.account, &site.amount.commodity) {
         let lots = tally.lots_of(alloc, view, site.account, &site.amount.commodity)?;
         return book_on(alloc, selection, &lots, site, cost);
@@ -150,6 +156,19 @@ fn book_lots(
         Some(held) => book_on(alloc, selection, held, site, cost),
         None => book_on(alloc, selection, &Inventory::new(alloc), site, cost),
     }
+}
+
+/// Returns whether a posting under a method may take lots away, on what its account holds after the legs so far.
+fn may_reduce(view: &View, tally: &Tally, site: &Site<'_>, method: Method) -> bool
+    requires { ListsTally (known view.now) tally.now }
+    ensures never { IsFalse result
+        → (may_reduce method && reduces
+        (with_legs site.now.account.now ((known view.now).held site.now.account.now) tally.now.legs)
+        site.now.amount.now.commodity site.now.amount.now.units) ≡ false }
+{
+    let amount = site.amount;
+    method != Method::Unmatched
+        && tally.may_reduce(view, site.account, &amount.commodity, amount.units)
 }
 
 /// Returns the method of an account, STRICT where it isn't known.

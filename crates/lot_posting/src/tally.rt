@@ -1,20 +1,21 @@
 ghost use Rattle.std.specs.Prelude.{◌≡◌, ◌≢◌, [], ◌∷◌, ◌++◌, ◌+ℤ◌, IfErr, IfOk, IsErrOf, OnOk, Some, IsFalse, IsTrue, true, false, length, ℕ, List};
+ghost use Rattle.std.specs.List.{list_any};
 ghost use Rattle.lot_book.specs.declared.refusal.Stop.TheVariants.{Memory};
 ghost use Rattle.lot_cost.specs.declared.lot_key.LotKey.{LotKey};
-ghost use Rattle.lot_inv.specs.Inventory.{Held, lots_of, opening_at};
+ghost use Rattle.lot_inv.specs.Inventory.{Held, lots_of, opening_at, reduces};
 ghost use Rattle.lot_num.specs.Amount.{IsUnits};
 ghost use Rattle.lot_book.specs.Change.{listed_or, units_after};
 ghost use Rattle.lot_book.specs.Facts.{Facts};
 ghost use Rattle.lot_book.specs.Leg.{leave_range, with_legs};
 ghost use Rattle.lot_book.specs.OpeningNumber.{HasNumber, opening_with_legs};
 ghost use Rattle.lot_book.specs.Openings.{HaveSameOpenings, opening_after};
-ghost use Rattle.lot_posting.specs.Tally.{AreOf, BeginInRange, HaveNumbers, ListsTally, StopsAt, StopsAtLeg, is_lot_of, is_plain_of, lot_count, plain};
+ghost use Rattle.lot_posting.specs.Tally.{AreOf, BeginInRange, HaveNumbers, ListsTally, StopsAt, StopsAtLeg, is_lot_of, is_lot_against, is_plain_of, lot_count, plain};
 ghost use Rattle.lot_view.specs.View.{known, known_with_openings};
 
 use lot_base::{Account, Commodity};
 use lot_book::{Leg, Position, Refusal, Stop};
 use lot_command::Items;
-use lot_inv::Inventory;
+use lot_inv::{Inventory, is_other_sign};
 use lot_num::Units;
 use lot_view::View;
 use std::alloc::{AllocError, Global};
@@ -116,6 +117,40 @@ impl Tally {
             self.post(view, leg)?;
         }
         Ok(())
+    }
+
+    /// Returns whether units may take lots away from an account after the legs so far: where a lot of the commodity had
+    /// the other sign before them, or has it after one of them. It copies no lot.
+    pub(crate) fn may_reduce(
+        &self,
+        view: &View,
+        account: &Account,
+        commodity: &Commodity,
+        units: Units,
+    ) -> bool
+        requires { ListsTally (known view.now) self.now }
+        ensures never { IsFalse result
+            → reduces (with_legs account.now ((known view.now).held account.now) self.now.legs)
+            commodity.now units ≡ false }
+    {
+        let reduced = match view.held(account) {
+            Some(held) => held.reduces(commodity, units),
+            None => false,
+        };
+        reduced || self.lists_lot_against(account, commodity, units)
+    }
+
+    /// Returns whether a lot of that account and commodity that a leg so far is in has the other sign than the units.
+    fn lists_lot_against(&self, account: &Account, commodity: &Commodity, units: Units) -> bool
+        ensures { result ≡ list_any (is_lot_against account.now commodity.now units)
+            self.now.positions.entries }
+    {
+        for (position, sum) in &self.positions {
+            if is_lot_of(position, account, commodity) && is_other_sign(*sum, units) {
+                return true;
+            }
+        }
+        false
     }
 
     /// Returns whether a leg so far is in a lot of that account and commodity.

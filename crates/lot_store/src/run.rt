@@ -42,9 +42,9 @@ impl<S: Alter> Book<S> {
     /// Applies commands in their order, each in one commit, and writes a reply to each before it begins the next one. The
     /// first has the number `from`. Returns how many were replied to, and how the run ended.
     ///
-    /// Each command is judged on what is known of the book from those before it and on the rows that it touches beside these.
-    /// It stops at the first fault, whose line it writes with the number of the command, or where the writer fails. A book
-    /// that needs reopening is such a fault at the number `from`, where there are no commands too. Where the writer failed, the
+    /// Each command is judged on what is known of the book from those before it and on the rows that it touches beside
+    /// these. It stops at the first fault, whose line it writes with the number of the command, or where the writer fails.
+    /// If the book needs reopening, even an empty run stops with `NeedsReopen` at `from`. Where the writer failed, the
     /// command whose line isn't written whole was applied, unless that line is one of a fault.
     pub fn run<W: CountedWrite>(
         &mut self,

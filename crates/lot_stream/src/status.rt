@@ -40,8 +40,8 @@ impl Status {
     }
 }
 
-/// Flushes what was written, where that is all, and returns the status then: where the flush fails, the run is stopped. Where
-/// not all was written, nothing more is asked of the writer.
+/// If all was written, flushes it and returns the status, or that of a stopped run if the flush fails. If not all was
+/// written, asks nothing more of the writer.
 pub fn finish<W: CountedWrite>(writer: &mut W, concluded: Result<Status, PrintFault>) -> Status
     ensures kept { Keeps (W.contents writer.old) (W.contents writer.new) }
     ensures end { Ends concluded (W.calls writer.new) result }

@@ -17,11 +17,12 @@ use Rattle.lot_page.specs.Cursor.{IsBehind, Steps as CursorSteps}
 use Rattle.lot_stored.specs.Kept.{SalesOf}
 use Rattle.lot_stored.specs.Rows.{leg_row, sale_row}
 use Rattle.lot_stored.specs.StandFor.{StandFor}
-use Rattle.lot_walk.specs.Gains.{AreSalesWithin, HasLegs, IsBehindSales, Range, is_from, is_up_to, is_within, sale_with, sold_within}
+use Rattle.lot_walk.specs.Gains.{AreSalesWithin, HasLegs, IsBehindSales, Range, is_from, is_up_to, is_within, numbered_sale, sale_with, sold_within}
 use Rattle.lot_walk.specs.Place.{Went}
 use Rattle.lot_walk.specs.SaleStep.{HasRowsOf, TellsSale}
 use Rattle.lot_walk.specs.Step.{IsPrefix, StaysOrGoesBack, Steps}
 use Rattle.lot_walk.specs.declared.gains.GainsPlace.{GainsPlace}
+use Rattle.lot_walk.specs.declared.gains.NumberedSale.{NumberedSale}
 use Rattle.lot_walk.proofs.CursorLemmas.{next_left, none_left}
 use Rattle.lot_rows.proofs.StateLemmas.{early, survives_both}
 use Rattle.lot_walk.proofs.PlaceLemmas.{failed_after, has_still, stays_then, unchanged_stays}
@@ -42,17 +43,17 @@ none_sold : (others : List Sold) → map sale_row others ≡ [] → others ≡ [
 none_sold [] e = refl
 none_sold (next ∷ more) e = absurd cc
 
-within_next : (range : Range) (sold : List Sold) (next : Sold) → sold_within range (sold ++ next ∷ []) ≡ sold_within range sold ++ cond (is_within range next.1.1.day) (next.1.1 ∷ []) []
+within_next : (range : Range) (sold : List Sold) (next : Sold) → sold_within range (sold ++ next ∷ []) ≡ sold_within range sold ++ cond (is_within range next.1.1.day) (numbered_sale next ∷ []) []
 within_next range sold next =
-    ap (filter (λ (sale : SaleParts). is_within range sale.day)) (map-append (λ (s : Sold). s.1.1) sold (next ∷ []))
-    ∙ filter-append (λ (sale : SaleParts). is_within range sale.day) (map (λ (s : Sold). s.1.1) sold) (next.1.1 ∷ [])
+    ap (filter (λ (s : NumberedSale). is_within range s.sale.day)) (map-append numbered_sale sold (next ∷ []))
+    ∙ filter-append (λ (s : NumberedSale). is_within range s.sale.day) (map numbered_sale sold) (numbered_sale next ∷ [])
 
 within_all : (range : Range) (sold others : List Sold) → sold_within range (sold ++ others) ≡ sold_within range sold ++ sold_within range others
 within_all range sold others =
-    ap (filter (λ (sale : SaleParts). is_within range sale.day)) (map-append (λ (s : Sold). s.1.1) sold others)
-    ∙ filter-append (λ (sale : SaleParts). is_within range sale.day) (map (λ (s : Sold). s.1.1) sold) (map (λ (s : Sold). s.1.1) others)
+    ap (filter (λ (s : NumberedSale). is_within range s.sale.day)) (map-append numbered_sale sold others)
+    ∙ filter-append (λ (s : NumberedSale). is_within range s.sale.day) (map numbered_sale sold) (map numbered_sale others)
 
-prefix_of : (place : GainsPlace) (tables : Tables) (range : Range) (entries : List Entry) (given : List SaleParts) → IsBehindSales place tables range entries given
+prefix_of : (place : GainsPlace) (tables : Tables) (range : Range) (entries : List Entry) (given : List NumberedSale) → IsBehindSales place tables range entries given
     → IsPrefix AreSalesWithin range entries given
 prefix_of place tables range entries given b =
     (sold_within range b.others, (b.book, b.sold ++ b.others, b.of_book, ap (λ l. l ++ sold_within range b.others) b.within ∙ sym (within_all range b.sold b.others)))
@@ -60,22 +61,22 @@ prefix_of place tables range entries given b =
 -- ---- a row more
 
 -- a place behind a row has read the sale of that row
-record HasRead (after : GainsPlace) (tables : Tables) (range : Range) (entries : List Entry) (given : List SaleParts) (row : SaleRow) : Type 0 where
+record HasRead (after : GainsPlace) (tables : Tables) (range : Range) (entries : List Entry) (given : List NumberedSale) (row : SaleRow) : Type 0 where
   next : Sold
   is : row ≡ sale_row next
   sold : List Sold
   others : List Sold
   book : IsBook entries
   of_book : SalesOf (After book.place) entries (sold ++ next ∷ others)
-  behind : (more : List SaleParts) → given ++ cond (is_within range next.1.1.day) (next.1.1 ∷ []) [] ≡ more → IsBehindSales after tables range entries more
+  behind : (more : List NumberedSale) → given ++ cond (is_within range next.1.1.day) (numbered_sale next ∷ []) [] ≡ more → IsBehindSales after tables range entries more
 
 -- the rows that were read, and those that are left
-rows_split : (place : GainsPlace) (tables : Tables) (range : Range) (entries : List Entry) (given : List SaleParts) (b : IsBehindSales place tables range entries given)
+rows_split : (place : GainsPlace) (tables : Tables) (range : Range) (entries : List Entry) (given : List NumberedSale) (b : IsBehindSales place tables range entries given)
     → map sale_row b.sold ++ map sale_row b.others ≡ tables.sale
 rows_split place tables range entries given b = sym (map-append sale_row b.sold b.others) ∙ sym b.rows
 
 module _ (before after : GainsPlace) (first : after.first ≡ before.first) (last : after.last ≡ before.last) where
-  has_read : (tables : Tables) (range : Range) (entries : List Entry) (given : List SaleParts) (row : SaleRow) (b : IsBehindSales before tables range entries given)
+  has_read : (tables : Tables) (range : Range) (entries : List Entry) (given : List NumberedSale) (row : SaleRow) (b : IsBehindSales before tables range entries given)
       → IsBehind sale_cells (map sale_row b.sold ++ row ∷ []) tables.sale after.cursor → HasRead after tables range entries given row
   has_read tables range entries given row b behind =
       let left = next_left sale_cells (map sale_row b.sold) (map sale_row b.others) tables.sale row after.cursor (rows_split before tables range entries given b) behind in
@@ -99,12 +100,12 @@ module _ (before after : GainsPlace) (first : after.first ≡ before.first) (las
           of_book = subst (SalesOf (After b.book.place) entries) all b.of_book;
           rows = b.rows ∙ ap (map sale_row) all;
           read = subst (λ (l : List SaleRow). IsBehind sale_cells l tables.sale after.cursor) rows behind;
-          within = sym grows ∙ ap (λ l. l ++ cond (is_within range n.0.1.1.day) (n.0.1.1 ∷ []) []) b.within ∙ sym (within_next range b.sold n.0);
+          within = sym grows ∙ ap (λ l. l ++ cond (is_within range n.0.1.1.day) (numbered_sale n.0 ∷ []) []) b.within ∙ sym (within_next range b.sold n.0);
         };
       }
 
 -- the legs of the sale of a row are in the table `leg`
-has_rows : (after : GainsPlace) (tables : Tables) (range : Range) (entries : List Entry) (given : List SaleParts) (row : SaleRow) → StandFor tables entries
+has_rows : (after : GainsPlace) (tables : Tables) (range : Range) (entries : List Entry) (given : List NumberedSale) (row : SaleRow) → StandFor tables entries
     → (n : HasRead after tables range entries given row) → AreLegsOf row.units n.next.1.1.legs × HasRowsOf row tables n.next.1.1.legs
 has_rows after tables range entries given row stand n =
     let its = all_has _ (n.sold ++ n.next ∷ n.others) n.next (sale_legs (After n.book.place) entries (n.sold ++ n.next ∷ n.others) n.book.is n.of_book) (has_right n.sold (n.next ∷ n.others) n.next (inl refl)) in
@@ -123,8 +124,12 @@ has_rows after tables range entries given row stand n =
 abbrev pub ReadsSale : GainsPlace → GainsPlace → State → State → Result (Option SaleRow) Fault → Type 0
 ReadsSale before after = CursorSteps sale_cells IsSaleRow (λ (b : Tables). b.sale) before.cursor after.cursor
 
-abbrev pub StepsOver : GainsPlace → GainsPlace → State → State → Result (Option SaleParts) Fault → Type 0
-StepsOver = Steps (λ sale. sale) HasLegs AreSalesWithin IsBehindSales Damaged Device
+abbrev pub StepsOver : GainsPlace → GainsPlace → State → State → Result (Option NumberedSale) Fault → Type 0
+StepsOver = Steps (λ (sold : NumberedSale). sold) HasLegs AreSalesWithin IsBehindSales Damaged Device
+
+-- the sale of a row, with the posting that it is
+abbrev pub sold_by : SaleRow → SaleParts → NumberedSale
+sold_by row sale = record { entry = row.entry; posting = row.posting; sale = sale }
 
 abbrev unread : Fault → Result (Option SaleRow) Fault
 unread fault = Err fault
@@ -159,11 +164,11 @@ module _ (before after : GainsPlace) (old new : State) where
   }
 
   module _ (first : after.first ≡ before.first) (last : after.last ≡ before.last) (row : SaleRow) (reads : ReadsSale before after old new (Ok (Some row))) where
-    sale_next : HasCleanDisk new → (tables : Tables) (entries : List Entry) → Has old tables → (range : Range) (given : List SaleParts) → IsBehindSales before tables range entries given
+    sale_next : HasCleanDisk new → (tables : Tables) (entries : List Entry) → Has old tables → (range : Range) (given : List NumberedSale) → IsBehindSales before tables range entries given
         → HasRead after tables range entries given row
     sale_next clean tables entries has range given b = has_read before after first last tables range entries given row b (reads.gives clean tables has (map sale_row b.sold) b.read)
 
-    is_day : (tables : Tables) (range : Range) (entries : List Entry) (given : List SaleParts) → IsBehindSales before tables range entries given
+    is_day : (tables : Tables) (range : Range) (entries : List Entry) (given : List NumberedSale) → IsBehindSales before tables range entries given
         → (n : HasRead after tables range entries given row) → is_within range n.next.1.1.day ≡ is_within (before.first, before.last) row.day
     is_day tables range entries given b n =
         ap (λ (r : SaleRow). is_within range r.day) (sym n.is) ∙ sym (λ i. is_from (b.first i) row.day && is_up_to (b.last i) row.day)
@@ -173,24 +178,26 @@ module _ (before after : GainsPlace) (old new : State) where
     sale_passed out = record {
       keeps = λ clean tables entries has book stand range given b.
           let n = sale_next clean tables entries has range given b in
-          n.behind given (ap (λ x. given ++ cond x (n.next.1.1 ∷ []) []) (is_day tables range entries given b n ∙ out) ∙ append-nil given);
+          n.behind given (ap (λ x. given ++ cond x (numbered_sale n.next ∷ []) []) (is_day tables range entries given b n ∙ out) ∙ append-nil given);
       same = reads.same;
       survives = reads.crash;
     }
 
     -- the legs of another are read
     module _ (end : State) where
-      pub sale_given : (sale : SaleParts) → is_within (before.first, before.last) row.day ≡ true → TellsSale row new end (Ok sale) → StepsOver before after old end (Ok (Some sale))
+      pub sale_given : (sale : SaleParts) → is_within (before.first, before.last) row.day ≡ true → TellsSale row new end (Ok sale)
+          → StepsOver before after old end (Ok (Some (sold_by row sale)))
       sale_given sale within tells = record {
         gives = λ clean tables entries has book stand range given b.
             let was = early new end tells.crash clean in
             let n = sale_next was tables entries has range given b in
             let its = has_rows after tables range entries given row stand n in
             let legs : sale ≡ sale_with row n.next.1.1.legs = tells.says clean tables (has_still old new tables (reads.same was) has) n.next.1.1.legs its.1 in
-            let is : sale ≡ n.next.1.1 = legs ∙ ap (λ (r : SaleRow). sale_with r n.next.1.1.legs) n.is in
-            let behind = n.behind (given ++ sale ∷ [])
-            (ap (λ x. given ++ cond x (n.next.1.1 ∷ []) []) (is_day tables range entries given b n ∙ within) ∙ ap (λ s. given ++ s ∷ []) (sym is)) in
-            (behind, prefix_of after tables range entries (given ++ sale ∷ []) behind);
+            let is : sold_by row sale ≡ numbered_sale n.next =
+            ap (sold_by row) legs ∙ ap (λ (r : SaleRow). sold_by r (sale_with r n.next.1.1.legs)) n.is in
+            let behind = n.behind (given ++ sold_by row sale ∷ [])
+            (ap (λ x. given ++ cond x (numbered_sale n.next ∷ []) []) (is_day tables range entries given b n ∙ within) ∙ ap (λ s. given ++ s ∷ []) (sym is)) in
+            (behind, prefix_of after tables range entries (given ++ sold_by row sale ∷ []) behind);
         good = tells.good;
         same = λ clean. stays_then old new end (reads.same (early new end tells.crash clean)) (unchanged_stays new end (tells.same clean));
         damaged = λ clean is. cc;

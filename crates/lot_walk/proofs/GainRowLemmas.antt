@@ -15,12 +15,13 @@ use Rattle.lot_walk.specs.Place.{KeepsRows}
 use Rattle.lot_walk.specs.SaleStep.{TellsSale}
 use Rattle.lot_walk.specs.Step.{StepsOverRows}
 use Rattle.lot_walk.specs.declared.gains.GainsPlace.{GainsPlace}
-use Rattle.lot_walk.proofs.GainLemmas.{ReadsSale}
+use Rattle.lot_walk.specs.declared.gains.NumberedSale.{NumberedSale}
+use Rattle.lot_walk.proofs.GainLemmas.{ReadsSale, sold_by}
 use Rattle.lot_rows.proofs.StateLemmas.{early}
 use Rattle.lot_walk.proofs.SaleRowLemmas.{one_sale_row}
 
-abbrev pub StepsRows : GainsPlace → GainsPlace → State → State → Result (Option SaleParts) Fault → Type 0
-StepsRows = StepsOverRows (λ sale. sale) AreAllSaleRows IsBehindSaleRows
+abbrev pub StepsRows : GainsPlace → GainsPlace → State → State → Result (Option NumberedSale) Fault → Type 0
+StepsRows = StepsOverRows (λ (sold : NumberedSale). sold) AreAllSaleRows IsBehindSaleRows
 
 -- the rows of a range, and one more
 rows_next : (range : Range) (rows : List SaleRow) (row : SaleRow) → map sale_of_row (rows_within range (rows ++ row ∷ []))
@@ -36,7 +37,7 @@ module _ (before after : GainsPlace) (old new : State) where
       b.within ∙ ap (λ rows. map sale_of_row (rows_within range rows)) all
 
   module _ (first : after.first ≡ before.first) (last : after.last ≡ before.last) (row : SaleRow) (reads : ReadsSale before after old new (Ok (Some row))) where
-    row_day : (tables : Tables) (range : Range) (given : List SaleParts) → (b : IsBehindSaleRows before tables range given)
+    row_day : (tables : Tables) (range : Range) (given : List NumberedSale) → (b : IsBehindSaleRows before tables range given)
         → is_within range row.day ≡ is_within (before.first, before.last) row.day
     row_day tables range given b = sym (λ i. is_from (b.first i) row.day && is_up_to (b.last i) row.day)
 
@@ -56,18 +57,18 @@ module _ (before after : GainsPlace) (old new : State) where
 
     -- another is given
     pub sale_row_given : (end : State) (sale : SaleParts) → is_within (before.first, before.last) row.day ≡ true → TellsSale row new end (Ok sale)
-        → StepsRows before after old end (Ok (Some sale))
+        → StepsRows before after old end (Ok (Some (sold_by row sale)))
     sale_row_given end sale within tells = λ clean tables has range given b.
         let was = early new end tells.crash clean in
-        let is : without_legs sale ≡ sale_of_row row = ap without_legs tells.of_row.1 in
+        let is : without_legs (sold_by row sale) ≡ sale_of_row row = ap (λ (s : SaleParts). without_legs (sold_by row s)) tells.of_row.1 in
         record {
           first = first ∙ b.first;
           last = last ∙ b.last;
           rows = b.rows ++ row ∷ [];
           read = reads.gives was tables has b.rows b.read;
           within =
-              map-append without_legs given (sale ∷ [])
-              ∙ ap (λ l. l ++ without_legs sale ∷ []) b.within
+              map-append without_legs given (sold_by row sale ∷ [])
+              ∙ ap (λ l. l ++ without_legs (sold_by row sale) ∷ []) b.within
               ∙ ap (λ s. map sale_of_row (rows_within range b.rows) ++ s ∷ []) is
               ∙ ap (λ x. map sale_of_row (rows_within range b.rows) ++ map sale_of_row (cond x (row ∷ []) [])) (sym (row_day tables range given b ∙ within))
               ∙ sym (rows_next range b.rows row);

@@ -6,11 +6,12 @@ use Rattle.lot_book.specs.Edition.{After}
 use Rattle.lot_book.specs.Facts.{Entry}
 use Rattle.lot_book.specs.Sale.{SaleParts}
 use Rattle.lot_walk.specs.Gains.{AreSalesWithin, Range, is_within, sold_within}
+use Rattle.lot_walk.specs.declared.gains.NumberedSale.{NumberedSale}
 use Rattle.lot_walk.proofs.OneSalesLemmas.{one_sales_of_book}
 
 -- ---- one list
 
-pub one_within : (entries : List Entry) (range : Range) (a b : List SaleParts) → AreSalesWithin range entries a → AreSalesWithin range entries b → a ≡ b
+pub one_within : (entries : List Entry) (range : Range) (a b : List NumberedSale) → AreSalesWithin range entries a → AreSalesWithin range entries b → a ≡ b
 one_within entries range a b is other =
     is.3
     ∙ ap (sold_within range)
@@ -30,5 +31,5 @@ no_sales : (first last : ℤ) (sales : List (ℕ × (ℕ × SaleParts))) → las
 no_sales first last [] less = refl
 no_sales first last (sold ∷ sales) less = rw (on_no_day first last sold.1.1.day less, no_sales first last sales less) refl
 
-pub none_within : (entries : List Entry) (first last : ℤ) (sales : List SaleParts) → last <ℤ first → AreSalesWithin (Some first, Some last) entries sales → sales ≡ []
+pub none_within : (entries : List Entry) (first last : ℤ) (sales : List NumberedSale) → last <ℤ first → AreSalesWithin (Some first, Some last) entries sales → sales ≡ []
 none_within entries first last sales less are = are.3 ∙ no_sales first last are.1 less

@@ -23,7 +23,7 @@ use Rattle.lot_table.specs.declared.fault.Fault.TheVariants.{Damaged, Device}
 use Rattle.std.specs.Global.{Vec}
 use Rattle.lot_stored.proofs.KeyLemmas.{one_label}
 use Rattle.lot_stored.specs.Rows.{leg_row, posting_key}
-use Rattle.lot_walk.specs.Gains.{HasLegs, at_lot, sale_with, taken}
+use Rattle.lot_walk.specs.Gains.{at_lot, sale_with, taken}
 use Rattle.lot_walk.specs.SaleStep.{HasRowsOf, TellsSale}
 use Rattle.lot_walk.proofs.StepLemmas.{unchanged_left, undone_by}
 
@@ -181,7 +181,7 @@ module _ (row : SaleRow) where
       says = λ clean tables has others rows.
           is ∙ ap (sale_with row) (one_legs legs others (sym takes ∙ read_taken tables others found.items rows read.good (read.says clean tables has)));
       of_row = (legs, is);
-      good = subst HasLegs (sym is) are;
+      good = subst (λ (s : SaleParts). AreLegsOf s.units s.legs) (sym is) are;
       same = read.same;
       damaged = λ clean bad. cc;
       device = λ clean bad. cc;

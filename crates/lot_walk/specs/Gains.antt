@@ -15,6 +15,7 @@ use Rattle.lot_page.specs.Cursor.{IsBehind}
 use Rattle.lot_stored.specs.Kept.{SalesOf, legs_of_posting}
 use Rattle.lot_stored.specs.Rows.{sale_row}
 use Rattle.lot_walk.specs.declared.gains.GainsPlace.{GainsPlace}
+use Rattle.lot_walk.specs.declared.gains.NumberedSale.{NumberedSale}
 
 -- ---- the days
 
@@ -35,19 +36,23 @@ is_within range day = is_from range.0 day && is_up_to range.1 day
 
 -- ---- the sales
 
--- those of a range, in their order, without the numbers of their entries and the places of their postings
-abbrev pub sold_within : Range → List (ℕ × (ℕ × SaleParts)) → List SaleParts
-sold_within range sales = filter (λ (sale : SaleParts). is_within range sale.day) (map (λ (sold : ℕ × (ℕ × SaleParts)). sold.1.1) sales)
+-- a sale with the number of its entry and the place of its posting
+abbrev pub numbered_sale : ℕ × (ℕ × SaleParts) → NumberedSale
+numbered_sale sold = record { entry = sold.0; posting = sold.1.0; sale = sold.1.1 }
+
+-- those of a range, in their order
+abbrev pub sold_within : Range → List (ℕ × (ℕ × SaleParts)) → List NumberedSale
+sold_within range sales = filter (λ (sold : NumberedSale). is_within range sold.sale.day) (map numbered_sale sales)
 
 -- these are the sales of a book on the days of a range, all of them
-abbrev pub AreSalesWithin : Range → List Entry → List SaleParts → Type 0
+abbrev pub AreSalesWithin : Range → List Entry → List NumberedSale → Type 0
 AreSalesWithin range entries given =
     (book : IsBook entries) × (sales : List (ℕ × (ℕ × SaleParts))) × SalesOf (After book.place) entries sales
     × (given ≡ sold_within range sales)
 
 -- the units of a sale are those of its legs
-abbrev pub HasLegs : SaleParts → Type 0
-HasLegs sale = AreLegsOf sale.units sale.legs
+abbrev pub HasLegs : NumberedSale → Type 0
+HasLegs sold = AreLegsOf sold.sale.units sold.sale.legs
 
 -- the legs of the posting of a sale are those of the sale, at its lots
 abbrev pub HasItsLegs : List Leg → ℕ × (ℕ × SaleParts) → Type 0
@@ -57,7 +62,7 @@ HasItsLegs legs sold =
 
 -- ---- the place among them
 
-pub record IsBehindSales (place : GainsPlace) (tables : Tables) (range : Range) (entries : List Entry) (given : List SaleParts) : Type 0 where
+pub record IsBehindSales (place : GainsPlace) (tables : Tables) (range : Range) (entries : List Entry) (given : List NumberedSale) : Type 0 where
   pub first : place.first ≡ range.0
   pub last : place.last ≡ range.1
   pub book : IsBook entries
@@ -84,20 +89,20 @@ sale_with row legs = record { day = row.day; account = row.account; commodity = 
 -- ---- the rows of the table, whatever it stands for
 
 -- what a row says of its sale, all but the legs
-abbrev pub sale_of_row : SaleRow → SaleParts
-sale_of_row row = sale_with row []
+abbrev pub sale_of_row : SaleRow → NumberedSale
+sale_of_row row = record { entry = row.entry; posting = row.posting; sale = sale_with row [] }
 
-abbrev pub without_legs : SaleParts → SaleParts
-without_legs sale = record { day = sale.day; account = sale.account; commodity = sale.commodity; units = sale.units; price = sale.price; legs = [] }
+abbrev pub without_legs : NumberedSale → NumberedSale
+without_legs sold = record sold { sale = record sold.sale { legs = [] } }
 
 abbrev pub rows_within : Range → List SaleRow → List SaleRow
 rows_within range rows = filter (λ (row : SaleRow). is_within range row.day) rows
 
 -- these are the sales of the rows on the days of a range, all of them, whatever their legs
-abbrev pub AreAllSaleRows : Range → Tables → List SaleParts → Type 0
+abbrev pub AreAllSaleRows : Range → Tables → List NumberedSale → Type 0
 AreAllSaleRows range tables given = map without_legs given ≡ map sale_of_row (rows_within range tables.sale)
 
-pub record IsBehindSaleRows (place : GainsPlace) (tables : Tables) (range : Range) (given : List SaleParts) : Type 0 where
+pub record IsBehindSaleRows (place : GainsPlace) (tables : Tables) (range : Range) (given : List NumberedSale) : Type 0 where
   pub first : place.first ≡ range.0
   pub last : place.last ≡ range.1
   -- the rows that were read

@@ -12,7 +12,7 @@ use Rattle.lot_table.specs.Statement.{DiskFailed}
 use Rattle.lot_table.specs.declared.fault.Fault.{Fault}
 use Rattle.lot_table.specs.declared.fault.Fault.TheVariants.{Damaged, Device}
 use Rattle.lot_stored.specs.Rows.{leg_row, posting_key}
-use Rattle.lot_walk.specs.Gains.{HasLegs, sale_with}
+use Rattle.lot_walk.specs.Gains.{sale_with}
 use Rattle.lot_walk.specs.Step.{StaysOrGoesBack}
 
 -- the table `leg`, whose rows are those that a book can have, has these legs of a row's posting
@@ -26,7 +26,7 @@ pub record TellsSale (row : SaleRow) (old new : State) (result : Result SalePart
   pub says : HasCleanDisk new → IfOk result (λ sale. (tables : Tables) → Has old tables → (legs : List (LotKey × ℤ)) → HasRowsOf row tables legs → sale ≡ sale_with row legs)
   -- it is the sale of the row, whatever the tables are
   pub of_row : IfOk result (λ sale. (legs : List (LotKey × ℤ)) × (sale ≡ sale_with row legs))
-  pub good : IfOk result HasLegs
+  pub good : IfOk result (λ sale. AreLegsOf sale.units sale.legs)
   pub same : HasCleanDisk new → OnOk result (IsUnchanged old new)
   pub damaged : HasCleanDisk new → result ≡ Err Damaged → old.step_limit ≡ None → (tables : Tables) → Has old tables → (legs : List (LotKey × ℤ)) → AreLegsOf row.units legs → ¬ HasRowsOf row tables legs
   pub device : HasCleanDisk new → result ≡ Err Device → DiskFailed old new

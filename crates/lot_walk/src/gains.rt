@@ -1,9 +1,9 @@
 ghost use Rattle.std.specs.Prelude.{◌≡◌, ◌≢◌, IfOk, List, Option, map, ℤ};
-ghost use Rattle.lot_book.specs.Sale.{SaleParts};
 ghost use Rattle.lot_cost.specs.declared.lot_key.LotKey.{LotKey as LotKeyOf};
 ghost use Rattle.lot_walk.specs.Gains.{AreAllSaleRows, AreSalesWithin, HasLegs, IsBehindSaleRows, IsBehindSales, Range, at_lot, is_from, is_up_to, is_within, taken};
 ghost use Rattle.lot_walk.specs.SaleStep.{TellsSale};
 ghost use Rattle.lot_walk.specs.Step.{HasGivenNoRows, HasGivenNone};
+ghost use Rattle.lot_walk.specs.declared.gains.NumberedSale.{NumberedSale as NumberedSaleOf};
 ghost use Rattle.sqlite.specs.Held.{state};
 
 use crate::place::Place;
@@ -16,6 +16,16 @@ use lot_rows::sale::SaleRow;
 use lot_table::Fault;
 use sqlite::{Alter, Connection};
 use std::alloc::Global;
+
+/// A sale of a book, with the posting that it is.
+#[derive(Drop)]
+pub struct NumberedSale {
+    /// The number of its entry, from 1.
+    pub entry: u32,
+    /// The place of its posting in the entry, from 1.
+    pub posting: u32,
+    pub sale: Sale,
+}
 
 /// The place of a walk over the sales of a book on the days of a range, in their order, each with its legs.
 #[derive(Drop)]
@@ -41,13 +51,13 @@ impl GainsPlace {
 }
 
 impl Place for GainsPlace {
-    type Row = Sale;
+    type Row = NumberedSale;
 
     ghost Asked = { Range };
 
-    ghost Shown = { SaleParts };
+    ghost Shown = { NumberedSaleOf };
 
-    ghost shown = { λ sale. sale };
+    ghost shown = { λ sold. sold };
 
     ghost IsGood = { HasLegs };
 
@@ -64,13 +74,20 @@ impl Place for GainsPlace {
         &mut self,
         alloc: Global,
         conn: &mut Connection<S>,
-    ) -> Result<Option<Sale>, Fault> {
+    ) -> Result<Option<NumberedSale>, Fault> {
         'rows: for _ in 0..u64::MAX {
             let Some(row) = self.cursor.next(conn)? else {
                 return Ok(None);
             };
             if is_within(self.first, self.last, row.day) {
-                return Ok(Some(sale_of(alloc, conn, row)?));
+                let entry = row.entry.number();
+                let posting = row.posting.number();
+                let sale = sale_of(alloc, conn, row)?;
+                return Ok(Some(NumberedSale {
+                    entry,
+                    posting,
+                    sale,
+                }));
             }
         }
         Err(Fault::Memory)

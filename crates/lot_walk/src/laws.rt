@@ -22,6 +22,7 @@ ghost use Rattle.lot_walk.specs.Gains.{AreSalesWithin, HasItsLegs, Range};
 ghost use Rattle.lot_walk.specs.Holdings.{IsHoldings, merged};
 ghost use Rattle.lot_walk.specs.Prices.{ArePrices, IsPriceAt, prices_by};
 ghost use Rattle.lot_walk.specs.Sold.{left_of, taken_of};
+ghost use Rattle.lot_walk.specs.declared.gains.NumberedSale.{NumberedSale};
 ghost use Rattle.lot_walk.specs.declared.price.PairPrice.{PairPrice};
 
 /// Tables stand for at most one book: what a file says leaves no choice of its commands, of their keys or of their legs.
@@ -77,12 +78,13 @@ pub fn last_rows_of_pairs_are_the_prices_at_a_day()
 
 /// At most one list is the sales of a book on the days of a range, whatever its place of migration.
 pub fn a_book_has_one_list_of_sales_in_a_range()
-    ensures { (entries : List Entry) (range : Range) (a b : List SaleParts) → AreSalesWithin range entries a → AreSalesWithin range entries b → a ≡ b }
+    ensures { (entries : List Entry) (range : Range) (a b : List NumberedSale)
+        → AreSalesWithin range entries a → AreSalesWithin range entries b → a ≡ b }
 {}
 
 /// A range whose last day is before its first has no sales.
 pub fn a_range_that_ends_before_it_begins_has_no_sales()
-    ensures { (entries : List Entry) (first last : ℤ) (sales : List SaleParts) → last <ℤ first → AreSalesWithin (Some first, Some last) entries sales
+    ensures { (entries : List Entry) (first last : ℤ) (sales : List NumberedSale) → last <ℤ first → AreSalesWithin (Some first, Some last) entries sales
         → sales ≡ [] }
 {}
 

@@ -15,7 +15,7 @@ mod place;
 mod price;
 mod prices;
 
-pub use gains::GainsPlace;
+pub use gains::{GainsPlace, NumberedSale};
 pub use holdings::HoldingsPlace;
 pub use journal::JournalPlace;
 pub use place::Place;

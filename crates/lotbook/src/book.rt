@@ -5,33 +5,21 @@ ghost use Rattle.std.specs.Prelude.{◌≡◌, None, false};
 use crate::call::Call;
 use crate::cause::Cause;
 use crate::copy::open_copy;
-use crate::files::{has_long_name, holds_one_byte, is_empty, is_missing, names_no_file, open};
+use crate::files::{first_byte, has_long_name, is_missing, len_of, names_no_file, open};
 use crate::image::Image;
 use crate::notes::withdraw;
-use crate::output::write_out;
-use crate::record::{Held, Keeper, Witness};
+use crate::record::{Keeper, Kept, Witness};
 use crate::words::UNUSABLE;
 use crate::{STOPPED, out_of_memory};
 use lot_cli::{Action, Effect, Served};
 use sqlite::{Alter, Connection, File, FileStore};
+use std::io::{self, Read, Write};
 
 /// The status of an action that ran to its end, where none of its commands was refused.
 const DONE: u8 = 0;
 
 /// The status of one where some were. That of a fault is greater.
 const REFUSED: u8 = 1;
-
-/// How a call gets at its book.
-enum Access {
-    /// It writes the file.
-    Write,
-    /// It writes a copy in memory, which is dropped.
-    Try,
-    /// It writes a copy, and then the file where nothing was refused.
-    TryThenWrite,
-    /// It reads the file.
-    Read,
-}
 
 /// Does what a call is for, and returns the status of the program.
 pub fn act(call: &Call<'_>) -> u8 {
@@ -60,45 +48,60 @@ pub fn path_of(action: &Action) -> Option<&str> {
         | Action::Import { book, .. }
         | Action::Holdings { book, .. }
         | Action::Gains { book, .. }
-        | Action::Journal { book } => Some(book.as_str()),
+        | Action::Journal { book }
+        | Action::Verify { book } => Some(book.as_str()),
     }
 }
 
-/// Returns how a call gets at its book.
-fn access_of(action: &Action, effect: Effect) -> Access {
-    match (action, effect) {
-        (Action::Holdings { .. } | Action::Gains { .. } | Action::Journal { .. }, _) =>
-            Access::Read,
-        (_, Effect::Keep) => Access::Write,
-        (_, Effect::DryRun) => Access::Try,
-        (_, Effect::AllOrNone) => Access::TryThenWrite,
+/// Does what a call is for on the book of that path, and returns the status. Where the book can't be
+/// opened, a line on standard output says so, and one on standard error why.
+fn on_path(call: &Call<'_>, path: &str) -> u8 {
+    match on_book(call, path) {
+        Ok(status) => status,
+        Err(Cause::Memory) => out_of_memory(call.rt),
+        Err(cause) => {
+            let _ = println!(call.rt; "fault open");
+            if !call.is_quiet() {
+                let _ = eprintln!(call.rt; "lotbook: {path}: {cause}");
+            }
+            STOPPED
+        }
     }
 }
 
 /// Does what a call is for on the book of that path; where there is no such file, and none is to be
-/// made, on an empty database of which nothing stays.
-///
-/// The file is opened before anything is read. Where it can't be opened, one line says so.
-fn on_path(call: &Call<'_>, path: &str) -> u8 {
+/// made, on an empty database of which nothing stays. The file is opened before anything is read.
+fn on_book(call: &Call<'_>, path: &str) -> Result<u8, Cause> {
+    let rt = call.rt;
     if has_long_name(path) {
-        return unopened(call, path, Cause::LongName);
+        return Err(Cause::LongName);
     }
-    if !matches!(call.action, Action::Init { .. }) && is_missing(call.rt, path) {
-        return on_nothing(call);
+    if !matches!(call.action, Action::Init { .. }) && is_missing(rt, path) {
+        return Ok(on_nothing(call));
     }
-    if holds_one_byte(call.rt, path) {
-        return unopened(call, path, Cause::OneByte);
+    let len = len_of(rt, path);
+    if len == Some(1) && !matches!(first_byte(rt, path), Ok(Some(0))) {
+        return Err(Cause::OneByte);
     }
-    match access_of(call.action, call.effect) {
-        Access::Write => on_file(call, path),
-        Access::Try => on_copy(call, path),
-        Access::TryThenWrite => on_copy_and_file(call, path),
-        Access::Read if is_empty(call.rt, path) => on_copy(call, path),
-        Access::Read => on_file_or_copy(call, path),
+    match (call.action, call.effect) {
+        (
+            Action::Holdings { .. }
+            | Action::Gains { .. }
+            | Action::Journal { .. }
+            | Action::Verify { .. },
+            _,
+        ) => report_on(call, path, len),
+        (_, Effect::Keep) => Ok(on_file(call, rt.reader(), open(rt, path)?)),
+        (_, Effect::DryRun) => on_copy(call, path),
+        (_, Effect::AllOrNone) => {
+            // The file is open meanwhile, so no other program writes it in between.
+            let file = open(rt, path)?;
+            Ok(all_or_none(call, open_copy(rt, path)?, file))
+        }
     }
 }
 
-/// Does what a call is for on an empty database in memory.
+/// Does it on an empty database in memory.
 fn on_nothing(call: &Call<'_>) -> u8 {
     match Connection::open_in_memory(call.rt.alloc()) {
         Ok(conn) => dropped(call.answer(call.rt.reader(), conn)),
@@ -106,40 +109,49 @@ fn on_nothing(call: &Call<'_>) -> u8 {
     }
 }
 
-/// Does it on the file.
-fn on_file(call: &Call<'_>, path: &str) -> u8 {
-    match open(call.rt, path) {
-        Ok(conn) => closed(call.answer(call.rt.reader(), conn)),
-        Err(cause) => unopened(call, path, cause),
+/// Does it on the file, with that input, and closes it where the action ran to its end.
+fn on_file<R: Read + Drop>(call: &Call<'_>, input: R, file: Connection<FileStore<File>>) -> u8
+    requires outside { file.in_transaction ≡ false }
+    requires unlimited { file.step_limit ≡ None }
+{
+    let Served {
+        status,
+        halt: _,
+        conn,
+    } = call.answer(input, file);
+    if status <= REFUSED {
+        // Commits are safe in the log beside the file, also where it can't be copied into the file.
+        let _ = conn.close();
     }
+    status
 }
 
 /// Does it on a copy, which is dropped.
-fn on_copy(call: &Call<'_>, path: &str) -> u8 {
-    match open_copy(call.rt, path) {
-        Ok(conn) => dropped(call.answer(call.rt.reader(), conn)),
-        Err(cause) => unopened(call, path, cause),
-    }
+fn on_copy(call: &Call<'_>, path: &str) -> Result<u8, Cause> {
+    let copy = open_copy(call.rt, path)?;
+    Ok(dropped(call.answer(call.rt.reader(), copy)))
 }
 
-/// Does it on the file, or on a copy where the file can't be opened for writing.
-fn on_file_or_copy(call: &Call<'_>, path: &str) -> u8 {
+/// Lets the book of an action go, and returns the status.
+fn dropped<S: Alter + Drop>(served: Served<S>) -> u8 {
+    let Served {
+        status,
+        halt: _,
+        conn: _,
+    } = served;
+    status
+}
+
+/// Does it, a report or a verification, on the file, or on a copy where the file is empty or can't be opened for
+/// writing.
+fn report_on(call: &Call<'_>, path: &str, len: Option<u64>) -> Result<u8, Cause> {
+    if len == Some(0) {
+        return on_copy(call, path);
+    }
     match open(call.rt, path) {
-        Ok(conn) => closed(call.answer(call.rt.reader(), conn)),
+        Ok(file) => Ok(on_file(call, call.rt.reader(), file)),
         Err(Cause::NoPermission | Cause::ReadOnly | Cause::InUse) => on_copy(call, path),
-        Err(cause) => unopened(call, path, cause),
-    }
-}
-
-/// Does it on a copy, and then on the file. The file is open meanwhile, so no other program writes it
-/// in between.
-fn on_copy_and_file(call: &Call<'_>, path: &str) -> u8 {
-    match open(call.rt, path) {
-        Ok(file) => match open_copy(call.rt, path) {
-            Ok(copy) => all_or_none(call, copy, file),
-            Err(cause) => unopened(call, path, cause),
-        },
-        Err(cause) => unopened(call, path, cause),
+        Err(cause) => Err(cause),
     }
 }
 
@@ -155,61 +167,27 @@ fn all_or_none(
     requires outside_in_file { file.in_transaction ≡ false }
     requires unlimited_in_file { file.step_limit ≡ None }
 {
-    let alloc = call.rt.alloc();
-    let mut reader = Keeper::new(call.rt.reader(), Some(Vec::new(alloc)));
-    let mut writer = Witness::new(alloc, Held::new(alloc), call.notes);
+    let (rt, alloc) = (call.rt, call.rt.alloc());
+    let mut reader = Keeper {
+        reader: rt.reader(),
+        kept: Kept::new(alloc),
+    };
+    let mut writer = Witness::new(alloc, Kept::new(alloc), call.notes);
     let Served {
         status,
         halt,
         mut conn,
     } = call.serve(&mut reader, &mut writer, copy);
-    let (held, heard) = writer.into_parts();
-    let (Some(input), Some(replies)) = (reader.into_kept(), held.into_text()) else {
-        return out_of_memory(call.rt);
+    let (Some(input), Some(replies)) = (&reader.kept.bytes, &writer.writer.bytes) else {
+        return out_of_memory(rt);
     };
     if status == DONE {
-        return closed(call.answer(input.as_slice(), file));
+        return on_file(call, input.as_slice(), file);
     }
-    let status = write_out(call.rt, &replies, status);
-    call.speak(Some(input), &heard, halt, &mut conn);
+    let is_written = io::writer(rt).write_all(replies).is_ok();
+    call.speak(&reader.kept, &writer.heard, halt, &mut conn);
     if halt.is_none() {
         withdraw(call);
     }
-    status
-}
-
-/// Lets the copy of an action go, and returns the status.
-fn dropped<S: Alter + Drop>(served: Served<S>) -> u8 {
-    let Served {
-        status,
-        halt: _,
-        conn: _,
-    } = served;
-    status
-}
-
-/// Closes the file of an action that ran to its end, and returns the status.
-fn closed(served: Served<FileStore<File>>) -> u8 {
-    let Served {
-        status,
-        halt: _,
-        conn,
-    } = served;
-    if status <= REFUSED {
-        // Commits are safe in the log beside the file, also where it can't be copied into the file.
-        let _ = conn.close();
-    }
-    status
-}
-
-/// Reports that the file can't be opened: the line on standard output, and why on standard error.
-fn unopened(call: &Call<'_>, path: &str, cause: Cause) -> u8 {
-    if matches!(cause, Cause::Memory) {
-        return out_of_memory(call.rt);
-    }
-    let _ = println!(call.rt; "fault open");
-    if !call.is_quiet() {
-        let _ = eprintln!(call.rt; "lotbook: {path}: {cause}");
-    }
-    STOPPED
+    if is_written { status } else { STOPPED }
 }

@@ -3,14 +3,14 @@
 ghost use Rattle.std.specs.Prelude.{◌≡◌, None, false};
 
 use crate::meter::Meter;
-use crate::notes::{Evidence, advise, sum_up};
+use crate::notes::{advise, sum_up};
 use crate::output::Output;
-use crate::record::{Heard, Keeper, Witness};
+use crate::record::{Heard, Keeper, Kept, Witness};
 use crate::told::explain;
 use lot_cli::{Action, Counted, CountedWriter, Effect, Halt, Notes, Served, serve};
 use sqlite::{Alter, Connection};
 use std::io::{Read, Write};
-use std::time::{Duration, Instant};
+use std::time::Instant;
 
 /// What the program is called for.
 #[derive(Drop)]
@@ -38,29 +38,23 @@ impl Call<'_> {
         }
     }
 
-    /// Returns how long the call took so far, where the clock can be read.
-    pub fn took(&self) -> Option<Duration> {
-        self.begun?.elapsed(self.rt).ok()
-    }
-
     /// Does what the call is for on the book that the connection leads to, with that input, and says on
     /// standard error what there is to say of it.
-    pub fn answer<R: Read + Drop, S: Alter>(&self, input: R, conn: Connection<S>) -> Served<S>
+    pub fn answer<R: Read + Drop, S: Alter>(&self, reader: R, conn: Connection<S>) -> Served<S>
         requires outside { conn.in_transaction ≡ false }
         requires unlimited { conn.step_limit ≡ None }
     {
         let alloc = self.rt.alloc();
         let kept = if self.is_quiet() {
-            None
+            Kept { bytes: None }
         } else {
-            Some(Vec::new(alloc))
+            Kept::new(alloc)
         };
-        let mut reader = Keeper::new(input, kept);
-        let mut writer = Witness::new(alloc, self.output(), self.notes);
+        let mut reader = Keeper { reader, kept };
+        let mut writer = Witness::new(alloc, Output::new(self.rt, self.runs()), self.notes);
         let mut served = self.serve(&mut reader, &mut writer, conn);
-        let (output, heard) = writer.into_parts();
-        output.end();
-        self.speak(reader.into_kept(), &heard, served.halt, &mut served.conn);
+        writer.writer.end();
+        self.speak(&reader.kept, &writer.heard, served.halt, &mut served.conn);
         served
     }
 
@@ -82,18 +76,10 @@ impl Call<'_> {
         serve(alloc, self.action, &mut input, &mut output, &mut legs, conn)
     }
 
-    /// Returns standard output, as the action uses it.
-    fn output(&self) -> Output<'_> {
-        match self.runs() {
-            Some(counted) => Output::of_replies(self.rt, counted),
-            None => Output::of_text(self.rt),
-        }
-    }
-
     /// Says on standard error what there is to say of what was read and written.
     pub fn speak<S: Alter>(
         &self,
-        read: Option<Vec<u8>>,
+        read: &Kept,
         heard: &Heard,
         halt: Option<Halt>,
         conn: &mut Connection<S>,
@@ -101,19 +87,10 @@ impl Call<'_> {
         if self.is_quiet() {
             return;
         }
-        if let (Some(read), Some(lines)) = (&read, &heard.lines) {
-            let evidence = Evidence {
-                action: self.action,
-                notes: self.notes,
-                read: read.as_slice(),
-                lines: lines.as_slice(),
-                refused: heard.tally.refused,
-            };
-            explain(self.rt, &evidence);
-        }
+        explain(self, read, heard, conn);
         match halt {
             Some(halt) => advise(self, halt, conn),
-            None => sum_up(self, heard.tally),
+            None => sum_up(self, heard),
         }
     }
 }

@@ -46,36 +46,35 @@ pub fn open_copy(rt: &HostRuntime, path: &str) -> Result<Connection<FileStore<Im
 /// Reads the files of a book into memory, as they were at one moment.
 fn copied(rt: &HostRuntime, located: &Located) -> Result<Files<Image>, Cause> {
     for _try in 0..TRIES {
-        let before = Stamp::of(rt, located)?;
+        let before = stamp(rt, located)?;
         let db = image(rt, located.book.as_str())?;
         let log = image(rt, located.log.as_str())?;
-        if before == Stamp::of(rt, located)? {
+        if before == stamp(rt, located)? {
             return Ok(Files { log, db });
         }
     }
     Err(Cause::InUse)
 }
 
-/// What tells two states of the files of a book apart, unless commits were only put behind the log.
+/// What tells two states of the files of a book apart, unless commits were only put behind the log: the
+/// number of the book's file on its disk, its length, when it was changed last, and the head of its log.
 ///
 /// A program that writes puts each commit behind the log, and copies the log into the book's file
 /// from time to time; the log then begins anew, with another head. So a file, and a log with the same
 /// head that was read behind it, hold the commits up to a moment.
-#[derive(PartialEq, Eq, Drop)]
-struct Stamp {
-    /// The number of the book's file on its disk, its length, and when it was changed last.
-    book: (u64, u64, i64, i64),
-    head: [u8; HEAD],
-}
+type Stamp = (u64, u64, i64, i64, [u8; HEAD]);
 
-impl Stamp {
-    fn of(rt: &HostRuntime, located: &Located) -> Result<Stamp, Cause> {
-        let found = fs::metadata(rt, located.book.as_str())?;
-        Ok(Stamp {
-            book: (found.ino(), found.len(), found.mtime(), found.mtime_nsec()),
-            head: head(rt, located.log.as_str())?,
-        })
-    }
+/// Returns the stamp of the files of a book.
+fn stamp(rt: &HostRuntime, located: &Located) -> Result<Stamp, Cause> {
+    let found = fs::metadata(rt, located.book.as_str())?;
+    let head = head(rt, located.log.as_str())?;
+    Ok((
+        found.ino(),
+        found.len(),
+        found.mtime(),
+        found.mtime_nsec(),
+        head,
+    ))
 }
 
 /// Returns the head of a log, all zeros where there is none.

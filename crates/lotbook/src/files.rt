@@ -90,9 +90,12 @@ fn has_folder(rt: &HostRuntime, path: &str) -> bool {
     }
 }
 
-/// Returns whether the file of that path is there and empty.
-pub fn is_empty(rt: &HostRuntime, path: &str) -> bool {
-    matches!(fs::metadata(rt, path), Ok(found) if found.is_file() && found.len() == 0)
+/// Returns how many bytes the file of that path has, where there is one.
+pub fn len_of(rt: &HostRuntime, path: &str) -> Option<u64> {
+    match fs::metadata(rt, path) {
+        Ok(found) if found.is_file() => Some(found.len()),
+        _ => None,
+    }
 }
 
 /// Returns whether the name of the file of that path is too long for that of a book.
@@ -103,19 +106,8 @@ pub fn has_long_name(path: &str) -> bool {
     }
 }
 
-/// Returns whether the file of that path holds one byte, and not the zero that a stopped `init` may
-/// leave. The library of the database would take it for an empty file, and write a database over it.
-pub fn holds_one_byte(rt: &HostRuntime, path: &str) -> bool {
-    match fs::metadata(rt, path) {
-        Ok(found) => {
-            found.is_file() && found.len() == 1 && !matches!(first_byte(rt, path), Ok(Some(0)))
-        }
-        Err(_) => false,
-    }
-}
-
 /// Returns the first byte of the file of that path, where there is one.
-fn first_byte(rt: &HostRuntime, path: &str) -> io::Result<Option<u8>> {
+pub fn first_byte(rt: &HostRuntime, path: &str) -> io::Result<Option<u8>> {
     let mut first = [1];
     let count = fs::File::open(rt, path)?.read(&mut first)?;
     Ok(if count == 0 { None } else { Some(first[0]) })

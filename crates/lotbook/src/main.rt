@@ -6,13 +6,16 @@
 //! - `copy`: a copy of them in memory; `image`: a file in memory.
 //! - `output`: standard output; `meter`: how far a run is, on standard error.
 //! - `record`: what a call read and wrote; `notes`: what is said of it on standard error;
-//!   `told`: why commands were refused, and what the codes mean.
+//!   `told`: why commands were refused, and what the codes mean; `facts`: what the book says of it;
+//!   `damage`: where a book is damaged.
 #![tactic(auto)]
 
 mod book;
 mod call;
 mod cause;
 mod copy;
+mod damage;
+mod facts;
 mod files;
 mod image;
 mod meter;

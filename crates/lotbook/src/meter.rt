@@ -28,16 +28,15 @@ impl<'a> Meter<'a> {
     /// Returns a meter of replies to what is named, in the plural. The clock runs from the first
     /// one on. Where standard output is a terminal too, the replies themselves show how far the run
     /// is.
-    pub fn of_replies(rt: &'a HostRuntime, counted: &'static str) -> Meter<'a> {
+    pub fn of_replies(rt: &'a HostRuntime, counted: Option<&'static str>) -> Meter<'a> {
+        let is_shown = rt.stderr().is_terminal() && !rt.stdout().is_terminal();
         Meter {
-            counted: if rt.stdout().is_terminal() {
-                None
-            } else {
-                seen(rt, counted)
-            },
+            rt,
+            counted: if is_shown { counted } else { None },
+            count: 0,
             begun: None,
             due: Duration::from_millis(PAUSE),
-            ..Meter::unseen(rt)
+            is_shown: false,
         }
     }
 
@@ -45,42 +44,21 @@ impl<'a> Meter<'a> {
     /// first line is due at once.
     pub fn of_legs(rt: &'a HostRuntime) -> Meter<'a> {
         Meter {
-            counted: seen(rt, "legs"),
-            begun: Instant::now(rt).ok(),
-            ..Meter::unseen(rt)
-        }
-    }
-
-    /// Returns a meter that shows nothing.
-    pub fn unseen(rt: &'a HostRuntime) -> Meter<'a> {
-        Meter {
             rt,
-            counted: None,
+            counted: rt.stderr().is_terminal().then_some("legs"),
             count: 0,
-            begun: None,
+            begun: Instant::now(rt).ok(),
             due: Duration::ZERO,
             is_shown: false,
         }
     }
 
-    /// Counts so many more, and shows how many there were, if it is time.
+    /// Counts so many more, and shows how many there were and how many a second, if it is time.
     pub fn add(&mut self, more: u64) {
         self.count = self.count.saturating_add(more);
-        if let Some(counted) = self.counted {
-            self.show(counted);
-        }
-    }
-
-    /// Ends the line, if there is one.
-    pub fn end_line(&mut self) {
-        if self.is_shown {
-            let _ = eprintln!(self.rt; "");
-            self.is_shown = false;
-        }
-    }
-
-    /// Shows how many there were, if it is time.
-    fn show(&mut self, counted: &str) {
+        let Some(counted) = self.counted else {
+            return;
+        };
         let Some(begun) = self.begun else {
             self.begun = Instant::now(self.rt).ok();
             return;
@@ -91,7 +69,8 @@ impl<'a> Meter<'a> {
         if passed < self.due {
             return;
         }
-        let (count, rate) = (self.count, rate(self.count, passed));
+        let millis = u64::try_from(passed.as_millis()).unwrap_or(u64::MAX).max(1);
+        let (count, rate) = (self.count, self.count.saturating_mul(1000) / millis);
         // The blanks cover the end of a longer line that stood there.
         let _ = eprint!(self.rt; "\r{count} {counted}, {rate} a second   ");
         self.due = passed.saturating_add(Duration::from_millis(PAUSE));
@@ -105,21 +84,9 @@ impl Progress for Meter<'_> {
     }
 
     fn end(&mut self) {
-        self.end_line();
+        if self.is_shown {
+            let _ = eprintln!(self.rt; "");
+            self.is_shown = false;
+        }
     }
-}
-
-/// Returns what is counted, where standard error is a terminal.
-fn seen(rt: &HostRuntime, counted: &'static str) -> Option<&'static str> {
-    if rt.stderr().is_terminal() {
-        Some(counted)
-    } else {
-        None
-    }
-}
-
-/// Returns how many a second that is.
-fn rate(count: u64, passed: Duration) -> u64 {
-    let millis = u64::try_from(passed.as_millis()).unwrap_or(u64::MAX).max(1);
-    count.saturating_mul(1000) / millis
 }

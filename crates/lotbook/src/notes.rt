@@ -2,25 +2,12 @@
 
 use crate::book::path_of;
 use crate::call::Call;
+use crate::damage::say_where;
 use crate::files::is_missing;
-use crate::record::Tally;
-use lot_cli::{Action, AdoptFault, CreateFault, Effect, Halt, MigrateFault, Notes};
+use crate::record::Heard;
+use lot_cli::{AdoptFault, CreateFault, Effect, Halt, MigrateFault, VerifyFault};
 use sqlite::{Alter, Connection, Error};
 use std::io::IsTerminal;
-
-/// What a call read and wrote, for notes on it.
-#[derive(Clone, Copy)]
-pub struct Evidence<'a> {
-    pub action: &'a Action,
-    pub notes: Notes,
-    /// All that was read from standard input.
-    pub read: &'a [u8],
-    /// The replies that say that a command was refused, all or the first ten of them, and the line of
-    /// a fault: as they were written, with their line ends.
-    pub lines: &'a [u8],
-    /// How many commands were refused.
-    pub refused: u64,
-}
 
 /// What stands in the place of the book that an action is on.
 #[derive(Clone, Copy)]
@@ -36,6 +23,9 @@ enum Standing {
 /// holds one already.
 pub fn advise<S: Alter>(call: &Call<'_>, halt: Halt, conn: &mut Connection<S>) {
     let rt = call.rt;
+    if halt == Halt::Verify(VerifyFault::Damaged) {
+        return say_where(call, conn);
+    }
     let path = path_of(call.action).unwrap_or("");
     let Some(standing) = found(rt, path, halt, conn) else {
         return;
@@ -65,37 +55,35 @@ fn found<S: Alter>(
     conn: &mut Connection<S>,
 ) -> Option<Standing> {
     match halt {
-        Halt::Adopt(AdoptFault::OlderEdition) => Some(Standing::OlderBook),
-        Halt::Adopt(AdoptFault::NotABook) | Halt::Migrate(MigrateFault::NotABook) => {
+        Halt::Adopt(AdoptFault::OlderEdition) | Halt::Verify(VerifyFault::OlderEdition) => {
+            Some(Standing::OlderBook)
+        }
+        Halt::Adopt(AdoptFault::NotABook)
+        | Halt::Migrate(MigrateFault::NotABook)
+        | Halt::Verify(VerifyFault::NotABook) => {
             if is_missing(rt, path) {
                 Some(Standing::Nothing)
-            } else if has_tables(conn)? {
+            } else if finds(conn, "SELECT name FROM sqlite_schema LIMIT 1")? {
                 Some(Standing::OtherDatabase)
             } else {
                 Some(Standing::EmptyFile)
             }
         }
-        Halt::Create(CreateFault::NotABook) => Some(if is_book(conn)? {
-            Standing::Book
-        } else {
-            Standing::OtherDatabase
-        }),
+        Halt::Create(CreateFault::NotABook) => {
+            let query = "SELECT edition FROM book WHERE mark = 'lot-book'";
+            Some(if finds(conn, query)? {
+                Standing::Book
+            } else {
+                Standing::OtherDatabase
+            })
+        }
         _ => None,
     }
 }
 
-/// Returns whether a database has tables, where it can be read.
-fn has_tables<S: Alter>(conn: &mut Connection<S>) -> Option<bool> {
-    match conn.query_row("SELECT name FROM sqlite_schema LIMIT 1", &[]) {
-        Ok(_) => Some(true),
-        Err(Error::QueryReturnedNoRows) => Some(false),
-        Err(_) => None,
-    }
-}
-
-/// Returns whether a database says that it is a book, where it can be read.
-fn is_book<S: Alter>(conn: &mut Connection<S>) -> Option<bool> {
-    match conn.query_row("SELECT edition FROM book WHERE mark = 'lot-book'", &[]) {
+/// Returns whether a query finds a row, where the database can be read.
+fn finds<S: Alter>(conn: &mut Connection<S>, query: &str) -> Option<bool> {
+    match conn.query_row(query, &[]) {
         Ok(_) => Some(true),
         Err(Error::SqliteFailure(_)) => None,
         Err(_) => Some(false),
@@ -104,18 +92,21 @@ fn is_book<S: Alter>(conn: &mut Connection<S>) -> Option<bool> {
 
 /// Says, on a terminal, how many of the commands of a run were accepted, stood already and were
 /// refused, and how long the call took.
-pub fn sum_up(call: &Call<'_>, tally: Tally) {
+pub fn sum_up(call: &Call<'_>, heard: &Heard) {
     let rt = call.rt;
     if call.runs().is_none() || !rt.stderr().is_terminal() {
         return;
     }
-    let Tally {
+    let Heard {
         accepted,
         repeated,
         refused,
-    } = tally;
+        ..
+    } = heard;
     let _ = eprint!(rt; "{accepted} accepted, {repeated} repeated, {refused} refused");
-    if let Some(took) = call.took() {
+    if let Some(begun) = call.begun
+        && let Ok(took) = begun.elapsed(rt)
+    {
         let (seconds, tenths) = (took.as_secs(), took.subsec_millis() / 100);
         let _ = eprint!(rt; " in {seconds}.{tenths} s");
     }

@@ -1,7 +1,7 @@
 //! Standard output.
 
-use crate::STOPPED;
 use crate::meter::Meter;
+use lot_cli::Progress;
 use std::io::{self, BufWriter, Printer, Write};
 
 /// Standard output.
@@ -17,29 +17,24 @@ pub struct Output<'a> {
 }
 
 impl<'a> Output<'a> {
-    /// Returns an output of text that is written whole, or nearly so.
-    pub fn of_text(rt: &'a HostRuntime) -> Output<'a> {
+    /// Returns an output of replies to what is named, in the plural; or without such a name of text that
+    /// is written whole, or nearly so.
+    pub fn new(rt: &'a HostRuntime, counted: Option<&'static str>) -> Output<'a> {
         Output {
             rt,
-            buffer: BufWriter::new(rt.alloc(), io::writer(rt)).ok(),
-            replies: Meter::unseen(rt),
-        }
-    }
-
-    /// Returns an output of replies to what is named, in the plural.
-    pub fn of_replies(rt: &'a HostRuntime, counted: &'static str) -> Output<'a> {
-        Output {
-            rt,
-            buffer: None,
+            buffer: match counted {
+                Some(_) => None,
+                None => BufWriter::new(rt.alloc(), io::writer(rt)).ok(),
+            },
             replies: Meter::of_replies(rt, counted),
         }
     }
 
     /// Ends the line that shows the progress, if there is one. What could not be written is discarded.
-    pub fn end(mut self) {
-        self.replies.end_line();
+    pub fn end(&mut self) {
+        self.replies.end();
         // Dropping the buffer would try once more.
-        if let Some(buffer) = self.buffer {
+        if let Some(buffer) = self.buffer.take() {
             let _unwritten = buffer.into_parts();
         }
     }
@@ -60,13 +55,5 @@ impl Write for Output<'_> {
         }
         self.replies.add(1);
         Ok(())
-    }
-}
-
-/// Writes out a text. Returns that status, or the one of an output that can't be written.
-pub fn write_out(rt: &HostRuntime, text: &[u8], status: u8) -> u8 {
-    match io::writer(rt).write_all(text) {
-        Ok(()) => status,
-        Err(_) => STOPPED,
     }
 }

@@ -1,31 +1,29 @@
 //! What the codes mean, and why the commands of a call were refused.
 
 use crate::STOPPED;
-use crate::notes::Evidence;
+use crate::call::Call;
+use crate::facts::Facts;
 use crate::output::Output;
+use crate::record::{Heard, Kept, TEN};
 use crate::words::UNUSABLE;
 use lot_cli::{Action, Notes};
-use lot_explain::{Source, is_code, list, nearest_code};
-use std::io::{self, ErrorKind, Write};
-use std::str;
+use lot_explain::{Source, list, nearest_code, notes};
+use sqlite::{Alter, Connection};
 
 /// The status where what was asked for was written.
 const TOLD: u8 = 0;
 
-/// How many refusals, and how many warnings, are explained where not all are.
-const TEN: u64 = 10;
-
 /// Tells what a code means, or what all do, and returns the status.
 pub fn tell(rt: &HostRuntime, code: Option<&str>) -> u8 {
-    let mut output = Output::of_text(rt);
+    let mut output = Output::new(rt, None);
     let told = match code {
-        None => list(&mut output),
-        Some(word) if is_code(word) => lot_explain::explain(&mut output, word),
-        Some(word) => return unknown(rt, word),
+        None => list(&mut output).and(Ok(true)),
+        Some(word) => lot_explain::explain(&mut output, word),
     };
     output.end();
     match told {
-        Ok(()) => TOLD,
+        Ok(is_told) if is_told => TOLD,
+        Ok(_) => unknown(rt, code.unwrap_or("")),
         Err(_) => STOPPED,
     }
 }
@@ -43,48 +41,51 @@ fn unknown(rt: &HostRuntime, word: &str) -> u8 {
 
 /// Says on standard error why commands were refused, what a fault means, and what may have been
 /// meant otherwise than it was read. Where memory ends or that can't be written, less is said.
-pub fn explain(rt: &HostRuntime, evidence: &Evidence<'_>) {
-    let (source, from) = match evidence.action {
-        Action::Import { accounts, from, .. } => (Source::Rows(accounts), from.number()),
-        Action::Post { from, .. } => (Source::Text, from.number()),
-        _ => (Source::Text, 1),
+pub fn explain<S: Alter>(call: &Call<'_>, read: &Kept, heard: &Heard, conn: &mut Connection<S>) {
+    let (Some(input), Some(lines)) = (&read.bytes, &heard.lines.bytes) else {
+        return;
     };
-    let asked = lot_explain::Call {
-        source,
-        input: evidence.read,
-        from,
-        lines: evidence.lines,
-        refused: evidence.refused,
-    };
-    let most = match evidence.notes {
+    let most = match call.notes {
         Notes::All => u64::MAX,
         Notes::Ten | Notes::Quiet => TEN,
     };
-    let mut errors = Errors { rt };
-    let alloc = rt.alloc();
-    if lot_explain::notes(alloc, &mut errors, &asked, most).is_ok() {
-        let _ = lot_explain::warnings(alloc, &mut errors, &asked, most);
-    }
+    let (source, from) = source_of(call.action);
+    let asked = lot_explain::Call {
+        source,
+        input: input.as_slice(),
+        from,
+        lines: lines.as_slice(),
+        left_out: heard.refused.saturating_sub(most),
+    };
+    let alloc = call.rt.alloc();
+    let mut errors = call.rt.stderr();
+    let _ = notes(alloc, &mut errors, &mut Facts { alloc, conn }, &asked, most);
 }
 
-/// Standard error, to which texts are handed whole.
-#[derive(Drop)]
-struct Errors<'a> {
-    rt: &'a HostRuntime,
-}
-
-impl Write for Errors<'_> {
-    fn write(&mut self, buf: &[u8]) -> io::Result<usize> {
-        match str::from_utf8(buf) {
-            Ok(text) => {
-                eprint!(self.rt; "{text}")?;
-                Ok(buf.len())
-            }
-            Err(_) => Err(ErrorKind::InvalidData.into()),
+/// Returns what an action is given, and the number of the first command or row that it runs.
+fn source_of(action: &Action) -> (Source<'_>, u32) {
+    match action {
+        Action::Import {
+            batch,
+            accounts,
+            from,
+            ..
+        } => {
+            let batch = batch.as_str();
+            (Source::Rows { batch, accounts }, from.number())
         }
-    }
-
-    fn flush(&mut self) -> io::Result<()> {
-        Ok(())
+        Action::Post { batch, from, .. } => {
+            let batch = batch.as_str();
+            (Source::Text { batch }, from.number())
+        }
+        Action::PostRow {
+            batch,
+            reference,
+            ..
+        } => {
+            let (batch, reference) = (batch.as_str(), reference.as_str());
+            (Source::Row { batch, reference }, 1)
+        }
+        _ => (Source::Text { batch: "check" }, 1),
     }
 }

@@ -58,26 +58,39 @@ fn answer(rt: &HostRuntime, words: &[String], fault: &WordsFault) -> u8 {
     }
 }
 
-/// Shows on standard error how the word is called that stands among the words.
-fn show_example(rt: &HostRuntime, words: &[String]) {
-    if let Some(example) = words.iter().skip(1).find_map(|word| example(word.as_str())) {
-        let _ = eprintln!(rt; "\nExample: {example}");
-    }
-}
+/// Calls of the words that need options.
+const EXAMPLES: [(&str, &str); 8] = [
+    ("init", "lotbook init --book family.book"),
+    ("migrate", "lotbook migrate --book family.book"),
+    (
+        "post",
+        "lotbook post --book family.book --batch 2024 < 2024.ledger",
+    ),
+    (
+        "import",
+        "lotbook import --book family.book --batch broker --invest Assets:Broker --cash Assets:Cash --fees Expenses:Fees --gains Income:Gains < deals.csv",
+    ),
+    ("holdings", "lotbook holdings --book family.book"),
+    (
+        "gains",
+        "lotbook gains --book family.book --first 2024-01-01 --last 2024-12-31",
+    ),
+    (
+        "journal",
+        "lotbook journal --book family.book > family.ledger",
+    ),
+    ("verify", "lotbook verify --book family.book"),
+];
 
-/// Returns a call of that word, where it needs options.
-fn example(word: &str) -> Option<&'static str> {
-    match word {
-        "init" => Some("lotbook init --book family.book"),
-        "migrate" => Some("lotbook migrate --book family.book"),
-        "post" => Some("lotbook post --book family.book --batch 2024 < 2024.ledger"),
-        "import" => Some(
-            "lotbook import --book family.book --batch broker --invest Assets:Broker --cash Assets:Cash --fees Expenses:Fees --gains Income:Gains < deals.csv",
-        ),
-        "holdings" => Some("lotbook holdings --book family.book"),
-        "gains" => Some("lotbook gains --book family.book --first 2024-01-01 --last 2024-12-31"),
-        "journal" => Some("lotbook journal --book family.book > family.ledger"),
-        _ => None,
+/// Shows on standard error how the word is called that stands first among the words.
+fn show_example(rt: &HostRuntime, words: &[String]) {
+    for word in words.iter().skip(1) {
+        for (name, example) in EXAMPLES {
+            if name == word.as_str() {
+                let _ = eprintln!(rt; "\nExample: {example}");
+                return;
+            }
+        }
     }
 }
 
@@ -111,6 +124,7 @@ fn form(option: BadOption) -> &'static str {
         BadOption::Day => "a day, as in --day 2024-12-31",
         BadOption::First => "a day, as in --first 2024-01-01",
         BadOption::Last => "a day, as in --last 2024-12-31",
+        BadOption::Format => "text or csv, as in --format csv",
     }
 }
 
@@ -122,7 +136,10 @@ fn value_of<'a>(words: &'a [String], name: &str) -> Option<&'a str> {
             continue;
         };
         if option == name {
-            return words.next().map(|value| value.as_str());
+            return match words.next() {
+                Some(value) => Some(value.as_str()),
+                None => None,
+            };
         }
         match option.split_once('=') {
             Some((before, value)) if before == name => return Some(value),

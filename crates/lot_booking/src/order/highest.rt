@@ -3,7 +3,7 @@ ghost use Rattle.lot_booking.specs.Order.{highest_first};
 ghost use Rattle.lot_booking.specs.OrderLaws.{highest_is_order, highest_is_weak_order};
 
 use crate::order::LotOrder;
-use lot_inv::Lot;
+use lot_inv::LentLot;
 use std::cmp::Ordering;
 
 /// The lot of the highest cost first: by number descending, then by day, currency and label, each ascending, no label
@@ -19,8 +19,8 @@ impl LotOrder for Highest {
 
     ghost is_weak_order = { highest_is_weak_order };
 
-    fn before(a: &Lot, b: &Lot) -> bool {
-        let (a, b) = (&a.key, &b.key);
+    fn before(a: &LentLot<'_>, b: &LentLot<'_>) -> bool {
+        let (a, b) = (a.key, b.key);
         b.number
             .cmp(&a.number)
             .then_with(|| a.day.cmp(&b.day))

@@ -2,7 +2,7 @@ ghost use Rattle.lot_booking.specs.OpeningOrder.{highest_opened_first};
 ghost use Rattle.lot_booking.specs.OpeningOrderLaws.{highest_opened_is_order, highest_opened_is_weak_order};
 
 use crate::order::{LotOrder, opened_cmp};
-use lot_inv::Lot;
+use lot_inv::LentLot;
 use std::cmp::Ordering;
 
 /// The lot of the highest cost first: by number descending, of one number the lot that was opened first, and of one opening
@@ -18,11 +18,7 @@ impl LotOrder for HighestOpened {
 
     ghost is_weak_order = { highest_opened_is_weak_order };
 
-    fn before(a: &Lot, b: &Lot) -> bool {
-        b.key
-            .number
-            .cmp(&a.key.number)
-            .then_with(|| opened_cmp(a, b))
-            == Ordering::Less
+    fn before(a: &LentLot<'_>, b: &LentLot<'_>) -> bool {
+        b.key.number.cmp(&a.key.number).then(opened_cmp(a, b)) == Ordering::Less
     }
 }

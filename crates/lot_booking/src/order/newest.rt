@@ -3,7 +3,7 @@ ghost use Rattle.lot_booking.specs.Order.{newest_first};
 ghost use Rattle.lot_booking.specs.OrderLaws.{newest_is_order, newest_is_weak_order};
 
 use crate::order::LotOrder;
-use lot_inv::Lot;
+use lot_inv::LentLot;
 use std::cmp::Ordering;
 
 /// The newest lot first: by day descending, then by currency, number and label, each ascending, no label before every
@@ -19,8 +19,8 @@ impl LotOrder for Newest {
 
     ghost is_weak_order = { newest_is_weak_order };
 
-    fn before(a: &Lot, b: &Lot) -> bool {
-        let (a, b) = (&a.key, &b.key);
+    fn before(a: &LentLot<'_>, b: &LentLot<'_>) -> bool {
+        let (a, b) = (a.key, b.key);
         b.day
             .cmp(&a.day)
             .then_with(|| a.currency.cmp(&b.currency))

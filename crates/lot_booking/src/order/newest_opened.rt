@@ -2,7 +2,7 @@ ghost use Rattle.lot_booking.specs.OpeningOrder.{newest_opened_first};
 ghost use Rattle.lot_booking.specs.OpeningOrderLaws.{newest_opened_is_order, newest_opened_is_weak_order};
 
 use crate::order::{LotOrder, opened_cmp};
-use lot_inv::Lot;
+use lot_inv::LentLot;
 use std::cmp::Ordering;
 
 /// The newest lot first: by day descending, of one day the lot that was opened first, and of one opening number the first by
@@ -18,7 +18,7 @@ impl LotOrder for NewestOpened {
 
     ghost is_weak_order = { newest_opened_is_weak_order };
 
-    fn before(a: &Lot, b: &Lot) -> bool {
-        b.key.day.cmp(&a.key.day).then_with(|| opened_cmp(a, b)) == Ordering::Less
+    fn before(a: &LentLot<'_>, b: &LentLot<'_>) -> bool {
+        b.key.day.cmp(&a.key.day).then(opened_cmp(a, b)) == Ordering::Less
     }
 }

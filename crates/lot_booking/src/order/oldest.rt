@@ -3,7 +3,7 @@ ghost use Rattle.lot_booking.specs.Order.{oldest_first};
 ghost use Rattle.lot_booking.specs.OrderLaws.{oldest_is_order, oldest_is_weak_order};
 
 use crate::order::LotOrder;
-use lot_inv::Lot;
+use lot_inv::LentLot;
 use std::cmp::Ordering;
 
 /// The oldest lot first: by day, then by currency, number and label, each ascending, no label before every label.
@@ -18,8 +18,8 @@ impl LotOrder for Oldest {
 
     ghost is_weak_order = { oldest_is_weak_order };
 
-    fn before(a: &Lot, b: &Lot) -> bool {
-        let (a, b) = (&a.key, &b.key);
+    fn before(a: &LentLot<'_>, b: &LentLot<'_>) -> bool {
+        let (a, b) = (a.key, b.key);
         a.day
             .cmp(&b.day)
             .then_with(|| a.currency.cmp(&b.currency))

@@ -11,4 +11,5 @@ returns c =
     let five = one_word _ _ _ _ _ four c.in_ok-holdings.ensures c.in_ok-program-6.ensures in
     let six = one_word _ _ _ _ _ five c.in_ok-gains.ensures c.in_ok-program-7.ensures in
     let seven = one_word _ _ _ _ _ six c.in_ok-journal.ensures c.in_ok-program-8.ensures in
-    IfOk-weaker c.with_word-8.result _ _ (λ command h. one_word _ _ _ _ _ seven c.in_ok-explain.ensures h) c.with_word-8.ensures
+    let eight = one_word _ _ _ _ _ seven c.in_ok-verify.ensures c.in_ok-program-9.ensures in
+    IfOk-weaker c.with_word-9.result _ _ (λ command h. one_word _ _ _ _ _ eight c.in_ok-explain.ensures h) c.with_word-9.ensures

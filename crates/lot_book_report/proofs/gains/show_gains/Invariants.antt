@@ -1,10 +1,10 @@
 -- The sales that the walk has given are fed to the report, the book was read without a fault, and no call of the writer failed.
 use Rattle.std.proofs.Common.{◌≡◌, ◌≢◌, ◌<◌, IsFalse}
-use Rattle.lot_book.specs.Sale.{SaleParts}
 use Rattle.lot_report.specs.Gains.{HasTaken, IsEnd, fits, is_spent, sale_lines}
 use Rattle.lot_report.specs.Output.{NoneFailed}
 use Rattle.lot_book_report.proofs.FeedLemmas.{Feeds}
 use Rattle.lot_book_report.proofs.ReadLemmas.{IsReading}
+use Rattle.lot_book_report.specs.Gains.{sale_in}
 use Rattle.lot_walk.specs.Gains.{AreAllSaleRows, AreSalesWithin, HasLegs, IsBehindSaleRows, IsBehindSales}
 use Rattle.lot_store.specs.declared.book.Condition.TheVariants.{NeedsReopen}
 use Rattle.lot_book_report.proofs.gains.show_gains.Given as goal
@@ -16,6 +16,6 @@ invariant-sales g l = record {
   usable : 0 < l.counter → l.fn.book.condition ≢ NeedsReopen;
   none_failed : NoneFailed (g.W.CountedWrite.calls l.fn.writer) (g.W.CountedWrite.calls l.writer);
   fresh : IsFalse (is_spent l.report);
-  feeds : Feeds g.S.Store HasLegs AreSalesWithin IsBehindSales AreAllSaleRows IsBehindSaleRows (λ (sale : SaleParts). sale) sale_lines fits HasTaken IsEnd
+  feeds : Feeds g.S.Store HasLegs AreSalesWithin IsBehindSales AreAllSaleRows IsBehindSaleRows sale_in sale_lines fits HasTaken IsEnd
       l.fn.book (l.fn.first, l.fn.last) (g.W.CountedWrite.contents l.fn.writer) l.walk (g.W.CountedWrite.contents l.writer) l.report.progress;
 }

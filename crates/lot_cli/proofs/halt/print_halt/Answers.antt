@@ -21,3 +21,9 @@ returns-in-Migrate-clause-bytes g c =
     rw (c.in-Migrate.is)
     (subst (WritesLine (g.W.CountedWrite.contents c.args.writer.now) (g.W.CountedWrite.contents c.print_texts-in-Migrate.new.writer) c.print_texts-in-Migrate.result)
     (ap (λ n. line (codes "fault " ++ n)) c.migrate_name.ensures) c.print_texts-in-Migrate.ensures.bytes)
+
+pub returns-in-Verify-clause-bytes : goal.returns-in-Verify-clause-bytes
+returns-in-Verify-clause-bytes g c =
+    rw (c.in-Verify.is)
+    (subst (WritesLine (g.W.CountedWrite.contents c.args.writer.now) (g.W.CountedWrite.contents c.print_texts-in-Verify.new.writer) c.print_texts-in-Verify.result)
+    (ap (λ n. line (codes "fault " ++ n)) c.verify_name.ensures) c.print_texts-in-Verify.ensures.bytes)

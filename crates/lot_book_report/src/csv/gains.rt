@@ -1,0 +1,67 @@
+ghost use Rattle.std.specs.Prelude.{ℕ, List};
+ghost use Rattle.lot_book_report.specs.Csv.{ShowsAllSalesCsv, ShowsGainsCsv, ShowsSomeGainsCsv, records_of_sale};
+ghost use Rattle.lot_book_report.specs.Fault.{HasCause};
+ghost use Rattle.lot_book_report.specs.Show.{HoldsOfBook, HoldsOfTables, ReadsBook};
+
+use super::{Records, write_csv};
+use crate::fault::ShowFault;
+use lot_base::Day;
+use lot_csv::{Seller, gains_header, write_sale};
+use lot_report::{CountedWrite, PrintFault};
+use lot_store::Book;
+use lot_walk::NumberedSale;
+use sqlite::Alter;
+use std::alloc::Global;
+
+/// Writes what the sales of a book gained from the first day to the last, both included, as CSV: a
+/// record for each lot of each sale, as it is read. Without a day that end of the range is open.
+/// Nothing is flushed.
+///
+/// Where the book stops, the records of the sales before are written, and nothing behind them;
+/// where it stops before the first sale, nothing is, no header. Where the writer fails, a prefix of
+/// what was to be written is. The book can be used on then. Where it ends well the records of all
+/// rows of sales on those days are written, whatever the tables stand for.
+pub fn show_gains_csv<S: Alter, W: CountedWrite>(
+    alloc: Global,
+    book: &mut Book<S>,
+    first: Option<Day>,
+    last: Option<Day>,
+    writer: &mut W,
+) -> Result<(), ShowFault>
+    ensures shows { HoldsOfBook S.Store book.old book.new
+        (λ entries. ShowsGainsCsv entries (first, last)
+        (W.contents writer.old) (W.contents writer.new) result) }
+    ensures lines { ShowsSomeGainsCsv (W.contents writer.old) (W.contents writer.new) result }
+    ensures rows { HoldsOfTables S.Store book.old book.new
+        (λ tables. ShowsAllSalesCsv tables (first, last)
+        (W.contents writer.old) (W.contents writer.new) result) }
+    ensures reads { ReadsBook S.Store book.old book.new result }
+    ensures cause { HasCause result (record {
+      before = W.calls writer.old;
+      after = W.calls writer.new;
+    }) }
+{
+    let mut walk = book.gains(first, last);
+    write_csv(alloc, gains_header(), &SaleRecords, &mut walk, writer)
+}
+
+/// The records of sales.
+#[derive(Clone, Copy)]
+struct SaleRecords;
+
+impl Records<NumberedSale> for SaleRecords {
+    ghost records = { λ _ sold. records_of_sale sold };
+
+    fn write<W: CountedWrite>(
+        &self,
+        alloc: Global,
+        sold: NumberedSale,
+        writer: &mut W,
+    ) -> Result<(), PrintFault> {
+        let seller = Seller {
+            entry: sold.entry,
+            posting: sold.posting,
+        };
+        write_sale(alloc, writer, seller, &sold.sale)
+    }
+}

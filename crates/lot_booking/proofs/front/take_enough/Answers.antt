@@ -1,0 +1,25 @@
+-- The walk along the first lots in the order is the choice.
+use Rattle.std.proofs.Common.{rules, arith, map, ◌≤◌, ◌≡◌, ℕ, ℤ, Vec, Global, unsigned_abs}
+use Rattle.std.proofs.lemmas.Result.{IfOk-weaker}
+use Rattle.lot_cost.specs.declared.lot_key.LotKey.{LotKey}
+use Rattle.lot_inv.specs.Inventory.{held_in}
+use Rattle.lot_inv.specs.Lot.{AreNumberedBy, key_and_units}
+use Rattle.lot_booking.proofs.TakeLemmas.{takes-walked}
+use Rattle.lot_booking.proofs.front.take_enough.Goals as goal
+
+pub returns : goal.returns
+returns g c =
+    let before = g.O.LotOrder.before in
+    let weak = g.met.O.LotOrder.is_weak_order in
+    let lots = c.args.lots.items in
+    let front = c.in_ok-front.front.items in
+    let units = c.args.units in
+    let wanted : c.unsigned_abs.result ≡ unsigned_abs units = search rules in
+    let enough : unsigned_abs units ≤ held_in (map key_and_units front) = omega (arith, wanted, c.in_ok-front.ensures.enough) in
+    record {
+      taken = IfOk-weaker c.in_turn.result _ _
+          (λ (legs : Vec (LotKey × ℤ) Global) walk (opening : LotKey → ℕ) (numbered : AreNumberedBy opening lots).
+          takes-walked before weak opening (g.met.O.LotOrder.is_order opening) lots front units legs.items c.requires.distinct numbered
+          c.in_ok-front.ensures.front enough walk)
+          c.in_turn.ensures.legs;
+    }

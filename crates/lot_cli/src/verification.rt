@@ -1,0 +1,41 @@
+ghost use Rattle.std.specs.Prelude.{◌≡◌, None, false};
+ghost use Rattle.lot_stream.specs.Status.{IsStatus};
+ghost use Rattle.lot_cli.specs.Serve.{SaysVerified};
+ghost use Rattle.sqlite.specs.Held.{state};
+
+use crate::action::Served;
+use crate::halt::Halt;
+use crate::run::{halted, tell};
+use lot_report::{CountedWrite, print_texts};
+use lot_store::HandedBack;
+use lot_stream::Status;
+use sqlite::{Alter, Connection};
+use std::alloc::Global;
+
+/// Verifies the book that is there.
+pub(crate) fn verify<W: CountedWrite, S: Alter>(
+    alloc: Global,
+    writer: &mut W,
+    conn: Connection<S>,
+) -> Served<S>
+    requires outside { conn.in_transaction ≡ false }
+    requires unlimited { conn.step_limit ≡ None }
+    ensures verifies { SaysVerified (state S.Store conn) (state S.Store result.conn)
+        (W.contents writer.old) (W.contents writer.new) (record {
+          before = W.calls writer.old;
+          after = W.calls writer.new;
+        }) (record { status = result.status; halt = result.halt }) }
+    ensures status { IsStatus result.status }
+{
+    match lot_verify::verify(alloc, conn) {
+        Ok(conn) => {
+            let printed = print_texts(writer, &["book verified\n"]);
+            Served {
+                status: tell(writer, printed, Status::Accepted),
+                halt: None,
+                conn,
+            }
+        }
+        Err(HandedBack { fault, conn }) => halted(writer, Halt::Verify(fault), conn),
+    }
+}

@@ -1,0 +1,5 @@
+mod FieldLemmas
+mod LawLemmas
+mod RecordLemmas
+mod ShareLemmas
+mod SumLemmas

@@ -1,0 +1,4 @@
+pub mod Gains
+pub mod Holdings
+pub mod Record
+pub mod Shares

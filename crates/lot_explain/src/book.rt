@@ -1,0 +1,226 @@
+//! The facts of a refusal that its book has, as they are once the run is over.
+
+use crate::fact::without_sign;
+use crate::nearest::nearest;
+use crate::refused::Refused;
+use crate::shown::Shown;
+use lot_base::{Account, Commodity, Day};
+use lot_command::canonical::body;
+use lot_command::{Amount, Command, Cost, Posting};
+use lot_cost::LotKey;
+use lot_inv::is_other_sign;
+use lot_num::Units;
+use std::alloc::{AllocError, Global};
+
+/// What a book says once a run on it is over. A call returns nothing where the book can't be read;
+/// its only error is out of memory.
+pub trait Known {
+    /// Returns the entry under a key, given as its source and its name.
+    fn entry(&mut self, source: &str, name: &str) -> Result<Option<Entry>, AllocError>;
+
+    /// Returns the accounts that were opened.
+    fn accounts(&mut self) -> Result<Vec<Account>, AllocError>;
+
+    /// Returns where an account and a commodity were last posted to with braces.
+    fn latest(
+        &mut self,
+        account: &Account,
+        commodity: &Commodity,
+    ) -> Result<Option<Latest>, AllocError>;
+
+    /// Returns the lots of a commodity that an account holds.
+    fn lots(&mut self, account: &Account, commodity: &Commodity) -> Result<Vec<Lot>, AllocError>;
+
+    /// Returns a commodity that an account holds though it was closed, where there is one.
+    fn locked(&mut self, account: &Account) -> Result<Option<Commodity>, AllocError>;
+}
+
+/// An entry of a book.
+#[derive(Drop)]
+pub struct Entry {
+    pub number: u32,
+    /// Its canonical text.
+    pub body: String,
+}
+
+/// A day, and the last entry of that day that posted with braces.
+#[derive(Drop)]
+pub struct Latest {
+    pub day: Day,
+    pub entry: u32,
+}
+
+/// A lot that is held.
+#[derive(Drop)]
+pub struct Lot {
+    pub key: LotKey,
+    pub units: Units,
+}
+
+/// Says which entry stands under the key of a command, and a line of it that the command hasn't.
+pub(crate) fn key_reused<B: Known>(
+    alloc: Global,
+    book: &mut B,
+    refused: &Refused<'_>,
+) -> Result<String, AllocError> {
+    let (word, batch) = (refused.key.word, refused.key.batch);
+    let source = format!(in alloc; "{word}:{batch}")?;
+    let Some(entry) = book.entry(source.as_str(), refused.key.name)? else {
+        return Ok(String::new(alloc));
+    };
+    let sent = body(alloc, refused.command)?;
+    let line = Shown(other_line(entry.body.as_str(), sent.as_str()).as_bytes());
+    let number = entry.number;
+    format!(in alloc; ": entry {number}, with the line `{line}`")
+}
+
+/// Returns the first line of a text that stands where another was sent, in which they differ; its
+/// first line where it is the beginning of the other.
+fn other_line<'a>(standing: &'a str, sent: &str) -> &'a str {
+    let mut others = sent.split('\n');
+    for line in standing.split('\n') {
+        if others.next() != Some(line) && !line.is_empty() {
+            return line;
+        }
+    }
+    standing.split('\n').next().unwrap_or(standing)
+}
+
+/// Says which account that was opened has the name nearest to that of one that wasn't. Those of a
+/// call without a book are the ones that its text opens.
+pub(crate) fn unknown_account<B: Known>(
+    alloc: Global,
+    book: &mut B,
+    refused: &Refused<'_>,
+    posting: Option<&Posting>,
+) -> Result<String, AllocError> {
+    let account = match (refused.command, posting) {
+        (Command::Closing(closing), _) => &closing.account,
+        (_, Some(posting)) => &posting.account,
+        _ => return Ok(String::new(alloc)),
+    };
+    let opened = book.accounts()?;
+    let mut names = Vec::new(alloc);
+    for account in &opened {
+        names.push(account.as_str())?;
+    }
+    for command in refused.commands {
+        if let Command::Opening(opening) = command
+            && opened.is_empty()
+        {
+            names.push(opening.account.as_str())?;
+        }
+    }
+    match nearest(alloc, account.as_str(), &names)? {
+        Some(name) if name == account.as_str() => {
+            String::from_str(alloc, ": it is opened further down")
+        }
+        Some(name) => format!(in alloc; ": the nearest is {name}"),
+        None => Ok(String::new(alloc)),
+    }
+}
+
+/// Says on which day, and by which entry, was last posted with braces what a posting posts.
+pub(crate) fn back_dated<B: Known>(
+    alloc: Global,
+    book: &mut B,
+    posting: &Posting,
+) -> Result<String, AllocError> {
+    let Some(amount) = &posting.amount else {
+        return Ok(String::new(alloc));
+    };
+    let Some(latest) = book.latest(&posting.account, &amount.commodity)? else {
+        return Ok(String::new(alloc));
+    };
+    let (day, entry) = (latest.day.text(alloc)?, latest.entry);
+    let day = day.as_str();
+    format!(in alloc; ": the latest is {day}, of entry {entry}")
+}
+
+/// Says how many lots the braces of a posting fit, what they hold, and in what they differ; or, where
+/// they hold less than it takes, both of these. Where no lot of the commodity is held, or that can't be
+/// read, it says nothing.
+pub(crate) fn fitting<B: Known>(
+    alloc: Global,
+    book: &mut B,
+    posting: &Posting,
+    code: &str,
+) -> Result<String, AllocError> {
+    let Some(
+        Amount {
+            units,
+            commodity,
+            cost: Some(cost),
+            ..
+        },
+    ) = &posting.amount
+    else {
+        return Ok(String::new(alloc));
+    };
+    let lots = book.lots(&posting.account, commodity)?;
+    if lots.is_empty() {
+        return Ok(String::new(alloc));
+    }
+    let (mut keys, mut held) = (Vec::new(alloc), Units::ZERO);
+    for lot in &lots {
+        if fits(lot, *units, cost) {
+            held = held.checked_add(lot.units).unwrap_or(held);
+            keys.push(&lot.key)?;
+        }
+    }
+    let (held, wanted) = (
+        without_sign(held).text(alloc)?,
+        without_sign(*units).text(alloc)?,
+    );
+    let (held, wanted) = (held.as_str(), wanted.as_str());
+    if code == "B3" {
+        return format!(in alloc; ": held now: {held}; wanted: {wanted}");
+    }
+    let (count, parts) = (keys.len(), differing(alloc, &keys)?);
+    let parts = parts.as_str();
+    format!(in alloc; ": lots that fit now: {count}, with {held} units{parts}")
+}
+
+/// Returns whether units with that cost may be taken of a lot.
+fn fits(lot: &Lot, units: Units, cost: &Cost) -> bool {
+    let has_number = match cost {
+        Cost::Each(_) => true,
+        Cost::Whole(whole) => units.per_unit(whole.total()) == Some(lot.key.number),
+    };
+    let spec = match cost {
+        Cost::Each(spec) => spec,
+        Cost::Whole(whole) => whole.spec(),
+    };
+    is_other_sign(units, lot.units) && has_number && spec.fits(&lot.key)
+}
+
+/// Says in which parts lots differ, if they do.
+fn differing(alloc: Global, keys: &[&LotKey]) -> Result<String, AllocError> {
+    let mut text = String::new(alloc);
+    let Some((first, others)) = keys.split_first() else {
+        return Ok(text);
+    };
+    let (mut day, mut cost, mut currency, mut label) = (false, false, false, false);
+    for key in others {
+        day = day || key.day != first.day;
+        cost = cost || key.number != first.number;
+        currency = currency || key.currency != first.currency;
+        label = label || key.label != first.label;
+    }
+    for (differs, part) in [
+        (day, "day"),
+        (cost, "cost"),
+        (currency, "currency"),
+        (label, "label"),
+    ] {
+        if differs {
+            text.push_str(if text.is_empty() {
+                "; they differ in "
+            } else {
+                ", "
+            })?;
+            text.push_str(part)?;
+        }
+    }
+    Ok(text)
+}

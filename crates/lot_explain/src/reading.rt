@@ -1,0 +1,79 @@
+//! The commands of a ledger text, and those of a broker file, with their places.
+
+use crate::call::{Call, Source};
+use crate::place::Place;
+use crate::records::Records;
+use crate::site::Sites;
+use lot_command::Command;
+use lot_import::{Accounts, Row, RowsFault, read_rows};
+use lot_read::{TextFault, read};
+use std::alloc::{AllocError, Global};
+
+/// What an input says, none of it where it is faulty or wasn't read to its end; and how far it was
+/// gone through.
+#[derive(Drop)]
+pub(crate) enum Reading<'a> {
+    Text {
+        commands: Vec<Command>,
+        sites: Sites<'a>,
+    },
+    Rows {
+        rows: Vec<Row>,
+        accounts: &'a Accounts,
+        records: Records<'a>,
+    },
+}
+
+impl<'a> Reading<'a> {
+    /// Reads what a call was given. The only error is out of memory.
+    pub(crate) fn of(alloc: Global, call: &Call<'a>) -> Result<Reading<'a>, AllocError> {
+        Ok(match call.source {
+            Source::Text { .. } | Source::Row { .. } => Reading::Text {
+                commands: commands_of(alloc, call)?,
+                sites: Sites::new(call.input),
+            },
+            Source::Rows { accounts, .. } => Reading::Rows {
+                rows: match read_rows(alloc, call.input) {
+                    Err(RowsFault::Memory) => return Err(AllocError),
+                    Err(_) => Vec::new(alloc),
+                    Ok(rows) => rows,
+                },
+                accounts,
+                records: Records::new(alloc, call.input)?,
+            },
+        })
+    }
+
+    /// Goes on to the command or row of that number, or to a posting of that command by its place,
+    /// and returns its place; all count from 1. The only error is out of memory.
+    pub(crate) fn go_to(
+        &mut self,
+        number: usize,
+        posting: Option<usize>,
+    ) -> Result<Place<'_>, AllocError> {
+        match self {
+            Reading::Text { sites, .. } => Ok(match sites.find(number, posting) {
+                Some(site) => Place::Command {
+                    number: site.number,
+                    command: number,
+                    line: site.line,
+                },
+                None => Place::Number(number),
+            }),
+            Reading::Rows { records, .. } => records.go_to(number),
+        }
+    }
+}
+
+/// Returns the commands of a text: none where it is faulty, or where nothing was said of it, so that
+/// no text is read again for nothing. The only error is out of memory.
+fn commands_of(alloc: Global, call: &Call<'_>) -> Result<Vec<Command>, AllocError> {
+    if call.lines.is_empty() {
+        return Ok(Vec::new(alloc));
+    }
+    match read(alloc, call.input) {
+        Err(TextFault::Memory { .. }) => Err(AllocError),
+        Err(TextFault::Line { .. }) => Ok(Vec::new(alloc)),
+        Ok(commands) => Ok(commands),
+    }
+}

@@ -1,0 +1,1 @@
+use Rattle.lot_verify.proofs.has.have_rows.Goals as goal

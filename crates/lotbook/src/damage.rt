@@ -1,0 +1,133 @@
+//! Where a book that isn't verified is damaged.
+
+use crate::book::path_of;
+use crate::call::Call;
+use lot_cli::{Spot, Table, VerifyFault, Watch, judge_book};
+use sqlite::types::ValueRef;
+use sqlite::{Alter, Connection};
+
+/// What was looked at last.
+#[derive(Drop)]
+struct Place {
+    spot: Option<Spot>,
+    /// How many of its rows were looked at.
+    rows: i64,
+}
+
+impl Watch for Place {
+    fn look(&mut self, spot: Spot) {
+        self.spot = Some(spot);
+        self.rows = 0;
+    }
+
+    fn row(&mut self) {
+        self.rows = self.rows.saturating_add(1);
+    }
+}
+
+/// Says on standard error where the damage is: the book is judged once more, and what is looked at
+/// then is followed.
+pub fn say_where<S: Alter>(call: &Call<'_>, conn: &mut Connection<S>) {
+    let rt = call.rt;
+    let Some(path) = path_of(call.action) else {
+        return;
+    };
+    let mut place = Place {
+        spot: None,
+        rows: 0,
+    };
+    let Err(fault) = judge_book(rt.alloc(), conn, &mut place) else {
+        return;
+    };
+    if VerifyFault::from(fault) != VerifyFault::Damaged {
+        return;
+    }
+    let Some(spot) = place.spot else {
+        return;
+    };
+    let _ = match spot {
+        Spot::Entry(entry) => eprintln!(rt;
+            "lotbook: {path}: entry {entry}: the row isn't the canonical text of a command that is accepted there, under a key of its own"
+        ),
+        Spot::RowsOf { table, entry } => eprintln!(rt;
+            "lotbook: {path}: table {}: the rows of entry {entry} aren't those that the entry makes",
+            name_of(table)
+        ),
+        Spot::RowsOfCommand(entry) => eprintln!(rt;
+            "lotbook: {path}: a row that entry {entry} makes isn't there: of an account, its currencies, a commodity, a price or a latest day at cost"
+        ),
+        Spot::Held => eprintln!(rt;
+            "lotbook: {path}: a row of what is held isn't there, in table lot, opening or plain"
+        ),
+        Spot::End(table) => eprintln!(rt;
+            "lotbook: {path}: table {} has rows that no entry makes",
+            name_of(table)
+        ),
+        Spot::Table(table) => match key_of(conn, table, place.rows) {
+            Some(key) => eprintln!(rt;
+                "lotbook: {path}: table {}: the row of {key} isn't what the entries come to",
+                name_of(table)
+            ),
+            None => eprintln!(rt;
+                "lotbook: {path}: table {} has a row that no book has",
+                name_of(table)
+            ),
+        },
+    };
+}
+
+/// Returns the key of the row at that place in a table, counted from 1, where it can be read.
+fn key_of<S: Alter>(conn: &mut Connection<S>, table: Table, place: i64) -> Option<String> {
+    if place < 1 {
+        return None;
+    }
+    let row = conn
+        .query_row(query_of(table)?, &[ValueRef::Int(place - 1)])
+        .ok()?;
+    row.get(0).ok()
+}
+
+/// Returns the query for the key of the row at a place in a table whose rows are looked at.
+fn query_of(table: Table) -> Option<&'static str> {
+    match table {
+        Table::Account => Some("SELECT name FROM account ORDER BY name LIMIT 1 OFFSET ?1"),
+        Table::Allowed => Some(
+            "SELECT account || ' ' || commodity FROM allowed ORDER BY account, place LIMIT 1 OFFSET ?1",
+        ),
+        Table::Commodity => Some("SELECT name FROM commodity ORDER BY name LIMIT 1 OFFSET ?1"),
+        Table::Price => Some(
+            "SELECT base || ' ' || quote || ' ' || day FROM price ORDER BY base, quote, day LIMIT 1 OFFSET ?1",
+        ),
+        Table::Lot => Some(
+            "SELECT account || ' ' || commodity FROM lot ORDER BY account, commodity, cost_day, cost_currency, cost_number, cost_label LIMIT 1 OFFSET ?1",
+        ),
+        Table::Plain => Some(
+            "SELECT account || ' ' || commodity FROM plain ORDER BY account, commodity LIMIT 1 OFFSET ?1",
+        ),
+        Table::Head => Some(
+            "SELECT account || ' ' || commodity FROM head ORDER BY account, commodity LIMIT 1 OFFSET ?1",
+        ),
+        Table::Opening => Some(
+            "SELECT account || ' ' || commodity FROM opening ORDER BY account, commodity, cost_day, cost_currency, cost_number, cost_label LIMIT 1 OFFSET ?1",
+        ),
+        Table::Entry | Table::Leg | Table::Sale | Table::Migration => None,
+    }
+}
+
+/// Returns the name of a table.
+fn name_of(table: Table) -> &'static str {
+    match table {
+        Table::Account => "account",
+        Table::Allowed => "allowed",
+        Table::Commodity => "commodity",
+        Table::Price => "price",
+        Table::Entry => "entry",
+        Table::Leg => "leg",
+        Table::Sale => "sale",
+        Table::Lot => "lot",
+        Table::Plain => "plain",
+        Table::Head => "head",
+        Table::Opening => "opening",
+        Table::Migration => "migration",
+    }
+}

@@ -1,0 +1,210 @@
+"""Compares holdings and gains as CSV with plain ones, on ledgers drawn from seeds, and with the reports as text.
+
+    compare.py PROGRAM SCRATCH [--first SEED] [--count N]
+
+The plain records are written from docs/FORMATS.md and docs/RULES.md alone, over the entries of the plain judge of tests/random/.
+Each ledger is posted to a new book; then its holdings, with and without days, and its gains, whole and in ranges, are asked for as
+CSV. What is printed has to be what Python's `csv` writes of the plain records, byte for byte, and to read back as they are. Of the
+same gains as text, each sale has to be what its records add up to, exactly. It prints a line `ok NAME` or `FAILED NAME: ..` for the
+ledgers of a hundred seeds, and for each kind of record, which has to occur. A difference goes to standard error, with its seed.
+"""
+
+import argparse
+import collections
+import csv
+import datetime
+import io
+import os
+import random
+import re
+import subprocess
+import sys
+from decimal import Decimal, getcontext
+
+sys.path.append(os.path.join(os.path.dirname(os.path.abspath(__file__)), "..", "random"))
+
+import draw
+import model
+import reports
+import spell
+from model import ONE, day_text, key_order, money_text, number_text
+
+getcontext().prec = 60
+
+A_CASE = 100  # seeds
+GAINS = "entry,posting,account,commodity,units,acquired,sold,days_held,label,unit_cost,currency,proceeds,cost,gain".split(",")
+HOLDINGS = "account,commodity,units,acquired,label,unit_cost,currency,cost".split(",")
+VALUES = ["price", "value"]
+
+draw.LABELS = (None, None, None, "a", "b", "é", "a lot; {}", "of ten, the first") # some with a comma
+
+KINDS = (
+    "a price of each unit", "a total price", "a total that a lot has no whole part of", "a total of several lots", "an unpriced sale",
+    "a short that is covered", "a lot that is sold before its day", "a label in quotes", "a plain position", "a lot with a price",
+    "a lot without a price", "no sales", "nothing held",
+)
+
+
+def ordinal(day):
+    return datetime.date(*day).toordinal()
+
+
+def shares(total, units, legs):
+    """The shares of legs in the price of all units: parts cut at eight decimals, the last what is left."""
+    parts = [total * abs(leg.units) // abs(units) for leg in legs[:-1]]
+    return parts + [total - sum(parts)]
+
+
+def gains(book, first, last, seen):
+    records = []
+    for number, entry in enumerate(book, 1):
+        if not isinstance(entry.command, model.Transaction) or not first <= entry.command.day <= last:
+            continue
+        for place, (posting, booked) in enumerate(zip(entry.command.postings, entry.booked), 1):
+            if not booked.reduces:
+                continue
+            price, legs, units = posting.amount.price, booked.legs, posting.amount.units
+            if reports.gain_of(posting, legs) is None:
+                proceeds = [None] * len(legs)
+                seen["an unpriced sale"] += 1
+            elif price.whole:
+                sign = 1 if units < 0 else -1
+                proceeds = [sign * share * ONE for share in shares(price.amount, units, legs)]
+                seen["a total price"] += 1
+                seen["a total of several lots"] += len(legs) > 1
+                seen["a total that a lot has no whole part of"] += any(price.amount * abs(leg.units) % abs(units) for leg in legs)
+            else:
+                proceeds = [-leg.units * price.amount for leg in legs]
+                seen["a price of each unit"] += 1
+            seen["a short that is covered"] += units > 0
+            for leg, got in zip(legs, proceeds):
+                cost = -leg.units * leg.key.number
+                held = ordinal(entry.command.day) - ordinal(leg.key.day)
+                seen["a lot that is sold before its day"] += held < 0
+                seen["a label in quotes"] += "," in (leg.key.label or "")
+                records.append([
+                    str(number), str(place), posting.account, posting.amount.commodity, number_text(leg.units),
+                    day_text(leg.key.day), day_text(entry.command.day), str(held), leg.key.label or "",
+                    number_text(leg.key.number), leg.key.currency, "" if got is None else reports.money(got), reports.money(cost),
+                    "" if got is None else reports.money(got - cost),
+                ])
+    seen["no sales"] += not records
+    return [GAINS] + records
+
+
+def holdings(book, day, seen):
+    records, held = [], model.Held(book)
+    for pair in held.pairs():
+        account, commodity = pair
+        lots = held.lots_of(pair)
+        empty = [] if day is None else ["", ""]
+        if pair in held.plain:
+            records.append([account, commodity, number_text(held.plain[pair]), "", "", "", "", ""] + empty)
+            seen["a plain position"] += 1
+        for key in sorted(lots, key=key_order):
+            units, value = lots[key], empty
+            rate = None if day is None else reports.price_at(book, day, commodity, key.currency, collections.Counter())
+            if rate is not None:
+                value = [number_text(rate), reports.money(units * rate)]
+            if day is not None:
+                seen["a lot without a price" if rate is None else "a lot with a price"] += 1
+            records.append([
+                account, commodity, number_text(units), day_text(key.day), key.label or "", number_text(key.number), key.currency,
+                reports.money(units * key.number),
+            ] + value)
+    seen["nothing held"] += not records
+    return [HOLDINGS if day is None else HOLDINGS + VALUES] + records
+
+
+def written(records):
+    text = io.StringIO()
+    csv.writer(text, lineterminator="\n").writerows(records)
+    return text.getvalue()
+
+
+def sums_differ(text, table):
+    """How the sales of a report as text differ from what their records add up to, or nothing."""
+    sales = [line for line in text.splitlines() if re.match(r"[0-9]{4}-", line)]
+    groups = collections.OrderedDict()
+    for record in csv.DictReader(io.StringIO(table, newline="")):
+        groups.setdefault((int(record["entry"]), int(record["posting"])), []).append(record)
+    if list(groups) != sorted(groups) or len(groups) != len(sales):
+        return f"{len(sales)} sales and {len(groups)} groups of records"
+    for line, records in zip(sales, groups.values()):
+        words = line.split(" ")
+        front = [records[0]["sold"], records[0]["account"], str(sum(Decimal(r["units"]) for r in records)), records[0]["commodity"]]
+        if [words[0], words[1], str(Decimal(words[2])), words[3]] != front and Decimal(words[2]) != Decimal(front[2]):
+            return f"{line}: {front}"
+        if words[4] == "unpriced":
+            if any(r["proceeds"] or r["gain"] for r in records):
+                return f"{line}: a record of an unpriced sale has proceeds or a gain"
+            continue
+        for name, place in (("proceeds", 5), ("cost", 7), ("gain", 9)):
+            if sum(Decimal(r[name]) for r in records) != Decimal(words[place]):
+                return f"{line}: the records come to another {name}"
+    return ""
+
+
+def call(program, words):
+    done = subprocess.run([program, *words], input=b"", capture_output=True, timeout=120)
+    return done.stdout.decode(), done.returncode, done.stderr.decode()
+
+
+def compare(program, scratch, seed):
+    drawing = draw.small(seed)
+    rng, seen = random.Random(seed), collections.Counter()
+    reports.quote_more(rng, drawing)
+    book = os.path.join(scratch, f"drawn-{seed}.book")
+    text = spell.Speller(drawing.rng).ledger([it.command for it in drawing.judged])
+    call(program, ["init", "--book", book])
+    subprocess.run([program, "post", "--book", book, "--batch", "r"], input=text, capture_output=True, timeout=120)
+    days, ranges = reports.asked(rng, drawing.book)
+    asked = [(["holdings"], holdings(drawing.book, None, seen))]
+    asked += [(["holdings", "--day", day_text(day)], holdings(drawing.book, day, seen)) for day in days[:2]]
+    asked.append((["gains"], gains(drawing.book, reports.FIRST_DAY, reports.LAST_DAY, seen)))
+    for first, last in ranges:
+        asked.append((["gains", "--first", day_text(first), "--last", day_text(last)], gains(drawing.book, first, last, seen)))
+    found = ""
+    for words, records in asked:
+        got = call(program, [words[0], "--book", book, "--format", "csv", *words[1:]])
+        wanted = written(records)
+        if got != (wanted, 0, ""):
+            found += f"--- {' '.join(words)}, wanted\n{wanted}--- got, status {got[1]}\n{got[0]}{got[2]}"
+        elif list(csv.reader(io.StringIO(got[0], newline=""))) != records:
+            found += f"--- {' '.join(words)} doesn't read back\n{got[0]}"
+        elif words[0] == "gains":
+            plain = call(program, [words[0], "--book", book, *words[1:]])
+            differs = sums_differ(plain[0], got[0])
+            if differs:
+                found += f"--- {' '.join(words)}: {differs}\n"
+    for name in (book, book + "-wal"):
+        if os.path.exists(name):
+            os.remove(name)
+    return found and text.decode() + found, seen
+
+
+def main():
+    words = argparse.ArgumentParser()
+    words.add_argument("program")
+    words.add_argument("scratch")
+    words.add_argument("--first", type=int, default=1)
+    words.add_argument("--count", type=int, default=200)
+    words = words.parse_args()
+    census = collections.Counter()
+    for start in range(words.first, words.first + words.count, A_CASE):
+        seeds = range(start, min(start + A_CASE, words.first + words.count))
+        differing = 0
+        for seed in seeds:
+            found, seen = compare(words.program, words.scratch, seed)
+            census.update({kind: 1 for kind in seen if seen[kind]})
+            if found:
+                differing += 1
+                print(f"seed {seed}\n{found}", file=sys.stderr)
+        name = f"tables of the ledgers of seeds {seeds[0]} to {seeds[-1]}"
+        print(f"FAILED {name}: {differing} differ" if differing else f"ok {name}")
+    for kind in KINDS:
+        print(f"ok a table has {kind}" if census[kind] else f"FAILED a table has {kind}: it doesn't occur")
+
+
+if __name__ == "__main__":
+    main()
