@@ -555,7 +555,7 @@ def prover_time(below):
     for name, spent in seconds.items():
         yield "| `%s` | %s | %.1f |" % (name, "{:,.0f}".format(spent), spent / (size(name)[0] or 1))
     whole, functions = sum(seconds.values()), sum(size(name)[0] for name in seconds)
-    yield "| all | %s | %.1f |" % ("{:,.0f}".format(whole), whole / functions)
+    yield "| these | %s | %.1f |" % ("{:,.0f}".format(whole), whole / functions)
 
 
 # ---- the headline and the codes
