@@ -116,6 +116,13 @@ book=$home/nowhere/family.book
 run init --book "$book" --dry-run </dev/null
 as "making a book in no folder" 4 "fault open"
 says "it says so" "lotbook: $book: there is no such folder"
+for end in / // /. /./ /..; do
+    run init --book "$home/new.book$end" </dev/null
+    cp "$scratch/err" "$scratch/made.err"
+    run init --book "$home/new.book$end" --dry-run </dev/null
+    as "making a book under a path that ends in $end" 4 "fault open"
+    says "it says what the call without --dry-run does" "$(<"$scratch/made.err")"
+done
 ln -s nowhere "$home/link.book" && book=$home/link.book
 dry "making a book behind a link that leads nowhere" /dev/null init
 

@@ -29,9 +29,10 @@ else
     finish
 fi
 
-# within LIMIT FILE: as `run`, with so many KiB of address space and FILE as input.
+# within LIMIT FILE: as `run`, with so many KiB of address space and FILE as input. What the shell says of a program that can't be
+# loaded isn't shown.
 within() {
-    (ulimit -v "$1" && exec "$program" <"$2") >"$scratch/out" 2>"$scratch/err" && status=0 || status=$?
+    { (ulimit -v "$1" && exec "$program" <"$2") >"$scratch/out" 2>"$scratch/err" && status=0 || status=$?; } 2>/dev/null
 }
 
 # Whether standard error is one line that says that memory ended, of a command or of none.

@@ -108,7 +108,7 @@ while IFS= read -r ledger; do
     if [[ ! -f $answer ]] || grep -q '^fault' "$answer"; then continue; fi
     grep -v '^[0-9]' "$answer" >"$scratch/held"
     fresh
-    "$program" post --book "$book" --batch a <"$ledger" >"$scratch/out"
+    "$program" post --book "$book" --batch a <"$ledger" >"$scratch/out" 2>"$scratch/err"
     run holdings --book "$book" </dev/null
     expect "$name: the holdings" 0 "$scratch/held"
     again "$name"

@@ -601,7 +601,7 @@ def words():
     """The table of the words of the program: the options of each, and what its help begins with."""
     text = (CRATES / "lot_args/src/program.rt").read_text()
     told = re.compile(r'((?:^///[^\n]*\n)+)fn (\w+)<.*?"\2",\s*"((?:[^"\\]|\\.)*)"', re.M | re.S)
-    yield "| Word and options | What it does |"
+    yield "| Subcommand and options | What it does |"
     yield "|---|---|"
     for comment, name, about in told.findall(text):
         usage = " ".join(line[3:].strip() for line in comment.splitlines())
@@ -638,7 +638,7 @@ ALSO = (
     ("RULES.md, Out of memory", "lot_check Answer"),
     ("RULES.md, The program", "lot_check Answer, lot_check Way, lot_input Text, lot_input Rows"),
     ("RULES.md, The program", "lot_args Program, lot_args Words, lot_args Options"),
-    ("RULES.md, The program", "lot_verify Verify"),
+    ("RULES.md, The program", "lot_audit Judge, lot_verify Verify"),
     ("RULES.md, All codes", "lot_store Apply, lot_store Create, lot_migrate Migrate"),
     ("RULES.md, All codes", "lot_verify Fault"),
     ("FORMATS.md, Lines", "lot_read Line"),

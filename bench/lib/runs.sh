@@ -1,8 +1,10 @@
 # What the scripts here share that run the program on texts. It is sourced by them, in their own folder.
 
+# They measure the program that is built from the sources here, or the one at the absolute path LOTBOOK_PROGRAM, if it is set.
+
 cd .. || exit 1
-program=crates/lotbook/out/lotbook
-LOTBOOK_BUILD=1 ./lotbook </dev/null >/dev/null || exit 1
+program=${LOTBOOK_PROGRAM:-crates/lotbook/out/lotbook}
+if [[ ! ${LOTBOOK_PROGRAM:-} ]]; then LOTBOOK_BUILD=1 ./lotbook </dev/null >/dev/null || exit 1; fi
 
 scratch=$(mktemp -d) || exit 1
 trap 'rm -rf "$scratch"' EXIT
@@ -17,9 +19,12 @@ seconds() {
 }
 
 # peak FILE WORDS..: the most memory of a run of the program with these words on a file, in KiB.
-peak() {
+peak() { peak_of "$1" "$program" "${@:2}"; }
+
+# peak_of FILE COMMAND..: the most memory of a run of this command on a file, in KiB.
+peak_of() {
     local pid key value rest peak=0
-    "$program" "${@:2}" <"$1" >/dev/null &
+    "${@:2}" <"$1" >/dev/null &
     pid=$!
     while [[ -e /proc/$pid/exe ]]; do
         while read -r key value rest; do

@@ -1,4 +1,4 @@
-"""A small book of which one byte was changed, in its file or in its log, and logs that end early; each word is run on it.
+"""A small book of which one byte was changed, in its file or in its log, and logs that end early; each subcommand is run on it.
 
     changed_bytes.py PROGRAM SCRATCH [--whole] [--changes N] [--seed SEED]
 

@@ -1,4 +1,4 @@
-"""A small book with a row in each table, and what each word of the program answers on it."""
+"""A small book with a row in each table, and what each subcommand of the program answers on it."""
 
 import fcntl
 import functools

@@ -1,4 +1,4 @@
-"""Words that can't be used, and paths of every kind.
+"""Arguments that can't be used, and paths of every kind.
 
     words.py PROGRAM SCRATCH [--whole]
 

@@ -15,7 +15,7 @@ pub enum Format {
 /// What the program is asked to do. A book is named by the path of its file.
 #[derive(Drop)]
 pub enum Action {
-    /// No word: ledger text is judged on a fresh book in memory.
+    /// No subcommand is given: ledger text is judged on an empty book in memory.
     Check,
     /// A book is made in a file.
     Init {
@@ -25,33 +25,33 @@ pub enum Action {
     Migrate {
         book: String,
     },
-    /// Ledger text is judged on a book, and kept there.
+    /// Ledger text is judged on a book. What is accepted is kept there.
     Post {
         book: String,
         batch: Batch,
         from: Start,
     },
-    /// The one command of ledger text is judged on a book, and kept there, in place of the row with that `ref` of a broker
-    /// file.
+    /// Ledger text of one command is posted to a book, in place of the row with that `ref` of a broker file.
     PostRow {
         book: String,
         batch: Batch,
         reference: Label,
     },
-    /// The rows of a broker file are posted to the accounts of a book, and kept there.
+    /// The rows of a broker file are posted to accounts of a book.
     Import {
         book: String,
         batch: Batch,
         accounts: Accounts,
         from: Start,
     },
-    /// What a book holds is written, with what its lots are worth on the day, where one is given.
+    /// What a book holds is written. With a day, what its lots are worth on it is written, too.
     Holdings {
         book: String,
         day: Option<Day>,
         format: Format,
     },
-    /// What the sales of a book gained is written: those from the first to the last day, both included, where they are given.
+    /// What the sales of a book gained is written: the sales from the first day to the last, both included. Without a day that
+    /// end of the range is open.
     Gains {
         book: String,
         first: Option<Day>,
@@ -62,7 +62,7 @@ pub enum Action {
     Journal {
         book: String,
     },
-    /// A book is judged again from its entries, and every table compared.
+    /// A book is judged again from its entries, and every table is compared.
     Verify {
         book: String,
     },

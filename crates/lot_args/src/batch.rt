@@ -9,7 +9,7 @@ use std::marker::Model;
 /// The longest batch, in bytes.
 const MAX_BATCH: usize = 32;
 
-/// The name of a batch: the commands that are sent under it are told apart by their numbers.
+/// The name of a batch. Commands that are sent under one name are told apart by their numbers.
 ///
 /// It has 1 to 32 ASCII letters, digits, points, underlines and dashes. A contract sees its bytes.
 #[derive(Drop)]
@@ -29,7 +29,7 @@ impl Model for Batch {
     ghost invariant = { λ b. IsTrue (is_batch (string_bytes b.name)) };
 }
 
-/// Why there is no batch of a text.
+/// Why no batch is made of a text.
 #[derive(Clone, Copy)]
 pub enum BatchFault {
     /// The text isn't the name of a batch.

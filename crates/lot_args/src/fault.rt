@@ -7,34 +7,34 @@ use clap::error::ErrorKind;
 use std::alloc::AllocError;
 use std::fmt;
 
-/// An option whose value can be outside its rule, in the order in which they are looked at.
+/// An option whose value can be outside its rule. The variants stand in the order in which the options are tested.
 #[derive(Clone, Copy)]
 pub enum BadOption {
-    /// `--batch`, whose value is no name of a batch.
+    /// `--batch`: its value isn't the name of a batch.
     Batch,
-    /// `--batch` of a post, whose value is no name of a batch; or which stands beside `--row-of`.
+    /// `--batch` of `post`: its value isn't the name of a batch, or `--row-of` is given, too.
     PostBatch,
-    /// `--row-of`, whose value is no name of a batch.
+    /// `--row-of`: its value isn't the name of a batch.
     RowOf,
-    /// `--ref`, whose value is no label; or which stands without `--row-of`.
+    /// `--ref`: its value isn't a label, or `--row-of` isn't given.
     Ref,
-    /// `--from`, whose value isn't 1, beside `--row-of`.
+    /// `--from`: its value isn't 1, and `--row-of` is given.
     From,
-    /// `--invest`, whose value is no account.
+    /// `--invest`: its value isn't an account.
     Invest,
-    /// `--cash`, whose value is no account.
+    /// `--cash`: its value isn't an account.
     Cash,
-    /// `--fees`, whose value is no account.
+    /// `--fees`: its value isn't an account.
     Fees,
-    /// `--gains`, whose value is no account.
+    /// `--gains`: its value isn't an account.
     Gains,
-    /// `--day`, whose value is no day.
+    /// `--day`: its value isn't a day.
     Day,
-    /// `--first`, whose value is no day.
+    /// `--first`: its value isn't a day.
     First,
-    /// `--last`, whose value is no day.
+    /// `--last`: its value isn't a day.
     Last,
-    /// `--format`, whose value is neither `text` nor `csv`.
+    /// `--format`: its value is neither `text` nor `csv`.
     Format,
 }
 
@@ -73,10 +73,10 @@ impl fmt::Display for BadOption {
     }
 }
 
-/// Why words ask for nothing.
+/// Why the arguments give no request.
 #[derive(Drop)]
 pub enum WordsFault {
-    /// `clap` doesn't take the words, or help or the version was asked for: its error says which, and has the text to show.
+    /// `clap` refuses the arguments, or help or the version is asked for. Its error says which, and has the text to show.
     Usage(Error),
     /// The value of the option is outside its rule.
     BadValue(BadOption),

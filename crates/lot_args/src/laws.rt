@@ -8,15 +8,15 @@ ghost use Rattle.lot_args.specs.Words.{bad_of};
 ghost use Rattle.lot_args.specs.declared.request.Effect.TheVariants.{AllOrNone, DryRun, Keep};
 ghost use Rattle.lot_args.specs.declared.request.Notes.TheVariants.{All, Quiet, Ten};
 
-/// `clap` takes the words `post --book f --batch a --from 7`, and these are the values that it matches.
+/// `clap` accepts the arguments `post --book f --batch a --from 7`, and these are the values that it matches.
 pub fn a_post_names_its_parts()
     ensures taken { takes program_app a_post ≡ true }
     ensures parts { parts_of (subcommand_of program_app a_post) ≡ Some (codes "post", codes "f", codes "a", 7) }
     ensures flags { flags_of a_post ≡ Some (Keep, Ten) }
 {}
 
-/// `clap` takes the words of calls with options without a value, and this is what they say: of `--dry-run` and `--all-or-none`
-/// the first counts, and `--quiet` may stand before the word.
+/// `clap` accepts two calls that have options without a value, and this is what they say. One has `--dry-run` and `--quiet`,
+/// the other `--all-or-none` and `--explain-all`.
 pub fn options_without_a_value_are_met()
     ensures dry { takes program_app a_dry_run ≡ true }
     ensures dry_flags { flags_of a_dry_run ≡ Some (DryRun, Quiet) }
@@ -24,15 +24,15 @@ pub fn options_without_a_value_are_met()
     ensures whole_flags { flags_of a_whole_post ≡ Some (AllOrNone, All) }
 {}
 
-/// `clap` takes the words `post --book f --row-of a --ref r`, the values are within their rules, and these are the batch of
-/// the row and its reference.
+/// `clap` accepts the arguments `post --book f --row-of a --ref r`. Their values are within their rules, and say this batch and
+/// this reference.
 pub fn a_post_for_a_row_names_it()
     ensures taken { takes program_app a_row ≡ true }
     ensures good { bad_of (subcommand_of program_app a_row) ≡ None }
     ensures row { row_of (subcommand_of program_app a_row) ≡ Some (true, codes "a", codes "r") }
 {}
 
-/// `clap` takes the words `explain B2`, and this is the code.
+/// `clap` accepts the arguments `explain B2`, and this is the code.
 pub fn a_code_is_met()
     ensures taken { takes program_app a_question ≡ true }
     ensures code { code_of (subcommand_of program_app a_question)

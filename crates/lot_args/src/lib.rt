@@ -1,11 +1,12 @@
-//! What the words of the program ask for (docs/RULES.md, The program).
+//! What the arguments of the program ask for (docs/RULES.md, The program).
 //!
 //! - `request`: what can be asked for; `action`: what the program is asked to do.
 //! - `batch`: the names of batches.
 //! - `start`: the numbers at which a run may start.
-//! - `program`: the words that there are, with their help; `options`: their options.
-//! - `words`: from words to a request (`parse_words`); `values`: what the values of options say.
-//! - `fault`: why words ask for nothing.
+//! - `program`: the subcommands, with their help; `options`: their options.
+//! - `words`: from arguments to a request (`parse_words`); `values`: what the values of options
+//!   say.
+//! - `fault`: why arguments give no request.
 //! - `laws`: what holds of the definitions that the contracts cite.
 #![tactic(auto)]
 

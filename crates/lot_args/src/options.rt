@@ -1,4 +1,4 @@
-//! The options of the words.
+//! The options of the subcommands.
 ghost use Rattle.std.specs.Prelude.{◌≡◌, false, codes};
 ghost use Rattle.clap.specs.Words.{rule_of};
 ghost use Rattle.lot_args.specs.Program.{flag_rule, from_rule, option_rule, place_rule, required_rule};
@@ -9,7 +9,7 @@ use clap::builder::ValueParser;
 use clap::{Arg, ArgAction};
 use std::alloc::Global;
 
-/// Where the help lists an option that stands behind the others of its word.
+/// Where the help lists an option that stands behind the others of its subcommand.
 const LAST: usize = 100;
 
 pub(crate) fn book<'a>(alloc: Global) -> Arg<'a>

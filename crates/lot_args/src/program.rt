@@ -1,4 +1,4 @@
-//! The words that there are, each with its help and its options.
+//! The subcommands, each with its help and its options.
 ghost use Rattle.std.specs.Prelude.{◌≡◌, [], IfOk, false, true};
 ghost use Rattle.clap.specs.Words.{app_of, new_app, rule_of, with_rule, with_subcommand};
 ghost use Rattle.lot_args.specs.Program.{bare_app, book_app, explain_app};
@@ -12,7 +12,7 @@ use std::alloc::{AllocError, Global};
 /// What `--version` prints behind the name of the program.
 const VERSION: &str = "1.0.0";
 
-/// Returns the words that there are, each with its help.
+/// Returns the program with all its subcommands, each with its help.
 pub(crate) fn program<'a>(alloc: Global) -> Result<Command<'a>, AllocError>
     ensures { IfOk result (λ command. app_of command ≡ program_app) }
 {
@@ -165,7 +165,7 @@ fn import<'a>(alloc: Global) -> Result<Command<'a>, AllocError>
     )
 }
 
-/// Returns a word whose commands are judged one after another, with the options of a run behind its others.
+/// Returns a subcommand whose commands are judged one after another, with the options of a run behind its others.
 fn run_word<'a>(
     alloc: Global,
     word: Command<'a>,
@@ -303,7 +303,7 @@ fn explain<'a>(alloc: Global) -> Result<Command<'a>, AllocError>
     )
 }
 
-/// Returns the program without a word, with the options of a check.
+/// Returns the program without a subcommand, with the options of a check.
 fn bare<'a>(alloc: Global) -> Result<Command<'a>, AllocError>
     ensures { IfOk result (λ command. app_of command ≡ bare_app) }
 {
@@ -322,7 +322,7 @@ fn named<'a>(alloc: Global) -> Command<'a>
         .version(VERSION)
 }
 
-/// Returns the program with that word behind its others.
+/// Returns the program with that subcommand behind its others.
 fn with_word<'a>(program: Command<'a>, word: Command<'a>) -> Result<Command<'a>, AllocError>
     requires { (app_of word).top.is_plain ≡ true }
     ensures { IfOk result (λ more.
@@ -331,7 +331,7 @@ fn with_word<'a>(program: Command<'a>, word: Command<'a>) -> Result<Command<'a>,
     program.subcommand(word)
 }
 
-/// Returns the word of that name on a book, with the options that each of them has.
+/// Returns the subcommand of that name on a book, with the options that every such subcommand has.
 fn book_word<'a>(alloc: Global, name: &'a str, about: &'a str) -> Result<Command<'a>, AllocError>
     ensures { IfOk result (λ command. app_of command ≡ book_app name.now []) }
 {
@@ -339,14 +339,14 @@ fn book_word<'a>(alloc: Global, name: &'a str, about: &'a str) -> Result<Command
     with_option(word, quiet(alloc))
 }
 
-/// Returns the word of that name, with its help and without an option.
+/// Returns the subcommand of that name, with its help and without an option.
 fn word<'a>(alloc: Global, name: &'a str, about: &'a str) -> Command<'a>
     ensures { app_of result ≡ new_app name.now }
 {
     Command::new(alloc, name).about(about)
 }
 
-/// Returns the word with that option behind its others.
+/// Returns the subcommand with that option behind its others.
 fn with_option<'a>(word: Command<'a>, option: Arg<'a>) -> Result<Command<'a>, AllocError>
     requires { option.global ≡ false }
     ensures { IfOk result (λ more.

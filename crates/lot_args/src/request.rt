@@ -1,15 +1,16 @@
 use crate::action::Action;
 
-/// What the words ask for.
+/// What the arguments ask for.
 #[derive(Drop)]
 pub enum Request {
-    /// Something is done with a book, or with a text alone.
+    /// Something is done with a book, or with a ledger text alone.
     Act {
         action: Action,
         effect: Effect,
         notes: Notes,
     },
-    /// What the codes mean that the program prints: that one, as it was written, or all of them.
+    /// The meaning of the codes that the program prints is written: of one code, given as it was
+    /// written, or of all.
     Explain {
         code: Option<String>,
     },

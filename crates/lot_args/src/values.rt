@@ -24,7 +24,8 @@ use std::alloc::{AllocError, Global};
 /// The number of the first command or row to run where none is given.
 const FIRST: u32 = 1;
 
-/// Returns the first option of a word whose value is outside its rule, in the order of the table in docs/RULES.md.
+/// Returns the first option of a subcommand whose value is outside its rule, in the order of the table in
+/// docs/RULES.md.
 pub(crate) fn first_bad(word: &str, options: &ArgMatches<'_>) -> Option<BadOption>
     ensures { result ≡ first_bad (rows_of (found_of options.now)) (options_of word.now) }
 {
@@ -37,7 +38,7 @@ pub(crate) fn first_bad(word: &str, options: &ArgMatches<'_>) -> Option<BadOptio
     None
 }
 
-/// Returns the options of a word whose values have a rule of ours, in the order in which they are looked at.
+/// Returns the options of a subcommand whose values this project tests, in the order of the tests.
 fn options_of(word: &str) -> &'static [BadOption]
     ensures { result.now ≡ options_of word.now }
 {
@@ -205,7 +206,7 @@ pub(crate) fn effect(options: &ArgMatches<'_>) -> Effect
     Effect::Keep
 }
 
-/// Returns what a call explains, by the options before its word and by those behind it. Where `--quiet` is given,
+/// Returns which notes a call asks for, by the options before and behind its subcommand. Where `--quiet` is given,
 /// `--explain-all` changes nothing.
 pub(crate) fn notes(before: &ArgMatches<'_>, options: &ArgMatches<'_>) -> Notes
     ensures { result ≡ notes_of (rows_of (found_of before.now)) (rows_of (found_of options.now)) }
@@ -230,7 +231,7 @@ pub(crate) fn code(alloc: Global, options: &ArgMatches<'_>) -> Result<Option<Str
     }
 }
 
-/// Returns whether an option without a value stands before the word or behind it.
+/// Returns whether an option without a value stands before or behind the subcommand.
 fn is_in_either(before: &ArgMatches<'_>, options: &ArgMatches<'_>, name: &str) -> bool
     ensures { result ≡ is_in_either name.now
         (rows_of (found_of before.now)) (rows_of (found_of options.now)) }
@@ -248,7 +249,8 @@ fn is_set(options: &ArgMatches<'_>, name: &str) -> bool
     }
 }
 
-/// Returns the value of an option, which `clap` has seen to where it is required, and else the empty text.
+/// Returns the value of an option, or the empty text where it isn't given. `clap` has refused arguments that lack a
+/// required option.
 fn value<'a>(options: &ArgMatches<'a>, name: &str) -> &'a str
     ensures { result.now ≡ value_of name.now (rows_of (found_of options.now)) }
 {

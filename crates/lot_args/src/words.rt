@@ -18,11 +18,14 @@ use crate::values::{
 use clap::ArgMatches;
 use std::alloc::Global;
 
-/// Returns what the words ask for, of which the first is the program's name.
+/// Returns what the arguments ask for. The first argument is the program's name. Without a subcommand, they ask for a check.
 ///
-/// Where none of them is a word of the program a check is asked for. The error is what `clap` answers where it doesn't take the words, or asks for
-/// help or the version to be shown; else the first option, in the order of the table in docs/RULES.md, whose value is outside its rule;
-/// else out of memory. Memory may end before `clap` has taken the words, or where all values are within their rules.
+/// The error is one of these:
+///
+/// - `Usage`: `clap` refuses the arguments, or help or the version is asked for;
+/// - `BadValue`: `clap` accepts them, but the value of an option is outside its rule. Of several such options it is the first
+///   in the order of the table in docs/RULES.md;
+/// - `Memory`: out of memory, before `clap` has accepted the arguments, or where all values are within their rules.
 pub fn parse_words(alloc: Global, words: &[String]) -> Result<Request, WordsFault>
     ensures request { IfOk result (AskFor (map string_bytes words.now)) }
     ensures bad { (bad : BadOption) → result ≡ Err (BadValue bad) → HaveBadIn (map string_bytes words.now) bad }
@@ -41,7 +44,7 @@ pub fn parse_words(alloc: Global, words: &[String]) -> Result<Request, WordsFaul
     }
 }
 
-/// Returns what a word asks for with the values of its options, which are all looked at before one is kept.
+/// Returns what a subcommand asks for with the values of its options. All values are tested before one is kept.
 fn asked(
     alloc: Global,
     before: &ArgMatches<'_>,
@@ -60,7 +63,7 @@ fn asked(
     }
 }
 
-/// Returns what a word asks for with values that are within their rules. The only error is out of memory.
+/// Returns what a subcommand asks for with values that are within their rules. The only error is out of memory.
 fn requested(
     alloc: Global,
     before: &ArgMatches<'_>,
@@ -85,7 +88,7 @@ fn requested(
     })
 }
 
-/// Returns the action that a word on a book asks for with values that are within their rules. The only error is out of
+/// Returns the action that a subcommand on a book asks for with values that are within their rules. The only error is out of
 /// memory.
 fn action(alloc: Global, word: &str, options: &ArgMatches<'_>) -> Result<Action, WordsFault>
     requires word { IsBookWord word.now }

@@ -1,7 +1,7 @@
 use std::alloc::AllocError;
 use thiserror::Error;
 
-/// Why there is no name of a text.
+/// Why no name is made of a text.
 #[derive(Clone, Copy, Debug, PartialEq, Eq, Error)]
 pub enum NameFault {
     /// The text isn't an account.
@@ -16,7 +16,7 @@ pub enum NameFault {
     /// The text isn't a note.
     #[error("not a note")]
     BadNote,
-    /// Out of memory for a copy of the text, which is a name.
+    /// The text is a name, but there is no memory for a copy of it.
     #[error("out of memory")]
     Memory,
 }

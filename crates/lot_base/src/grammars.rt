@@ -18,9 +18,7 @@ const MAX_LABEL: usize = 64;
 /// The longest note, in bytes.
 const MAX_NOTE: usize = 1_000;
 
-/// Which texts are names of one kind.
-///
-/// A further kind of name is a further type with this trait.
+/// The rule of one kind of names. A further kind of names is a further type with this trait.
 pub trait Grammar {
     // Whether a list of bytes is a name of this kind.
     ghost is_name: { List ℕ → Bool };

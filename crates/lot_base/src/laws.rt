@@ -1,5 +1,5 @@
-//! What holds of the definitions that the contracts of this crate cite, and of its types. Each law is a function that
-//! does nothing.
+//! Laws of the definitions that the contracts of this crate cite, and of its types. Each law is the contract of a
+//! function that does nothing, or that returns what the law is about.
 ghost use Rattle.std.specs.Prelude.{◌≡◌, IsTrue};
 ghost use Rattle.lot_base.specs.Day.{TextIsOfTheDate, TextReadsBack};
 ghost use Rattle.lot_base.specs.Name.{is_account, is_commodity, is_label, is_note};
@@ -8,7 +8,7 @@ ghost use Rattle.lot_base.specs.declared.fault.NameFault.TheVariants.{BadAccount
 use crate::grammars::{AccountGrammar, CommodityGrammar, Grammar, LabelGrammar, NoteGrammar};
 use crate::{Account, Commodity, Label, NameFault, Note};
 
-/// Each kind of name is of its own grammar.
+/// Each kind of name has a grammar of its own.
 pub fn names_are_of_their_grammars(
     account: &Account,
     commodity: &Commodity,
@@ -26,7 +26,7 @@ pub fn names_are_of_their_grammars(
     note.as_str();
 }
 
-/// Returns the fault of each grammar, which is its own: those of accounts, commodities, labels and notes.
+/// Returns the faults of the grammars of accounts, commodities, labels and notes. Each grammar has its own.
 pub fn faults_of_the_grammars() -> (NameFault, NameFault, NameFault, NameFault)
     ensures { result ≡ (BadAccount, BadCommodity, BadLabel, BadNote) }
 {

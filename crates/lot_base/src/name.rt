@@ -13,6 +13,7 @@ use std::cmp::Ordering;
 use std::fmt;
 use std::hash::{Hash, Hasher};
 use std::marker::{Model, PhantomData};
+use std::rc::RcStr;
 
 /// An account, as `Assets:Broker`. Its grammar is that of `AccountGrammar`.
 pub type Account = Name<AccountGrammar>;
@@ -26,31 +27,31 @@ pub type Label = Name<LabelGrammar>;
 /// A note on a transaction, its payee or its narration. Its grammar is that of `NoteGrammar`.
 pub type Note = Name<NoteGrammar>;
 
-/// A text of the grammar `G`, kept as it was given.
+/// A text of the grammar `G`, kept as it was given. Its copies share the text.
 ///
 /// A contract sees a name as the list of its bytes. Names are equal where their bytes are, and are ordered by them.
 #[derive(Drop)]
 pub struct Name<G: Grammar> {
-    text: String,
+    text: RcStr,
     grammar: PhantomData<G>,
 }
 
 impl<G: Grammar> Model for Name<G> {
     ghost use Rattle.std.specs.Prelude.{ℕ, List, IsTrue};
-    ghost use Rattle.std.specs.String.{string_bytes};
+    ghost use Rattle.std.specs.Rc.{rc_str_bytes};
 
     ghost Value = { List ℕ };
 
-    ghost view = { λ n. string_bytes n.text };
+    ghost view = { λ n. rc_str_bytes n.text };
 
-    ghost invariant = { λ n. IsTrue (G.is_name (string_bytes n.text)) };
+    ghost invariant = { λ n. IsTrue (G.is_name (rc_str_bytes n.text)) };
 }
 
 impl<G: Grammar> Name<G> {
     /// Returns the name with that text.
     ///
-    /// The error is the fault of the grammar (`BadAccount`, `BadCommodity`, `BadLabel` or `BadNote`) exactly where the text
-    /// isn't of the grammar, and else `Memory` where there is no memory for a copy of the text.
+    /// The error is `BadAccount`, `BadCommodity`, `BadLabel` or `BadNote` exactly where the text isn't of the grammar: each
+    /// grammar has its own. Else it is `Memory`, where there is no memory for a copy of the text.
     pub fn new(alloc: Global, text: &str) -> Result<Name<G>, NameFault>
         ensures ok { IfOk result (λ a. a ≡ text.now) }
         ensures good { IsOk result → IsTrue (G.is_name text.now) }
@@ -62,12 +63,12 @@ impl<G: Grammar> Name<G> {
             return Err(G::fault());
         }
         Ok(Name {
-            text: String::from_str(alloc, text)?,
+            text: RcStr::from_str(alloc, text)?,
             grammar: PhantomData,
         })
     }
 
-    /// Returns whether there is a name with that text, that is whether the text is of the grammar.
+    /// Returns whether the text is of the grammar, so that there is a name with it.
     pub fn is_name(text: &str) -> bool
         ensures { result ≡ G.is_name text.now }
     {
@@ -82,7 +83,9 @@ impl<G: Grammar> Name<G> {
         self.text.as_str()
     }
 
-    /// Returns a copy of the name. The only error is out of memory.
+    /// Returns a copy of the name, which shares its text and takes no memory.
+    ///
+    /// The only error is `AllocError`, where the copies of a text are more than can be counted.
     pub fn copy(&self) -> Result<Name<G>, AllocError>
         ensures { IfOk result (λ a. a ≡ self.now) }
     {

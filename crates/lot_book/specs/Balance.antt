@@ -70,8 +70,8 @@ add_weight (r ∷ rs) w = if same_text w.0 r.0 then (r.0, r.1 +ℤ w.1) ∷ rs e
 abbrev pub residual_in : List ℕ → List (List ℕ × ℤ) → ℤ
 residual_in currency rs = unwrap_or (lookup (same_text currency) rs) (pos 0)
 
--- each residual is at most what so many postings can weigh: each moves fewer than the limit of units, however many legs it
--- has, and each unit weighs less than the limit of rates
+-- Each residual is at most what so many postings can weigh. A posting moves fewer units than their limit, however many legs it
+-- has, and each unit weighs less than the limit of rates.
 abbrev pub AreWithin : ℕ → List (List ℕ × ℤ) → Type 0
 AreWithin count rs = AllByRecursion (λ (r : List ℕ × ℤ). unsigned_abs r.1 ≤ count * units_limit * rate_limit) rs
 

@@ -20,8 +20,8 @@ use Rattle.lot_book.specs.Leg.{leave_range, leg_at, legs_at_lots, with_legs}
 
 -- ---- one posting
 
--- a posting with an amount, and where it is booked: the number of its entry and its place there, its day, the method of
--- its account, how ties are decided there, and what the account holds
+-- A posting with an amount, and where it is booked: the number of its entry, its place there, its day, and the method
+-- of its account. `ties` says how ties are decided there, and `held` what the account holds.
 pub record Line : Type 0 where
   pub entry : ℕ
   pub place : ℕ

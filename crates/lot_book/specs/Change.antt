@@ -43,8 +43,8 @@ abbrev pub listed_or : BTreeMap Position ℕ → List ℕ → List ℕ → LotKe
 listed_or openings account commodity lot opening =
     unwrap_or (get position_cmp openings (record { account = account; commodity = commodity; lot = Some lot })) opening
 
--- The lots that further legs open are listed, each with its number after them, and no other: whatever numbers there are
--- before the legs, after them a lot has the one that is listed, or else its own.
+-- The lots that further legs open are listed, each with its number after them, and no other lot is. Whatever the
+-- numbers are before the legs, after them a lot has the number that is listed, or else its own.
 abbrev pub ListsOpened : Facts → List Leg → BTreeMap Position ℕ → Type 0
 ListsOpened facts legs openings = (account commodity : List ℕ) (lot : LotKey) (opening : LotKey → ℕ)
     → opening_with_legs account commodity (facts.held account) opening legs lot

@@ -17,8 +17,8 @@ abbrev pub ties_in : Edition → List Entry → TieRule
 ties_in First book = all_by_key
 ties_in Second book = λ before account commodity. ByOpening (opening_in (legs_of book ++ before) account commodity)
 
--- whether a book is of edition 1, not yet migrated, or of edition 2, migrated after so many entries: its place of migration,
--- 0 where it was made in edition 2
+-- The migration of a book: not yet, for a book of edition 1; after so many entries, for a book of edition 2. That number is
+-- its place of migration, which is 0 where the book was made in edition 2.
 pub data Migration : Type 0 where
   NotYet : Migration
   After : ℕ → Migration

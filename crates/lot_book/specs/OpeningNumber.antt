@@ -61,8 +61,8 @@ opening_in legs account commodity lot =
 
 -- ---- What further legs make of the numbers.
 
--- the opening numbers of the lots of an account and a commodity after a leg: the lot of the leg has the number of the leg's
--- posting where it held nothing, and any other keeps its own
+-- The opening numbers of the lots of an account and a commodity after a leg. The lot of the leg has the number of the leg's
+-- posting where it held nothing. Any other lot keeps its own.
 abbrev pub opening_with_leg : List ℕ → List ℕ → Held → (LotKey → ℕ) → Leg → LotKey → ℕ
 opening_with_leg account commodity held opening leg lot =
     if same_position (record { account = account; commodity = commodity; lot = Some lot }) leg.position

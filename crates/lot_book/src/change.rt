@@ -30,15 +30,16 @@ impl Pair {
 /// What an accepted command changes beside its entry: all other rows are the command's own.
 #[derive(Drop)]
 pub struct Change {
-    /// The legs, in the order of their postings, those of the elided posting last.
+    /// The legs, in the order of their postings. The legs of the elided posting are the last.
     pub legs: Items<Leg>,
     /// The postings that took lots away, each with its place in the transaction, from 1.
     pub sales: Items<(usize, Sale)>,
-    /// What each position that a leg touches holds after them; at zero it holds nothing any more.
+    /// The units that each position touched by a leg holds after all legs. A position at zero holds nothing.
     pub positions: BTreeMap<Position, Units>,
-    /// The opening number of each lot that a leg opens, which is that of the last one that does. A lot that is held before
-    /// them and is never emptied keeps its own, and isn't listed.
+    /// The opening number of each lot that a leg opens. Where several legs open it, the last one counts. A lot that is held
+    /// before the legs and never emptied by them keeps its number, and isn't listed.
     pub openings: BTreeMap<Position, u64>,
-    /// The pairs that are posted to with braces, each with the transaction's day, which is the latest one there.
+    /// The pairs that are posted to with braces. Each is listed with the day of the transaction, which is the latest such day
+    /// of the pair.
     pub heads: BTreeMap<Pair, Day>,
 }

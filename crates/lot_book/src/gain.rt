@@ -8,20 +8,20 @@ use lot_command::Price;
 use lot_cost::LotKey;
 use lot_num::{Units, Wide, weight};
 
-/// What a sale brings, at scale 16, in the currency of its price and of its lots.
+/// The gain of a sale with its two parts, at scale 16, in the currency of its price and of its lots.
 #[derive(Clone, Copy, Debug, PartialEq, Eq)]
 pub struct Gain {
-    /// What the units go for. It is below zero, or zero, where they are bought back.
+    /// What the units go for. It is zero or below where the sale buys back what was owed.
     pub proceeds: Wide,
-    /// What the lots cost. It is below zero, or zero, where they are owed.
+    /// What the lots cost. It is zero or below where the lots are owed.
     pub cost: Wide,
     /// The proceeds less the cost.
     pub gain: Wide,
 }
 
 impl Sale {
-    /// Returns the gain, or `None` where the sale is unpriced: it has no price, or the lot of some leg has another currency
-    /// than the price. The gain is exact, and needs no memory.
+    /// Returns the gain, or `None` where the sale is unpriced. A sale is unpriced where it has no price, or where some lot's
+    /// currency isn't that of the price. The gain is exact, and needs no memory.
     pub fn gain(&self) -> Option<Gain>
         ensures { result ≡ gain_of self.now }
     {
@@ -52,7 +52,7 @@ fn currency_of(price: &Price) -> &Commodity
     }
 }
 
-/// Returns whether the lot of some leg has another currency.
+/// Returns whether some lot's currency is another one.
 fn has_other_currency(currency: &Commodity, legs: &[(LotKey, Units)]) -> bool
     ensures { result ≡ has_other_currency currency.now legs.now }
 {

@@ -11,8 +11,8 @@ use std::alloc::AllocError;
 /// The most postings of a transaction.
 pub const MOST_POSTINGS: usize = 64;
 
-/// Where units are held: an account, a commodity, and the key of a lot, or none for plain units. Positions are ordered as
-/// the holdings are: by account, then commodity, the plain one before the lots.
+/// Where units are held: an account, a commodity, and the key of a lot, or no key for plain units. Positions are ordered by
+/// account, then by commodity; plain units stand before the lots.
 #[derive(Debug, PartialEq, Eq, PartialOrd, Ord, Drop)]
 pub struct Position {
     pub account: Account,
@@ -38,7 +38,7 @@ impl Position {
     }
 }
 
-/// Units that a posting of an entry puts into a position, or, below zero, takes out of it.
+/// Units that a posting of an entry puts into a position. Below zero it takes them out.
 #[derive(Drop)]
 pub struct Leg {
     /// The place of the entry in its book, from 1.
@@ -52,8 +52,8 @@ pub struct Leg {
 }
 
 impl Leg {
-    /// Returns the currency and the weight: for a lot its units times the number of its key, in the key's currency; for
-    /// plain units the units, in their commodity.
+    /// Returns the weight of the leg and its currency. For a lot it is the units times the number of the key, in the currency
+    /// of the key. For plain units it is the units, in their commodity.
     pub fn weight(&self) -> (&Commodity, Wide)
         ensures value { (result.0.now, result.1) ≡ weight_of self.now }
         ensures bound { unsigned_abs result.1 ≤ unsigned_abs self.now.units * rate_limit }
@@ -64,7 +64,8 @@ impl Leg {
         }
     }
 
-    /// Returns the number of the leg's posting in its book: 64 for each entry before its own, and its place there, from 1.
+    /// Returns the number of the leg's posting in its book: 64 for each entry before its own, plus its place in its own, from
+    /// 1.
     pub fn number(&self) -> u64
         requires { HasNumber self.now.entry self.now.posting }
         ensures { result ≡ posting_number self.now }

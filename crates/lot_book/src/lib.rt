@@ -1,11 +1,11 @@
 //! What the entries of a book say, what a step on a book is, and what a command changes of it.
 //!
 //! - `leg`: legs and positions.
-//! - `standing`: how an account stands.
+//! - `standing`: the state of an account: its opening, and whether it is closed.
 //! - `holding`: what one position holds.
 //! - `refusal`, `verdict`: why a command is refused, and how it was judged.
 //! - `change`: what an accepted command changes.
-//! - `sale`, `gain`: postings that took lots away, and what they bring.
+//! - `sale`, `gain`: postings that took lots away, and what they gained.
 #![tactic(auto)]
 
 mod change;

@@ -11,19 +11,19 @@ pub enum Refusal {
     /// The account was opened before.
     #[error("the account is open already")]
     AlreadyOpen,
-    /// The account was never opened: that of a posting, or that of a closing.
+    /// A posting names an account that was never opened, or the account to be closed was never opened.
     #[error("the account was never opened")]
     UnknownAccount { posting: Option<usize> },
-    /// The day is before the opening of the account: that of a posting, or that of a closing.
+    /// The day is before the opening of the account that a posting or the closing names.
     #[error("the account is not open on that day")]
     NotOpenYet { posting: Option<usize> },
-    /// The account was closed: before the day of a transaction that posts to it, or before a closing.
+    /// The account of a posting was closed before the day of the transaction, or the account to be closed was closed before.
     #[error("the account is closed")]
     Closed { posting: Option<usize> },
     /// The commodity was declared before.
     #[error("the commodity is declared already")]
     AlreadyDeclared,
-    /// The account of the posting was opened with other currencies.
+    /// The account of the posting was opened with a list of currencies that hasn't the commodity of the posting.
     #[error("the account of posting {posting} was not opened with its commodity")]
     CurrencyNotAllowed { posting: usize },
     /// The transaction has too many postings.
@@ -32,22 +32,23 @@ pub enum Refusal {
     /// Two postings are elided.
     #[error("only one posting may be elided")]
     TwoElided,
-    /// The day is before the latest on which the account and the commodity of the posting were posted to with braces.
+    /// The day is before the latest day on which the pair was posted to with braces: the account and the commodity of the
+    /// posting.
     #[error("posting {posting} is before the latest one at cost")]
     BackDated { posting: usize },
     /// No lot fits.
     #[error("no lot fits posting {posting}")]
     NoMatch { posting: usize },
-    /// Several lots fit, and the posting doesn't take them all.
+    /// Several lots fit, and the posting doesn't take all of them.
     #[error("several lots fit posting {posting}")]
     Ambiguous { posting: usize },
-    /// The lots that fit hold less.
+    /// The lots that fit hold less than the posting takes.
     #[error("the lots that fit posting {posting} hold less")]
     NotEnough { posting: usize },
-    /// The number or the currency of the lot to be opened isn't given.
+    /// The posting opens a lot, and gives no number or no currency.
     #[error("the cost in posting {posting} lacks its number or its currency")]
     IncompleteCost { posting: usize },
-    /// The total by the units isn't exactly a rate.
+    /// The total of a whole cost, divided by the units, isn't exactly a rate.
     #[error("the total cost in posting {posting} by its units is not exact")]
     InexactCost { posting: usize },
     /// The posting has braces and zero units.
@@ -56,16 +57,16 @@ pub enum Refusal {
     /// After the posting the units of a position are out of range.
     #[error("posting {posting} leaves the range of units")]
     Range { posting: usize },
-    /// What the elided posting would take in the currency has too many decimals, or is out of range.
+    /// The units that the elided posting would take in the currency have too many decimals, or are out of range.
     #[error("what is left over in {currency} has too many decimals or is too large")]
     InexactFill { currency: Commodity },
-    /// The account of the elided posting was opened with other currencies.
+    /// The account of the elided posting was opened with a list of currencies that hasn't the currency.
     #[error("the account of the elided posting was not opened with {currency}")]
     FillNotAllowed { currency: Commodity },
-    /// The weights in the currency don't sum to zero, and every posting has an amount.
+    /// No posting is elided, and the weights in the currency don't sum to zero.
     #[error("the transaction does not balance in {currency}")]
     NotBalanced { currency: Commodity },
-    /// The account of the posting would hold too many lots of its commodity.
+    /// After the transaction the account of the posting would hold too many lots of its commodity.
     #[error("the account of posting {posting} would hold too many lots")]
     TooManyLots { posting: usize },
     /// The book has as many entries as it may have.
@@ -73,7 +74,7 @@ pub enum Refusal {
     BookFull,
 }
 
-/// Why a command isn't decided with an outcome.
+/// Why a decision on a command has no outcome.
 #[derive(Debug, PartialEq, Eq, Drop, Error)]
 pub enum Stop {
     /// The rules refuse it.

@@ -13,8 +13,10 @@ use lot_num::Units;
 use std::alloc::{AllocError, Global};
 use std::marker::Model;
 
-/// A posting that took lots away, with the legs that did so. Its units and those of its legs are below zero where it sold,
-/// and above zero where it bought back what was owed; the legs add up to its units. A contract sees its parts.
+/// A posting that took lots away, with the legs that did so.
+///
+/// Its units and those of its legs are below zero where it sold, and above zero where it bought back what was owed. The legs
+/// add up to its units. A contract sees the parts of a sale.
 #[derive(Drop)]
 pub struct Sale {
     day: Day,
@@ -44,8 +46,8 @@ impl Model for Sale {
 }
 
 impl Sale {
-    /// Returns the sale of those units with those legs, or `None` where the units are zero, or some leg hasn't their sign,
-    /// or the legs don't add up to them.
+    /// Returns the sale of those units with those legs. It is `None` where the units are zero, where some leg hasn't their
+    /// sign, or where the legs don't add up to them.
     pub fn new(
         day: Day,
         account: Account,
@@ -97,7 +99,7 @@ impl Sale {
         &self.commodity
     }
 
-    /// Returns the units of the posting, to which those of the legs add up. They aren't zero.
+    /// Returns the units of the posting. They aren't zero, and the legs add up to them.
     pub fn units(&self) -> Units
         ensures value { result ≡ self.now.units }
         ensures of_legs { AreLegsOf self.now.units self.now.legs }
@@ -113,8 +115,9 @@ impl Sale {
         self.price.as_ref()
     }
 
-    /// Returns the units of each leg, under the key of its lot, in the order in which the lots were taken. There is at least
-    /// one, each has the sign of the sale's units, and they add up to those.
+    /// Returns the units of each leg, under the key of its lot, in the order in which the lots were taken.
+    ///
+    /// There is at least one leg, each has the sign of the sale's units, and they add up to these units.
     pub fn legs(&self) -> &[(LotKey, Units)]
         ensures value { result.now ≡ self.now.legs }
         ensures of_units { AreLegsOf self.now.units self.now.legs }

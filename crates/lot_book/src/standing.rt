@@ -4,7 +4,7 @@ use lot_base::Day;
 use lot_command::{Currencies, Method};
 use std::alloc::{AllocError, Global};
 
-/// How an account stands: what its opening says of it, and whether it is closed.
+/// The state of an account: what its opening says of it, and whether it is closed.
 #[derive(Drop)]
 pub struct Standing {
     /// The first day on which it may be posted to.

@@ -5,8 +5,8 @@ use crate::refusal::Refusal;
 pub enum Verdict {
     /// It became an entry of the book.
     Accepted,
-    /// An entry with its key and its text stands already; the book is as it was.
+    /// An entry with its key and its text is there already. The book is unchanged.
     Repeated,
-    /// The book is as it was.
+    /// The rules refuse it. The book is unchanged.
     Refused(Refusal),
 }

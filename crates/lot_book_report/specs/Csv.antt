@@ -35,10 +35,10 @@ CutAt header records all start now IsLeft =
     × (part : List ℕ) × IsLeft row part
     × Appends start now (header ++ (text_of records given ++ part))
 
--- The records of all rows are written below the header. Where the book stops, those of the rows
--- before are, and nothing else, or nothing is. Where the writer fails, a prefix of the next row's
--- records is, too, but not all of them, or a prefix of the header; out of memory, whole records of
--- it, but not all.
+-- The records of all rows are written below the header. Where the book stops, the records of the
+-- rows before are written, and nothing else; or nothing is written. Where the writer fails, a
+-- prefix of the header is written, or the records before and a prefix of the next row's records,
+-- but not all of these. Out of memory, whole records of the next row are written, but not all.
 abbrev pub ShowsCsv : {Row : Type 0} → List ℕ → (Row → List (List ℕ)) → List Row
     → Option (List ℕ) → Option (List ℕ) → Result (Unit {0}) ShowFault → Type 0
 ShowsCsv header records all start now (Ok done) = Appends start now (header ++ text_of records all)

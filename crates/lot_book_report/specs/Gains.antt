@@ -24,8 +24,8 @@ ShowsGains entries range start now result =
 abbrev pub ShowsSomeGains : Option (List ℕ) → Option (List ℕ) → Result (Unit {0}) ShowFault → Type 0
 ShowsSomeGains start now result = ShowsSome sale_lines fits IsEnd start now result
 
--- Where no fault ends it, the report is that of all rows of sales on those days, whatever the tables stand for: each with legs
--- that come to its units, and with the totals of just these sales.
+-- Where no fault ends it, the report is that of all rows of sales on those days, whatever the tables stand for. Each sale has
+-- legs that come to its units, and the totals are those of just these sales.
 abbrev pub ShowsAllSales : Tables → Range → Option (List ℕ) → Option (List ℕ) → Result (Unit {0}) ShowFault → Type 0
 ShowsAllSales tables range start now result =
     OnOk result ((sales : List NumberedSale) × AreAllSaleRows range tables sales × AllByRecursion HasLegs sales

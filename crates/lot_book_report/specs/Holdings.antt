@@ -67,8 +67,8 @@ ShowsSomeHoldings start now result = ShowsSome row_lines fits IsEnd start now re
 abbrev pub row_prices : Tables → Option ℤ → Option (List PairPrice)
 row_prices tables asked = option_map (λ (day : ℤ). prices_by day tables.price) asked
 
--- Where no fault ends it, the report is that of all rows of plain units and of lots, each lot at the price that the rows of
--- prices give, with the totals of just these rows.
+-- Where no fault ends it, the report is that of all rows of plain units and of lots. Each lot is at the price that the rows of
+-- prices give, and the totals are those of just these rows.
 abbrev pub ShowsAllHoldings : Tables → Option ℤ → Option (List ℕ) → Option (List ℕ) → Result (Unit {0}) ShowFault → Type 0
 ShowsAllHoldings tables day start now result =
     OnOk result ((holdings : List Holding) × AreAllHoldingRows tt tables holdings

@@ -1,5 +1,5 @@
-//! Reports of a book as CSV: a line with the names of the columns, and below it the records of the
-//! rows of a walk.
+//! Reports of a book as CSV: a header with the names of the columns, then the records of the rows
+//! of a walk.
 ghost use Rattle.std.specs.Prelude.{◌≡◌, ℕ, IsErrOf, List, OnOk, [], ◌++◌};
 ghost use Rattle.std.specs.Io.KnownBytes.{Appends};
 ghost use Rattle.lot_book.specs.Facts.{Entry};
@@ -28,13 +28,13 @@ use lot_walk::Place;
 use sqlite::Alter;
 use std::alloc::Global;
 
-/// Which records the rows of a walk have.
+/// The records that the rows of a walk give.
 pub(crate) trait Records<Row> {
     // The records of a row, each with its line end.
     ghost records: { Self → Row → List (List ℕ) };
 
-    /// Writes the records of a row. Out of memory whole records are written, but not all; where the
-    /// writer fails a prefix of them is, but not all of it.
+    /// Writes the records of a row. Where memory ends, whole records are written, but not all.
+    /// Where the writer fails, a prefix of the records is written, but not all of it.
     fn write<W: CountedWrite>(
         &self,
         alloc: Global,
@@ -47,12 +47,12 @@ pub(crate) trait Records<Row> {
         ensures none_failed { OnOk result (NoneFailed (W.calls writer.old) (W.calls writer.new)) };
 }
 
-/// Writes the header, and below it the records of all rows of a walk that stands before its first
-/// row, each as it is read. Nothing is flushed.
+/// Writes the header, then the records of all rows of a walk, each row as it is read. The walk
+/// stands before its first row. Nothing is flushed.
 ///
-/// Where the book stops, the records of the rows before are written, and nothing behind them; where
-/// it stops before the first row, nothing is. In the contract rows are what the walk tells of them,
-/// and `told` are the records of that.
+/// Where the book stops, the records of the rows read before are written, and nothing behind them.
+/// Where it stops before the first row, nothing is written. In the contract rows are what the walk
+/// tells of them, and `told` are the records of what is told.
 fn write_csv<S: Alter, P: Place, R: Records<P::Row>, W: CountedWrite>(
     alloc: Global,
     header: &str,
@@ -82,7 +82,8 @@ fn write_csv<S: Alter, P: Place, R: Records<P::Row>, W: CountedWrite>(
         → HasGivenRows S.Store P.Place.IsBehindRows walk.old asked tables []
         → OnOk result ((all : List P.Place.Shown) × P.Place.AreAllRows asked tables all
         × AreGood P.Place.shown P.Place.IsGood all
-        × Appends (W.contents writer.old) (W.contents writer.new) (header.now ++ text_of told all)) }
+        × Appends (W.contents writer.old) (W.contents writer.new)
+        (header.now ++ text_of told all)) }
     ensures reads { ReadsBook S.Store walk.old.book.now walk.new.book.now result }
     ensures cause { HasCause result (record {
       before = W.calls writer.old;

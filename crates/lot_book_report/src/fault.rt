@@ -12,7 +12,7 @@ pub enum ShowFault {
     /// The book stops.
     #[error("{0}")]
     Walk(WalkFault),
-    /// The report does.
+    /// The report stops.
     #[error("{0}")]
     Row(RowFault),
 }

@@ -9,12 +9,12 @@ use lot_store::{Book, StoreFault};
 use sqlite::Alter;
 use std::alloc::Global;
 
-/// Writes what the sales of a book gained from the first day to the last, both included, each sale as it is read. Without a
-/// day that end of the range is open. Nothing is flushed.
+/// Writes what the sales of a book gained, each sale as it is read. The sales are those from the first day to the last, both
+/// included. Without a day that end of the range is open. Nothing is flushed.
 ///
-/// Where the book stops, the sales before are written, and nothing behind them, no totals. Where the report does, what
-/// `Gains` of `lot_report` writes at such a fault is; the book can be used on then. Where it ends well all rows of sales on
-/// those days are written, whatever the tables stand for.
+/// Where the book stops, the sales before are written, and nothing behind them, not even totals. Where the report stops, the
+/// output is what `Gains` of `lot_report` writes at such a fault, and the book can still be used. Where the call succeeds, all
+/// rows of sales on those days are written, whatever the tables stand for.
 pub fn show_gains<S: Alter, W: CountedWrite>(
     alloc: Global,
     book: &mut Book<S>,

@@ -12,13 +12,13 @@ use lot_store::{Book, StoreFault};
 use sqlite::Alter;
 use std::alloc::Global;
 
-/// Writes what a book holds, each row as it is read, and what its lots cost; with a day also what they are worth: each lot
-/// at the price of its commodity in the currency of its cost. Nothing is flushed.
+/// Writes what a book holds, each row as it is read, and what its lots cost. With a day each lot has its value, too, at the
+/// price of its commodity in the currency of its cost. Nothing is flushed.
 ///
-/// Where the book stops, the rows before are written, and nothing behind them, no totals; at a fault of reading the prices,
-/// nothing is. Where the report stops, what `Holdings` of `lot_report` writes at such a fault is; the book can be used on
-/// then. Where it ends well all rows of plain units and of lots are written, at the prices that the rows of prices give,
-/// whatever the tables stand for.
+/// Where the book stops, the rows before are written, and nothing behind them, not even totals. Where it stops while the prices
+/// are read, nothing is written. Where the report stops, the output is what `Holdings` of `lot_report` writes at such a fault,
+/// and the book can still be used. Where the call succeeds, all rows of plain units and of lots are written, at the prices that
+/// the rows of prices give, whatever the tables stand for.
 pub fn show_holdings<S: Alter, W: CountedWrite>(
     alloc: Global,
     book: &mut Book<S>,

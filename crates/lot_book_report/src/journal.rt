@@ -10,9 +10,9 @@ use sqlite::Alter;
 
 /// Writes the journal of a book: its entries in their order, each as it is read. Nothing is flushed.
 ///
-/// Where the book stops, the entries before are written, and nothing behind them. Where the writer fails, a prefix of the
-/// next one is, too; the book can be used on then. Where it ends well all rows of the table are written, whatever the tables
-/// stand for.
+/// Where the book stops, the entries before are written, and nothing behind them. Where the writer fails, a prefix of the next
+/// entry is written behind them, and the book can still be used. Where the call succeeds, all rows of the table are written,
+/// whatever the tables stand for.
 pub fn show_journal<S: Alter, W: CountedWrite>(
     book: &mut Book<S>,
     writer: &mut W,

@@ -44,7 +44,7 @@ impl DayPrices {
         Err(ShowFault::from(StoreFault::Memory))
     }
 
-    /// Returns the valuation of a holding: a lot has the price of its commodity in the currency of its cost.
+    /// Returns the valuation of a holding. A lot is valued at the price of its commodity in the currency of its cost.
     pub fn valuation(&self, holding: &Holding) -> Valuation
         ensures { result ≡ valuation_at (kept self.now) holding.now.commodity holding.now.lot }
     {

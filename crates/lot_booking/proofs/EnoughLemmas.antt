@@ -1,16 +1,18 @@
 -- What a posting comes to, by how many lots there are for it and what they hold.
 use Rattle.std.specs.Prelude.{◌≡◌, ◌≢◌, ℕ, ◌≤◌, ◌<◌, Bool, true, false, nat_le, ◌&&◌, ◌||◌, List, [], ◌∷◌, length, Option, None, Some, is_none, ℤ, unsigned_abs}
-use Rattle.std.proofs.Common.{refl, sym, ap, subst, arith}
+use Rattle.std.proofs.Common.{inl, inr, refl, sym, ap, subst, arith}
 use Rattle.std.proofs.lemmas.Bool.{and_parts, true≢false}
 use Rattle.std.proofs.lemmas.Bool.Decides.{nat_tests}
+use Rattle.lot_cost.specs.declared.cost_spec.CostSpec.{CostSpec}
 use Rattle.lot_cost.specs.declared.lot_key.LotKey.{LotKey}
 use Rattle.lot_cost.specs.declared.method.Method.{Method}
 use Rattle.lot_cost.specs.declared.method.Method.TheVariants.{Strict, Fifo, Lifo, Hifo, Unmatched}
-use Rattle.lot_inv.specs.Inventory.{held_in}
+use Rattle.lot_inv.specs.Days.{Counts, CountsSeveral}
+use Rattle.lot_inv.specs.Inventory.{fitting, held_in, with_number}
 use Rattle.lot_inv.proofs.LawLemmas.{sorted_matching}
 use Rattle.lot_booking.specs.declared.fault.BookingFault.{BookingFault}
 use Rattle.lot_booking.specs.declared.fault.BookingFault.TheVariants.{ZeroUnits, InexactCost, IncompleteCost, NoMatch, Ambiguous, NotEnough, Memory}
-use Rattle.lot_booking.specs.Booking.{Augments, Braced, ComesToLegs, Reduces, Stops, candidates, opened_key, spec_of}
+use Rattle.lot_booking.specs.Booking.{Augments, Braced, ComesToLegs, Reduces, Stops, candidates, given_of, number_of, opened_key, spec_of}
 use Rattle.lot_booking.specs.Choice.{HasNoChoice}
 use Rattle.lot_booking.specs.Method.{Ties, is_strict, may_reduce, rule_by}
 use Rattle.lot_booking.specs.Way.{FallShort, StopsOpening, Suffice}
@@ -40,8 +42,49 @@ are_few : (strict : Bool) (n : ℕ) → (strict ≡ true → n < 2) → (strict 
 are_few true n few = let less = few refl in grind (arith, nat_tests)
 are_few false n few = refl
 
-module _ (posting : Braced) (count held : ℕ) (reduces : Reduces posting) (counts : count ≡ length (candidates posting))
-    (holds : held ≡ held_in (candidates posting)) where
+module _ (method : Method) (amount count held : ℕ) (lots : List (LotKey × ℤ)) (counted : Counts amount count held lots) where
+  -- what suffices of the lots that are counted suffices of all
+  pub suffice_all : Suffice method count held amount → Suffice method (length lots) (held_in lots) amount
+  suffice_all suffice = elim counted [
+    | inl all ↦
+        subst (λ n. Suffice method n (held_in lots) amount) all.lots_counted
+        (subst (λ n. Suffice method count n amount) all.held_counted suffice)
+    | inr some ↦ record {
+      enough = omega (arith, some.more, some.within);
+      exact = λ strict several. let same = suffice.exact strict some.several in absurd (omega (arith, same, some.more));
+    }
+  ]
+
+  -- and what falls short of them of all
+  short_all : (fault : BookingFault) → FallShort method count held amount fault → FallShort method (length lots) (held_in lots) amount fault
+  short_all fault short = elim counted [
+    | inl all ↦
+        subst (λ n. FallShort method n (held_in lots) amount fault) all.lots_counted
+        (subst (λ n. FallShort method count n amount fault) all.held_counted short)
+    | inr some ↦ of_several some fault short
+  ]
+    where
+      of_several : CountsSeveral amount count held lots → (fault : BookingFault) → FallShort method count held amount fault
+          → FallShort method (length lots) (held_in lots) amount fault
+      of_several some NoMatch short = absurd (omega (arith, short, some.several))
+      of_several some Ambiguous short = (
+        short.0,
+        omega (arith, some.several, some.among),
+        (λ same. omega (arith, same, some.more, some.within)),
+      )
+      of_several some NotEnough short = let less = short.2 in absurd (omega (arith, less, some.more))
+      of_several some ZeroUnits short = absurd short
+      of_several some InexactCost short = absurd short
+      of_several some IncompleteCost short = absurd short
+      of_several some Memory short = absurd short
+
+-- the lots for a posting, by what its cost gives
+pub lots_for : (posting : Braced) (number : Option ℕ) (given : CostSpec) → number ≡ number_of posting.units posting.cost → given ≡ given_of posting.cost
+    → fitting posting.held posting.commodity posting.units (with_number number given) ≡ candidates posting
+lots_for posting number given n g = λ i. fitting posting.held posting.commodity posting.units (with_number (n i) (g i))
+
+module _ (posting : Braced) (count held : ℕ) (reduces : Reduces posting)
+    (counted : Counts (unsigned_abs posting.units) count held (candidates posting)) where
   abbrev lots : List (LotKey × ℤ)
   lots = candidates posting
 
@@ -66,17 +109,13 @@ module _ (posting : Braced) (count held : ℕ) (reduces : Reduces posting) (coun
   -- where the lots don't suffice the posting is refused
   pub refused_where_short : (fault : BookingFault) → FallShort posting.method count held amount fault → Stops posting fault
   refused_where_short fault short =
-      few_are_refused fault
-      (subst (λ n. FallShort posting.method n (held_in lots) amount fault) counts
-      (subst (λ n. FallShort posting.method count n amount fault) holds short))
+      few_are_refused fault (short_all posting.method amount count held lots counted fault short)
 
   -- where they do it has legs
   pub legs_where_enough : Suffice posting.method count held amount → ComesToLegs posting
   legs_where_enough suffice =
       let taken = suffice-takes posting.ties posting.method (and_parts (may_reduce posting.method) _ reduces.2).0 lots posting.units
-      (candidates_distinct sorted_matching posting)
-      (subst (λ n. Suffice posting.method n (held_in lots) amount) counts
-      (subst (λ n. Suffice posting.method count n amount) holds suffice)) in
+      (candidates_distinct sorted_matching posting) (suffice_all posting.method amount count held lots counted suffice) in
       (true, taken.0, (reduces, taken.1))
 
 -- ---- opening a lot

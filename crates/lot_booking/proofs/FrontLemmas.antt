@@ -6,10 +6,10 @@ use Rattle.std.specs.List.Sorted.{IsSortedBy}
 use Rattle.std.proofs.Common.{append-nil, arith, refl, sym, ap, subst, ◌∙◌, add-one, append_assoc, get_or}
 use Rattle.std.proofs.lemmas.List.{get_or_default}
 use Rattle.std.proofs.lemmas.List.Elements.{recursion_from_All}
-use Rattle.std.proofs.lemmas.List.Sorted.{IsPermutation-append_right, IsPermutation-cons, IsPermutation-middle, IsPermutation-refl, IsPermutation-trans, sorted_far}
+use Rattle.std.proofs.lemmas.List.Sorted.{IsPermutation-append, IsPermutation-append_right, IsPermutation-cons, IsPermutation-middle, IsPermutation-refl, IsPermutation-trans, sorted_far}
 use Rattle.lot_inv.specs.declared.lot.Lot.{Lot}
 use Rattle.lot_cost.proofs.ListLemmas.{all_weaker}
-use Rattle.lot_booking.specs.Front.{AreAscending, IsFrontOf, Lead}
+use Rattle.lot_booking.specs.Front.{AreAscending, ComeFirstOf, IsFrontOf, Lead}
 use Rattle.lot_booking.proofs.ListLemmas.{all_permuted}
 
 next_place : {X : Type 0} (x : X) (xs : List X) (k : ℕ) (d : X) → get_or (x ∷ xs) (k + 1) d ≡ get_or xs k d
@@ -115,6 +115,36 @@ module _ (earlier : Lot → Lot → Bool) (weak : IsStrictWeakOrder earlier) whe
   pub front_of_sorted : (lots sorted : List Lot) → Permutes lots sorted → IsSortedBy earlier sorted → IsFrontOf earlier lots sorted
   front_of_sorted lots sorted moved by_order =
       front_of_all lots [] lots sorted (IsPermutation-refl lots) (λ listed same ascend. ascend) moved by_order
+
+  -- ---- what comes first of lots that come first
+
+  all_appended : (P : Lot → Type 0) (lots others : List Lot) → AllByRecursion P lots → AllByRecursion P others → AllByRecursion P (lots ++ others)
+  all_appended P [] others first rest = rest
+  all_appended P (lot ∷ lots) others first rest = (first.0, all_appended P lots others first.1 rest)
+
+  ascending-append : (lots others : List Lot) → AreAscending earlier lots → AreAscending earlier others
+      → AllByRecursion (λ (lot : Lot). Follow lot others) lots → AreAscending earlier (lots ++ others)
+  ascending-append [] others first rest follow = rest
+  ascending-append (lot ∷ lots) others first rest follow = (
+    all_appended (λ (later : Lot). earlier later lot ≡ false) lots others first.0 follow.0,
+    ascending-append lots others first.1 rest follow.1,
+  )
+
+  pub front_of_first : (all lots front : List Lot) → IsFrontOf earlier lots front → ComeFirstOf earlier all lots → IsFrontOf earlier all front
+  front_of_first all lots front leads come =
+      let sorted = sorted_of come.others in
+      let listed = front ++ leads.others in
+      let follow = all_permuted (λ (lot : Lot). Follow lot sorted.0) lots listed leads.same
+      (all_weaker (λ (lot : Lot). Follow lot come.others) (λ (lot : Lot). Follow lot sorted.0)
+      (λ lot. all_permuted (λ (later : Lot). earlier later lot ≡ false) come.others sorted.0 sorted.1) lots come.first) in
+      record {
+        others = leads.others ++ sorted.0;
+        same = subst (Permutes all) (append_assoc front leads.others sorted.0)
+            (IsPermutation-trans all (lots ++ come.others) (listed ++ sorted.0) come.same
+            (IsPermutation-append lots listed come.others sorted.0 leads.same sorted.1));
+        sorted = subst (AreAscending earlier) (append_assoc front leads.others sorted.0)
+            (ascending-append listed sorted.0 leads.sorted sorted.2 follow);
+      }
 
 -- none of a list is earlier than its first
 pub first_of-all : (earlier : Lot → Lot → Bool) (lots : List Lot) (lot : Lot) (place : ℕ) → IsFirstBest earlier lots (length lots) place

@@ -2,6 +2,7 @@ pub mod BookLemmas
 pub mod BookingLaws
 pub mod ChoiceLaws
 pub mod ChoiceLemmas
+pub mod DaysLemmas
 pub mod EnoughLemmas
 pub mod ListLemmas
 pub mod TakeLemmas

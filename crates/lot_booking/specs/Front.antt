@@ -18,6 +18,13 @@ abbrev pub Lead : (Lot → Lot → Bool) → List Lot → List Lot → Type 0
 Lead earlier front others =
     (sorted : List Lot) → IsPermutation others sorted → AreAscending earlier sorted → AreAscending earlier (front ++ sorted)
 
+-- some lots come first of all: none of the others is earlier than one of them
+pub record ComeFirstOf (earlier : Lot → Lot → Bool) (all lots : List Lot) : Type 0 where
+  pub others : List Lot
+  pub same : IsPermutation all (lots ++ others)
+  pub first : AllByRecursion (λ (lot : Lot).
+      AllByRecursion (λ (other : Lot). earlier other lot ≡ false) others) lots
+
 -- the front begins a sorted list of all lots
 pub record IsFrontOf (earlier : Lot → Lot → Bool) (lots front : List Lot) : Type 0 where
   pub others : List Lot

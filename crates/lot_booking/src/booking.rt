@@ -1,4 +1,4 @@
-ghost use Rattle.std.specs.Prelude.{◌≡◌, ◌≢◌, ◌⊎◌, None, length, map, IfOk, IfErr, IsOk, OnErr, ℕ, ℤ, [], true, unsigned_abs};
+ghost use Rattle.std.specs.Prelude.{◌≡◌, ◌≢◌, ◌≤◌, map, IfOk, IfErr, IsOk, OnErr, ℕ, ℤ, [], true, unsigned_abs};
 ghost use Rattle.std.specs.List.{AllByRecursion};
 ghost use Rattle.lot_cost.specs.declared.lot_key.LotKey.{LotKey};
 ghost use Rattle.lot_inv.specs.Inventory.{fitting, held_in, matching, opening_at, other_sign, with_number};
@@ -6,9 +6,9 @@ ghost use Rattle.lot_inv.specs.Lot.{AreNumberedBy, key_and_units};
 ghost use Rattle.lot_cost.specs.declared.method.Method.{Method};
 ghost use Rattle.lot_cost.specs.declared.cost.Cost.{Cost};
 ghost use Rattle.lot_booking.specs.Booking.{ComesTo, IsOneLeg, Legs, Stops, posting_on};
-ghost use Rattle.lot_booking.specs.Choice.{HaveDistinctKeys, Takes};
-ghost use Rattle.lot_booking.specs.Method.{may_reduce, order_by, rule_by, ties_by};
-ghost use Rattle.lot_booking.specs.Way.{FallShort, StopsOpening, Suffice};
+ghost use Rattle.lot_booking.specs.Choice.{HaveDistinctKeys};
+ghost use Rattle.lot_booking.specs.Method.{may_reduce};
+ghost use Rattle.lot_booking.specs.Way.{FallShort, StopsOpening, Suffice, TakesLent, days_of};
 
 use crate::cost::{given, number};
 use crate::edition::Edition;
@@ -18,7 +18,7 @@ use crate::order::{Highest, HighestOpened, Newest, NewestOpened, Oldest, OldestO
 use crate::selection::Selection;
 use lot_base::{Commodity, Day};
 use lot_cost::{Cost, CostSpec, LotKey, Method};
-use lot_inv::{Available, Inventory, LentLot, Lot, is_other_sign};
+use lot_inv::{Available, Days, Inventory, LentLot, Lot, is_other_sign};
 use lot_num::{Rate, Units};
 use std::alloc::{AllocError, Global};
 
@@ -33,13 +33,19 @@ pub struct Booked {
 
 /// Returns the legs of a posting with braces on the inventory of its account, by a selection.
 ///
-/// Where some lot of the commodity has the other sign the posting takes lots away, else it opens a lot or adds to one, on
-/// the given day or else on that of the transaction. Under NONE it never takes lots away.
+/// The posting takes lots away where some lot of the commodity has the other sign, unless the method is NONE. Else it opens a
+/// lot or adds to one, on the given day, or without one on the day of the transaction.
 ///
-/// The error is the first of these that holds: `ZeroUnits`; `InexactCost` where a whole cost by the units isn't exactly a
-/// rate; `IncompleteCost` where the posting takes no lots away and gives no number or no currency; `NoMatch` where no lot of
-/// the other sign fits; `Ambiguous` under STRICT where several fit and they don't hold exactly its units; `NotEnough` where
-/// they hold less. Each of these is told without memory: `Memory` comes only where the posting has legs.
+/// The error is the first of these that holds:
+///
+/// - `ZeroUnits`: the units are zero;
+/// - `InexactCost`: a whole cost, divided by the units, isn't exactly a rate;
+/// - `IncompleteCost`: the posting takes no lots away, and gives no number or no currency;
+/// - `NoMatch`: no lot of the other sign fits;
+/// - `Ambiguous`: the method is STRICT, several lots fit, and they don't hold exactly the units;
+/// - `NotEnough`: the lots that fit hold less than the units.
+///
+/// Each of these is told without memory. `Memory` comes only where the posting has legs.
 pub fn book(
     alloc: Global,
     selection: Selection,
@@ -67,7 +73,8 @@ pub fn book(
     }
     let available = inventory.available(commodity, units, &number, spec);
     ensure_enough(selection.method, &available, units)?;
-    let lots = fitting_at(inventory, commodity, units, &number, spec)?;
+    let days = days_of(selection.method);
+    let lots = inventory.takeable(commodity, days, units, &number, spec)?;
     let legs = take_by(alloc, selection, lots, units)?;
     Ok(Booked { reduces, legs })
 }
@@ -80,7 +87,8 @@ fn open(
     units: Units,
     day: Day,
 ) -> Result<Vec<(LotKey, Units)>, BookingFault>
-    ensures leg { IfOk result (λ legs. IsOneLeg (with_number number spec.now) units day legs.items) }
+    ensures leg { IfOk result (λ legs.
+        IsOneLeg (with_number number spec.now) units day legs.items) }
     ensures stops { IfErr result (λ fault. StopsOpening (with_number number spec.now) fault) }
 {
     let (Some(number), Some(currency)) = (number, &spec.currency) else {
@@ -119,8 +127,8 @@ fn ensure_enough(method: Method, available: &Available, units: Units) -> Result<
     Ok(())
 }
 
-/// Returns the lots that a reduction may take, in the order of their keys: those of the other sign that fit. They are as
-/// `take` requires them. The only error is out of memory, and comes only where some lot of either sign fits.
+/// Returns the lots that a reduction may take, in the order of their keys: those of the other sign that fit. They meet what
+/// `take` requires. The only error is out of memory. It comes only where some lot of either sign fits.
 pub fn fitting(
     inventory: &Inventory,
     commodity: &Commodity,
@@ -141,26 +149,19 @@ pub fn fitting(
     Ok(lots)
 }
 
-/// Returns the lots that a reduction may take at that number, as `fitting` does with the number in the specification, with
-/// their keys lent. The only error is out of memory.
-fn fitting_at<'a>(
-    inventory: &'a Inventory,
-    commodity: &Commodity,
-    units: Units,
-    number: &Option<Rate>,
-    spec: &CostSpec,
-) -> Result<Vec<LentLot<'a>>, AllocError>
-    requires { (spec.now.number ≡ None) ⊎ (spec.now.number ≡ number.now) }
-    ensures all { IfOk result (λ lots. map key_and_units lots.items
-        ≡ fitting inventory.now.held commodity.now units (with_number number.now spec.now)) }
-    ensures numbers { IfOk result (λ lots.
-        AreNumberedBy (opening_at inventory.now commodity.now) lots.items) }
-    ensures distinct { IfOk result (λ lots. HaveDistinctKeys (map key_and_units lots.items)) }
+/// Returns the days of the lots that a method takes first.
+fn days_of(method: Method) -> Days
+    ensures { result ≡ days_of method }
 {
-    inventory.takeable(commodity, units, number, spec)
+    match method {
+        Method::Strict | Method::Fifo => Days::First,
+        Method::Lifo => Days::Last,
+        Method::Hifo | Method::Unmatched => Days::All,
+    }
 }
 
-/// Returns the legs that units take by a selection of lots that suffice for them. The only error is out of memory.
+/// Returns the legs that units take by a selection of lots that suffice for them, of which these are lent. The only error is out
+/// of memory.
 fn take_by(
     alloc: Global,
     selection: Selection,
@@ -168,13 +169,9 @@ fn take_by(
     units: Units,
 ) -> Result<Vec<(LotKey, Units)>, AllocError>
     requires reduces { may_reduce selection.method ≡ true }
-    requires distinct { HaveDistinctKeys (map key_and_units lots.items) }
-    requires suffice { Suffice selection.method (length (map key_and_units lots.items))
-        (held_in (map key_and_units lots.items)) (unsigned_abs units) }
-    ensures taken { IfOk result (λ legs. (opening : LotKey → ℕ) → AreNumberedBy opening lots.entry.items
-        → Takes (rule_by (ties_by selection.edition opening) selection.method)
-        (order_by (ties_by selection.edition opening) selection.method)
-        (map key_and_units lots.entry.items) units legs.items) }
+    requires enough { unsigned_abs units ≤ held_in (map key_and_units lots.items) }
+    ensures { IfOk result (λ legs. TakesLent selection.method selection.edition lots.entry.items
+        units legs.items) }
 {
     match (selection.method, selection.edition) {
         // It lists its legs in the order of the keys in both editions.

@@ -17,12 +17,12 @@ use lot_num::Units;
 use std::alloc::{AllocError, Global};
 use std::cmp::Ordering;
 
-/// Returns the legs that units take of lots in an order: each lot whole before the next one, until the units are used up.
-/// They have the sign of the units, and stand in the order.
+/// Returns the legs that units take of lots in an order. Each lot is taken whole before the next one, until the units are used
+/// up. The legs have the sign of the units, and stand in the order.
 ///
-/// The lots have distinct keys, and each has the other sign than the units. The error is `NotEnough` only where the lots
-/// hold less than the units, which needs no memory: then there is no choice in any order. It is `Memory` where they hold
-/// enough and there is no memory for the legs: only of units that aren't zero.
+/// The lots have distinct keys, and each has the other sign than the units. The error is `NotEnough` only where the lots hold
+/// less than the units: then no order has a choice, and no memory is needed. The error is `Memory` only where they hold enough,
+/// the units aren't zero, and there is no memory for the legs.
 pub fn take<O: LotOrder>(
     alloc: Global,
     lots: Vec<Lot>,

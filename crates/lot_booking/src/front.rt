@@ -1,11 +1,11 @@
-ghost use Rattle.std.specs.Prelude.{◌≡◌, ◌∷◌, ◌++◌, ◌<◌, ◌≤◌, ℕ, false, length, map, unsigned_abs, IfOk, IsPermutation, OnOk};
+ghost use Rattle.std.specs.Prelude.{◌≡◌, ◌∷◌, ◌++◌, ◌<◌, ◌≤◌, ℕ, List, false, length, map, unsigned_abs, IfOk, IsPermutation, OnOk};
 ghost use Rattle.std.specs.List.{AllByRecursion, IsFirstBest};
 ghost use Rattle.lot_inv.specs.declared.lot.Lot.{Lot};
 ghost use Rattle.lot_inv.specs.Inventory.{held_in};
 ghost use Rattle.lot_inv.specs.Lot.{AreNumberedBy, key_and_units};
 ghost use Rattle.lot_cost.specs.declared.lot_key.LotKey.{LotKey};
 ghost use Rattle.lot_booking.specs.Choice.{HaveDistinctKeys, InTurn, Takes};
-ghost use Rattle.lot_booking.specs.Front.{IsFrontOf, Lead, is_earlier};
+ghost use Rattle.lot_booking.specs.Front.{ComeFirstOf, IsFrontOf, Lead, is_earlier};
 ghost use Rattle.lot_booking.specs.OpeningOrder.{by_numbers};
 
 use crate::choice::{compare, held_in, in_turn};
@@ -19,18 +19,18 @@ use std::alloc::{AllocError, Global};
 const FEW: usize = 8;
 
 /// Returns the legs that units take of lots that hold enough, in an order: each lot whole before the next one, until the units
-/// are used up. The lots have distinct keys. The only error is out of memory.
+/// are used up. They are those of any lots with distinct keys of which these come first. The only error is out of memory.
 pub(crate) fn take_enough<O: LotOrder>(
     alloc: Global,
     lots: Vec<LentLot<'_>>,
     units: Units,
 ) -> Result<Vec<(LotKey, Units)>, AllocError>
-    requires distinct { HaveDistinctKeys (map key_and_units lots.items) }
-    requires enough { unsigned_abs units ≤ held_in (map key_and_units lots.items) }
-    ensures taken { IfOk result (λ legs. (opening : LotKey → ℕ)
-        → AreNumberedBy opening lots.entry.items
+    requires { unsigned_abs units ≤ held_in (map key_and_units lots.items) }
+    ensures { IfOk result (λ legs. (opening : LotKey → ℕ) (all : List Lot)
+        → HaveDistinctKeys (map key_and_units all) → AreNumberedBy opening all
+        → ComeFirstOf (is_earlier O.before) all lots.entry.items
         → Takes (InTurn (by_numbers O.before opening)) (by_numbers O.before opening)
-        (map key_and_units lots.entry.items) units legs.items) }
+        (map key_and_units all) units legs.items) }
 {
     let front = front::<O>(alloc, lots, units.mantissa().unsigned_abs())?;
     in_turn(alloc, front, units)

@@ -23,8 +23,8 @@ pub fn there_is_at_most_one_choice()
         → AllByRecursion (λ (lot : LotKey × ℤ). one lot.0 ≡ other lot.0) lots }
 {}
 
-/// Returns whether one lot is before another in each of the orders: the oldest, the newest and the highest first, by the
-/// orders of edition 1, and by those of edition 2.
+/// Returns whether one lot is before another in each of the six orders: those of edition 1, then those of edition 2. In each
+/// triple the oldest lot, the newest lot, or the lot of the highest cost is first.
 pub fn orders_are_those_of_their_names(a: &Lot, b: &Lot) -> ((bool, bool, bool), (bool, bool, bool))
     ensures by_key { result.0 ≡ (
       oldest_first a.now.key b.now.key,
@@ -66,8 +66,8 @@ pub fn legs_add_up_to_the_posting()
         → ComesTo posting (Legs reduces legs) → units_in legs ≡ posting.units }
 {}
 
-/// A reduction never crosses zero: each leg takes from a lot of the other sign that fits, and no more than it holds, and
-/// no two legs take from one lot.
+/// A reduction never crosses zero. Each leg takes from a lot of the other sign that fits, and no more than it holds. No two
+/// legs take from one lot.
 pub fn a_reduction_never_crosses_zero()
     ensures takes_from { (posting : Braced) (legs : List (LotKey × ℤ))
         → ComesTo posting (Legs true legs) → AllByRecursion (TakesFrom (candidates posting)) legs }

@@ -145,8 +145,8 @@ RunsOut input kept last =
 
 -- ---- What is written where the writer takes all of it.
 
--- Why not all that the reader has is had, by what its calls came to, and the one line that says so: it can't be read, it is too
--- long, or memory ended before its end.
+-- Why the reader wasn't read to its end, and the one line that says so: it can't be read, it is too long, or memory ended
+-- before its end. What its calls came to decides this.
 abbrev pub IsUnread : CallsMade → List ℕ → List ℕ → ℕ → Type 0
 IsUnread all input text status =
     (EndsFor all slurp.Read × (text ≡ fault_line Fault.Read) × (status ≡ 3))
@@ -157,8 +157,8 @@ IsUnread all input text status =
 abbrev pub IsOutOfMemory : List ℕ → List ℕ → ℕ → Type 0
 IsOutOfMemory input text status = (kept : List ℕ) × (last : List ℕ) × RunsOut input kept last × (text ≡ kept ++ last) × (status ≡ 4)
 
--- The reader was read to its end, no call of it failed, and it gave as many bytes as the input has: the answer, or what stands for
--- it where memory ended. Or it wasn't. The status goes with it.
+-- What is written, with the status. Where the reader was read to its end, no call of it failed, and it gave as many bytes as
+-- the input has, it is the answer, or what is written where memory ended. Else it is the line that says why it wasn't read.
 abbrev pub IsOutput : CallsMade → List ℕ → List ℕ → ℕ → Type 0
 IsOutput all input text status =
     IsUnread all input text status
@@ -171,8 +171,8 @@ IsStoppedReport input text status =
     ⊎ ((kept : List ℕ) × (last : List ℕ) × RunsOutInReport input kept last
     × (text ≡ kept ++ last) × (status ≡ 4))
 
--- An output was written and flushed, and no call of the writer failed. Of a report that was stopped it isn't said that none
--- failed before the line that reports it, but that all is flushed.
+-- An output was written and flushed, and no call of the writer failed. Where the report was stopped, this alone is said: all
+-- is flushed. Nothing is then said of the calls before the line that reports the stop.
 abbrev pub IsWritten : CallsMade → WritesMade → List ℕ → List ℕ → ℕ → Type 0
 IsWritten all calls input written status =
     (IsOutput all input written status × AllFlushed calls)
@@ -200,11 +200,12 @@ IsUnflushed all input written status = ((before : ℕ) × IsOutput all input wri
 
 -- ---- The theorem.
 
--- What is written for an input that was read by these calls, and the status. The answer with its status; or the one line that
--- the reader can't be read, with status 3; or, out of memory, with status 4, whole lines of the answer and the line that says
--- at which command: before the end of the input none, and behind it never where the answer was settled before memory ended. All
--- of it is flushed, and no call of the writer failed, save where the report was stopped. Or, with status 4, where a call of the
--- writer failed: a prefix of that is written but not all of it; or all of it is written, and it isn't flushed.
+-- What is written for an input that was read by these calls, and the status. It is the answer with its status, or the one line
+-- that the reader can't be read, with status 3. Or, with status 4, memory ended: whole lines of the answer are written, and
+-- the line that says at which command. That line names no command before the end of the input. Behind the end it is never
+-- written where the answer was settled before memory ended. All of it is flushed, and no call of the writer failed, except
+-- where the report was stopped. Where a call of the writer failed, the status is 4: a prefix of that is written, but not all
+-- of it, or all of it is written and not flushed.
 abbrev pub IsOutcome : CallsMade → WritesMade → List ℕ → List ℕ → ℕ → Type 0
 IsOutcome all calls input written status =
     IsWritten all calls input written status

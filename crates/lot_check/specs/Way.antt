@@ -31,8 +31,8 @@ use Rattle.lot_book.specs.Recorded.{facts_in, recorded}
 
 -- ---- Runs: commands judged on a fresh book, with a reply to each.
 
--- what is known once an accepted command is recorded: the facts with what it changes; and of each lot that is held then the
--- opening number that the change lists, or else its own
+-- What is known once an accepted command is recorded: the facts with what it changes, and for each lot that is then held the
+-- opening number that the change lists, or else its own.
 pub record IsRecorded (before : FactsWithOpenings) (command : Command) (change : Change)
     (after : FactsWithOpenings) : Type 0 where
   pub facts : after.facts ≡ recorded before.facts command change
@@ -47,8 +47,8 @@ JudgesKnown before command Verdict.Repeated after = DecidesByOpening before comm
 JudgesKnown before command (Verdict.Refused refusal) after =
     DecidesByOpening before command (Refuse refusal) × (after ≡ before)
 
--- a command of that number is judged on what is known, and its reply is written; or the writer fails within the reply; or,
--- out of memory at that number, where judging it may lack memory, nothing is written
+-- A command of that number is judged on what is known, and its reply is written. Where the writer fails, a prefix of the reply
+-- is. Where memory ends at that number, nothing is written; judging the command may then lack memory.
 abbrev pub Replies : FactsWithOpenings → Command → ℕ → Option (List ℕ) → Option (List ℕ)
     → Result (View × Status) Fault → Type 0
 Replies before command number old new (Ok replied) =
@@ -95,8 +95,8 @@ RunsCommands commands old new (Err Fault.Read) = ⊥
 
 -- ---- The way from the input to its end, and the line of a fault.
 
--- whole lines of the answer are written, behind which the line of a fault of memory belongs; and no call of the writer failed,
--- which isn't said where memory ended in the report
+-- Whole lines of the answer are written, and the line of a fault of memory belongs behind them. No call of the writer failed;
+-- where memory ended in the report, this isn't said.
 abbrev pub StopsForMemory : List ℕ → WritesMade → Fault → Option (List ℕ) → Option (List ℕ) → Type 0
 StopsForMemory input calls fault old new =
     (kept : List ℕ) × RunsOut input kept (fault_line fault)

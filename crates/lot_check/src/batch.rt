@@ -1,4 +1,4 @@
-//! The whole way: a text is read, its commands are judged on a fresh book, and the replies and the report are written.
+//! The whole check: a text is read, its commands are judged on an empty book, and the replies and the report are written.
 //!
 //! - `report`: what the book holds, as it is written.
 
@@ -21,18 +21,19 @@ use lot_text::read;
 use report::print_holdings;
 use std::alloc::{AllocError, Global};
 
-/// Judges a ledger text on a fresh book, by edition 2: writes a reply to each of its commands, and then what the book holds.
+/// Judges a ledger text on an empty book, by edition 2. Writes a reply to each of its commands, then what the book holds.
 ///
-/// The text is read to its end before the first command is judged, and where it can't be read or isn't ledger text, one
-/// line says so (docs/FORMATS.md, Printed texts). Returns the status of the program:
+/// The text is read to its end before the first command is judged. Where it can't be read or isn't ledger text, one line says
+/// so (docs/FORMATS.md, Printed texts). Returns the status of the program:
 ///
-/// - 0 where all commands were accepted, 1 where some were refused;
-/// - 3 for a fault of the input: it can't be read, it is longer than 16 MiB, or isn't ledger text;
-/// - 4 where a total leaves its range, memory ends, or the writer fails.
+/// - 0: all commands were accepted;
+/// - 1: some were refused;
+/// - 3: the input can't be read, is longer than 16 MiB, or isn't ledger text;
+/// - 4: a total leaves its range, memory ends, or the writer fails.
 ///
-/// Out of memory, whole lines are written and one more: without a number while the input is read and in the report, and
-/// with the number of the command at which it stopped in between. After a fault of the writer nothing more is written.
-/// When memory ends is shown by the tests alone.
+/// Where memory ends, whole lines of the answer are written, and one more that says so. That line has the number of the command
+/// at which memory ended. It has no number where memory ended while the input was read or in the report. After a fault of the
+/// writer nothing more is written. No contract says when memory ends; tests alone show it.
 pub fn check<R: CountedRead, W: CountedWrite>(alloc: Global, reader: &mut R, writer: &mut W) -> u8
     ensures status { IsStatus result }
     // Where the bytes of the reader are known: what is written, where it is known what the writer holds; and what the calls of
@@ -47,7 +48,7 @@ pub fn check<R: CountedRead, W: CountedWrite>(alloc: Global, reader: &mut R, wri
     finish(writer, concluded).code()
 }
 
-/// Reads, judges and writes, up to the end or the first fault, which isn't reported yet.
+/// Reads, judges and writes, up to the end or the first fault. The fault isn't reported yet.
 fn answer<R: CountedRead, W: CountedWrite>(
     alloc: Global,
     reader: &mut R,
@@ -63,7 +64,7 @@ fn answer<R: CountedRead, W: CountedWrite>(
     answer_text(alloc, &text, writer)
 }
 
-/// The same for a text that was read.
+/// Does the same with a text that was read.
 fn answer_text<W: CountedWrite>(alloc: Global, text: &[u8], writer: &mut W) -> Result<Status, Fault>
     requires { length text.now ≤ longest_input }
     ensures reaches { Reaches text.now
@@ -78,7 +79,7 @@ fn answer_text<W: CountedWrite>(alloc: Global, text: &[u8], writer: &mut W) -> R
     Ok(status)
 }
 
-/// Judges commands in their order on a fresh book, and writes a reply to each. Returns what is known of the book then.
+/// Judges commands in their order on an empty book, and writes a reply to each. Returns what is known of the book after them.
 fn run<W: CountedWrite>(
     alloc: Global,
     commands: Vec<Command>,
@@ -133,9 +134,11 @@ fn status_of_verdict(verdict: &Verdict) -> Status
     }
 }
 
-/// Judges a command by edition 2 on what is known of the book, and returns the verdict with what is known then: of an
-/// accepted command its entry is recorded. The error is out of memory; the view is then lost. It comes only where deciding
-/// the command may lack memory, or the command is accepted: never for a refusal that stores nothing.
+/// Judges a command by edition 2 on what is known of the book. Returns the verdict, and what is known after it: the entry of an
+/// accepted command is recorded.
+///
+/// The error is out of memory, and the view is then lost. It comes only where deciding the command may lack memory, or where
+/// the command is accepted. So no refusal that stores nothing is lost.
 fn judge(alloc: Global, view: View, command: &Command) -> Result<(View, Verdict), AllocError>
     ensures judged { IfOk result (λ judged.
         JudgesKnown (known_with_openings view) command.now judged.1 (known_with_openings judged.0)) }
@@ -149,7 +152,7 @@ fn judge(alloc: Global, view: View, command: &Command) -> Result<(View, Verdict)
     }
 }
 
-/// Reports a fault, if there was one: returns the status of a run that all is written of, or the fault of the writer.
+/// Reports a fault, if there was one. Returns the status of a run whose output is whole, or the fault of the writer.
 fn conclude<W: CountedWrite>(
     writer: &mut W,
     outcome: Result<Status, Fault>,

@@ -1,5 +1,5 @@
-//! The call without words: a ledger text is read, its commands are judged one after another on a fresh book, and the replies and
-//! the holdings are written.
+//! The call without arguments: the commands of a ledger text are judged on an empty book, and the replies and the holdings are
+//! written.
 //!
 //! - `batch`: reading, judging and writing, joined (`check`).
 //! - `laws`: what holds of the definitions that the contracts cite.

@@ -68,8 +68,9 @@ pub record IsRead (old new : State) (shown : Result (Unit {0}) ShowFault) : Type
 
 -- ---- a report
 
--- How much of a report of a book with these entries is written: of what it holds, with what its lots are worth on a day; of
--- what its sales gained, from the first to the last day, both included; or of its entries. The first two are as text or as CSV.
+-- How much of a report of a book with these entries is written. The report is of what it holds, with what its lots are worth
+-- on a day; of what its sales gained from the first to the last day, both included; or of its entries. The first two are as
+-- text or as CSV.
 abbrev pub ShowsReport : Report → List Entry → Option (List ℕ) → Option (List ℕ) → Result (Unit {0}) ShowFault → Type 0
 ShowsReport (Holdings day Text) entries = ShowsHoldings entries day
 ShowsReport (Holdings day Csv) entries = ShowsHoldingsCsv entries day
@@ -85,8 +86,8 @@ ShowsSome (Gains first last Text) = ShowsSomeGains
 ShowsSome (Gains first last Csv) = ShowsSomeGainsCsv
 ShowsSome Journal = ShowsSomeJournal
 
--- Where no fault ends it, the report is that of all rows of its tables, whatever those stand for: of plain units and of lots,
--- of the sales on the days of the range, or of the entries.
+-- Where no fault ends it, the report is that of all rows of its tables, whatever these stand for. The rows are those of plain
+-- units and of lots, of the sales on the days of the range, or of the entries.
 abbrev pub ShowsAllRows : Report → Tables → Option (List ℕ) → Option (List ℕ) → Result (Unit {0}) ShowFault → Type 0
 ShowsAllRows (Holdings day Text) tables = ShowsAllHoldings tables day
 ShowsAllRows (Holdings day Csv) tables = ShowsAllHoldingsCsv tables day

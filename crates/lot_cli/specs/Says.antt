@@ -10,8 +10,8 @@ use Rattle.lot_cli.specs.HaltLine.{halt_line, status_of_halt}
 use Rattle.lot_cli.specs.declared.halt.Halt.{Halt}
 use Rattle.lot_store.specs.Run.{AppendsSome}
 
--- an action writes a text, flushes it, and ends with its status, and no call of the writer failed; or one did, and some of the
--- text is written, or all of it without the flush
+-- An action writes a text, flushes it, and ends with its status, and no call of the writer failed. Or a call did, and some of
+-- the text is written, or all of it without the flush.
 abbrev pub Says : List ℕ → Status → Option (List ℕ) → Option (List ℕ) → WritesMade → ℕ → Type 0
 Says text status before written calls end =
     ((end ≡ code_of status) × Appends before written text × AllFlushed calls)

@@ -16,13 +16,13 @@ use Rattle.lot_cli.specs.Runs.{Imports, IsUntouched, Posts, PostsRow, unfit}
 use Rattle.lot_cli.specs.Says.{Halts, Succeeds, Told}
 use Rattle.lot_cli.specs.declared.halt.Halt.TheVariants as halt
 use Rattle.lot_cli.specs.declared.report.Report.TheVariants as report
-use Rattle.lot_store.specs.Create.{IsHandedBack, RefusedFor}
+use Rattle.lot_store.specs.Create.{IsHandedBack, IsTaken, RefusedFor}
 use Rattle.lot_store.specs.declared.fault.CreateFault.{CreateFault}
 use Rattle.lot_store.specs.declared.fault.CreateFault.TheVariants.{NotABook}
 use Rattle.lot_table.specs.Shape.{schema_of}
-use Rattle.lot_table.specs.Statement.{DiskFailed}
 use Rattle.lot_page.specs.Cursor.{Stays}
 use Rattle.lot_rows.specs.Tables.{Has, Tables}
+use Rattle.lot_verify.specs.Verify.{NotVerified}
 use Rattle.lot_verify.specs.declared.fault.VerifyFault.{VerifyFault}
 use Rattle.lot_verify.specs.declared.fault.VerifyFault.TheVariants as verify
 use Rattle.lot_args.specs.declared.action.Action.{Action}
@@ -90,18 +90,20 @@ SaysMigrated old new before written calls told =
 abbrev pub verified_line : List ℕ
 verified_line = line (codes "book verified")
 
--- where the database has the tables of a book alone, they stand for one; nothing is changed
+-- The database is marked as a book of this edition, and where it has the tables of a book alone, they stand for one. Nothing is
+-- changed.
 pub record IsVerified (old new : State) : Type 0 where
   pub stands : HasCleanDisk new → (tables : Tables) → Has old tables → (entries : List Entry) × Stands old entries
+  pub taken : HasCleanDisk new → IsTaken old
   pub same : HasCleanDisk new → Stays old new
   pub crash : Survives old new (λ _. ⊥)
 
--- It isn't verified, and stands for no book of this edition, unless memory or the disk failed. The database is handed back as
--- it was.
+-- It isn't verified, for what the fault tells, and stands for no book of this edition, unless memory or the disk failed. The
+-- database is handed back as it was.
 pub record IsNotVerified (old new : State) (fault : VerifyFault) : Type 0 where
   pub refused : HasCleanDisk new → fault ≢ verify.Device → fault ≢ verify.Memory
       → (entries : List Entry) → ¬ Stands old entries
-  pub device : HasCleanDisk new → fault ≡ verify.Device → DiskFailed old new
+  pub tells : HasCleanDisk new → NotVerified old new fault
   pub handed_back : HasCleanDisk new → IsHandedBack old new
   pub crash : Survives old new (λ _. ⊥)
 
@@ -140,8 +142,8 @@ EndsWith (Gains book first last format) status = IsStatus status
 EndsWith (Journal book) status = IsStatus status
 EndsWith (Verify book) status = IsStatus status
 
--- a call: what is known of the reader, the database before it and after it, what is known of the bytes that were
--- written before it and after it, and of the calls of the writer, and what it tells of its end
+-- a call: what is known of the reader; the database before and after it; what is known of the bytes that were written before
+-- and after it, and of the calls of the writer; and what it tells of its end
 pub record Call : Type 1 where
   pub input : Reading
   pub old : State
@@ -151,9 +153,8 @@ pub record Call : Type 1 where
   pub calls : WritesMade
   pub told : Told
 
--- What an action comes to: what it writes behind what was written before, and its status; whether
--- it ended before its first command, and why; and what the connection stands for, and a crash may
--- leave, after it.
+-- The outcome of an action: what it writes behind what was written before, and its status; whether it ended before its first
+-- command, and why; and what the connection stands for after it, and a crash may leave.
 abbrev pub Serves : Action → Call → Type 0
 Serves Check c =
     IsUntouched c.old c.new × IfSome c.input.bytes (λ input. (text : List ℕ) × Appends c.before c.written text

@@ -20,11 +20,11 @@ use lot_stream::{CountedRead, Status};
 use sqlite::{Alter, Connection};
 use std::alloc::Global;
 
-/// What an action comes to.
+/// The outcome of an action.
 pub struct Served<S: Alter> {
     /// The status of the program.
     pub status: u8,
-    /// Why it ended before its first command; `None` where it didn't.
+    /// Why it ended before its first command, or `None` where it didn't.
     pub halt: Option<Halt>,
     /// The connection to the book, with every row as the action left it.
     pub conn: Connection<S>,
@@ -32,26 +32,29 @@ pub struct Served<S: Alter> {
 
 /// Does what an action asks for on the book that the connection leads to.
 ///
-/// - `init` makes a book in a database without tables and writes `book ready`; it reads nothing.
-/// - `migrate` makes a book of edition 2 of one of edition 1, in one commit, leaves one of edition 2 as it is, and writes
-///   `book migrated`; it reads nothing.
-/// - `post` reads all that the reader has as ledger text, and `import` as a broker file. Only then they take the book up, and
-///   apply the commands, or those of the rows, from the given number on, each in one commit, with a reply to each. A fault of
+/// - `init` makes a book in a database without tables, and writes `book ready`. It reads nothing.
+/// - `migrate` makes a book of edition 1 one of edition 2, in one commit, and writes `book migrated`. A book of edition 2 stays
+///   as it is. It reads nothing.
+/// - `post` reads all that the reader has as ledger text, `import` as a broker file. Then the book is taken up, and the
+///   commands, or those of the rows, are applied from the given number on, each in one commit, with a reply to each. A fault of
 ///   the input changes nothing.
-/// - `post` in place of a row of a broker file reads all that the reader has as ledger text, and applies its one command under
-///   the key of the row. Where the text has no command, or several, nothing is written and nothing changes.
-/// - `holdings`, `gains` and `journal` take the book up and write the report, the first two as text or as CSV, each row as it
-///   is read; they read no input and change nothing. Behind a report that ends before its end stands one line with the fault,
-///   unless the writer failed.
-/// - `verify` judges the book again from its entries, compares every table, and writes `book verified`; it reads no input
-///   and changes nothing.
-/// - No words ask for a check, which leaves the book alone.
+/// - `post` in place of a row of a broker file applies the one command of a ledger text under the key of the row. Where the
+///   text has no command, or several, nothing is written and nothing changes.
+/// - `holdings`, `gains` and `journal` take the book up and write the report, each row as it is read. The first two write text
+///   or CSV. They read no input and change nothing. Where a report ends before its end, one line with the fault follows, unless
+///   the writer failed.
+/// - `verify` judges the book again from its entries, compares every table, and writes `book verified`. It reads no input and
+///   changes nothing.
+/// - Without a subcommand a check is done. It leaves the book alone.
 ///
-/// A fault is one line (docs/FORMATS.md, Faults). Returns the status of the program: 0 where all
-/// commands were accepted or repeated, the book was made, migrated or verified, or the report is whole; 1
-/// where some were refused; 2 where the text for a row isn't one command; 3 for a fault of the
-/// input; 4 for a fault of the book, of the output or of memory, which goes before 1. It is told
-/// how far a migration is, and nothing of other actions.
+/// A fault is one line (docs/FORMATS.md, Faults). Of a migration alone `progress` is told how far it is. Returns the status of
+/// the program:
+///
+/// - 0: all commands were accepted or repeated, the book was made, migrated or verified, or the report is whole;
+/// - 1: some commands were refused;
+/// - 2: the text for a row isn't one command;
+/// - 3: a fault of the input;
+/// - 4: a fault of the book, of the output or of memory. It goes before 1.
 pub fn serve<R: CountedRead, W: CountedWrite, P: Progress, S: Alter>(
     alloc: Global,
     action: &Action,

@@ -33,7 +33,7 @@ pub enum Halt {
 }
 
 impl Halt {
-    /// Returns how an action ends that ends so.
+    /// Returns how an action ends that has ended for that reason.
     pub fn status(self) -> Status
         ensures { result ≡ status_of_halt self }
     {
@@ -46,7 +46,7 @@ impl Halt {
     }
 }
 
-/// Writes the line that reports why an action ended. It takes no memory, which may have ended: the only fault is that of the
+/// Writes the line that reports why an action ended. It takes no memory, which may have ended. The only fault is that of the
 /// writer.
 pub(crate) fn print_halt<W: CountedWrite>(writer: &mut W, halt: Halt) -> Result<(), PrintFault>
     ensures bytes { WritesLine (W.contents writer.old) (W.contents writer.new) result

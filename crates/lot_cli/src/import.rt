@@ -14,10 +14,10 @@ use lot_stream::CountedRead;
 use sqlite::{Alter, Connection};
 use std::alloc::Global;
 
-/// Posts all that a reader has to accounts of the book that is there, as a broker file: its rows from that number on, each
-/// under the key of the row in the batch.
+/// Posts the rows of a broker file to accounts of the book that is there, from that number on, each under the key of the row in
+/// the batch.
 ///
-/// All is read, and each row is converted, before the book is taken up.
+/// All that the reader has is read, and each row is converted, before the book is taken up.
 pub(crate) fn import<R: CountedRead, W: CountedWrite, S: Alter>(
     alloc: Global,
     batch: &Batch,

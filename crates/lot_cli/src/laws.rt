@@ -30,10 +30,12 @@ ghost use Rattle.lot_stored.specs.StandFor.{Left, Stands};
 use sqlite::Alter;
 use sqlite_disk::Disk;
 
-/// The headline. Sessions follow one another on a book, and each may be stopped within any write: the next one begins on what
-/// the stop left. What stands in the end is the book of a prefix of the accepted commands of each session that holds every
-/// acknowledged one. In that book each commodity's units at cost are those bought less those sold, and each realised gain is
-/// its proceeds less the cost of the lots that its posting took.
+/// The headline. Sessions follow one another on a book. Each may be stopped within any write, and the next one begins on what
+/// the stop left.
+///
+/// What stands in the end is the book of a prefix of the accepted commands of each session. The prefix holds every acknowledged
+/// command. In that book each commodity's units at cost are those bought less those sold. Each realised gain is its proceeds
+/// less the cost of the lots that its posting took.
 ///
 /// A book that was made has no entries before the first session, and place of migration 0.
 pub fn the_headline()
@@ -44,21 +46,22 @@ pub fn the_headline()
         → StopsLeave before sessions book → Headline place before sessions book }
 {}
 
-/// Commands that are sent again from the first one without a reply, as often as a session is stopped, come to the book of one
-/// uninterrupted run once a session is complete. Their replies are those of that run, but for `repeat` in place of `accepted`
-/// at the first command of a session.
+/// Commands are sent again from the first one without a reply, as often as a session is stopped. Once a session is complete,
+/// the book is that of one uninterrupted run. The replies are those of that run, but the first command of a session may get
+/// `repeat` in place of `accepted`.
 ///
-/// Nothing else is sent in between. A list that is sent again from its first command may come to another book: a sale that was
-/// refused may be accepted then, since what was bought behind it stands now.
+/// Nothing else is sent in between. A list that is sent again from its first command may come to another book. A sale that was
+/// refused may then be accepted, since what was bought after it is there now.
 pub fn sending_again_is_one_run()
     ensures { (before book : List Entry) (commands : List (Key × Command)) (replied : List Verdict) (again : List (List Verdict))
         → SentAgain before commands replied again book → IsOneRun before commands replied again book }
 {}
 
-/// A row of a broker file acts once. Where it is accepted, its text stands under its key. While it stands there, the row is
-/// a repeat where it comes again to the same accounts, and another row with its `ref` is refused; neither changes anything.
-/// While a command stands there that was posted in place of the row, the row changes nothing when its file comes: it is a
-/// repeat if it says that command, else it is refused.
+/// A row of a broker file acts once. Where it is accepted, its text stands under its key. While it stands there, the row is a
+/// repeat where it comes again to the same accounts, and another row with its `ref` is refused. Neither changes anything.
+///
+/// A command may stand there that was posted in place of the row. Then the row changes nothing when its file comes: it is a
+/// repeat where it says that command, and else it is refused.
 pub fn a_row_acts_once()
     ensures stands { (book after : List Entry) (source : List ℕ) (accounts : Accounts) (row : Row) (keyed : Key × Command)
         → IsKeyed source accounts row keyed → JudgesOn book keyed.0 keyed.1 Accepted after
@@ -86,9 +89,10 @@ pub fn a_book_that_is_left_is_found_again<S: Alter>()
         → Left (state S.Store c).committed.trees book → Stands (state S.Store c) book }
 {}
 
-/// The same of two files: where they hold what a stop left of a book, a connection that is opened
-/// over them shows this book. Where all that a stop may leave are books that a stop of a session
-/// leaves, and the files read as that stop may leave them, the connection shows one of these.
+/// The same of two files. Where they hold what a stop left of a book, a connection that is opened over them shows this book.
+///
+/// Let all that a stop may leave be books that a stop of a session leaves, and let the files read as that stop may leave them.
+/// Then the connection shows one of these books.
 pub fn a_stop_leaves_what_is_found_again<D: Disk>()
     ensures database { (files : Files D) (c : Held (FileStore D D.Disk))
         (trees : Trees) (book : List Entry)

@@ -1,10 +1,9 @@
-//! What the program does: what its words ask for (`parse_words`), all that a reader has (`slurp`), and the action itself
-//! (`serve`): a book is made, ledger text or a broker file is posted to it, or a report of it is written (docs/RULES.md, The
-//! program). The first two are passed on from `lot_args` and `lot_stream`.
+//! What the program does (docs/RULES.md, The program). `serve` does an action: it makes a book, posts ledger text or a broker
+//! file to it, or writes a report of it. `parse_words` says what the arguments ask for, and `slurp` reads all that a reader
+//! has; they are passed on from `lot_args` and `lot_stream`.
 //!
 //! - `action`: `serve`, and what an action leaves.
-//! - `post`: ledger text posted to the book that is there; `import`: a broker file. What an input gives is the affair of
-//!   `lot_input`.
+//! - `post`: ledger text posted to the book that is there; `import`: a broker file. `lot_input` says what an input gives.
 //! - `migration`: a book of edition 1 taken over; `verification`: a book verified.
 //! - `run`: commands run on the book that is there.
 //! - `report`: reports of the book that is there.

@@ -17,10 +17,10 @@ use std::alloc::Global;
 /// The status where the text for a row of a broker file isn't one command (`unfit` of the definitions).
 const UNFIT: u8 = 2;
 
-/// Posts all that a reader has to the book that is there, as ledger text: its commands from that number on, each under the
-/// key of its number in the batch.
+/// Posts the commands of a ledger text to the book that is there, from that number on, each under the key of its number in the
+/// batch.
 ///
-/// All is read before the book is taken up.
+/// All that the reader has is read before the book is taken up.
 pub(crate) fn post<R: CountedRead, W: CountedWrite, S: Alter>(
     alloc: Global,
     batch: &Batch,
@@ -49,10 +49,10 @@ pub(crate) fn post<R: CountedRead, W: CountedWrite, S: Alter>(
     }
 }
 
-/// Posts the one command of all that a reader has, which is ledger text, to the book that is there, under the key of the row
-/// with that `ref` in the broker files of the batch.
+/// Posts the one command of a ledger text to the book that is there, under the key of the row with that `ref` in the broker
+/// files of the batch.
 ///
-/// All is read before the book is taken up. Where the text has no command, or several, nothing is written.
+/// All that the reader has is read before the book is taken up. Where the text has no command, or several, nothing is written.
 pub(crate) fn post_row<R: CountedRead, W: CountedWrite, S: Alter>(
     alloc: Global,
     batch: &Batch,

@@ -26,12 +26,12 @@ use std::alloc::Global;
 /// A report of a book.
 #[derive(Clone, Copy)]
 pub(crate) enum Report {
-    /// What it holds, with what its lots are worth on the day, where one is given.
+    /// What it holds. With a day, also what its lots are worth on it.
     Holdings {
         day: Option<Day>,
         format: Format,
     },
-    /// What its sales gained: those from the first to the last day, both included, where they are given.
+    /// What its sales gained from the first day to the last, both included. Without a day that end of the range is open.
     Gains {
         first: Option<Day>,
         last: Option<Day>,
@@ -111,7 +111,7 @@ fn show<W: CountedWrite, S: Alter>(
     }
 }
 
-/// Ends a report: flushes it where it is whole, else reports why it isn't. A writer that failed is asked for nothing more.
+/// Ends a report: flushes it where it is whole, else reports why it isn't. Nothing more is asked of a writer that failed.
 /// Returns the status of the program.
 fn conclude<W: CountedWrite>(writer: &mut W, shown: Result<(), ShowFault>) -> u8
     ensures concludes { (before : Option WriteCalls) → HasCause shown (record {

@@ -1,4 +1,4 @@
-//! What is run of an input on the book that is there.
+//! Running the commands of an input on the book that is there.
 ghost use Rattle.std.specs.Prelude.{◌≡◌, ◌+◌, ◌<◌, ◌^◌, IsErr, None, false, length};
 ghost use Rattle.lot_stream.specs.Status.{IsStatus};
 ghost use Rattle.lot_cli.specs.Runs.{RunsOn, status_of_run};
@@ -79,7 +79,7 @@ pub(crate) fn halted<W: CountedWrite, S: Alter>(
     }
 }
 
-/// Flushes a line that was printed of an action that ends with that status. Returns the status of the program: where the
+/// Flushes the line that an action has printed, which ends with that status. Returns the status of the program. Where the
 /// writer failed, the action is stopped.
 pub(crate) fn tell<W: CountedWrite>(
     writer: &mut W,

@@ -37,8 +37,8 @@ impl Command {
     }
 }
 
-/// An account is opened: from that day on it may be posted to, in the currencies given, or in every commodity where none
-/// are.
+/// An account is opened. From that day on it may be posted to, in the currencies given. Where none are given, every commodity
+/// is allowed.
 #[derive(Drop)]
 pub struct Opening {
     pub day: Day,
@@ -62,7 +62,7 @@ impl Opening {
     }
 }
 
-/// An account is closed: after that day it may be posted to no more.
+/// An account is closed. After that day it may no longer be posted to.
 #[derive(Drop)]
 pub struct Closing {
     pub day: Day,

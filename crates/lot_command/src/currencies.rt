@@ -8,8 +8,8 @@ use std::marker::Model;
 /// The most currencies that an opening may have (`most_currencies` of the definitions).
 const MOST_CURRENCIES: usize = 64;
 
-/// The currencies with which an account is opened, as they are written: at most 64. With none of them every commodity is
-/// allowed. A contract sees them as a list.
+/// The currencies with which an account is opened, in the order in which they are written. There are at most 64. Without any,
+/// every commodity is allowed. A contract sees them as a list.
 #[derive(Drop)]
 pub struct Currencies {
     items: Vec<Commodity>,
@@ -27,7 +27,7 @@ impl Model for Currencies {
 }
 
 impl Currencies {
-    /// Returns these currencies, or `None` where they are too many.
+    /// Returns these currencies, or `None` where there are more than 64.
     pub fn new(items: Vec<Commodity>) -> Option<Currencies>
         ensures { SomeIff result (length items.items ≤ most_currencies) items.items }
     {
@@ -55,7 +55,7 @@ impl Currencies {
         self.items.as_slice()
     }
 
-    /// Returns whether the commodity is allowed: there are no currencies, or it is one of them.
+    /// Returns whether the commodity is allowed: it is one of the currencies, or there are none.
     pub fn allows(&self, commodity: &Commodity) -> bool
         ensures { result ≡ allows self.now commodity.now }
     {

@@ -3,7 +3,7 @@ ghost use Rattle.std.specs.Prelude.{◌≡◌, IfOk};
 use lot_base::Label;
 use std::alloc::AllocError;
 
-/// What tells a command from every other: where it comes from, and its name there (docs/RULES.md, Keys and repeats).
+/// Identifies a command: where it comes from, and its name there (docs/RULES.md, Keys and repeats).
 #[derive(Debug, PartialEq, Eq, Drop)]
 pub struct Key {
     pub source: Label,

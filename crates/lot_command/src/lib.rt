@@ -5,7 +5,7 @@
 //! - `transaction`: transactions, postings and amounts.
 //! - `price`: the price in a posting.
 //! - `canonical`: the canonical text of a command.
-//! - `key`: what tells a command from every other.
+//! - `key`: what identifies a command.
 //! - `sayable`: each command is within the rules of ledger text.
 //! - `items`: `Items`, a list that contracts see as a list.
 #![tactic(auto)]

@@ -45,7 +45,7 @@ impl UnitPrice {
     }
 }
 
-/// The price of all units of a posting: a total in a currency, which isn't below zero. A contract sees the total beside the
+/// The price of all units of a posting: a total in a currency. The total isn't below zero. A contract sees it beside the
 /// currency.
 #[derive(Drop)]
 pub struct WholePrice {

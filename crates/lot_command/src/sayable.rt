@@ -1,4 +1,4 @@
-//! Each command is within the rules of ledger text. The functions do nothing: their contracts tell this to a caller.
+//! Each command is within the rules of ledger text. The functions do nothing: their contracts state this for a caller.
 ghost use Rattle.std.specs.Prelude.{IfSome};
 ghost use Rattle.std.specs.List.{AllByRecursion};
 ghost use Rattle.lot_base.specs.Day.{IsDayNumber};
@@ -14,7 +14,7 @@ use crate::transaction::{Amount, Narration, Posting, Transaction};
 use lot_base::Commodity;
 use lot_cost::{Cost, CostSpec};
 
-/// Each part of a command is within its rule. It does nothing: its contract tells this to a caller.
+/// States for a caller that each part of a command is within its rule. It does nothing.
 pub fn is_sayable(command: &Command)
     ensures { IsSayable command.now }
 {

@@ -54,7 +54,7 @@ pub enum Flag {
     Incomplete,
 }
 
-/// The narration of a transaction, and its payee, which stands only beside a narration.
+/// The narration of a transaction. A payee stands only beside a narration.
 #[derive(Drop)]
 pub struct Narration {
     pub payee: Option<Note>,
@@ -100,7 +100,7 @@ impl Posting {
     }
 }
 
-/// Units of a commodity, with what its braces say of their cost, and their price, where there are such.
+/// Units of a commodity. They may have a cost, which is what their braces say, and a price.
 #[derive(Drop)]
 pub struct Amount {
     pub units: Units,

@@ -27,8 +27,8 @@ impl Cost {
     }
 }
 
-/// The cost of all units of a posting: a total, which isn't below zero, and what else is given of the lot. A contract sees
-/// the total beside a specification without a number.
+/// The cost of all units of a posting: a total, and the other parts that are given of the lot. The total isn't below zero. A
+/// contract sees it beside a specification without a number.
 #[derive(Debug, Drop)]
 pub struct WholeCost {
     total: Units,
@@ -48,7 +48,7 @@ impl Model for WholeCost {
 }
 
 impl WholeCost {
-    /// Returns the cost of that total, with the given parts of the lot, or `None` where the total is below zero.
+    /// Returns the cost with that total and the given parts of the lot, or `None` where the total is below zero.
     pub fn new(
         total: Units,
         currency: Option<Commodity>,
@@ -77,7 +77,7 @@ impl WholeCost {
         self.total
     }
 
-    /// Returns what is given of the lot, which has no number.
+    /// Returns the parts that are given of the lot. There is no number among them.
     pub fn spec(&self) -> &CostSpec
         ensures value { result.now ≡ self.now.1 }
         ensures no_number { self.now.1.number ≡ None }

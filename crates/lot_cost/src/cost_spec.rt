@@ -6,7 +6,8 @@ use lot_base::{Commodity, Day, Label};
 use lot_num::Rate;
 use std::alloc::AllocError;
 
-/// What a posting says of the lots that it takes or opens: any of the parts of a lot key.
+/// The parts of a lot key that a posting gives, any of them: they say which lots it takes, or which
+/// one it opens.
 #[derive(Debug, Drop)]
 pub struct CostSpec {
     pub number: Option<Rate>,
@@ -36,7 +37,7 @@ impl CostSpec {
         })
     }
 
-    /// Returns whether each part that it gives equals the key's.
+    /// Returns whether each given part equals the same part of the key.
     pub fn fits(&self, key: &LotKey) -> bool
         ensures { result ≡ fits self.now key.now }
     {

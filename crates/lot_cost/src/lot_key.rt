@@ -4,8 +4,8 @@ use lot_base::{Commodity, Day, Label};
 use lot_num::Rate;
 use std::alloc::AllocError;
 
-/// Which purchase units came from. Keys are ordered by day, currency, number and label, no
-/// label before every label.
+/// Identifies the purchase that units came from. Keys are ordered by day, currency, number and
+/// label. A lot without a label stands before those with one.
 #[derive(Debug, PartialEq, Eq, PartialOrd, Ord, Drop)]
 pub struct LotKey {
     pub day: Day,

@@ -2,9 +2,9 @@ ghost use Rattle.std.specs.Prelude.{◌≡◌, ◌↔◌, Some};
 ghost use Rattle.lot_cost.specs.declared.method.Method.{Method};
 ghost use Rattle.lot_cost.specs.Method.{word_of};
 
-/// How the lots that a posting takes are chosen among those that fit.
+/// How a posting chooses the lots that it takes among those that fit.
 ///
-/// STRICT, FIFO and LIFO are Beancount's; HIFO and what NONE does are this project's own.
+/// STRICT, FIFO and LIFO are Beancount's. HIFO is this project's own, and so is what NONE does.
 #[derive(Clone, Copy, Debug, PartialEq, Eq)]
 pub enum Method {
     /// STRICT: the one lot that fits, or all of several, each whole.
@@ -15,7 +15,7 @@ pub enum Method {
     Lifo,
     /// HIFO: the lots of the highest cost first.
     Hifo,
-    /// NONE: no lot is ever taken, each posting opens one or adds to one.
+    /// NONE: no lot is ever taken. Each posting opens a lot or adds to one.
     Unmatched,
 }
 
@@ -33,7 +33,7 @@ impl Method {
         }
     }
 
-    /// Returns the method of that word, or `None` for every other text, also for a word in small letters.
+    /// Returns the method of that word, or `None` for every other text. A word in small letters is another text.
     pub fn from_name(name: &str) -> Option<Method>
         ensures { (method : Method) → result ≡ Some method ↔ name.now ≡ word_of method }
     {

@@ -8,7 +8,7 @@ use Rattle.csv.specs.Reading.{default_config}
 use Rattle.csv.specs.Writing.{default_writer, escaped, field_text as written_field, fields_text, is_blank, needs_byte, row_text}
 use Rattle.csv.specs.declared.parser.State.TheVariants as st
 use Rattle.csv.proofs.RoundTrip.{read-write-many}
-use Rattle.lot_csv.specs.Record.{doubled, doubled_byte, field_text, is_mark, needs_quotes, others_text, record_text}
+use Rattle.lot_csv.specs.Record.{doubled, field_text, is_mark, needs_quotes, others_text, record_text}
 
 by_bytes : (comma quote return feed : Bool) → ((((comma || quote) || (return || feed)) || false) || false) ≡ (comma || (quote || (return || feed)))
 by_bytes true quote return feed = refl

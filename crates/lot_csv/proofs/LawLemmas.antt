@@ -1,5 +1,5 @@
 -- The records of a priced sale add up to it.
-use Rattle.std.specs.Prelude.{◌≡◌, ◌≢◌, ◌+◌, ◌-◌, ℕ, ℤ, pos, Bool, true, false, cond, List, [], ◌∷◌, length, map, take, zip, Option, None, Some}
+use Rattle.std.specs.Prelude.{◌≡◌, ◌+◌, ◌-◌, ℕ, ℤ, Bool, true, false, cond, List, [], ◌∷◌, length, map, take, zip, Option, None, Some}
 use Rattle.std.proofs.Common.{refl, sym, ap, subst, ◌∙◌, arith}
 use Rattle.std.proofs.lemmas.List.{length-append, length-map, length-take-le}
 use Rattle.std.proofs.lemmas.Slice.Zip.{firsts-zip, seconds-zip}
@@ -7,7 +7,6 @@ use Rattle.lot_num.specs.Sum.{sum_of}
 use Rattle.lot_cost.specs.declared.lot_key.LotKey.{LotKey}
 use Rattle.lot_command.specs.declared.price.Price.{Price}
 use Rattle.lot_command.specs.declared.price.Price.TheVariants as price
-use Rattle.lot_booking.specs.Booking.{units_in}
 use Rattle.lot_book.specs.declared.gain.Gain.{Gain}
 use Rattle.lot_book.specs.Gain.{cost_of, currency_of, gain_at, gain_from, gain_of, has_other_currency, proceeds_at, with_opposite_sign}
 use Rattle.lot_book.specs.Sale.{AreLegsOf, SaleParts}

@@ -1,6 +1,6 @@
 -- The table of gains: a record for each lot of each sale (docs/FORMATS.md, Tables for a
 -- spreadsheet).
-use Rattle.std.specs.Prelude.{ℕ, ℤ, pos, ◌-ℤ◌, List, [], ◌∷◌, ◌++◌, map, Option, None, Some, option_map, codes, decimal}
+use Rattle.std.specs.Prelude.{ℕ, ℤ, ◌-ℤ◌, List, [], ◌∷◌, ◌++◌, map, Option, Some, option_map, codes, decimal}
 use Rattle.std.specs.Fmt.{signed_decimal}
 use Rattle.std.specs.Option.{unwrap_or}
 use Rattle.lot_num.specs.AmountText.{amount_text}

@@ -1,5 +1,5 @@
 -- The table of holdings: a record for each position (docs/FORMATS.md, Tables for a spreadsheet).
-use Rattle.std.specs.Prelude.{ℕ, ℤ, pos, ◌*ℤ◌, List, [], ◌∷◌, ◌++◌, Option, None, Some, option_map, codes}
+use Rattle.std.specs.Prelude.{ℕ, ℤ, pos, ◌*ℤ◌, List, [], ◌∷◌, ◌++◌, Option, None, Some, codes}
 use Rattle.lot_num.specs.AmountText.{amount_text}
 use Rattle.lot_base.specs.Day.{day_text}
 use Rattle.lot_cost.specs.declared.lot_key.LotKey.{LotKey}

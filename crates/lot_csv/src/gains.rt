@@ -18,7 +18,7 @@ use lot_num::{Units, Wide};
 use lot_report::{CountedWrite, PrintFault, print_texts};
 use std::alloc::{AllocError, Global};
 
-/// Which posting of a book sells.
+/// Identifies the posting of a book that sells.
 #[derive(Clone, Copy, Debug, PartialEq, Eq)]
 pub struct Seller {
     /// The number of its entry, from 1.
@@ -36,8 +36,8 @@ pub fn gains_header() -> &'static str
 
 /// Writes the records of a sale: one for each lot, in the order in which the lots were taken.
 ///
-/// Out of memory whole records are written, but not all; where the writer fails a prefix of the
-/// records is, but not all of it.
+/// Where memory ends, whole records are written, but not all. Where the writer fails, a prefix of
+/// the records is written, but not all of it.
 pub fn write_sale<W: CountedWrite>(
     alloc: Global,
     writer: &mut W,
@@ -84,7 +84,7 @@ fn write_priced<W: CountedWrite>(
     }
 }
 
-/// Writes the records of a sale whose lots all go for the same, each unit.
+/// Writes the records of a sale in which each unit of every lot goes for the same price.
 fn write_alike<W: CountedWrite>(
     alloc: Global,
     writer: &mut W,
@@ -182,8 +182,8 @@ fn push_seller(text: &mut String, seller: Seller) -> Result<(), AllocError>
     push_others(text, &[digits.format(seller.posting)])
 }
 
-/// Appends the units that were taken of a lot on a day, when they were acquired and sold, and the
-/// days between. The only error is out of memory.
+/// Appends the units that were taken of a lot on a day, the days on which they were acquired and
+/// sold, and how many days lie between. The only error is out of memory.
 fn push_taken(
     alloc: Global,
     text: &mut String,
@@ -212,8 +212,8 @@ fn days_between(first: Day, last: Day) -> i32
     last.number() - first.number()
 }
 
-/// Appends what a lot went for, what it cost, and what it gained; without a price only what it
-/// cost. The only error is out of memory.
+/// Appends the proceeds, the cost and the gain of a lot. Without a price only the cost is known.
+/// The only error is out of memory.
 fn push_gain(
     alloc: Global,
     text: &mut String,

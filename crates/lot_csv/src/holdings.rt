@@ -32,8 +32,8 @@ pub fn holdings_header(columns: Columns) -> &'static str
     }
 }
 
-/// Writes the record of a holding. Out of memory nothing is written; where the writer fails a
-/// prefix of the record is, but not all of it.
+/// Writes the record of a holding. Where memory ends, nothing is written. Where the writer fails, a
+/// prefix of the record is written, but not all of it.
 pub fn write_holding<W: CountedWrite>(
     alloc: Global,
     writer: &mut W,

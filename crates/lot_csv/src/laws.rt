@@ -9,7 +9,7 @@ ghost use Rattle.lot_book.specs.declared.gain.Gain.{Gain};
 ghost use Rattle.lot_csv.specs.Record.{record_text};
 ghost use Rattle.lot_csv.specs.Shares.{AddUpTo, gain_in, lots_of};
 
-/// The records of a priced sale add up exactly to it: each has a gain, and their proceeds, costs
+/// The records of a priced sale add up exactly to it. Each has a gain, and their proceeds, costs
 /// and gains add up to those of the sale.
 pub fn records_add_up_to_the_sale()
     ensures { (sale : SaleParts) (gain : Gain)
@@ -18,8 +18,8 @@ pub fn records_add_up_to_the_sale()
         × AddUpTo gains gain }
 {}
 
-/// A record of two fields or more, whatever they hold, reads back as these fields, with what stands
-/// behind it left to be read.
+/// A record of two fields or more reads back as these fields, whatever they hold. What stands
+/// behind the record is left to be read.
 pub fn a_record_reads_back()
     ensures { (first second : List ℕ) (others : List (List ℕ)) (behind : List ℕ)
         → next_record default_config st.StartRecord [] []

@@ -7,7 +7,7 @@ use lot_command::WholePrice;
 use lot_num::{Rate, Units, Wide, weight};
 use std::alloc::{AllocError, Global};
 
-/// What a lot of a sale goes for.
+/// The price of a lot of a sale.
 #[derive(Clone, Copy, Debug, PartialEq, Eq)]
 pub(crate) enum LotPrice {
     /// The price of each unit.
@@ -17,8 +17,8 @@ pub(crate) enum LotPrice {
 }
 
 /// Returns the share of each lot of a sale in the price of all units, in the order in which the
-/// lots were taken: its part by its units, cut at eight decimals; the last has what is left. The
-/// only error is out of memory.
+/// lots were taken. A share is in proportion to the lot's units, and is cut at eight decimals. The
+/// last lot has what is left. The only error is out of memory.
 pub(crate) fn shares(
     alloc: Global,
     price: &WholePrice,
@@ -89,7 +89,7 @@ pub(crate) fn lot_gain(units: Units, leg: &(LotKey, Units), price: &LotPrice) ->
     }
 }
 
-/// Returns what a lot goes for of which so many units were taken by a sale of so many units.
+/// Returns what a lot goes for. The sale took so many of its units, and has so many units in all.
 fn lot_proceeds(units: Units, taken: Units, price: &LotPrice) -> Wide
     ensures value { result ≡ lot_proceeds units taken price.now }
     ensures bound { unsigned_abs result ≤ units_limit * rate_limit }

@@ -1,4 +1,4 @@
-//! The facts of a refusal that its book has, as they are once the run is over.
+//! The facts of a refusal that its book has, as they stand once the run is over.
 
 use crate::fact::without_sign;
 use crate::nearest::nearest;
@@ -12,8 +12,8 @@ use lot_inv::is_other_sign;
 use lot_num::Units;
 use std::alloc::{AllocError, Global};
 
-/// What a book says once a run on it is over. A call returns nothing where the book can't be read;
-/// its only error is out of memory.
+/// What a book says once a run on it is over. A call returns nothing where the book can't be read. The only error is
+/// out of memory.
 pub trait Known {
     /// Returns the entry under a key, given as its source and its name.
     fn entry(&mut self, source: &str, name: &str) -> Result<Option<Entry>, AllocError>;
@@ -74,8 +74,8 @@ pub(crate) fn key_reused<B: Known>(
     format!(in alloc; ": entry {number}, with the line `{line}`")
 }
 
-/// Returns the first line of a text that stands where another was sent, in which they differ; its
-/// first line where it is the beginning of the other.
+/// Returns the first line of the standing text that differs from the text that was sent. Where the standing text is the
+/// beginning of the other, it is the first line.
 fn other_line<'a>(standing: &'a str, sent: &str) -> &'a str {
     let mut others = sent.split('\n');
     for line in standing.split('\n') {
@@ -86,8 +86,8 @@ fn other_line<'a>(standing: &'a str, sent: &str) -> &'a str {
     standing.split('\n').next().unwrap_or(standing)
 }
 
-/// Says which account that was opened has the name nearest to that of one that wasn't. Those of a
-/// call without a book are the ones that its text opens.
+/// Says which opened account has the name nearest to that of an account that wasn't opened. Without a book the opened
+/// accounts are those that the text opens.
 pub(crate) fn unknown_account<B: Known>(
     alloc: Global,
     book: &mut B,
@@ -120,7 +120,7 @@ pub(crate) fn unknown_account<B: Known>(
     }
 }
 
-/// Says on which day, and by which entry, was last posted with braces what a posting posts.
+/// Says on which day, and by which entry, the pair of a posting was last posted to with braces.
 pub(crate) fn back_dated<B: Known>(
     alloc: Global,
     book: &mut B,
@@ -137,9 +137,9 @@ pub(crate) fn back_dated<B: Known>(
     format!(in alloc; ": the latest is {day}, of entry {entry}")
 }
 
-/// Says how many lots the braces of a posting fit, what they hold, and in what they differ; or, where
-/// they hold less than it takes, both of these. Where no lot of the commodity is held, or that can't be
-/// read, it says nothing.
+/// Says how many lots the braces of a posting fit, what they hold, and in what they differ. Where they hold less than
+/// the posting takes, it says both amounts. It says nothing where no lot of the commodity is held, or where the lots
+/// can't be read.
 pub(crate) fn fitting<B: Known>(
     alloc: Global,
     book: &mut B,

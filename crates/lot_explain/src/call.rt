@@ -9,7 +9,7 @@ use lot_import::Accounts;
 use std::alloc::Global;
 use std::io::{self, Write};
 
-/// What a call was given, and the batch that it is of.
+/// The input of a call, and its batch.
 #[derive(Clone, Copy)]
 pub enum Source<'a> {
     /// Ledger text.
@@ -53,7 +53,8 @@ pub struct Call<'a> {
 }
 
 impl<'a> Call<'a> {
-    /// Returns the key of a command, of which that is the number or, in a broker file, the `ref`.
+    /// Returns the key of a command. Its name is the number of the command or, in a broker file,
+    /// the `ref`.
     pub(crate) fn key(&self, name: &'a str) -> Key<'a> {
         let (word, batch, name) = match self.source {
             Source::Text { batch } => ("post", batch, name),
@@ -64,10 +65,12 @@ impl<'a> Call<'a> {
     }
 }
 
-/// Writes a line for each refusal and each fault of a call, as many as are wanted: where it stands
-/// in the input, its code and rule, and what is known of it, from the input and from the book. Then
-/// as many warnings, each of a place that may have been meant otherwise. Where memory ends nothing
-/// more is written.
+/// Writes a line for each refusal and each fault of a call, as many as are wanted. A line says
+/// where it stands in the input, its code and rule, and what is known of it from the input and from
+/// the book.
+///
+/// Then it writes as many warnings, each of a place that may have been meant otherwise. Where
+/// memory ends, nothing more is written.
 pub fn notes<W: Write, B: Known>(
     alloc: Global,
     writer: &mut W,

@@ -14,9 +14,9 @@ use std::fmt;
 
 /// A code, and what it means.
 pub struct Code {
-    /// `B2`; of the faults without a code their name.
+    /// The code, such as `B2`. For a fault without a code it is the name.
     pub code: &'static str,
-    /// `Ambiguous`.
+    /// The name, such as `Ambiguous`.
     pub name: &'static str,
     /// What is wrong, in a few words.
     pub brief: &'static str,
@@ -30,7 +30,7 @@ pub struct Code {
     pub page: &'static str,
 }
 
-/// What gets a code, and beside it what gets none.
+/// An example that gets the code, and one beside it that doesn't.
 pub enum Examples {
     /// Two ledger texts.
     Ledger {
@@ -47,7 +47,7 @@ pub enum Examples {
         refused: &'static str,
         accepted: &'static str,
     },
-    /// None: the program never prints the code, or what leads to it takes no few lines.
+    /// No example: the program never prints the code, or a short example can't show it.
     Absent,
 }
 
@@ -65,8 +65,7 @@ pub(crate) fn tables() -> [&'static [Code]; 8] {
     ]
 }
 
-/// What a line on a code begins with: the code and its name, or what a fault without a code is
-/// called.
+/// The start of a line on a code: the code and its name. For a fault without a code it is the name.
 impl fmt::Display for Code {
     fn fmt<W: fmt::Write>(&self, f: &mut fmt::Formatter<W>) -> fmt::Result {
         let (code, name) = (self.code, self.name);

@@ -1,5 +1,5 @@
-//! Which part of a faulty line is at fault: the first token with which no line without a fault
-//! begins.
+//! The part of a line that is at fault: the first token such that every line that begins with the
+//! tokens up to it is faulty.
 
 use crate::site::is_indented;
 use lot_command::Command;
@@ -21,7 +21,7 @@ pub(crate) enum Culprit<'a> {
     Unknown,
 }
 
-/// What a line without its fault says, as far as the lines behind it go by it.
+/// What a line would be without its fault, as far as the lines behind it depend on it.
 #[derive(Clone, Copy)]
 pub(crate) enum Sense {
     /// A transaction, so that postings may follow.
@@ -89,7 +89,7 @@ pub(crate) fn before(line: &[u8]) -> &'static [u8] {
     }
 }
 
-/// Returns what of a line with that fault is at fault. The only error is out of memory.
+/// Returns the part of a line with that fault that is at fault. The only error is out of memory.
 pub(crate) fn culprit_of(
     alloc: Global,
     line: &[u8],
@@ -105,11 +105,12 @@ pub(crate) fn culprit_of(
     }
 }
 
-/// Returns the first token of a line with which no line begins that has no such fault.
+/// Returns the first token of a line such that every line that begins with the tokens up to it has
+/// such a fault.
 fn first_amiss<'a>(
     alloc: Global,
     line: &'a str,
-    tokens: Tokens<'a>,
+    tokens: Tokens<'_, 'a>,
     fault: LineFault,
 ) -> Result<Culprit<'a>, AllocError> {
     let (mut rest, mut end) = (tokens, 0usize);

@@ -1,22 +1,47 @@
 //! What there is to say of a code.
 
+ghost use Rattle.std.specs.Prelude.{◌≡◌, IfOk, option_copied};
+ghost use Rattle.std.specs.List.{find, list_any};
+ghost use Rattle.lot_explain.specs.Codes.{is_named, some_named};
+
 use crate::codes::{Code, Examples, tables};
 use crate::nearest::nearest;
 use crate::shown::Wrapped;
 use std::alloc::{AllocError, Global};
 use std::io::{self, Write};
 
-/// Writes what there is to say of each code that a word names: by its code or its name, in any
-/// letter case. Returns whether it names one; else nothing is written.
+/// Writes the explanation of each code that a word names, by its code or its name, in any letter
+/// case. Returns whether it names one. If it names none, nothing is written.
 pub fn explain<W: Write>(writer: &mut W, word: &str) -> io::Result<bool> {
+    let names_one = explain_among(writer, &tables(), word)?;
+    writer.flush()?;
+    Ok(names_one)
+}
+
+/// Does the same with the codes of some tables.
+fn explain_among<W: Write>(writer: &mut W, tables: &[&[Code]], word: &str) -> io::Result<bool>
+    ensures { IfOk result (λ told. told ≡ some_named word.now tables.now) }
+{
     let mut names_one = false;
-    for code in tables().into_iter().flatten() {
+    for table in tables {
+        if explain_in(writer, table, word)? {
+            names_one = true;
+        }
+    }
+    Ok(names_one)
+}
+
+/// Does the same with the codes of a table.
+fn explain_in<W: Write>(writer: &mut W, table: &[Code], word: &str) -> io::Result<bool>
+    ensures { IfOk result (λ told. told ≡ list_any (is_named word.now) table.now) }
+{
+    let mut names_one = false;
+    for code in table {
         if code.is_named(word) {
             names_one = true;
             write_code(writer, code)?;
         }
     }
-    writer.flush()?;
     Ok(names_one)
 }
 
@@ -31,7 +56,19 @@ pub fn list<W: Write>(writer: &mut W) -> io::Result<()> {
 
 /// Returns the first code that a word names.
 pub(crate) fn find(word: &str) -> Option<&'static Code> {
-    for code in tables().into_iter().flatten() {
+    for table in tables() {
+        if let Some(code) = find_in(table, word) {
+            return Some(code);
+        }
+    }
+    None
+}
+
+/// Returns the first code of a table that a word names.
+fn find_in<'a>(table: &'a [Code], word: &str) -> Option<&'a Code>
+    ensures { option_copied result ≡ find (is_named word.now) table.now }
+{
+    for code in table {
         if code.is_named(word) {
             return Some(code);
         }
@@ -51,7 +88,9 @@ pub fn nearest_code(alloc: Global, word: &str) -> Result<&str, AllocError> {
 
 impl Code {
     /// Returns whether a word is the code or the name, in any letter case.
-    fn is_named(&self, word: &str) -> bool {
+    fn is_named(&self, word: &str) -> bool
+        ensures { result ≡ is_named word.now self.now }
+    {
         self.code.eq_ignore_ascii_case(word) || self.name.eq_ignore_ascii_case(word)
     }
 }

@@ -14,8 +14,8 @@ const DECIMALS: usize = 8;
 /// One, at the scale of units and rates.
 const ONE: u128 = 100_000_000;
 
-/// Returns what there is to say of the refusal of a command, beside its rule, with a colon before
-/// it; or nothing. The only error is out of memory.
+/// Returns what there is to say of the refusal of a command beside its rule, with a colon before
+/// it. It is empty where there is nothing to say. The only error is out of memory.
 pub(crate) fn fact<B: Known>(
     alloc: Global,
     book: &mut B,

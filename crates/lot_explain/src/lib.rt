@@ -1,8 +1,8 @@
-//! Why a command was refused, for people, on standard error: what each code means, and for each
-//! refusal and fault of a call the place in the input with the facts of it.
+//! Why a command was refused, for people, on standard error: what each code means, and the place
+//! and the facts of each refusal and fault of a call.
 //!
-//! - `codes`: the codes, as data; `explained`: what there is to say of a code (`explain`), and of
-//!   all (`list`); `nearest`: which of some names is meant.
+//! - `codes`: the codes, as data; `explained`: the text on one code (`explain`), or on all
+//!   (`list`); `nearest`: which of some names is meant.
 //! - `call`: what there is to say of a call (`notes`), from what it read and said (`said`); a
 //!   `notebook` has as many lines as are wanted, each with its `place`.
 //! - `faulty`: lines and rows that are faulty, with the part that is at fault (`culprit`).

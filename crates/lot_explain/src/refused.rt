@@ -46,8 +46,8 @@ pub(crate) fn note_lines<W: Write, B: Known>(
     Ok(())
 }
 
-/// Notes what was said of a command or a row; or of the whole input, but for the faults of a book
-/// that can't be opened or isn't taken up, of which the program says more.
+/// Notes what was said of a command or a row, or of the whole input. It leaves out faults of a book
+/// that can't be opened or taken up: the program says more of these.
 fn note_said<W: Write, B: Known>(
     alloc: Global,
     notes: &mut Notebook<'_, W>,

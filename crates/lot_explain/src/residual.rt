@@ -9,7 +9,7 @@ use lot_command::{Amount, Cost, Posting, Price};
 use lot_num::{Units, Wide, weight};
 
 /// Returns what the postings with amounts leave in a currency. It isn't known where braces don't
-/// say what a unit costs, since the lots that are taken say it then, or where the sum is out of
+/// say the cost of a unit, since the lots that are taken then say it, or where the sum is out of
 /// range.
 pub(crate) fn residual(postings: &[Posting], currency: &str) -> Option<Wide>
     ensures { IfSome result (λ sum. residual_said currency.now postings.now ≡ Some sum) }

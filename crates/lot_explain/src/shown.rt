@@ -5,8 +5,8 @@ use std::{fmt, str};
 /// The most columns that are shown of a line of the input.
 const MOST_COLUMNS: usize = 80;
 
-/// A text of the input on one line: without blanks before it, cut at 80 columns, and with a
-/// question mark for each character that would move the cursor or isn't UTF-8.
+/// A text of the input on one line, without blanks before it, cut at 80 columns. A character that
+/// would move the cursor or isn't UTF-8 is shown as a question mark.
 #[derive(Clone, Copy)]
 pub(crate) struct Shown<'a>(pub(crate) &'a [u8]);
 

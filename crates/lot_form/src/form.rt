@@ -60,8 +60,8 @@ pub struct Parts<'a> {
 }
 
 impl<'a> Parts<'a> {
-    /// Returns whether the parts can stand in one cost: no two of them give a number or a currency, no two a day, and no two
-    /// a label.
+    /// Returns whether the parts can stand in one cost. At most one part may give a number or a currency, one a day, and one a
+    /// label.
     pub(crate) fn are_distinct(&self) -> bool
         ensures { result ≡ are_distinct (parts_seen self.now) }
     {

@@ -11,9 +11,9 @@ use lot_token::{Mark, Token, Tokens};
 
 /// Returns the parts of a line that isn't indented, by its tokens (docs/FORMATS.md, Forms).
 ///
-/// The error is `UnknownDirective` where the first token is no date or the second is no directive, and where there is no
-/// token, else `Syntax` where the tokens have none of the forms.
-pub fn header<'a>(tokens: &Tokens<'a>) -> Result<HeaderForm<'a>, FormFault>
+/// The error is `UnknownDirective` where there is no token, the first token is no date, or the second is no directive. Else it
+/// is `Syntax` where the tokens have none of the forms.
+pub fn header<'a>(tokens: &Tokens<'_, 'a>) -> Result<HeaderForm<'a>, FormFault>
     ensures is { IfOk result (λ form. IsHeader tokens.now form.day.now (directive_seen form.directive)) }
     ensures unknown { IsErrOf result FormFault.UnknownDirective → (tokens.now ≡ []) ⊎ IsUnknown tokens.now }
     ensures known { IsErrOf result FormFault.Syntax → IsUnknown tokens.now → ⊥ }
@@ -25,7 +25,7 @@ pub fn header<'a>(tokens: &Tokens<'a>) -> Result<HeaderForm<'a>, FormFault>
 
 /// Returns the same, by the tokens from the first on.
 #[tactic(auto, unfolding(crate::specs::Header::header_of))]
-fn written<'a>(tokens: &Tokens<'a>) -> Result<HeaderForm<'a>, FormFault>
+fn written<'a>(tokens: &Tokens<'_, 'a>) -> Result<HeaderForm<'a>, FormFault>
     ensures { MatchResult result (λ header. header_of tokens.now ≡ Ok (header_seen header)) (λ fault. header_of tokens.now ≡ Err fault) }
 {
     match tokens.split_first() {
@@ -39,7 +39,7 @@ fn written<'a>(tokens: &Tokens<'a>) -> Result<HeaderForm<'a>, FormFault>
 
 /// Returns what is done on a day, by the tokens behind the day.
 #[tactic(auto, unfolding(crate::specs::Header::directive_of))]
-fn directive<'a>(tokens: &Tokens<'a>) -> Result<DirectiveForm<'a>, FormFault>
+fn directive<'a>(tokens: &Tokens<'_, 'a>) -> Result<DirectiveForm<'a>, FormFault>
     ensures { MatchResult result (λ form. directive_of tokens.now ≡ Ok (directive_seen form)) (λ fault. directive_of tokens.now ≡ Err fault) }
 {
     match tokens.split_first() {
@@ -55,7 +55,7 @@ fn directive<'a>(tokens: &Tokens<'a>) -> Result<DirectiveForm<'a>, FormFault>
 
 /// Returns the directive of that word, by the tokens behind it.
 #[tactic(auto, unfolding(crate::specs::Header::named))]
-fn named<'a>(word: &str, rest: &Tokens<'a>) -> Result<DirectiveForm<'a>, FormFault>
+fn named<'a>(word: &str, rest: &Tokens<'_, 'a>) -> Result<DirectiveForm<'a>, FormFault>
     ensures { MatchResult result (λ form. named word.now rest.now ≡ Ok (directive_seen form)) (λ fault. named word.now rest.now ≡ Err fault) }
 {
     match word {
@@ -80,7 +80,7 @@ fn fitting(form: Option<DirectiveForm<'_>>) -> Result<DirectiveForm<'_>, FormFau
 
 /// Returns an opening: an account, its currencies, and a method where there is one.
 #[tactic(auto, unfolding(crate::specs::Header::opening_of))]
-fn opening<'a>(tokens: &Tokens<'a>) -> Option<DirectiveForm<'a>>
+fn opening<'a>(tokens: &Tokens<'_, 'a>) -> Option<DirectiveForm<'a>>
     ensures { opening_of tokens.now ≡ option_map directive_seen result }
 {
     let (account, rest) = word(tokens)?;
@@ -91,7 +91,7 @@ fn opening<'a>(tokens: &Tokens<'a>) -> Option<DirectiveForm<'a>>
 
 /// Returns the currencies at the front and the tokens behind them. There are at most 64.
 #[tactic(auto, unfolding(crate::specs::Header::currencies_at))]
-fn currencies<'a>(tokens: Tokens<'a>) -> Option<(CurrencyWords<'a>, Tokens<'a>)>
+fn currencies<'t, 'a>(tokens: Tokens<'t, 'a>) -> Option<(CurrencyWords<'a>, Tokens<'t, 'a>)>
     ensures { MatchOption result (currencies_at tokens.entry ≡ None) (λ found. currencies_at tokens.entry ≡ Some (map seen_text found.0.items, found.1)) }
 {
     let mut currencies = ArrayVec::new();
@@ -111,7 +111,7 @@ fn currencies<'a>(tokens: Tokens<'a>) -> Option<(CurrencyWords<'a>, Tokens<'a>)>
 }
 
 /// Returns the text at the end of a line, where there is one.
-fn last_text<'a>(tokens: &Tokens<'a>) -> Option<Option<&'a str>>
+fn last_text<'a>(tokens: &Tokens<'_, 'a>) -> Option<Option<&'a str>>
     ensures { last_text tokens.now ≡ option_map (λ text. option_map seen_text text) result }
 {
     if is_end(tokens) {
@@ -127,7 +127,7 @@ fn last_text<'a>(tokens: &Tokens<'a>) -> Option<Option<&'a str>>
 
 /// Returns a closing: an account.
 #[tactic(auto, unfolding(crate::specs::Header::closing_of))]
-fn closing<'a>(tokens: &Tokens<'a>) -> Option<DirectiveForm<'a>>
+fn closing<'a>(tokens: &Tokens<'_, 'a>) -> Option<DirectiveForm<'a>>
     ensures { closing_of tokens.now ≡ option_map directive_seen result }
 {
     Some(DirectiveForm::Closing(last_word(tokens)?))
@@ -135,7 +135,7 @@ fn closing<'a>(tokens: &Tokens<'a>) -> Option<DirectiveForm<'a>>
 
 /// Returns a declaring: a commodity.
 #[tactic(auto, unfolding(crate::specs::Header::declaring_of))]
-fn declaring<'a>(tokens: &Tokens<'a>) -> Option<DirectiveForm<'a>>
+fn declaring<'a>(tokens: &Tokens<'_, 'a>) -> Option<DirectiveForm<'a>>
     ensures { declaring_of tokens.now ≡ option_map directive_seen result }
 {
     Some(DirectiveForm::Declaring(last_word(tokens)?))
@@ -143,7 +143,7 @@ fn declaring<'a>(tokens: &Tokens<'a>) -> Option<DirectiveForm<'a>>
 
 /// Returns a quoting: a base, a rate and a quote.
 #[tactic(auto, unfolding(crate::specs::Header::quoting_of))]
-fn quoting<'a>(tokens: &Tokens<'a>) -> Option<DirectiveForm<'a>>
+fn quoting<'a>(tokens: &Tokens<'_, 'a>) -> Option<DirectiveForm<'a>>
     ensures { quoting_of tokens.now ≡ option_map directive_seen result }
 {
     let (base, rest) = word(tokens)?;
@@ -154,14 +154,14 @@ fn quoting<'a>(tokens: &Tokens<'a>) -> Option<DirectiveForm<'a>>
 
 /// Returns a transaction with that flag, and with notes where there are such.
 #[tactic(auto, unfolding(crate::specs::Header::transaction_of))]
-fn transaction<'a>(flag: Flag, tokens: &Tokens<'a>) -> Option<DirectiveForm<'a>>
+fn transaction<'a>(flag: Flag, tokens: &Tokens<'_, 'a>) -> Option<DirectiveForm<'a>>
     ensures { transaction_of flag tokens.now ≡ option_map directive_seen result }
 {
     Some(DirectiveForm::Transaction(flag, notes(tokens)?))
 }
 
 /// Returns the notes at the end of a line: one is the narration, two are payee and narration.
-fn notes<'a>(tokens: &Tokens<'a>) -> Option<Option<NotesForm<'a>>>
+fn notes<'a>(tokens: &Tokens<'_, 'a>) -> Option<Option<NotesForm<'a>>>
     ensures { notes_of tokens.now ≡ option_map (λ notes. option_map notes_seen notes) result }
 {
     if is_end(tokens) {

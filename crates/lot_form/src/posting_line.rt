@@ -6,8 +6,8 @@ use crate::form::{AmountForm, CostForm, Part, Parts, PostingForm, PriceForm};
 use crate::take::{close, close_close, comma, is_end, number, word};
 use lot_token::{Mark, Token, Tokens};
 
-/// Returns the parts of a posting, by the tokens of its line, or none where they have no such form (docs/FORMATS.md, Forms).
-pub fn posting<'a>(tokens: &Tokens<'a>) -> Option<PostingForm<'a>>
+/// Returns the parts of a posting, by the tokens of its line, or `None` where they have no such form (docs/FORMATS.md, Forms).
+pub fn posting<'a>(tokens: &Tokens<'_, 'a>) -> Option<PostingForm<'a>>
     ensures is { IfSome result (λ form. IsPosting tokens.now (posting_seen form)) }
     ensures none { IfNone result ((written : WrittenPosting) → IsPosting tokens.now written → ⊥) }
 {
@@ -16,7 +16,7 @@ pub fn posting<'a>(tokens: &Tokens<'a>) -> Option<PostingForm<'a>>
 
 /// Returns the same, by the tokens from the first on.
 #[tactic(auto, unfolding(crate::specs::Shape::posting_of))]
-fn written<'a>(tokens: &Tokens<'a>) -> Option<PostingForm<'a>>
+fn written<'a>(tokens: &Tokens<'_, 'a>) -> Option<PostingForm<'a>>
     ensures { posting_of tokens.now ≡ option_map posting_seen result }
 {
     let (account, rest) = word(tokens)?;
@@ -30,7 +30,7 @@ fn written<'a>(tokens: &Tokens<'a>) -> Option<PostingForm<'a>>
 
 /// Returns units and a commodity, with a cost and a price where there are such.
 #[tactic(auto, unfolding(crate::specs::Shape::amount_of))]
-fn amount<'a>(tokens: &Tokens<'a>) -> Option<AmountForm<'a>>
+fn amount<'a>(tokens: &Tokens<'_, 'a>) -> Option<AmountForm<'a>>
     ensures { amount_of tokens.now ≡ option_map amount_seen result }
 {
     let (units, rest) = number(tokens)?;
@@ -47,7 +47,7 @@ fn amount<'a>(tokens: &Tokens<'a>) -> Option<AmountForm<'a>>
 
 /// Returns the price at the end of a posting, where there is one.
 #[tactic(auto, unfolding(crate::specs::Shape::price_of))]
-fn price<'a>(tokens: &Tokens<'a>) -> Option<Option<PriceForm<'a>>>
+fn price<'a>(tokens: &Tokens<'_, 'a>) -> Option<Option<PriceForm<'a>>>
     ensures { price_of tokens.now ≡ option_map (λ price. option_map price_seen price) result }
 {
     let Some((token, rest)) = tokens.split_first() else {
@@ -67,7 +67,7 @@ fn price<'a>(tokens: &Tokens<'a>) -> Option<Option<PriceForm<'a>>>
 }
 
 /// Returns a number and a word, behind which there is nothing.
-fn money<'a>(tokens: &Tokens<'a>) -> Option<(&'a str, &'a str)>
+fn money<'a>(tokens: &Tokens<'_, 'a>) -> Option<(&'a str, &'a str)>
     ensures { MatchOption result (money_of tokens.now ≡ None) (λ money. money_of tokens.now ≡ Some (money.0.now, money.1.now)) }
 {
     let (number, rest) = number(tokens)?;
@@ -81,7 +81,7 @@ fn money<'a>(tokens: &Tokens<'a>) -> Option<(&'a str, &'a str)>
 
 /// Returns the cost at the front and the tokens behind it; without braces there is no cost.
 #[tactic(auto, unfolding(crate::specs::Shape::cost_at))]
-fn cost<'a>(tokens: Tokens<'a>) -> Option<(Option<CostForm<'a>>, Tokens<'a>)>
+fn cost<'t, 'a>(tokens: Tokens<'t, 'a>) -> Option<(Option<CostForm<'a>>, Tokens<'t, 'a>)>
     ensures { MatchOption result (cost_at tokens.entry ≡ None) (λ found. cost_at tokens.entry ≡ Some (option_map cost_seen found.0, found.1)) }
 {
     match tokens.split_first() {
@@ -92,7 +92,7 @@ fn cost<'a>(tokens: Tokens<'a>) -> Option<(Option<CostForm<'a>>, Tokens<'a>)>
 }
 
 /// Returns the cost of each unit, behind its opening brace.
-fn each<'a>(tokens: Tokens<'a>) -> Option<(Option<CostForm<'a>>, Tokens<'a>)>
+fn each<'t, 'a>(tokens: Tokens<'t, 'a>) -> Option<(Option<CostForm<'a>>, Tokens<'t, 'a>)>
     ensures { MatchOption result (each_at tokens.entry ≡ None) (λ found. each_at tokens.entry ≡ Some (option_map cost_seen found.0, found.1)) }
 {
     let (parts, rest) = distinct_parts(tokens)?;
@@ -101,7 +101,7 @@ fn each<'a>(tokens: Tokens<'a>) -> Option<(Option<CostForm<'a>>, Tokens<'a>)>
 }
 
 /// Returns the cost of all units, behind its opening braces. It gives a number.
-fn whole<'a>(tokens: Tokens<'a>) -> Option<(Option<CostForm<'a>>, Tokens<'a>)>
+fn whole<'t, 'a>(tokens: Tokens<'t, 'a>) -> Option<(Option<CostForm<'a>>, Tokens<'t, 'a>)>
     ensures { MatchOption result (whole_at tokens.entry ≡ None) (λ found. whole_at tokens.entry ≡ Some (option_map cost_seen found.0, found.1)) }
 {
     let (parts, rest) = distinct_parts(tokens)?;
@@ -114,7 +114,7 @@ fn whole<'a>(tokens: Tokens<'a>) -> Option<(Option<CostForm<'a>>, Tokens<'a>)>
 
 /// Returns the parts of a cost, which can stand in one, and the tokens behind them.
 #[tactic(auto, unfolding(crate::specs::Shape::distinct_at))]
-fn distinct_parts<'a>(tokens: Tokens<'a>) -> Option<(Parts<'a>, Tokens<'a>)>
+fn distinct_parts<'t, 'a>(tokens: Tokens<'t, 'a>) -> Option<(Parts<'a>, Tokens<'t, 'a>)>
     ensures { MatchOption result (distinct_at tokens.entry ≡ None) (λ found. distinct_at tokens.entry ≡ Some (parts_seen found.0, found.1)) }
 {
     let (parts, rest) = parts(tokens)?;
@@ -127,7 +127,7 @@ fn distinct_parts<'a>(tokens: Tokens<'a>) -> Option<(Parts<'a>, Tokens<'a>)>
 
 /// Returns the parts of a cost, with commas between them, and the tokens behind them. More than three can't stand in one cost.
 #[tactic(auto, unfolding(crate::specs::Shape::parts_at))]
-fn parts<'a>(tokens: Tokens<'a>) -> Option<(Parts<'a>, Tokens<'a>)>
+fn parts<'t, 'a>(tokens: Tokens<'t, 'a>) -> Option<(Parts<'a>, Tokens<'t, 'a>)>
     ensures { MatchOption result (parts_at tokens.entry ≡ None) (λ found. parts_at tokens.entry ≡ Some (parts_seen found.0, found.1)) }
 {
     let mut parts = Parts {
@@ -154,7 +154,7 @@ fn parts<'a>(tokens: Tokens<'a>) -> Option<(Parts<'a>, Tokens<'a>)>
 
 /// Returns the part of a cost at the front and the tokens behind it, or none where there is no part.
 #[tactic(auto, unfolding(crate::specs::Shape::part_at))]
-fn part<'a>(tokens: &Tokens<'a>) -> Option<(Part<'a>, Tokens<'a>)>
+fn part<'t, 'a>(tokens: &Tokens<'t, 'a>) -> Option<(Part<'a>, Tokens<'t, 'a>)>
     ensures { MatchOption result (part_at tokens.now ≡ None) (λ found. part_at tokens.now ≡ Some (part_seen found.0, found.1)) }
 {
     let (token, rest) = tokens.split_first()?;

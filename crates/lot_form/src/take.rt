@@ -5,7 +5,7 @@ ghost use Rattle.lot_form.specs.Shape.{after_close, after_close_close, after_com
 use lot_token::{Mark, Token, Tokens};
 
 /// Returns the word at the front and the tokens behind it, or none where the first token is no word.
-pub(crate) fn word<'a>(tokens: &Tokens<'a>) -> Option<(&'a str, Tokens<'a>)>
+pub(crate) fn word<'t, 'a>(tokens: &Tokens<'t, 'a>) -> Option<(&'a str, Tokens<'t, 'a>)>
     ensures { MatchOption result (as_word tokens.now ≡ None) (λ found. as_word tokens.now ≡ Some (found.0.now, found.1)) }
 {
     match tokens.split_first()? {
@@ -15,7 +15,7 @@ pub(crate) fn word<'a>(tokens: &Tokens<'a>) -> Option<(&'a str, Tokens<'a>)>
 }
 
 /// Returns the number at the front and the tokens behind it, or none where the first token is no number.
-pub(crate) fn number<'a>(tokens: &Tokens<'a>) -> Option<(&'a str, Tokens<'a>)>
+pub(crate) fn number<'t, 'a>(tokens: &Tokens<'t, 'a>) -> Option<(&'a str, Tokens<'t, 'a>)>
     ensures { MatchOption result (as_number tokens.now ≡ None) (λ found. as_number tokens.now ≡ Some (found.0.now, found.1)) }
 {
     match tokens.split_first()? {
@@ -25,7 +25,7 @@ pub(crate) fn number<'a>(tokens: &Tokens<'a>) -> Option<(&'a str, Tokens<'a>)>
 }
 
 /// Returns the tokens behind a comma.
-pub(crate) fn comma<'a>(tokens: &Tokens<'a>) -> Option<Tokens<'a>>
+pub(crate) fn comma<'t, 'a>(tokens: &Tokens<'t, 'a>) -> Option<Tokens<'t, 'a>>
     ensures { after_comma tokens.now ≡ result }
 {
     match tokens.split_first()? {
@@ -35,7 +35,7 @@ pub(crate) fn comma<'a>(tokens: &Tokens<'a>) -> Option<Tokens<'a>>
 }
 
 /// Returns the tokens behind a closing brace.
-pub(crate) fn close<'a>(tokens: &Tokens<'a>) -> Option<Tokens<'a>>
+pub(crate) fn close<'t, 'a>(tokens: &Tokens<'t, 'a>) -> Option<Tokens<'t, 'a>>
     ensures { after_close tokens.now ≡ result }
 {
     match tokens.split_first()? {
@@ -45,7 +45,7 @@ pub(crate) fn close<'a>(tokens: &Tokens<'a>) -> Option<Tokens<'a>>
 }
 
 /// Returns the tokens behind a closing double brace.
-pub(crate) fn close_close<'a>(tokens: &Tokens<'a>) -> Option<Tokens<'a>>
+pub(crate) fn close_close<'t, 'a>(tokens: &Tokens<'t, 'a>) -> Option<Tokens<'t, 'a>>
     ensures { after_close_close tokens.now ≡ result }
 {
     match tokens.split_first()? {
@@ -55,14 +55,14 @@ pub(crate) fn close_close<'a>(tokens: &Tokens<'a>) -> Option<Tokens<'a>>
 }
 
 /// Returns whether no token is left.
-pub(crate) fn is_end(tokens: &Tokens<'_>) -> bool
+pub(crate) fn is_end(tokens: &Tokens<'_, '_>) -> bool
     ensures { result ≡ is_empty tokens.now }
 {
     tokens.split_first().is_none()
 }
 
 /// Returns the text at the front and the tokens behind it, or none where the first token is no text.
-pub(crate) fn text<'a>(tokens: &Tokens<'a>) -> Option<(&'a str, Tokens<'a>)>
+pub(crate) fn text<'t, 'a>(tokens: &Tokens<'t, 'a>) -> Option<(&'a str, Tokens<'t, 'a>)>
     ensures { MatchOption result (as_text tokens.now ≡ None) (λ found. as_text tokens.now ≡ Some (found.0.now, found.1)) }
 {
     match tokens.split_first()? {
@@ -72,7 +72,7 @@ pub(crate) fn text<'a>(tokens: &Tokens<'a>) -> Option<(&'a str, Tokens<'a>)>
 }
 
 /// Returns the word that is the only token left.
-pub(crate) fn last_word<'a>(tokens: &Tokens<'a>) -> Option<&'a str>
+pub(crate) fn last_word<'a>(tokens: &Tokens<'_, 'a>) -> Option<&'a str>
     ensures { last_word tokens.now ≡ option_map seen_text result }
 {
     let (word, rest) = word(tokens)?;

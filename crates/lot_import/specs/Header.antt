@@ -35,7 +35,7 @@ may_begin (first ∷ rest) =
     if ends_line first then may_begin rest
     else may_say (header_text First) (first ∷ rest) || may_say (header_text Second) (first ∷ rest)
 
--- The first line of the file, behind a byte order mark and empty lines, is a header, or begins with a part of one and then a quote,
--- which may quote the rest. No other file has a header.
+-- The first line of the file, behind a byte order mark and empty lines, is a header, or begins with a part of one and then a
+-- quote. The quote may quote the rest. No other file has a header.
 abbrev pub MayHaveHeader : List ℕ → Type 0
 MayHaveHeader bytes = IsTrue (may_begin (strip_bom bytes))

@@ -6,13 +6,13 @@ use std::alloc::AllocError;
 /// The accounts that the rows of a broker file are posted to.
 #[derive(Debug, Drop)]
 pub struct Accounts {
-    /// What is bought and sold.
+    /// The account of what is bought and sold.
     pub invest: Account,
-    /// What is paid and received.
+    /// The account of the cash that is paid and received.
     pub cash: Account,
-    /// Fees.
+    /// The account of fees.
     pub fees: Account,
-    /// Gains of sales.
+    /// The account of the gains of sales.
     pub gains: Account,
 }
 

@@ -112,7 +112,8 @@ fn no_fee() -> Rate
     }
 }
 
-/// Returns the label of the lot that a field says beside the reference of the row, none where it is empty, or else that cause.
+/// Returns the label of the lot that a field says beside the reference of the row, or `None` where the field is empty. Else it
+/// returns that cause.
 pub(crate) fn lot<'a>(
     action: Action,
     reference: &[u8],

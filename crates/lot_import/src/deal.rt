@@ -14,7 +14,7 @@ use std::alloc::{AllocError, Global};
 
 /// Returns the transaction that a row stands for, posted to the accounts (docs/FORMATS.md, Broker files).
 ///
-/// The error is `InexactAmount` exactly where the cash that the row moves isn't units, which is looked at first; else it is out of
+/// The error is `InexactAmount` exactly where the cash that the row moves isn't units. This is tested first. Else it is out of
 /// memory.
 pub fn command(alloc: Global, row: &Row, accounts: &Accounts) -> Result<Command, CommandFault>
     ensures ok { IfOk result (λ command. IsCommandOf accounts.now row.now command) }
@@ -50,7 +50,7 @@ pub(crate) fn cash(row: &Row) -> Option<Units>
     moved.to_units()
 }
 
-/// Returns the rate as units, which have the same scale and the wider range.
+/// Returns the rate as units. They have the same scale, and their range is wider.
 fn as_units(rate: Rate) -> Units
     ensures { result ≡ pos rate }
 {
@@ -60,7 +60,7 @@ fn as_units(rate: Rate) -> Units
     }
 }
 
-/// Returns the label as a note, which each label is. The only error is out of memory.
+/// Returns the label as a note. Each label is one. The only error is out of memory.
 #[tactic(auto, using(crate::proofs::NoteLemmas::label_is_note))]
 fn note(alloc: Global, label: &Label) -> Result<Note, CommandFault>
     ensures ok { IfOk result (λ note. note ≡ label.now) }
@@ -116,7 +116,8 @@ fn bought(row: &Row, accounts: &Accounts) -> Result<Posting, AllocError>
     })
 }
 
-/// Returns the posting of what is sold, from any lot or from those with the label of the row, at its price.
+/// Returns the posting of what is sold, at its price. It takes from any lot, or from those with the label of the row where
+/// there is one.
 fn sold(row: &Row, accounts: &Accounts) -> Result<Posting, AllocError>
     ensures { IfOk result (λ posting. posting ≡ sold accounts.now row.now) }
 {

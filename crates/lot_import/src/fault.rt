@@ -1,10 +1,10 @@
 use std::alloc::{AllocError, AllocFailed};
 use thiserror::Error;
 
-/// Why a file has no rows. The first fault of this order is reported, and of two rows the first.
+/// Why a file has no rows. Of several faults, the first in this order is reported. Of several faulty rows, it is the first.
 #[derive(Clone, Copy, Debug, PartialEq, Eq, Error)]
 pub enum RowsFault {
-    /// There is no header, or it isn't that of a version.
+    /// There is no header, or it is the header of no version.
     #[error("not the header of a broker file")]
     BadHeader,
     /// A row is faulty: its number, from 1, and the cause.
@@ -18,7 +18,8 @@ pub enum RowsFault {
     Memory,
 }
 
-/// Why a row is faulty: the first column that is outside its rule. Where several are, the first in this order is reported.
+/// Why a row is faulty: the first column that is outside its rule. Of several such columns, the first in this order is
+/// reported.
 #[derive(Clone, Copy, Debug, PartialEq, Eq, Error)]
 pub enum Cause {
     /// The record hasn't as many fields as the header.
@@ -48,7 +49,7 @@ pub enum Cause {
     /// `fee` is neither empty nor a rate.
     #[error("fee is neither empty nor a rate")]
     Fee,
-    /// `lot` is neither empty nor a label, or, for a purchase, neither empty nor its `ref`.
+    /// `lot` is neither empty nor a label. Of a purchase, it is neither empty nor its `ref`.
     #[error("lot isn't the label of a lot")]
     Lot,
 }
@@ -67,7 +68,7 @@ impl<T: Drop> From<AllocFailed<T>> for RowsFault {
 /// Why a row has no command.
 #[derive(Clone, Copy, Debug, PartialEq, Eq, Error)]
 pub enum CommandFault {
-    /// The cash amount isn't units: it has a decimal past the eighth, or is out of range.
+    /// The cash that the row moves isn't units: it has a decimal past the eighth, or is out of range.
     #[error("the cash amount isn't exact at eight decimals, or too large")]
     InexactAmount,
     /// Out of memory.
@@ -89,7 +90,7 @@ impl From<AllocError> for CommandFault {
 /// Why the rows of a file have no commands under their keys.
 #[derive(Clone, Copy, Debug, PartialEq, Eq, Error)]
 pub enum KeyedFault {
-    /// The cash amount of a row isn't units: the number of the first such row, from 1.
+    /// The cash that a row moves isn't units. `row` is the number of the first such row, from 1.
     #[error("row {row}: the cash amount isn't exact at eight decimals, or too large")]
     InexactAmount { row: usize },
     /// Out of memory.

@@ -18,12 +18,17 @@ const MOST_ROWS: usize = 100_000;
 
 /// Returns the rows of a broker file, in their order (docs/FORMATS.md, Broker files).
 ///
-/// The error is `BadHeader` exactly where the file has the header of no version, `BadRow` exactly where one of its first
-/// 100,000 rows is faulty, with the number of the first such row and its first faulty column, `TooManyRows` exactly where it
-/// has more rows and none of the first 100,000 is faulty, or else out of memory. That is never where the first line of the file
-/// already says that it has no header: its bytes are looked at before anything is asked for. Memory may end at each record that is
-/// read, and where a row is kept, which is then looked at before; a record that was read and is faulty is never told as out of
-/// memory.
+/// The error is one of these:
+///
+/// - `BadHeader` exactly where the header of the file is that of no version;
+/// - `BadRow` exactly where one of the first 100,000 rows is faulty. It has the number of the first such row, and the first
+///   faulty column of that row;
+/// - `TooManyRows` exactly where there are more than 100,000 rows and none of the first 100,000 is faulty;
+/// - `Memory`: out of memory.
+///
+/// Memory may end while a record is read, or where a row is kept. A row is tested before it is kept, so a faulty record that
+/// was read is never reported as out of memory. Nor is a file whose first line shows that it has no header: that line is looked
+/// at before memory is asked for.
 pub fn read_rows(alloc: Global, bytes: &[u8]) -> Result<Vec<Row>, RowsFault>
     ensures rows { IfOk result (λ rows. AreRows bytes.now rows.items) }
     ensures fault { IfErr result (λ fault. HasFault bytes.now fault) }
@@ -46,7 +51,7 @@ fn reader(alloc: Global, bytes: &[u8]) -> Reader<&[u8]>
         .from_reader(alloc, bytes)
 }
 
-/// Returns the rows of the file at whose start a reader is.
+/// Returns the rows of the file. The reader stands at its start.
 fn rows_of(alloc: Global, reader: &mut Reader<&[u8]>) -> Result<Vec<Row>, RowsFault>
     requires { IsOpen reader.old }
     ensures rows { IfOk result (λ rows. SayFile (records_left reader.old) rows.items) }

@@ -1,4 +1,4 @@
-//! What a file that has a header begins with, as far as its bytes say before it is read.
+//! How a file with a header begins, as far as its bytes show it before it is read.
 ghost use Rattle.std.specs.Prelude.{◌≡◌};
 ghost use Rattle.csv.specs.Reading.{strip_bom};
 ghost use Rattle.lot_import.specs.Header.{ends_line, may_begin, may_end, may_say};
@@ -9,8 +9,8 @@ const FIRST: &[u8] = b"ref,date,action,symbol,units,price,currency,fee";
 /// The header of the second version, unquoted.
 const SECOND: &[u8] = b"ref,date,action,symbol,units,price,currency,fee,lot";
 
-/// Returns whether a file may have a header: its first line, behind a byte order mark and empty lines, is one, or begins with a
-/// part of one and then a quote.
+/// Returns whether a file may have a header. Its first line, behind a byte order mark and empty lines, is then a header, or
+/// begins with a part of one and then a quote.
 pub(crate) fn may_have_header(bytes: &[u8]) -> bool
     ensures { result ≡ may_begin (strip_bom bytes.now) }
 {

@@ -12,11 +12,11 @@ use lot_base::Label;
 use lot_command::{Command, Key};
 use std::alloc::Global;
 
-/// Returns the commands of rows, each under the key of its row in the source; of the rows before that number, counted from
-/// 1, none is returned (docs/RULES.md, Keys and repeats).
+/// Returns the commands of rows, each under the key of its row in the source (docs/RULES.md, Keys and repeats). The rows before
+/// `from`, counted from 1, are left out.
 ///
-/// The error is `InexactAmount` with the number of the first row of all whose cash isn't units, also of one that is before
-/// that number, exactly where there is one: all rows are looked at before a command is made. Else it is out of memory.
+/// The error is `InexactAmount` exactly where the cash that some row moves isn't units. It has the number of the first such
+/// row, even where this row is before `from`: all rows are tested before a command is made. Else it is out of memory.
 pub fn keyed_commands(
     alloc: Global,
     source: &Label,

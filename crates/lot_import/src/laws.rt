@@ -20,7 +20,7 @@ pub fn a_record_says_one_thing()
     ensures cause { (version : Version) (written : List (List ℕ)) (a b : Cause) → IsFaulty version written a → IsFaulty version written b → a ≡ b }
 {}
 
-/// Each file has one list of rows, or one first fault; never both. Out of memory is no fault of a file.
+/// Each file has one list of rows, or one first fault, and never both. Out of memory is no fault of a file.
 pub fn a_file_has_one_answer()
     ensures some { (bytes : List ℕ) → ((rows : List Row) × AreRows bytes rows) ⊎ ((fault : RowsFault) × (fault ≢ Faults.Memory) × HasFault bytes fault) }
     ensures either { (bytes : List ℕ) (rows : List Row) (fault : RowsFault) → AreRows bytes rows → HasFault bytes fault → fault ≡ Faults.Memory }
@@ -28,12 +28,12 @@ pub fn a_file_has_one_answer()
     ensures fault { (bytes : List ℕ) (a b : RowsFault) → a ≢ Faults.Memory → b ≢ Faults.Memory → HasFault bytes a → HasFault bytes b → a ≡ b }
 {}
 
-/// A record of the first version says in the second, with an empty lot, the row that it said.
+/// A record of the first version says a row. With an empty lot behind it, it says the same row in the second version.
 pub fn an_empty_lot_changes_no_row()
     ensures { (written : List (List ℕ)) (row : Row) → IsRow First written row → IsRow Second (written ++ [] ∷ []) row }
 {}
 
-/// With the same accounts a row has one command at most, and different rows have different commands.
+/// With the same accounts, a row has at most one command, and different rows have different commands.
 pub fn a_row_has_one_command()
     ensures command { (accounts : Accounts) (row : Row) (a b : Command) → IsCommandOf accounts row a → IsCommandOf accounts row b → a ≡ b }
     ensures row { (accounts : Accounts) (a b : Row) (command : Command) → IsCommandOf accounts a command → IsCommandOf accounts b command → a ≡ b }

@@ -4,7 +4,7 @@
 //! - `accounts`: `Accounts`, those that a row is posted to.
 //! - `deal`: the command of a row (`command`).
 //! - `file`: the rows of a file (`read_rows`).
-//! - `header`: whether a file may have a header, as far as its bytes say before it is read.
+//! - `header`: whether a file may have a header, as far as its bytes show it before it is read.
 //! - `written`: the row that a record of the file says, by its columns (`column`) in that version of the file (`version`).
 //! - `keyed`: the commands of all rows, each under its key (`keyed_commands`).
 //! - `fault`: why there are no rows, or no commands.

@@ -6,12 +6,12 @@ ghost use Rattle.lot_import.specs.declared.version.Version.{Version};
 use crate::column::field;
 use csv::ByteRecord;
 
-/// The versions of a broker file, told by its header.
+/// The versions of a broker file. The header says which one it is.
 #[derive(Clone, Copy)]
 pub(crate) enum Version {
     /// Without the column `lot`.
     First,
-    /// With it.
+    /// With the column `lot`.
     Second,
 }
 

@@ -13,7 +13,7 @@ use lot_base::{Day, Grammar, Name};
 use lot_num::{Rate, Units};
 use std::alloc::Global;
 
-/// The row that a record says, with its names borrowed from the record.
+/// The row that a record says. Its names are borrowed from the record.
 #[derive(Drop)]
 pub(crate) struct SaidRow<'a> {
     name: &'a str,
@@ -57,7 +57,7 @@ pub(crate) fn said(version: Version, written: &ByteRecord) -> Result<SaidRow<'_>
     })
 }
 
-/// Returns the label of the lot that a record says beside its action, none in the first version.
+/// Returns the label of the lot that a record says beside its action. The first version has none.
 fn lot_in(version: Version, deal: Action, written: &ByteRecord) -> Result<Option<&str>, Cause>
     ensures { GivesLot (HasLot version deal (fields_of written.now)) Cause.Lot result }
 {

@@ -13,8 +13,8 @@ pub record Reading : Type 0 where
   pub left : Option (List ℕ)
   pub calls : CallsMade
 
--- all that a reader has, where it is known which bytes it has, is this input, which is no longer than one may be; it has none
--- left, and no call of it failed until it was at its end
+-- This input is all that a reader has, where its bytes are known. It is no longer than an input may be. The reader has none
+-- left, and no call of it failed before it was at its end.
 abbrev pub IsAllOf : Reading → List ℕ → Type 0
 IsAllOf reading input =
     IfSome reading.bytes (λ bytes. input ≡ bytes) × (length input ≤ longest_input) × IsAtEnd reading.left × EndsWell reading.calls (length input)
@@ -23,7 +23,7 @@ IsAllOf reading input =
 abbrev pub IsUnasked : Reading → Type 0
 IsUnasked reading = (reading.left ≡ reading.bytes) × (reading.calls.after ≡ reading.calls.before)
 
--- why not all that a reader has is had: it can't be read, or is too long; or memory ends, and neither is so
+-- why a reader wasn't read to its end: it can't be read, or is too long; or memory ends, and neither is so
 abbrev pub IsUnread : Reading → SlurpFault → Type 0
 IsUnread reading slurp.Read = EndsFor reading.calls slurp.Read
 IsUnread reading slurp.TooLong =
@@ -34,8 +34,8 @@ IsUnread reading slurp.Memory = EndsFor reading.calls slurp.Memory
 abbrev pub Gives : {A : Type 0} → (List ℕ → A → Type 0) → Reading → A → Type 0
 Gives Means reading given = (input : List ℕ) × IsAllOf reading input × Means input given
 
--- Why it gives none: memory ends before anything is read; it isn't had; or it is had, and this is its fault, where `IsFaulty`
--- tells which an input has. Where memory ends behind that, `IsFaulty` tells which input that can be.
+-- Why an input gives nothing: memory ends before anything is read; the reader isn't read to its end; or the input has this
+-- fault, where `IsFaulty` tells which one. Where memory ends later, `IsFaulty` tells for which input that can be.
 abbrev pub GivesNone : (List ℕ → InputFault → Type 0) → Reading → InputFault → Type 0
 GivesNone IsFaulty reading Unasked = IsUnasked reading
 GivesNone IsFaulty reading (Unread fault) = IsUnread reading fault

@@ -22,8 +22,8 @@ abbrev pub RowMeans : List ℕ → List ℕ → List ℕ → Option (Key × Comm
 RowMeans batch reference input given =
     (commands : List Command) × Reads input commands × (given ≡ option_map (λ command. (row_key batch reference, command)) (only commands))
 
--- The input is no ledger text, and this is its first faulty line; or memory ends at a line before that, where the lines up to
--- that one say commands. Behind that memory ends only where it is ledger text. It is no fault of a reader.
+-- The input is no ledger text, and this is its first faulty line. Or memory ends at a line before that, and the lines up to
+-- that one say commands.
 abbrev pub IsFaultyText : List ℕ → InputFault → Type 0
 IsFaultyText input Unasked = ⊥
 IsFaultyText input (Unread fault) = ⊥

@@ -17,13 +17,13 @@ pub enum InputFault {
     /// Out of memory before anything was read.
     #[error("out of memory")]
     Unasked,
-    /// Not all of it is had.
+    /// The input couldn't be read to its end.
     #[error("{0}")]
     Unread(SlurpFault),
     /// It isn't ledger text.
     #[error("{0}")]
     Text(TextFault),
-    /// It has no rows of a broker file.
+    /// It isn't a broker file with rows.
     #[error("{0}")]
     Rows(RowsFault),
     /// The cash that one of its rows moves isn't units.
@@ -104,8 +104,8 @@ impl InputFault {
     }
 }
 
-/// Writes the line that reports why an input gives no commands. It takes no memory, which may have ended: the only fault is that
-/// of the writer.
+/// Writes the line that reports why an input gives no commands. It takes no memory, which may have ended. The only fault is
+/// that of the writer.
 pub fn print_input_fault<W: CountedWrite>(
     writer: &mut W,
     fault: InputFault,

@@ -7,8 +7,8 @@ use lot_base::Label;
 use lot_command::{Command, Key};
 use std::alloc::{AllocError, Global};
 
-/// Returns the commands of a batch from that number on, each under the key of its number. The first of the list has the
-/// number 1. The only error is out of memory.
+/// Returns the commands of a batch from that number on, each under the key of its number. The first command of the list
+/// has the number 1. The only error is out of memory.
 pub(crate) fn keyed(
     alloc: Global,
     batch: &Batch,
@@ -31,7 +31,7 @@ pub(crate) fn keyed(
     Ok(keyed)
 }
 
-/// Returns where the commands of a batch come from that this word sends. The only error is out of memory.
+/// Returns the source of the commands of a batch that this subcommand sends. The only error is out of memory.
 pub(crate) fn source(alloc: Global, word: &str, batch: &Batch) -> Result<Label, AllocError>
     requires label { IsTrue (is_label word.now) }
     requires short { length word.now ≤ 16 }

@@ -1,8 +1,8 @@
-//! What an input says before any book is looked at: its commands, each under its key, or why it gives none
+//! The commands of an input, each under its key, or why it gives none. No book is looked at
 //! (docs/RULES.md, The program).
 //!
 //! - `text`: the commands of ledger text (`keyed_text`), and its one command for a row of a broker file (`keyed_row`).
-//! - `rows`: those of the rows of a broker file (`keyed_rows`).
+//! - `rows`: the commands of the rows of a broker file (`keyed_rows`).
 //! - `keyed`: the keys of the commands of a batch.
 //! - `fault`: why an input gives no commands, and the line that reports it (`print_input_fault`).
 #![tactic(auto)]

@@ -11,11 +11,11 @@ use lot_import::{Accounts, keyed_commands, read_rows};
 use lot_stream::{CountedRead, slurp};
 use std::alloc::Global;
 
-/// Reads all that a reader has as a broker file. Returns the commands of its rows from that number on: each posts to the
-/// accounts, under the key of its row in the batch. The first row has the number 1.
+/// Reads all that a reader has as a broker file. Returns the commands of its rows from that number on. Each posts to the
+/// accounts, and has the key of its row in the batch. The first row has the number 1.
 ///
-/// The errors are `Unread`, `Rows` and `Cash`, and `Unasked` where nothing is read: the source of the keys is made before.
-/// Behind that, out of memory for it would stand in place of a fault of the file.
+/// The errors are `Unasked`, `Unread`, `Rows` and `Cash`. `Unasked` is out of memory for the source of the keys. The source is
+/// made before anything is read, so that this is never told in place of a fault of the file.
 pub fn keyed_rows<R: CountedRead>(
     alloc: Global,
     batch: &Batch,

@@ -11,8 +11,8 @@ use lot_stream::{CountedRead, slurp};
 use lot_text::read;
 use std::alloc::Global;
 
-/// Reads all that a reader has as ledger text. Returns its commands from that number on, each under the key of its number
-/// in the batch. The first command of the text has the number 1.
+/// Reads all that a reader has as ledger text. Returns its commands from that number on, each under the key of its number in
+/// the batch. The first command of the text has the number 1.
 ///
 /// The errors are `Unread`, `Text` and `Memory`.
 pub fn keyed_text<R: CountedRead>(
@@ -37,8 +37,8 @@ pub fn keyed_text<R: CountedRead>(
     commands_in(alloc, batch, from, &text)
 }
 
-/// Reads all that a reader has as ledger text. Returns its one command, under the key of the row with that `ref` in the
-/// broker files of the batch; `None` where the text has no command, or several.
+/// Reads all that a reader has as ledger text. Returns its one command, under the key of the row with that `ref` in the broker
+/// files of the batch. It is `None` where the text has no command, or several.
 ///
 /// The errors are `Unread`, `Text` and `Memory`.
 pub fn keyed_row<R: CountedRead>(
@@ -62,8 +62,8 @@ pub fn keyed_row<R: CountedRead>(
     row_in(alloc, batch, reference, &text)
 }
 
-/// Returns the same of a text that was read, which has no fault of a reader. Out of memory comes only where its lines up to one
-/// say commands, or all of them.
+/// Does the same with a text that was read, so that there is no fault of a reader. Out of memory comes only where all of its
+/// lines, or all lines up to one, say commands.
 fn commands_in(
     alloc: Global,
     batch: &Batch,

@@ -1,6 +1,7 @@
 pub mod AvailableLemmas
 pub mod InventoryLemmas
 pub mod LawLemmas
+pub mod LentLemmas
 pub mod ListedLemmas
 pub mod LotLemmas
 pub mod OnlyLotsLemmas

@@ -1,3 +1,4 @@
+pub mod Days
 pub mod Holding
 pub mod Inventory
 pub mod Lot

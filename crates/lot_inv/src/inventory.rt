@@ -1,4 +1,4 @@
-ghost use Rattle.std.specs.Prelude.{◌≡◌, ◌≢◌, ◌⊎◌, ℕ, List, [], ◌++◌, map, ℤ, pos, ◌+ℤ◌, ◌*ℤ◌, ◌+◌, ◌*◌, ◌^◌, ◌≤◌, length, option_copied, unsigned_abs, SomeIff, Option, None, cond, filter, ◌↔◌, IsTrue, IsFalse, IsOk, IsErrOf, IfOk, OnOk, OnErr};
+ghost use Rattle.std.specs.Prelude.{◌≡◌, ◌≢◌, ◌⊎◌, ℕ, List, [], ◌∷◌, ◌++◌, map, ℤ, pos, ◌+ℤ◌, ◌*ℤ◌, ◌+◌, ◌*◌, ◌^◌, ◌≤◌, length, option_copied, unsigned_abs, SomeIff, IfSome, IfNone, Option, None, cond, filter, ◌↔◌, IsTrue, IsFalse, IsOk, IsErrOf, IfOk, OnOk, OnErr};
 ghost use Rattle.std.specs.FinMap as finite;
 ghost use Rattle.std.specs.List.{list_any};
 ghost use Rattle.std.specs.List.Sorted.{IsStrictlySortedBy};
@@ -8,7 +8,8 @@ ghost use Rattle.std.specs.Option.{option_cmp, unwrap_or};
 ghost use Rattle.std.specs.Ordering.{is_eq};
 ghost use Rattle.lot_num.specs.Amount.{IsUnits, IsWide, one, units_limit};
 ghost use Rattle.lot_num.specs.Sum.{sum_of};
-ghost use Rattle.lot_inv.specs.Inventory.{NumbersLots, StoresMore, added_lot, as_entries, fitting, held_in, lots_of, matching, non_zero, nothing, only_lots, opened_at, opening_at, other_sign, reduces, sum, units_at, with_lot, with_number};
+ghost use Rattle.lot_inv.specs.Inventory.{NumbersLots, StoresMore, added_lot, as_entries, fitting, lots_of, matching, non_zero, nothing, only_lots, opened_at, opening_at, other_sign, reduces, sum, units_at, with_lot, with_number};
+ghost use Rattle.lot_inv.specs.Days.{AreLentOf, Counts, gone_through, numbered};
 ghost use Rattle.lot_inv.specs.Lot.{AreNumberedBy, key_and_units};
 ghost use Rattle.lot_cost.specs.CostSpec.{fits};
 ghost use Rattle.lot_inv.specs.Zeros.{HasNoZeros};
@@ -17,6 +18,7 @@ ghost use Rattle.lot_inv.specs.Holding.{AreAlike, AreHoldings, ChangesPosition, 
 ghost use Rattle.lot_cost.specs.declared.lot_key.LotKey.{LotKey};
 ghost use Rattle.lot_inv.specs.declared.fault.InventoryFault.TheVariants.{Memory, Range};
 
+use crate::days::Days;
 use crate::fault::InventoryFault;
 use crate::lot::{LentLot, Lot};
 use lot_base::Commodity;
@@ -24,12 +26,13 @@ use lot_cost::{CostSpec, LotKey};
 use lot_num::{Rate, Units, Wide};
 use std::alloc::{AllocError, Global};
 use std::collections::BTreeMap;
+use std::collections::btree_map::Iter;
 use std::marker::Model;
 
 /// What is held of each commodity, plain and lot by lot, and the opening number of each lot.
 ///
-/// A contract sees an inventory as two finite maps: from positions (a commodity, and the key of a lot or none) to units that
-/// aren't zero, and from the lots among them to their opening numbers.
+/// A contract sees an inventory as two finite maps. One has the units of each position, which are never zero. A position is a
+/// commodity with the key of a lot, or without one. The other map has the opening numbers of the lots.
 #[derive(Drop)]
 pub struct Inventory {
     alloc: Global,
@@ -50,7 +53,7 @@ struct OpenLot {
     opening: u64,
 }
 
-/// Lots that units may take.
+/// Lots that units may take: all of them, or several that hold more than the units.
 #[derive(Clone, Copy, Debug)]
 pub struct Available {
     /// How many they are.
@@ -87,8 +90,8 @@ impl Inventory {
         }
     }
 
-    /// Returns the units of a commodity in the lot of that key, or without a key its plain units. They are zero where
-    /// none are held.
+    /// Returns the units of a commodity in the lot of that key. Without a key it is the plain units. They are zero where none
+    /// are held.
     pub fn units(&self, commodity: &Commodity, key: Option<&LotKey>) -> Units
         ensures value { result ≡ units_at self.now.held (commodity.now, option_copied key.entry) }
         ensures held { finite.get self.now.held (commodity.now, option_copied key.entry) ≡ non_zero result }
@@ -109,8 +112,8 @@ impl Inventory {
         }
     }
 
-    /// No position holds zero units, and each lot that is held has an opening number. It does nothing: its contract tells
-    /// this to a caller.
+    /// States for a caller that no position holds zero units, and that each lot that is held has an opening number. It does
+    /// nothing.
     pub fn has_no_zeros(&self)
         ensures no_zeros { HasNoZeros self.now.held }
         ensures numbered { NumbersLots self.now }
@@ -155,8 +158,8 @@ impl Inventory {
         }
     }
 
-    /// Returns the lots of a commodity that a specification fits, in the order of their keys. The only error is out of
-    /// memory, and comes only where some lot fits.
+    /// Returns the lots of a commodity that a specification fits, in the order of their keys. The only error is out of memory.
+    /// It comes only where some lot fits.
     pub fn matching(&self, commodity: &Commodity, spec: &CostSpec) -> Result<Vec<Lot>, AllocError>
         ensures all { IfOk result (λ lots. map key_and_units lots.items ≡ matching self.now.held commodity.now spec.now) }
         ensures numbers { IfOk result (λ lots. AreNumberedBy (opening_at self.now commodity.now) lots.items) }
@@ -169,8 +172,9 @@ impl Inventory {
         }
     }
 
-    /// Returns how many lots of a commodity units may take at a number, and what these hold: the lots of the other sign that
-    /// the specification fits, with that number where one is given. It takes no memory.
+    /// Returns how many lots of a commodity units may take at a number, and what these lots hold. They are the lots of the
+    /// other sign that the specification fits. Where a number is given they have that number. All of them are counted, or only
+    /// the first ones, where these are two or more and hold more than the units. It takes no memory.
     ///
     /// The specification has that number itself, or none.
     pub fn available(
@@ -181,10 +185,8 @@ impl Inventory {
         spec: &CostSpec,
     ) -> Available
         requires { (spec.now.number ≡ None) ⊎ (spec.now.number ≡ number.now) }
-        ensures lots { result.lots
-            ≡ length (fitting self.now.held commodity.now units (with_number number.now spec.now)) }
-        ensures held { result.held
-            ≡ held_in (fitting self.now.held commodity.now units (with_number number.now spec.now)) }
+        ensures { Counts (unsigned_abs units) result.lots result.held
+            (fitting self.now.held commodity.now units (with_number number.now spec.now)) }
     {
         match self.held.get(commodity) {
             Some(holding) => holding.available(units, number, spec),
@@ -192,30 +194,32 @@ impl Inventory {
         }
     }
 
-    /// Returns the lots that `available` counts, in the order of their keys, which aren't copied. The only error is out of memory.
+    /// Returns the lots that units may take at a number, of these days: day by day, each day whole, until they hold the units.
+    /// Their keys are lent, not copied. The only error is out of memory.
     ///
     /// The specification has that number itself, or none.
     pub fn takeable(
         &self,
         commodity: &Commodity,
+        days: Days,
         units: Units,
         number: &Option<Rate>,
         spec: &CostSpec,
     ) -> Result<Vec<LentLot<'_>>, AllocError>
         requires { (spec.now.number ≡ None) ⊎ (spec.now.number ≡ number.now) }
-        ensures all { IfOk result (λ lots. map key_and_units lots.items
-            ≡ fitting self.now.held commodity.now units (with_number number.now spec.now)) }
-        ensures numbers { IfOk result (λ lots.
-            AreNumberedBy (opening_at self.now commodity.now) lots.items) }
+        ensures { let all = fitting self.now.held commodity.now units
+            (with_number number.now spec.now)
+            in IfOk result (λ lots. AreLentOf days (unsigned_abs units)
+            (numbered (opening_at self.now commodity.now) all) lots.items) }
     {
         match self.held.get(commodity) {
-            Some(holding) => holding.takeable(self.alloc, units, number, spec),
+            Some(holding) => holding.takeable(self.alloc, days, units, number, spec),
             None => Ok(Vec::new(self.alloc)),
         }
     }
 
-    /// Returns an inventory of the lots of a commodity alone, each with its units and its opening number: no plain units, and
-    /// no other commodity. The only error is out of memory, and comes only where there is such a lot.
+    /// Returns an inventory of the lots of a commodity alone, each with its units and its opening number. It has no plain
+    /// units, and no other commodity. The only error is out of memory. It comes only where there is such a lot.
     pub fn only_lots(&self, commodity: &Commodity) -> Result<Inventory, AllocError>
         ensures lots { IfOk result (λ inventory. inventory.held ≡ only_lots self.now.held commodity.now) }
         ensures openings { IfOk result (λ inventory. (lot : LotKey)
@@ -229,7 +233,7 @@ impl Inventory {
     }
 
     /// Returns all that is held, a row for each position: by commodity, the plain units first, then the lots in the order of
-    /// their keys. The only error is out of memory, and comes only where something is held.
+    /// their keys. The only error is out of memory. It comes only where something is held.
     pub fn rows(&self) -> Result<Vec<(Commodity, Option<LotKey>, Units)>, AllocError>
         ensures all { IfOk result (λ rows. as_entries rows.items ≡ finite.entries self.now.held) }
         ensures memory { OnErr result (finite.entries self.now.held ≢ []) }
@@ -241,12 +245,12 @@ impl Inventory {
         Ok(rows)
     }
 
-    /// Adds units to the lot of that key, or without a key to the plain units. What becomes zero is held no more. A lot that
-    /// isn't held is opened under the opening number, and one that is keeps its own; plain units have none.
+    /// Adds units to the lot of that key. Without a key it adds them to the plain units. A position that becomes zero is no
+    /// longer held. A lot that isn't held is opened under the opening number. A lot that is held keeps its own, and plain units
+    /// have none.
     ///
-    /// The error is `Range` exactly where the sum is out of range. It is `Memory` only where units that aren't zero are
-    /// added to a lot that isn't held, or to plain units of a commodity of which nothing is held. On an error nothing
-    /// changes.
+    /// The error is `Range` exactly where the sum is out of range. It is `Memory` only where units that aren't zero are added
+    /// to a lot that isn't held, or to plain units of a commodity of which nothing is held. On an error nothing changes.
     pub fn add(
         &mut self,
         commodity: &Commodity,
@@ -272,8 +276,8 @@ impl Inventory {
         Ok(())
     }
 
-    /// Sets the units in the lot of that key and its opening number, or without a key the plain units, which have none. Zero
-    /// units are held no more.
+    /// Sets the units in the lot of that key, and its opening number. Without a key it sets the plain units, which have no
+    /// opening number. A position that is set to zero is no longer held.
     ///
     /// The only error is out of memory. It comes only where units that aren't zero are set in a lot that isn't held, or as
     /// plain units of a commodity of which nothing is held. On an error nothing changes.
@@ -382,16 +386,19 @@ impl Holding {
         Ok(fitting)
     }
 
-    /// Returns how many of the lots units may take at a number, and what these hold.
+    /// Returns how many of the lots units may take at a number, and what these hold: all of them, or several that hold more
+    /// than the units.
     fn available(&self, units: Units, number: &Option<Rate>, spec: &CostSpec) -> Available
         requires { (spec.now.number ≡ None) ⊎ (spec.now.number ≡ number.now) }
-        ensures lots { result.lots
-            ≡ length (takeable units (with_number number.now spec.now) (units_in self.now.lots.entries)) }
-        ensures held { result.held
-            ≡ held_in (takeable units (with_number number.now spec.now) (units_in self.now.lots.entries)) }
+        ensures { Counts (unsigned_abs units) result.lots result.held
+            (takeable units (with_number number.now spec.now) (units_in self.now.lots.entries)) }
     {
+        let wanted = u128::from(units.mantissa().unsigned_abs());
         let mut available = Available { lots: 0, held: 0 };
         for (key, lot) in &self.lots {
+            if 1 < available.lots && wanted < available.held {
+                return available;
+            }
             if is_other_sign(lot.units, units) && fits_at(number, spec, key) {
                 available.lots += 1;
                 available.held += u128::from(lot.units.mantissa().unsigned_abs());
@@ -400,20 +407,28 @@ impl Holding {
         available
     }
 
-    /// Returns the lots that `available` counts, in the order of their keys.
+    /// Returns the lots of these days that units may take at a number, day by day until they hold the units.
     fn takeable(
         &self,
         alloc: Global,
+        days: Days,
         units: Units,
         number: &Option<Rate>,
         spec: &CostSpec,
     ) -> Result<Vec<LentLot<'_>>, AllocError>
-        requires { (spec.now.number ≡ None) ⊎ (spec.now.number ≡ number.now) }
-        ensures { IfOk result (λ lots. lots.items ≡ takeable_lots units
-            (with_number number.now spec.now) (listed self.now.lots.entries)) }
+        requires number { (spec.now.number ≡ None) ⊎ (spec.now.number ≡ number.now) }
+        requires holding { IsHolding self.now }
+        ensures { IfOk result (λ lots. AreLentOf days (unsigned_abs units)
+            (takeable_lots units (with_number number.now spec.now) (listed self.now.lots.entries))
+            lots.items) }
     {
+        let mut left = units.mantissa().unsigned_abs();
         let mut lots = Vec::new(alloc);
-        for (key, lot) in &self.lots {
+        let mut entries = self.lots.iter();
+        while let Some((key, lot)) = next(days, &mut entries) {
+            if left == 0 && days.is_past(&lots, key) {
+                return Ok(lots);
+            }
             if is_other_sign(lot.units, units) && fits_at(number, spec, key) {
                 let OpenLot { units, opening } = *lot;
                 lots.push(LentLot {
@@ -421,6 +436,7 @@ impl Holding {
                     units,
                     opening,
                 })?;
+                left = left.saturating_sub(units.mantissa().unsigned_abs());
             }
         }
         Ok(lots)
@@ -460,6 +476,18 @@ impl Holding {
             total = plus(total, lot.units);
         }
         total
+    }
+}
+
+/// Returns the lot that comes next as these days are gone through.
+fn next<'a>(days: Days, lots: &mut Iter<'a, LotKey, OpenLot>) -> Option<(&'a LotKey, &'a OpenLot)>
+    ensures none { IfNone result (gone_through days lots.old ≡ []) }
+    ensures some { IfSome result (λ lot. gone_through days lots.old
+        ≡ (lot.0.now, lot.1.now) ∷ gone_through days lots.new) }
+{
+    match days {
+        Days::All | Days::First => lots.next(),
+        Days::Last => lots.next_back(),
     }
 }
 
@@ -505,7 +533,8 @@ fn list_lots(
     Ok(())
 }
 
-/// Sets the units at a position, and the opening number where it is a lot. Only a lot that isn't held yet, or a commodity of which nothing is held, needs memory.
+/// Sets the units at a position and, for a lot, its opening number. It needs memory only for a lot that isn't held yet, or for
+/// a commodity of which nothing is held.
 fn set(
     held: &mut BTreeMap<Commodity, Holding>,
     alloc: Global,
@@ -556,7 +585,7 @@ fn forget_if_empty(held: &mut BTreeMap<Commodity, Holding>, commodity: &Commodit
     }
 }
 
-/// Sets the units of a lot and its opening number. It is held no more where they are zero. A lot that is held already changes
+/// Sets the units of a lot and its opening number. At zero units the lot is no longer held. A lot that is held already changes
 /// in place.
 fn set_lot(
     lots: &mut BTreeMap<LotKey, OpenLot>,

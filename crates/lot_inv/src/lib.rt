@@ -3,16 +3,19 @@
 //! Lot keys and cost specifications are those of `lot_cost`.
 //!
 //! - `inventory`: `Inventory`, the units of each position of an account, and `Available`, the lots that units may take.
+//! - `days`: `Days`, of which days lots are lent.
 //! - `lot`: `Lot`, a lot that is held, and `LentLot`, one whose key is lent.
 //! - `fault`: `InventoryFault`, why units aren't added.
 //! - `laws`: what holds of the definitions that the contracts cite.
 #![tactic(auto)]
 
+mod days;
 mod fault;
 mod inventory;
 pub mod laws;
 mod lot;
 
+pub use days::Days;
 pub use fault::InventoryFault;
 pub use inventory::{Available, Inventory, is_other_sign};
 pub use lot::{LentLot, Lot};

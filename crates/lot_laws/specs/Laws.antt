@@ -145,7 +145,7 @@ lot_at account commodity lot = record { account = account; commodity = commodity
 abbrev pub bought_into : List Booked → Position → ℤ
 bought_into booked lot = sum_at (legs_in (filter (λ (b : Booked). not b.reduces) booked)) lot
 
--- what was ever sold of it: the units of the legs there of all postings that take lots away, with their sign, which is below
--- zero where what they take is above it
+-- What was ever sold of it: the units of the legs there of all postings that take lots away. They have their sign, which is
+-- below zero where what they take is above it.
 abbrev pub sold_of : List Booked → Position → ℤ
 sold_of booked lot = sum_at (legs_in (filter (λ (b : Booked). b.reduces) booked)) lot

@@ -1,4 +1,4 @@
-//! Laws of books: of their entries, of what they hold, and of what judging commands leaves. Each holds in either edition; a
+//! Laws of books: of their entries, of what they hold, and of what judging commands leaves. Each holds in either edition. A
 //! book of the program (`IsBook`) is one of edition 2 (`IsBookIn` with its place of migration).
 ghost use Rattle.std.specs.Prelude.{◌≡◌, ◌≢◌, ℕ, ℤ, pos, true, Some, List, [], ◌∷◌, ◌++◌, ◌+ℤ◌, neg_ℤ};
 ghost use Rattle.lot_cost.specs.declared.method.Method.TheVariants.{Unmatched};
@@ -32,8 +32,8 @@ pub fn what_an_account_holds_is_the_sum_of_its_legs()
         → units_at (inventory_of legs p.account) (p.commodity, p.lot) ≡ sum_at legs p }
 {}
 
-/// Each transaction of a book balances: its legs are those of its postings as they are booked on the entries before it,
-/// and in each currency the weights of the booked postings and of the elided posting's legs sum to zero, exactly.
+/// Each transaction of a book balances. Its legs are those of its postings as they are booked on the entries before it. In each
+/// currency the weights of the booked postings and of the elided posting's legs sum to zero, exactly.
 pub fn every_transaction_balances()
     ensures { (migration : Migration) (before more : List Entry) (key : Key)
         (t : TransactionOf) (legs : List Leg)
@@ -41,8 +41,8 @@ pub fn every_transaction_balances()
         → IsBalanced (ties_in (edition_on migration before) before) (facts_of before key) t legs }
 {}
 
-/// In every book the units of a commodity that an account holds in lots are those that its commands bought there less
-/// those that they sold.
+/// In every book the units of a commodity that an account holds in lots are those that its commands bought there, less those
+/// that they sold there.
 pub fn units_held_in_lots_are_those_bought_less_those_sold()
     ensures { (migration : Migration) (entries : List Entry) (account commodity : List ℕ)
         → IsBookIn migration entries
@@ -64,9 +64,9 @@ pub fn the_keys_of_a_book_are_distinct()
         → IsBookIn migration entries → HaveOneKeyEach entries }
 {}
 
-/// An accepted command stands under its key. A command under a key that stands with its text repeats an entry, and does
-/// nothing else; so it may be taken out of any list of commands, or put in at any place, and the
-/// verdicts on the others and the book after them are the same. It holds whichever edition judges on each book.
+/// An accepted command stands under its key. A command repeats an entry where its key stands with its text; it does nothing
+/// else. So such a command may be taken out of any list of commands, or put in at any place. The verdicts on the others and the
+/// book after them stay the same. This holds whichever edition judges on each book.
 pub fn an_equal_command_may_be_taken_out()
     ensures stands { (edition : Edition) (book : List Entry) (key : Key) (command : Command)
         (legs : List Leg) → StepIn edition book key command (Accept legs)
@@ -91,9 +91,9 @@ pub fn an_equal_command_may_be_taken_out()
         (earlier ++ Repeated ∷ later) result }
 {}
 
-/// A key acts once. The text of an accepted command stands under its key, and it remains there whatever is judged later. A
-/// command under a key that stands is a repeat where its text is the one that stands there, and is refused where it is
-/// another one; both leave the book as it was.
+/// A key acts once. The text of an accepted command stands under its key, and stays there whatever is judged later. A command
+/// under a key that stands is a repeat where its text is the one that stands there. Where its text is another one, it is
+/// refused. Both leave the book as it was.
 pub fn a_key_acts_once()
     ensures stands { (edition : Edition) (before after : List Entry) (key : Key) (command : Command)
         → JudgesBy edition before key command Accepted after
@@ -114,8 +114,8 @@ pub fn a_key_acts_once()
         → (verdict ≡ Refused KeyReused) × (after ≡ before) }
 {}
 
-/// In every book the cost of the lots of a commodity that an account holds, in each currency, is what the postings with
-/// braces there weigh in it.
+/// In every book the cost of the lots of a commodity that an account holds is, in each currency, what its postings with braces
+/// weigh there.
 pub fn the_cost_of_lots_is_the_weight_of_their_postings()
     ensures booked { (migration : Migration) (entries : List Entry) → IsBookIn migration entries
         → (booked : List Booked) × BooksEntries migration [] entries booked }
@@ -125,8 +125,8 @@ pub fn the_cost_of_lots_is_the_weight_of_their_postings()
         ≡ sum_in (weights_at_cost account commodity booked) currency }
 {}
 
-/// A booked posting that takes lots away has a leg for each of them, with the sign of its units, and the legs add up to
-/// its units.
+/// A booked posting that takes lots away has a leg for each of them. Each leg has the sign of the posting's units, and the legs
+/// add up to these units.
 pub fn the_legs_of_a_sale_add_up_to_its_units()
     ensures { (line : Line) (booked : Booked) → IsBooked line booked → booked.reduces ≡ true
         → (lots : List (LotKey × ℤ)) × AreLegsOf line.amount.units lots
@@ -134,7 +134,7 @@ pub fn the_legs_of_a_sale_add_up_to_its_units()
 {}
 
 /// In every book, what was bought into a lot and what was sold of it, with its sign, add up to what is left of it. All three
-/// are sums over all entries: a lot that was sold out may be opened again under its key.
+/// are sums over all entries, since a lot that was sold out may be opened again under its key.
 pub fn what_was_bought_into_a_lot_is_sold_or_left()
     ensures { (migration : Migration) (entries : List Entry) (booked : List Booked)
         (account commodity : List ℕ) (lot : LotKey) → BooksEntries migration [] entries booked
@@ -142,7 +142,7 @@ pub fn what_was_bought_into_a_lot_is_sold_or_left()
         ≡ bought_into booked (lot_at account commodity lot) +ℤ sold_of booked (lot_at account commodity lot) }
 {}
 
-/// In every book nothing is sold of a lot of an account whose method is NONE: what is held of it is what was bought, where a
+/// In every book nothing is sold of a lot of an account whose method is NONE. What is held of the lot is what was bought; a
 /// posting of the other sign counts with its sign.
 pub fn nothing_is_sold_under_none()
     ensures { (migration : Migration) (entries : List Entry) (booked : List Booked)
@@ -152,8 +152,8 @@ pub fn nothing_is_sold_under_none()
         → sold_of booked (lot_at account commodity lot) ≡ pos 0 }
 {}
 
-/// Commands, each under a key, are judged in one way, whichever edition judges on each book: there is one list of verdicts,
-/// and one list of entries after them, which is a book where the list before them was.
+/// Commands, each under a key, are judged in one way, whichever edition judges on each book. There is one list of verdicts, and
+/// one list of entries after them. These are a book where the entries before them were one.
 pub fn judged_commands_make_a_book()
     ensures some { (edition : List Entry → Edition) (before : List Entry)
         (commands : List (Key × Command))

@@ -1,5 +1,5 @@
-//! Laws of the editions: which of them judges on a book, and how each decides ties. The program judges by edition 2;
-//! entries up to a place of migration were judged by edition 1.
+//! Laws of the editions: which of them judges on a book, and how each decides ties. The program judges by edition 2. Entries up
+//! to a place of migration were judged by edition 1.
 ghost use Rattle.std.specs.Prelude.{◌≡◌, ◌≢◌, ◌↔◌, true, ℕ, ◌≤◌, List, [], ◌∷◌, ◌++◌, length, ℤ};
 ghost use Rattle.std.specs.List.{Contains};
 ghost use Rattle.lot_cost.specs.declared.cost.Cost.{Cost};
@@ -25,8 +25,8 @@ ghost use Rattle.lot_book.specs.Step.{Accept, Step, StepIn};
 ghost use Rattle.lot_laws.specs.Worked.{added_to, bought_each, broker, hool, lot_a, lot_b};
 ghost use Rattle.lot_laws.specs.Worked.{reopened, reopened_within};
 
-/// Up to its place of migration a book is one of edition 1, and the other way round. The first entries of a book are a
-/// book with the same place.
+/// A list of entries that isn't longer than the place of migration is a book exactly where it is a book of edition 1. The first
+/// entries of a book are a book with the same place.
 pub fn a_book_up_to_its_place_of_migration_is_of_edition_1()
     ensures place { (place : ℕ) (entries : List Entry) → length entries ≤ place
         → IsBookIn (After place) entries ↔ IsBookIn NotYet entries }
@@ -34,7 +34,7 @@ pub fn a_book_up_to_its_place_of_migration_is_of_edition_1()
         → IsBookIn migration (entries ++ more) → IsBookIn migration entries }
 {}
 
-/// Behind its place of migration a book goes on by edition 2: with one more entry it is a book exactly where the step of
+/// Behind its place of migration a book goes on by edition 2. With one more entry it is a book exactly where the step of
 /// edition 2 accepts the entry's command with its legs. The first such entry stands right behind as many as the place says.
 /// There all commands are judged by edition 2.
 pub fn a_book_behind_its_place_of_migration_is_of_edition_2()
@@ -48,8 +48,8 @@ pub fn a_book_behind_its_place_of_migration_is_of_edition_2()
         ↔ JudgesAll before commands verdicts after }
 {}
 
-/// The edition that judges on a book of edition 2 is the second. No entries are such a book, a migrated book of edition 1 is
-/// one, and with the entry of a command that edition 2 accepts it remains one.
+/// Edition 2 judges on a book of edition 2. The empty list of entries is such a book, and so is a migrated book of edition 1.
+/// With the entry of a command that edition 2 accepts, such a book remains one.
 pub fn a_book_of_edition_2_goes_on_by_edition_2()
     ensures second { (entries : List Entry) (book : IsBook entries)
         → edition_on (After book.place) entries ≡ Second }
@@ -60,15 +60,15 @@ pub fn a_book_of_edition_2_goes_on_by_edition_2()
         → IsBook (before ++ entry_of key command legs ∷ []) }
 {}
 
-/// However ties are decided, the order of each method is an order of lot keys, and STRICT lists its legs in the order of
-/// their keys.
+/// However ties are decided, the order of each method is an order of lot keys. STRICT lists its legs in the order of their
+/// keys.
 pub fn each_method_has_an_order_however_ties_are_decided()
     ensures order { (ties : Ties) (method : Method) → IsOrder (order_by ties method) }
     ensures strict { (ties : Ties) → order_by ties Strict ≡ oldest_first }
 {}
 
-/// No two of the lots among which a posting chooses have one opening number, over the legs of a book of either edition and
-/// of the postings before it; so in edition 2 the order of keys never decides.
+/// No two of the lots among which a posting chooses have one opening number, over the legs of a book of either edition and of
+/// the postings before it. So in edition 2 the order of keys never decides.
 pub fn lots_to_choose_among_have_distinct_opening_numbers()
     ensures chosen_among { (migration : Migration) (book : List Entry) (key : Key) (day : ℤ)
         (postings : List Posting) (booked : List Booked) → IsBookIn migration book
@@ -82,9 +82,11 @@ pub fn lots_to_choose_among_have_distinct_opening_numbers()
         ≢ opening_in (legs_of book ++ legs_in booked) account amount.commodity b.0 }
 {}
 
-/// Two lots of one day and one cost, the second by its label bought first. In edition 1 the label decides between them; in
-/// edition 2 the opening does, under each method. A lot that is added to keeps its number; one that is emptied and opened
-/// again, also by another posting of one transaction, has that of its last opening.
+/// Two lots have one day and one cost, and the second by its label was bought first. In edition 1 the label decides between
+/// them. In edition 2 the opening does, under each method.
+///
+/// A lot that is added to keeps its number. A lot that is emptied and opened again, also by another posting of one transaction,
+/// has the number of its last opening.
 pub fn lots_of_one_day_are_taken_as_they_were_opened()
     ensures by_key { oldest_by ByKey lot_a lot_b ≡ true }
     ensures numbers { (opening_in bought_each broker hool lot_b ≡ 257)

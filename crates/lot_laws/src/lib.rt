@@ -1,7 +1,7 @@
 //! Laws of what a book says, of what commands come to on it, and of sales. Each is the contract of a function that does
 //! nothing.
 //!
-//! - `steps`: what a command comes to.
+//! - `steps`: the outcome of a command.
 //! - `books`: entries of a book of either edition, what they hold, and judging a list of commands.
 //! - `gains`: sales and their gains.
 //! - `opening_numbers`: which lot was opened before which, and the orders by that.

@@ -1,4 +1,4 @@
-//! Laws of opening numbers, and of the orders by them, by which edition 2 decides ties: on any legs, or in a book of either
+//! Laws of opening numbers, by which edition 2 decides ties, and of the orders by them: on any legs, or in a book of either
 //! edition.
 ghost use Rattle.std.specs.Prelude.{◌≡◌, ◌≢◌, ◌↔◌, ℕ, ◌+◌, ◌<◌, ◌≤◌, ◌*◌, Some, None, List, [], ◌∷◌, ◌++◌, length, All, ℤ, pos};
 ghost use Rattle.std.specs.List.{Contains};
@@ -19,8 +19,8 @@ ghost use Rattle.lot_laws.specs.Laws.{lot_at};
 ghost use Rattle.lot_book.specs.OpeningNumber.{HasOpeningNumber, IsLastToOpen, IsNumbered, StayInRange};
 ghost use Rattle.lot_book.specs.OpeningNumber.{opening_number, posting_number};
 
-/// A lot has an opening number exactly where some units are held in it, and only one, which the definition that computes
-/// answers.
+/// A lot has an opening number exactly where some units are held in it. It has only one, and the definition that computes it
+/// gives that one.
 pub fn a_lot_has_one_opening_number()
     ensures held { (legs : List Leg) (account commodity : List ℕ) (lot : LotKey)
         → (units_at (inventory_of legs account) (commodity, Some lot) ≢ pos 0)
@@ -31,8 +31,8 @@ pub fn a_lot_has_one_opening_number()
         → (opening_number legs lot ≡ Some number) ↔ HasOpeningNumber legs lot number }
 {}
 
-/// A leg changes the opening number of its lot alone, and that only where the lot held nothing or holds nothing then: a lot
-/// that it opens has the number of its posting, one that it empties has none, and any other keeps its own.
+/// A leg changes the opening number of its lot alone, and only where the lot held nothing before it or holds nothing after it.
+/// A lot that it opens has the number of its posting. A lot that it empties has none. Any other lot keeps its own.
 pub fn a_leg_changes_the_opening_number_of_its_lot_alone()
     ensures elsewhere { (legs : List Leg) (leg : Leg) (lot : Position) → leg.position ≢ lot
         → opening_number (legs ++ leg ∷ []) lot ≡ opening_number legs lot }
@@ -46,8 +46,8 @@ pub fn a_leg_changes_the_opening_number_of_its_lot_alone()
         → opening_number (legs ++ leg ∷ []) leg.position ≡ None }
 {}
 
-/// The number of a leg's posting in a book of either edition: the place of the posting, from 1, behind as many numbers for
-/// each entry before its own as a transaction may have postings.
+/// A leg's posting has a number in a book of either edition. It is the place of the posting, from 1, plus the most postings of
+/// a transaction for each entry before its own.
 pub fn a_posting_is_numbered_by_its_place_in_the_book()
     ensures number { (migration : Migration) (before more : List Entry) (entry : Entry) (leg : Leg)
         → IsBookIn migration (before ++ entry ∷ more) → Contains entry.legs leg
@@ -60,8 +60,8 @@ pub fn a_posting_is_numbered_by_its_place_in_the_book()
         → leg.posting ≤ most_postings }
 {}
 
-/// The legs of a book of either edition are numbered within the limits of entries and of postings, and however many of them
-/// are booked so far, what they leave at a position is in the range of units. Computing opening numbers from legs asks both.
+/// The legs of a book of either edition are numbered within the limits of entries and of postings. However many of them are
+/// booked so far, what they leave at a position is in the range of units. Computing opening numbers from legs requires both.
 pub fn the_legs_of_a_book_are_numbered()
     ensures numbered { (migration : Migration) (entries : List Entry)
         → IsBookIn migration entries → All IsNumbered (legs_of entries) }
@@ -79,8 +79,8 @@ pub fn no_two_lots_of_a_book_share_an_opening_number()
         → lot_at account commodity lot ≡ lot_at other name key }
 {}
 
-/// Of two lots of a book of either edition the one that was opened first has the smaller opening number: the leg that opened
-/// it stands before the one that opened the other.
+/// Of two lots of a book of either edition, the one that was opened first has the smaller opening number. The leg that opened
+/// it stands before the leg that opened the other.
 pub fn the_lot_opened_first_has_the_smaller_number()
     ensures ascending { (migration : Migration) (entries : List Entry)
         (account commodity other name : List ℕ) (lot key : LotKey) (a b : Leg)
@@ -90,7 +90,8 @@ pub fn the_lot_opened_first_has_the_smaller_number()
         → length first.before < length second.before → posting_number a < posting_number b }
 {}
 
-/// In a book of either edition an opening number is at least 1, and at most that of the last posting that there could be.
+/// In a book of either edition an opening number is at least 1, and at most the number of the last posting that a book can
+/// have.
 pub fn opening_numbers_count_from_one()
     ensures least { (migration : Migration) (entries : List Entry)
         (account commodity : List ℕ) (lot : LotKey) (number : ℕ) → IsBookIn migration entries
@@ -108,8 +109,8 @@ pub fn the_orders_by_opening_are_orders()
     ensures highest { (opening : LotKey → ℕ) → IsOrder (by_opening highest_opened_cmp opening) }
 {}
 
-/// Where two lots have distinct opening numbers, as in a book, the order of keys never decides between them: they are
-/// ordered by day, or by number, and then by opening.
+/// Where two lots have distinct opening numbers, as in a book, the order of keys never decides between them. They are ordered
+/// by day, or by number, and then by opening.
 pub fn distinct_openings_decide_ties()
     ensures oldest { (a b : OpenedLot) → a.1 ≢ b.1
         → oldest_opened_cmp a b ≡ ordering_then (int_cmp a.0.day b.0.day) (nat_cmp a.1 b.1) }

@@ -18,8 +18,8 @@ ghost use Rattle.lot_book.specs.Openings.{opening_after, recorded_with_openings,
 ghost use Rattle.lot_book.specs.Recorded.{facts_in};
 ghost use Rattle.lot_book.specs.Step.{Accept, DecidesUnder, Outcome, StepIn};
 
-/// Further legs make of the opening numbers of a book those over its legs and the further ones, of each lot that holds
-/// something then.
+/// Further legs turn the opening numbers of a book into those over the legs of the book and the further legs, for each lot that
+/// then holds something.
 pub fn further_legs_make_the_opening_numbers_over_all_legs()
     ensures numbers { (known : FactsWithOpenings) (book : List Entry) (key : Key) (legs : List Leg)
         (account commodity : List ℕ)
@@ -29,8 +29,8 @@ pub fn further_legs_make_the_opening_numbers_over_all_legs()
         (opening_in (legs_of book ++ legs) account commodity) }
 {}
 
-/// The step of edition 2 on a book is what the command comes to on the book's facts and opening numbers. Other numbers do
-/// as well, if they are the same for each lot that is held.
+/// The step of edition 2 on a book is the outcome of the command on the book's facts and opening numbers. Other numbers do as
+/// well, if they are the same for each lot that is held.
 pub fn a_step_of_edition_2_is_one_on_facts_with_openings()
     ensures book { (book : List Entry) (key : Key) (command : Command) (outcome : Outcome)
         → StepIn Second book key command outcome
@@ -41,9 +41,11 @@ pub fn a_step_of_edition_2_is_one_on_facts_with_openings()
         → StepIn Second book key command outcome ↔ DecidesByOpening known command outcome }
 {}
 
-/// The facts of a book of either edition, once an accepted command is recorded, are those of the book with its entry, however
-/// ties were decided. So are the opening numbers, of each lot that is held, once those that the change lists are put in; and
-/// putting them in makes of any numbers what the change's legs make of them.
+/// Once an accepted command is recorded, the facts of a book of either edition are those of the book with its entry, however
+/// ties were decided.
+///
+/// Put in the opening numbers that the change lists: then the opening numbers are those of the book with its entry, too, of
+/// each lot that is held. Put into any numbers, they give what the change's legs make of those numbers.
 pub fn what_is_recorded_is_what_the_book_says()
     ensures facts { (ties : TieRule) (migration : Migration) (known : FactsWithOpenings)
         (book : List Entry) (key : Key) (command : Command) (legs : List Leg) (change : Change)

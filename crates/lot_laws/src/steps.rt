@@ -1,4 +1,4 @@
-//! Laws of steps: what a command comes to on what a book says. The program judges by edition 2; entries up to a place of
+//! Laws of steps: the outcome of a command on what a book says. The program judges by edition 2. Entries up to a place of
 //! migration were judged by edition 1.
 ghost use Rattle.std.specs.Prelude.{◌≡◌, List};
 ghost use Rattle.lot_command.specs.declared.command.Command.{Command};
@@ -10,8 +10,8 @@ ghost use Rattle.lot_book.specs.Facts.{Entry, Facts};
 ghost use Rattle.lot_book.specs.Openings.{AgreesWithOpenings, DecidesByOpening, FactsWithOpenings};
 ghost use Rattle.lot_book.specs.Step.{DecidesUnder, Outcome, StepIn};
 
-/// By each edition a command with a key comes to one outcome on every book, and only one: it is accepted with one list of
-/// legs, it repeats an entry, or it is refused for one cause.
+/// By each edition, a command with a key has exactly one outcome on every book. It is accepted with one list of legs, it
+/// repeats an entry, or it is refused for one cause.
 pub fn a_step_has_one_outcome()
     ensures some { (edition : Edition) (book : List Entry) (key : Key) (command : Command)
         → (outcome : Outcome) × StepIn edition book key command outcome }
@@ -20,8 +20,8 @@ pub fn a_step_has_one_outcome()
         → StepIn edition book key command a → StepIn edition book key command b → a ≡ b }
 {}
 
-/// What a command comes to depends on what it looks at alone: facts that agree on that decide it alike. By edition 2 it
-/// looks at the opening numbers of the lots that are held where it posts, beside all that it looks at by edition 1.
+/// The outcome of a command depends only on what it looks at: facts that agree on that give the same outcome. By edition 2 it
+/// looks at all that it looks at by edition 1, and at the opening numbers of the lots that are held where it posts.
 pub fn a_step_looks_at_what_a_command_touches()
     ensures by_opening { (a b : FactsWithOpenings) (command : Command) (outcome : Outcome)
         → AgreesWithOpenings a b command

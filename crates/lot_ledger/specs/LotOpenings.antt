@@ -20,8 +20,8 @@ use Rattle.lot_ledger.specs.declared.opening_numbers.OpenLots.{OpenLots}
 abbrev pub lot_of : LotOpening → Position
 lot_of row = record { account = row.account; commodity = row.commodity; lot = Some row.lot }
 
--- Rows list the openings of the lots that legs leave units in: each row has the opening number of its lot, each lot in which
--- some units are left has a row, and they are in the order of the lots, so that none has two.
+-- Rows list the openings of the lots in which legs leave units. Each row has the opening number of its lot, and each lot in
+-- which some units are left has a row. The rows are in the order of the lots, so that no lot has two.
 pub record ListsOpenings (legs : List Leg) (rows : List LotOpening) : Type 0 where
   pub numbers : All (λ (row : LotOpening). HasOpeningNumber legs (lot_of row) row.opening) rows
   pub every_lot : (lot : Position) → IsSome lot.lot → sum_at legs lot ≢ pos 0 → Contains (map lot_of rows) lot

@@ -84,8 +84,8 @@ fn closed_before(view: &View, day: Day, account: &Account) -> bool
     }
 }
 
-/// Returns `CurrencyNotAllowed` with the first posting whose account was opened with other currencies than its commodity,
-/// if there is one.
+/// Returns `CurrencyNotAllowed` with the first posting whose commodity isn't among the currencies of its account's opening, if
+/// there is one.
 pub(crate) fn every_currency_allowed(view: &View, postings: &[Posting]) -> Result<(), Refusal>
     ensures { MatchResult result (λ _. currency_not_allowed (known view.now) postings.now ≡ None)
         (λ refusal. currency_not_allowed (known view.now) postings.now ≡ Some refusal) }

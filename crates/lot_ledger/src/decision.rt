@@ -31,7 +31,7 @@ use std::alloc::Global;
 use std::collections::BTreeMap;
 use std::mem;
 
-/// What becomes of a command that isn't refused.
+/// The outcome of a command that isn't refused.
 #[derive(Drop)]
 pub enum Outcome {
     /// It is accepted, with this change.
@@ -40,12 +40,12 @@ pub enum Outcome {
     Repeat,
 }
 
-/// Returns what becomes of a command on what a view knows, or why it is refused, or out of memory. The view is that of the
-/// command's key: it has the text that stands under it, if there is one. Ties between lots are decided as the edition says.
+/// Returns the outcome of a command on what a view knows, or why it is refused, or out of memory. The view is that of the
+/// command's key: it has the text that stands under it, if there is one. The edition says how ties between lots are decided.
 ///
-/// Memory may lack where a text stands under the key, since it is compared with that of the command. Where the key is new,
-/// memory may lack for a transaction alone, once the checks before its booking are passed, and where its first posting with an
-/// amount has legs. Those of a posting without braces stay in range then (`MayLackMemory`).
+/// Memory may lack where a text stands under the key, since the command's text is made to compare with it. Where the key is
+/// new, memory may lack only for a transaction. All checks before its booking have then passed, and its first posting with an
+/// amount has legs. Where that posting has no braces, its legs stay in range (`MayLackMemory`).
 pub fn decide(
     alloc: Global,
     edition: Edition,
@@ -106,7 +106,7 @@ fn decide_opening(alloc: Global, view: &View, opening: &Opening) -> Result<Chang
     Ok(no_change(alloc))
 }
 
-/// The same for a closing whose key is new.
+/// Returns the change of a closing whose key is new, or why it is refused. It is the same by each edition.
 fn decide_closing(alloc: Global, view: &View, closing: &Closing) -> Result<Change, Refusal>
     ensures accepted { IfOk result (λ change. (ties : TieRule)
         → Accepts ties (known view.now) (ClosingOf closing.now) change) }
@@ -126,7 +126,7 @@ fn decide_closing(alloc: Global, view: &View, closing: &Closing) -> Result<Chang
     Ok(no_change(alloc))
 }
 
-/// The same for a declaring whose key is new.
+/// Returns the change of a declaring whose key is new, or why it is refused. It is the same by each edition.
 fn decide_declaring(alloc: Global, view: &View, declaring: &Declaring) -> Result<Change, Refusal>
     ensures accepted { IfOk result (λ change. (ties : TieRule)
         → Accepts ties (known view.now) (DeclaringOf declaring.now) change) }
@@ -140,7 +140,7 @@ fn decide_declaring(alloc: Global, view: &View, declaring: &Declaring) -> Result
     Ok(no_change(alloc))
 }
 
-/// The same for a quoting.
+/// Returns the change of a quoting whose key is new, or why it is refused. It is the same by each edition.
 fn decide_quoting(alloc: Global, view: &View) -> Result<Change, Refusal>
     ensures accepted { IfOk result (λ change. (ties : TieRule) (quoting : QuotingParts)
         → Accepts ties (known view.now) (QuotingOf quoting) change) }
@@ -151,7 +151,8 @@ fn decide_quoting(alloc: Global, view: &View) -> Result<Change, Refusal>
     Ok(no_change(alloc))
 }
 
-/// The same for a transaction, by an edition. Each step looks at all postings before the next one does.
+/// Returns the change of a transaction whose key is new, by an edition, or why it is refused. Each step looks at all postings
+/// before the next step does.
 fn decide_transaction(
     alloc: Global,
     edition: Edition,
@@ -221,8 +222,8 @@ fn conclude(
     Ok(change_of(draft, heads))
 }
 
-/// Adds the fill where there is an elided posting, and else returns `NotBalanced` where a residual isn't zero. The residuals
-/// are used up.
+/// Adds the fill where there is an elided posting. Else it returns `NotBalanced` where a residual isn't zero. The residuals are
+/// used up.
 fn take_up(
     alloc: Global,
     view: &View,

@@ -17,9 +17,10 @@ use lot_view::View;
 use std::alloc::{AllocError, Global};
 use std::mem;
 
-/// Adds the legs of the elided posting, which take the residuals. The refusal is `InexactFill`, `FillNotAllowed` or
-/// `Range`, each over all residuals before the next. Memory may lack only where each residual is that of units, the account
-/// allows each that isn't zero, and there is one.
+/// Adds the legs of the elided posting, which take the residuals.
+///
+/// The refusal is `InexactFill`, `FillNotAllowed` or `Range`. Each is tested on all residuals before the next. Memory may lack
+/// only where all residuals are those of units, some residual isn't zero, and the account allows each such currency.
 pub(crate) fn fill(
     alloc: Global,
     view: &View,
@@ -87,8 +88,8 @@ fn fill_exactly(
     draft.tally.post_all(view, legs)
 }
 
-/// Returns `FillNotAllowed` with the first currency whose residual isn't zero and with which the account wasn't opened, if
-/// there is one. Only then the residuals are used up, so the refusal needs no memory.
+/// Returns `FillNotAllowed` with the first currency whose residual isn't zero and which the account's opening doesn't allow, if
+/// there is one. Only then are the residuals used up, so that the refusal needs no memory.
 fn every_fill_allowed(
     alloc: Global,
     view: &View,

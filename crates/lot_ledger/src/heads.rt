@@ -10,8 +10,8 @@ use lot_command::{Amount, Posting, Transaction};
 use std::alloc::{AllocError, Global};
 use std::collections::BTreeMap;
 
-/// Returns the pairs that a transaction posts to with braces, each with its day. The only error is out of memory, and comes
-/// only where there is such a posting.
+/// Returns the pairs that a transaction posts to with braces, each with its day. The only error is out of memory. It comes only
+/// where there is such a posting.
 pub(crate) fn heads_of(
     alloc: Global,
     transaction: &Transaction,

@@ -1,10 +1,10 @@
 //! Whether a command may be done, and what it changes: decisions on what is known of a book.
 //!
-//! - `decision`: what becomes of a command.
+//! - `decision`: the outcome of a command.
 //! - `checks`: the refusals of a transaction that look at its postings and accounts.
 //! - `fill`: the legs of the elided posting.
 //! - `heads`: the latest days of postings with braces.
-//! - `opening_numbers`: which lots legs leave units in, and the posting that opened each.
+//! - `opening_numbers`: the lots in which legs leave units, and the posting that opened each.
 #![tactic(auto)]
 
 mod checks;

@@ -18,16 +18,16 @@ pub struct LotOpening {
     pub account: Account,
     pub commodity: Commodity,
     pub lot: LotKey,
-    /// The number of the posting that opened the lot last: 64 for each entry before its own, and its place there, from 1.
+    /// The number of the posting that opened the lot last: 64 for each entry before its own, plus its place in its own, from 1.
     pub opening: u64,
 }
 
 /// Returns each lot in which legs leave some units, with its opening number, in the order of account, commodity and key. The
-/// legs are those of a book, in its order; those at plain positions don't count. The only error is out of memory, and comes
-/// only where a leg is at a lot.
+/// legs are those of a book, in its order. Legs at plain positions don't count. The only error is out of memory. It comes only
+/// where a leg is at a lot.
 ///
 /// A leg opens a lot that holds nothing before it. So a lot that is emptied and opened again has the number of its last
-/// opening, and one that is added to keeps its own.
+/// opening, and a lot that is added to keeps its own.
 pub fn openings(alloc: Global, legs: &[Leg]) -> Result<Vec<LotOpening>, AllocError>
     requires numbered { All IsNumbered legs.now }
     requires in_range { StayInRange legs.now }
@@ -45,15 +45,14 @@ pub fn openings(alloc: Global, legs: &[Leg]) -> Result<Vec<LotOpening>, AllocErr
     lots.into_openings(alloc)
 }
 
-/// What legs leave in each lot, and the number of the posting that opened it last. The legs are given
-/// one after another, in the order of their book. Memory is taken for each lot that is held, and not
-/// for each leg or for a lot that was emptied.
+/// What legs leave in each lot, and the number of the posting that opened it last. The legs are given one after another, in the
+/// order of their book. Memory is needed for each lot that is held, not for each leg, and not for a lot that was emptied.
 #[derive(Drop)]
 pub struct OpenLots {
     lots: BTreeMap<Position, OpenLot>,
 }
 
-/// Why a leg is not added to the lots.
+/// Why a leg isn't added to the lots.
 #[derive(Clone, Copy, Debug, PartialEq, Eq)]
 pub enum LegFault {
     /// The leg takes the units of its lot out of their range.
@@ -63,7 +62,7 @@ pub enum LegFault {
 }
 
 impl OpenLots {
-    /// Returns what no legs leave.
+    /// Returns the lots before the first leg: none.
     pub fn new(alloc: Global) -> OpenLots
         ensures { Keeps [] result }
     {
@@ -72,9 +71,10 @@ impl OpenLots {
         }
     }
 
-    /// Adds one more leg, behind those so far. A leg at a plain position leaves the lots as they were,
-    /// and so does an error. The range is that of the leg's lot: sums at plain positions are not kept,
-    /// and not tested. Out of memory comes only for a leg at a lot.
+    /// Adds one more leg, behind those so far. A leg at a plain position leaves the lots as they were, and so does an error.
+    ///
+    /// The error is `Range` only where the sum of the leg's lot is out of range; sums at plain positions are not kept, and not
+    /// tested. It is `Memory` only for a leg at a lot.
     pub fn post(&mut self, leg: &Leg) -> Result<(), LegFault>
         requires numbered { IsNumbered leg.now }
         ensures adds { OnOk result ((legs : List Leg) → Keeps legs self.old
@@ -105,9 +105,8 @@ impl OpenLots {
         }
     }
 
-    /// Returns each lot in which the legs leave some units, with its opening number, in the order of
-    /// account, commodity and key. The only error is out of memory, and comes only where a leg was at
-    /// a lot.
+    /// Returns each lot in which the legs leave some units, with its opening number, in the order of account, commodity and
+    /// key. The only error is out of memory. It comes only where a leg was at a lot.
     pub fn into_openings(self, alloc: Global) -> Result<Vec<LotOpening>, AllocError>
         ensures lists { IfOk result (λ rows. (legs : List Leg) → Keeps legs self
             → ListsOpenings legs rows.items) }
@@ -139,8 +138,8 @@ impl OpenLot {
         opening: 0,
     };
 
-    /// Returns the lot with one more leg, which opens it where it holds nothing, or `None` where the
-    /// sum is out of range.
+    /// Returns the lot with one more leg, or `None` where the sum is out of range. The leg opens the lot where it holds nothing
+    /// before.
     fn with(self, leg: &Leg) -> Option<OpenLot>
         requires { IsNumbered leg.now }
         ensures { SomeIff result (IsUnits (self.units +ℤ leg.now.units)) (lot_with self leg.now) }

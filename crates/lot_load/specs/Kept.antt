@@ -16,8 +16,9 @@ seen kept = known kept.view
 abbrev pub seen_with_openings : Kept → FactsWithOpenings
 seen_with_openings kept = known_with_openings kept.view
 
--- What is known is the book's: the number of its entries, nothing but what it says, the opening number of each lot that is
--- held, and of what is known whole all that it says. The text isn't spoken of: it is that of the last command's key.
+-- What is known is the book's: the number of its entries, nothing but what it says, and the opening number of each lot that is
+-- held. Of what is known whole, all that the book says is known. The text isn't spoken of: it is that of the last command's
+-- key.
 pub record Keeps (kept : Kept) (entries : List Entry) : Type 0 where
   pub count : (seen kept).entries ≡ length entries
   pub part : IsPart (facts_in entries) (seen kept)

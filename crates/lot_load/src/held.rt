@@ -20,7 +20,7 @@ use lot_view::View;
 /// Puts the lots of an account and a commodity, each with its units and its opening number.
 ///
 /// The error is `Damaged` exactly where the rows of lots and those of opening numbers don't have the same lots, in the same
-/// order; else it is out of memory.
+/// order. Else it is out of memory.
 pub(crate) fn hold_lots(
     view: &mut View,
     pair: &Pair,
@@ -81,8 +81,8 @@ pub(crate) fn hold_plain(view: &mut View, rows: &[PlainRow]) -> Result<(), Fault
     Ok(())
 }
 
-/// Puts what a book holds at a position, and in a lot its opening number, unless the view holds units there, which are the
-/// book's already with their number. The only error is out of memory.
+/// Puts what a book holds at a position and, for a lot, its opening number. Where the view holds units there already, these are
+/// the book's, and nothing is put. The only error is out of memory.
 pub(crate) fn hold(
     view: &mut View,
     account: &Account,

@@ -14,8 +14,8 @@ use lot_view::{Touched, View};
 use std::alloc::{AllocError, Global};
 use std::collections::BTreeSet;
 
-/// What is known of a book between commands: a view that holds nothing but what the book says, and the things of which it
-/// knows all that the book says.
+/// What is known of a book between commands: a view, and which things it knows whole. The view holds nothing but what the book
+/// says. Of a thing known whole it knows all that the book says.
 ///
 /// It grows with the accounts and commodities that the commands touch, and with what is held there.
 #[derive(Drop)]
@@ -26,7 +26,7 @@ pub struct Kept {
 }
 
 impl Kept {
-    /// Returns what is known of a book with so many entries of which nothing else is.
+    /// Returns what is known of a book with so many entries, of which nothing else is known.
     pub(crate) fn new(alloc: Global, entries: u32) -> Kept
         ensures { (book : List Entry) → entries ≡ length book → Keeps result book }
     {
@@ -62,7 +62,7 @@ impl Kept {
         &self.view
     }
 
-    /// Records an accepted command and what it changes. The error is out of memory; what was known is then lost.
+    /// Records an accepted command and what it changes. The error is out of memory, and what was known is then lost.
     pub fn record(self, command: &Command, change: &Change) -> Result<Kept, AllocError>
         requires { (seen self).entries < most_entries }
         ensures { IfOk result (λ after. (entries : List Entry) (key : Key) → IsBook entries

@@ -17,7 +17,8 @@ use lot_view::{Touched, View};
 use sqlite::{Alter, Connection};
 use std::alloc::Global;
 
-/// Puts what there is in the book of what a command looks at and isn't known whole yet. Then it is.
+/// Puts what the book has of all that a command looks at and that isn't known whole yet. Then it is
+/// known whole.
 pub(crate) fn learn_lacking<S: Alter>(
     alloc: Global,
     conn: &mut Connection<S>,

@@ -2,11 +2,11 @@
 //!
 //! - `look`: all that a command looks at, on what is known already.
 //! - `kept`: what is known between commands.
-//! - `learn`: what there is of what a command looks at.
+//! - `learn`: what the book has of what a command looks at.
 //! - `entry`: the number of entries, and the text under a key.
-//! - `account`: how accounts stand.
+//! - `account`: the state of accounts.
 //! - `commodity`: which commodities are declared.
-//! - `pair`: what there is of an account and a commodity.
+//! - `pair`: what the book has of an account and a commodity.
 //! - `plain`: all plain units of an account.
 //! - `held`: rows of lots with their opening numbers, and of plain units.
 //! - `whole`: sets of what is known whole.

@@ -23,10 +23,12 @@ use std::alloc::Global;
 
 /// Returns what is known of a book once it is looked at for a command with a key.
 ///
-/// It reads the text under the key, and of what the command touches the rows that aren't known yet, each by its key; where
-/// nothing is kept also the number of entries. The error is `Damaged` only where the tables stand for no book, whatever is
-/// kept. Where the text under the key is the canonical text of no command the call fails, whatever the command is; else it
-/// gives that text, or none, whatever else the tables hold.
+/// It reads the text under the key, and each row that the command touches and that isn't known yet, by its key. Where nothing
+/// is kept, it also reads the number of entries.
+///
+/// The error is `Damaged` only where the tables stand for no book, whatever is kept. Where the text under the key is the
+/// canonical text of no command, the call fails, whatever the command is. Else it gives that text, or that there is none,
+/// whatever else the tables hold.
 pub fn look_on<S: Alter>(
     alloc: Global,
     conn: &mut Connection<S>,

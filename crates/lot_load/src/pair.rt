@@ -69,7 +69,7 @@ fn learn_head<S: Alter>(
 
 /// Puts the lots, each with its units and its opening number.
 ///
-/// The error is `Damaged` also where the tables of lots and of opening numbers don't have the same lots there.
+/// The error is `Damaged`, too, where the tables of lots and of opening numbers don't have the same lots there.
 fn learn_lots<S: Alter>(
     alloc: Global,
     conn: &mut Connection<S>,

@@ -1,11 +1,17 @@
 -- A text begins as its escape does.
-use Rattle.std.proofs.Common.{◌≡◌, ◌≢◌, ◌⊎◌, inl, inr, ℕ, ◌+◌, ◌<◌, ◌≤◌, List, [], ◌∷◌, ◌++◌, length, refl, sym, ap, ◌∙◌, arith, append_assoc, length-append}
+use Rattle.std.proofs.Common.{◌≡◌, ◌≢◌, ◌⊎◌, inl, inr, ℕ, ◌+◌, ◌<◌, ◌≤◌, Bool, true, false, eqb, List, [], ◌∷◌, ◌++◌, length, refl, sym, ap, ◌∙◌, arith, append_assoc, length-append}
+use Rattle.std.specs.Prelude.{IsTrue, nat_le, not, ◌||◌}
+use Rattle.std.specs.List.{list_all}
 use Rattle.std.specs.Char.{encode_utf8}
+use Rattle.std.proofs.lemmas.Bool.{and_parts, false≢true, leb-true}
 use Rattle.std.proofs.lemmas.Bool.Decides.{nat_tests}
 use Rattle.std.proofs.lemmas.Grind.{flat_map-append}
 use Rattle.std.proofs.lemmas.List.{append-nil}
 use Rattle.std.proofs.lemmas.Str.{char_from_byte, length-encode, len_utf8_bounds}
+use Rattle.lot_base.specs.Name.{is_note, is_note_byte, longest_note}
 use Rattle.lot_command.specs.Canonical.{escaped, escaped_byte}
+use Rattle.lot_meaning.specs.Checked.{is_plain, text_of}
+use Rattle.lot_meaning.specs.Meaning.{Quotes}
 
 -- ---- One byte.
 
@@ -136,3 +142,60 @@ behind_by c y rest more quote backslash (plain q k e) g =
 pub backslash_before : (c : ℕ) (rest text : List ℕ) → c ≢ 34 → c ≢ 92 → 92 ∷ (encode_utf8 c ++ rest) ≡ escaped text → ⊥
 backslash_before c rest [] quote backslash e = cc
 backslash_before c rest (y ∷ text) quote backslash e = behind_by c y rest (escaped text) quote backslash (written y) e
+
+-- ---- The text of an escape.
+
+plain_front : (x : ℕ) (more : List ℕ) → eqb x 92 ≡ false → text_of (x ∷ more) ≡ x ∷ text_of more
+unfolding text_of
+plain_front x [] k = refl
+plain_front x (c ∷ more) k = rw k refl
+
+other_byte : (x : ℕ) → x ≢ 92 → eqb x 92 ≡ false
+other_byte x k = grind (arith, nat_tests)
+
+front_text : (x : ℕ) (more text : List ℕ) → Written x → text_of more ≡ text → text_of (escaped_byte x ++ more) ≡ x ∷ text
+unfolding text_of
+front_text x more text (behind s e) h =
+    let first : text_of (92 ∷ x ∷ more) ≡ x ∷ text_of more = refl in
+    ap (λ bytes. text_of (bytes ++ more)) e ∙ (first ∙ ap (λ t. x ∷ t) h)
+front_text x more text (plain q k e) h =
+    ap (λ bytes. text_of (bytes ++ more)) e ∙ (plain_front x more (other_byte x k) ∙ ap (λ t. x ∷ t) h)
+
+empty_text : text_of [] ≡ []
+unfolding text_of
+empty_text = refl
+
+pub text_of_escaped : (text : List ℕ) → text_of (escaped text) ≡ text
+text_of_escaped [] = empty_text
+text_of_escaped (x ∷ text) = front_text x (escaped text) text (written x) (text_of_escaped text)
+
+plain_byte : (x : ℕ) (b : Bool) → (eqb x 34 || eqb x 92) ≡ b → not b ≡ true → escaped_byte x ≡ x ∷ []
+plain_byte x true e h = cc
+plain_byte x false e h = rw e refl
+
+-- a part without quotes and backslashes is its own escape
+pub plain_escaped : (part : List ℕ) → list_all is_plain part ≡ true → part ≡ escaped part
+plain_escaped [] e = refl
+plain_escaped (x ∷ part) e =
+    let parts = and_parts (is_plain x) (list_all is_plain part) e in
+    ap (λ more. x ∷ more) (plain_escaped part parts.1) ∙ ap (λ bytes. bytes ++ escaped part) (sym (plain_byte x _ refl parts.0))
+
+pub text_is : (part text : List ℕ) → part ≡ escaped text → text_of part ≡ text
+text_is part text e = ap text_of e ∙ text_of_escaped text
+
+-- the escape of a note means that note
+pub quotes : (part text : List ℕ) (good : Bool) → part ≡ escaped text → good ≡ is_note text → good ≡ true → Quotes is_note part (text_of part)
+quotes part text good e f h =
+    let same = text_is part text e in
+    record { spelled = e ∙ ap escaped (sym same); good = ap is_note same ∙ (sym f ∙ h) }
+
+-- and what is the escape of another text means none
+pub quotes_none : (part text : List ℕ) (good : Bool) → part ≡ escaped text → good ≡ is_note text → good ≡ false
+    → (note : List ℕ) → Quotes is_note part note → ⊥
+quotes_none part text good e f h note q =
+    false≢true (sym h ∙ (f ∙ (ap is_note (one_text text note (sym e ∙ q.spelled)) ∙ q.good)))
+
+-- a note isn't too long
+pub note_length : (note : List ℕ) → IsTrue (is_note note) → length note ≤ longest_note
+unfolding is_note
+note_length note good = leb-true (length note) longest_note (and_parts (nat_le (length note) longest_note) (list_all is_note_byte note) good).0

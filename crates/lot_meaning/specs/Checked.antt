@@ -1,5 +1,5 @@
--- What the parts of a posting mean before anything of it is kept; for the code alone.
-use Rattle.std.specs.Prelude.{ℕ, List, Option, None, option_map}
+-- What the parts of a line mean before anything of it is kept; for the code alone.
+use Rattle.std.specs.Prelude.{ℕ, ◌==◌, ◌||◌, Bool, not, if◌then◌else◌, List, [], ◌∷◌, Option, None, option_map}
 use Rattle.std.specs.Option.{option_or}
 use Rattle.lot_base.specs.Name.{is_commodity, is_label}
 use Rattle.lot_cost.specs.declared.cost_spec.CostSpec.{CostSpec}
@@ -59,3 +59,15 @@ amount_of a = record {
 
 abbrev pub posting_of : CheckedPosting → Posting
 posting_of p = record { account = p.account; amount = option_map amount_of p.amount }
+
+-- ---- Notes.
+
+-- no quote and no backslash
+abbrev pub is_plain : ℕ → Bool
+is_plain byte = not ((byte == 34) || (byte == 92))
+
+-- the text of which this is the escape
+unfoldable pub text_of : List ℕ → List ℕ
+text_of [] = []
+text_of (b ∷ []) = b ∷ []
+text_of (b ∷ c ∷ rest) = if b == 92 then c ∷ text_of rest else b ∷ text_of (c ∷ rest)

@@ -7,11 +7,12 @@ ghost use Rattle.lot_meaning.specs.Checked.{cost_of};
 
 use crate::fault::ValueFault;
 use crate::given::Given;
+use crate::known::KnownNames;
 use crate::value::Total;
 use lot_cost::{Cost, WholeCost};
 use lot_form::CostForm;
 use lot_num::Rate;
-use std::alloc::{AllocError, Global};
+use std::alloc::AllocError;
 
 /// A cost whose parts are within their rules. Nothing of it is kept yet.
 #[derive(Drop)]
@@ -59,13 +60,13 @@ impl<'a> CheckedCost<'a> {
     }
 
     /// Returns the cost, which is kept. The only error is out of memory.
-    pub(crate) fn keep(&self, alloc: Global) -> Result<Cost, AllocError>
+    pub(crate) fn keep(&self, names: &mut KnownNames) -> Result<Cost, AllocError>
         ensures { IfOk result (λ cost. cost ≡ cost_of self.now) }
     {
         match self {
-            CheckedCost::Each(given) => Ok(Cost::Each(given.keep(alloc, given.number)?)),
+            CheckedCost::Each(given) => Ok(Cost::Each(given.keep(names, given.number)?)),
             CheckedCost::Whole(total, given) => {
-                let spec = given.keep(alloc, None)?;
+                let spec = given.keep(names, None)?;
                 match WholeCost::new(total.units(), spec.currency, spec.day, spec.label) {
                     Some(cost) => Ok(Cost::Whole(cost)),
                     // A total isn't below zero.

@@ -7,10 +7,10 @@ ghost use Rattle.lot_form.specs.Header.{seen_text};
 ghost use Rattle.lot_meaning.specs.Meaning.{FirstOutside, Names, commodity_item};
 
 use crate::fault::ValueFault;
-use crate::name::out_of_memory;
+use crate::known::KnownNames;
 use lot_base::Commodity;
 use lot_command::Currencies;
-use std::alloc::{AllocError, Global};
+use std::alloc::AllocError;
 use std::marker::Model;
 
 /// Parts that are commodities, at most 64.
@@ -47,12 +47,12 @@ impl<'w, 'a> CurrencyParts<'w, 'a> {
     }
 
     /// Returns the currencies, which are kept. The only error is out of memory.
-    pub(crate) fn keep(&self, alloc: Global) -> Result<Currencies, AllocError>
+    pub(crate) fn keep(&self, names: &mut KnownNames) -> Result<Currencies, AllocError>
         ensures { IfOk result (λ currencies. currencies ≡ self.now) }
     {
-        let mut items = Vec::new(alloc);
+        let mut items = Vec::new(names.alloc);
         for word in self.words {
-            items.push(Commodity::new(alloc, word).map_err(out_of_memory)?)?;
+            items.push(names.commodities.keep(word)?)?;
         }
         Ok(Currencies::new(items).unwrap())
     }

@@ -1,7 +1,7 @@
 use std::alloc::{AllocError, AllocFailed};
 use thiserror::Error;
 
-/// Why the parts of a line, which has a form, say nothing.
+/// Why the parts of a line that has a form say nothing.
 #[derive(Clone, Copy, Debug, PartialEq, Eq, Error)]
 pub enum ValueFault {
     /// A number is outside its kind.
@@ -15,10 +15,10 @@ pub enum ValueFault {
     BadDay,
 }
 
-/// Why the parts of a line, which has a form, give neither a command nor a posting.
+/// Why the parts of a line that has a form give neither a command nor a posting.
 #[derive(Clone, Copy, Debug, PartialEq, Eq, Error)]
 pub enum MeaningFault {
-    /// A part is outside its rule; that is the fault of the first such part.
+    /// A part is outside its rule. It is the fault of the first such part.
     #[error("{0}")]
     Outside(ValueFault),
     /// Out of memory. All parts are within their rules.

@@ -6,13 +6,14 @@ ghost use Rattle.lot_meaning.specs.Outside.{IsOutside};
 ghost use Rattle.lot_meaning.specs.Checked.{MeansGiven, either, spec_of};
 
 use crate::fault::ValueFault;
+use crate::known::KnownNames;
 use crate::name::{CommodityPart, LabelPart};
 use crate::value::{Total, day, rate};
 use lot_base::Day;
 use lot_cost::CostSpec;
 use lot_form::{Part, Parts};
 use lot_num::Rate;
-use std::alloc::{AllocError, Global};
+use std::alloc::AllocError;
 
 /// The number of a cost: a rate in single braces, a total in double braces.
 pub(crate) trait CostNumber: Drop {
@@ -130,15 +131,19 @@ impl<'a, N: CostNumber> Given<'a, N> {
     }
 
     /// Returns what is given beside the number, which is kept, with that number. The only error is out of memory.
-    pub(crate) fn keep(&self, alloc: Global, number: Option<Rate>) -> Result<CostSpec, AllocError>
+    pub(crate) fn keep(
+        &self,
+        names: &mut KnownNames,
+        number: Option<Rate>,
+    ) -> Result<CostSpec, AllocError>
         ensures { IfOk result (λ spec. spec ≡ spec_of number self.now) }
     {
         let currency = match &self.currency {
-            Some(currency) => Some(currency.keep(alloc)?),
+            Some(currency) => Some(currency.keep(&mut names.commodities)?),
             None => None,
         };
         let label = match &self.label {
-            Some(label) => Some(label.keep(alloc)?),
+            Some(label) => Some(label.keep(&mut names.labels)?),
             None => None,
         };
         Ok(CostSpec {

@@ -9,6 +9,7 @@ ghost use Rattle.lot_meaning.specs.Refusal.{IsRefusal};
 
 use crate::currencies::CurrencyParts;
 use crate::fault::{MeaningFault, ValueFault};
+use crate::known::KnownNames;
 use crate::name::{AccountPart, CommodityPart};
 use crate::note::NotesPart;
 use crate::value::{day, rate};
@@ -17,41 +18,44 @@ use lot_command::{
     Closing, Command, Declaring, Flag, Items, Method, Opening, Quoting, Transaction,
 };
 use lot_form::{DirectiveForm, HeaderForm, NotesForm};
-use std::alloc::Global;
 
 /// Returns the command that begins on a line that isn't indented, by its parts. A transaction has no posting yet.
 ///
-/// The error is the fault of the first part from left to right that is outside its rule, and `Memory`, where all parts are
-/// within their rules, if there is no memory for the names and notes.
-pub fn command(alloc: Global, form: &HeaderForm<'_>) -> Result<Command, MeaningFault>
+/// The error is the fault of the first part, from left to right, that is outside its rule. Where all parts are within their
+/// rules, it is `Memory`: no memory for the names and notes.
+pub fn command(names: &mut KnownNames, form: &HeaderForm<'_>) -> Result<Command, MeaningFault>
     ensures means { IfOk result (λ command. MeansHeader form.now.day.now (directive_seen form.now.directive) command) }
     ensures outside { (fault : ValueFault) → IsErrOf result (Outside fault) → FirstOutside (header_items form.now.day.now (directive_seen form.now.directive)) fault }
     ensures memory { IsErrOf result Memory → AreInside (header_items form.now.day.now (directive_seen form.now.directive)) }
 {
     let day = day(form.day)?;
-    directive(alloc, day, &form.directive)
+    directive(names, day, &form.directive)
 }
 
 /// Returns the command that is given on that day.
-fn directive(alloc: Global, day: Day, form: &DirectiveForm<'_>) -> Result<Command, MeaningFault>
+fn directive(
+    names: &mut KnownNames,
+    day: Day,
+    form: &DirectiveForm<'_>,
+) -> Result<Command, MeaningFault>
     ensures means { IfOk result (λ command. (when : List ℕ) → MeansDay when day → MeansHeader when (directive_seen form.now) command) }
     ensures refused { IfErr result (λ fault. IsRefusal (directive_items (directive_seen form.now)) fault) }
 {
     match form {
         DirectiveForm::Opening(account, currencies, method) => {
-            opening(alloc, day, account, currencies.as_slice(), method)
+            opening(names, day, account, currencies.as_slice(), method)
         }
-        DirectiveForm::Closing(account) => closing(alloc, day, account),
-        DirectiveForm::Declaring(commodity) => declaring(alloc, day, commodity),
-        DirectiveForm::Quoting(base, rate, quote) => quoting(alloc, day, base, rate, quote),
-        DirectiveForm::Transaction(flag, notes) => transaction(alloc, day, *flag, notes),
+        DirectiveForm::Closing(account) => closing(names, day, account),
+        DirectiveForm::Declaring(commodity) => declaring(names, day, commodity),
+        DirectiveForm::Quoting(base, rate, quote) => quoting(names, day, base, rate, quote),
+        DirectiveForm::Transaction(flag, notes) => transaction(names, day, *flag, notes),
     }
 }
 
 /// Returns an opening on that day.
 #[tactic(auto, using(crate::proofs::ItemLemmas::outside_first, crate::proofs::DirectiveLemmas::opening_currency_outside, crate::proofs::DirectiveLemmas::opening_method_outside))]
 fn opening(
-    alloc: Global,
+    names: &mut KnownNames,
     day: Day,
     account: &str,
     currencies: &[&str],
@@ -66,8 +70,8 @@ fn opening(
     let method = method_of(method)?;
     Ok(Command::Opening(Opening {
         day,
-        account: account.keep(alloc)?,
-        currencies: currencies.keep(alloc)?,
+        account: account.keep(&mut names.accounts)?,
+        currencies: currencies.keep(names)?,
         method,
     }))
 }
@@ -88,34 +92,34 @@ fn method_of(part: &Option<&str>) -> Result<Method, ValueFault>
 
 /// Returns a closing on that day.
 #[tactic(auto, using(crate::proofs::ItemLemmas::outside_first, crate::proofs::ItemLemmas::outside_later))]
-fn closing(alloc: Global, day: Day, account: &str) -> Result<Command, MeaningFault>
+fn closing(names: &mut KnownNames, day: Day, account: &str) -> Result<Command, MeaningFault>
     ensures means { IfOk result (λ command. (when : List ℕ) → MeansDay when day → MeansHeader when (closing account.now) command) }
     ensures refused { IfErr result (λ fault. IsRefusal (directive_items (closing account.now)) fault) }
 {
     let account = AccountPart::new(account)?;
     Ok(Command::Closing(Closing {
         day,
-        account: account.keep(alloc)?,
+        account: account.keep(&mut names.accounts)?,
     }))
 }
 
 /// Returns a declaring on that day.
 #[tactic(auto, using(crate::proofs::ItemLemmas::outside_first, crate::proofs::ItemLemmas::outside_later))]
-fn declaring(alloc: Global, day: Day, commodity: &str) -> Result<Command, MeaningFault>
+fn declaring(names: &mut KnownNames, day: Day, commodity: &str) -> Result<Command, MeaningFault>
     ensures means { IfOk result (λ command. (when : List ℕ) → MeansDay when day → MeansHeader when (declaring commodity.now) command) }
     ensures refused { IfErr result (λ fault. IsRefusal (directive_items (declaring commodity.now)) fault) }
 {
     let commodity = CommodityPart::new(commodity)?;
     Ok(Command::Declaring(Declaring {
         day,
-        commodity: commodity.keep(alloc)?,
+        commodity: commodity.keep(&mut names.commodities)?,
     }))
 }
 
 /// Returns a quoting on that day.
 #[tactic(auto, using(crate::proofs::ItemLemmas::outside_first, crate::proofs::ItemLemmas::outside_later))]
 fn quoting(
-    alloc: Global,
+    names: &mut KnownNames,
     day: Day,
     base: &str,
     rate_part: &str,
@@ -129,16 +133,16 @@ fn quoting(
     let quote = CommodityPart::new(quote)?;
     Ok(Command::Quoting(Quoting {
         day,
-        base: base.keep(alloc)?,
+        base: base.keep(&mut names.commodities)?,
         rate,
-        quote: quote.keep(alloc)?,
+        quote: quote.keep(&mut names.commodities)?,
     }))
 }
 
 /// Returns a transaction on that day, with no posting.
 #[tactic(auto, using(crate::proofs::ItemLemmas::outside_first, crate::proofs::ItemLemmas::outside_later))]
 fn transaction(
-    alloc: Global,
+    names: &mut KnownNames,
     day: Day,
     flag: Flag,
     notes: &Option<NotesForm<'_>>,
@@ -147,13 +151,13 @@ fn transaction(
     ensures refused { IfErr result (λ fault. IsRefusal (directive_items (transaction flag (option_map notes_seen notes.now))) fault) }
 {
     let narration = match notes {
-        Some(notes) => Some(NotesPart::new(notes)?.keep(alloc)?),
+        Some(notes) => Some(NotesPart::new(notes)?.keep(names.alloc)?),
         None => None,
     };
     Ok(Command::Transaction(Transaction {
         day,
         flag,
         narration,
-        postings: Items::new(alloc),
+        postings: Items::new(names.alloc),
     }))
 }

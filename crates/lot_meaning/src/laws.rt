@@ -14,7 +14,7 @@ pub fn parts_have_one_first_fault_or_none()
     ensures not_both { (items : List Item) (fault : ValueFault) → AreInside items → FirstOutside items fault → ⊥ }
 {}
 
-/// A written posting means one posting at most, and where it has its form, it means one exactly where all its parts are within
+/// A written posting means at most one posting. A posting that has its form means one exactly where all its parts are within
 /// their rules.
 pub fn a_posting_means_one_posting()
     ensures one { (written : WrittenPosting) (a b : Posting) → MeansPosting written a → MeansPosting written b → a ≡ b }
@@ -25,7 +25,7 @@ pub fn a_posting_means_one_posting()
         → MeansPosting written posting → AreInside (posting_items written) }
 {}
 
-/// A day and a directive mean one command at most, and they mean one exactly where all their parts are within their rules.
+/// A day and a directive mean at most one command. They mean one exactly where all their parts are within their rules.
 pub fn a_header_means_one_command()
     ensures one { (day : List ℕ) (directive : Directive) (a b : Command) → MeansHeader day directive a → MeansHeader day directive b → a ≡ b }
     ensures some { (day : List ℕ) (directive : Directive) → AreInside (header_items day directive) → (command : Command) × MeansHeader day directive command }

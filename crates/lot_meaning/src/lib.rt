@@ -3,7 +3,7 @@
 //! - `fault`: why they mean nothing.
 //! - `header_line`: the command that begins on a line, with its `currencies`.
 //! - `posting_line`: the posting on a line, with what it gives of a lot (`given`), its `cost` and its `price`.
-//! - `value`, `name`, `note`: one part.
+//! - `value`, `name`, `note`: one part; `known`: names that were kept before.
 //! - `laws`: what holds of the definitions that the contracts cite.
 #![tactic(auto)]
 
@@ -12,6 +12,7 @@ mod currencies;
 mod fault;
 mod given;
 mod header_line;
+mod known;
 pub mod laws;
 mod name;
 mod note;
@@ -21,4 +22,5 @@ mod value;
 
 pub use fault::{MeaningFault, ValueFault};
 pub use header_line::command;
+pub use known::KnownNames;
 pub use posting_line::posting;

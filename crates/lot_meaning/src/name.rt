@@ -8,8 +8,9 @@ ghost use Rattle.lot_meaning.specs.NameLaws.{account_outside, commodity_outside,
 ghost use Rattle.lot_meaning.specs.Outside.{IsOutside};
 
 use crate::fault::ValueFault;
+use crate::known::Known;
 use lot_base::{AccountGrammar, CommodityGrammar, Grammar, LabelGrammar, Name, NameFault};
-use std::alloc::{AllocError, Global};
+use std::alloc::AllocError;
 use std::marker::{Model, PhantomData};
 
 /// A part that is an account.
@@ -99,10 +100,10 @@ impl<'a, G: PartGrammar> NamePart<'a, G> {
     }
 
     /// Returns the name, which is kept. The only error is out of memory.
-    pub(crate) fn keep(&self, alloc: Global) -> Result<Name<G>, AllocError>
+    pub(crate) fn keep(&self, known: &mut Known<G>) -> Result<Name<G>, AllocError>
         ensures { IfOk result (λ name. name ≡ self.now) }
     {
-        Name::new(alloc, self.text).map_err(out_of_memory)
+        known.keep(self.text)
     }
 }
 

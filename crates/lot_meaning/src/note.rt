@@ -1,10 +1,12 @@
 //! Parts that are notes. What they mean isn't kept yet.
-ghost use Rattle.std.specs.Prelude.{◌≡◌, ◌≤◌, ◌++◌, ℕ, List, length, encode_utf8, IfErr, IfOk, MatchOption};
+ghost use Rattle.std.specs.Prelude.{◌≡◌, ◌≤◌, ◌++◌, false, ℕ, List, length, encode_utf8, IfErr, IfOk, IsTrue, MatchOption};
+ghost use Rattle.std.specs.List.{list_all};
 ghost use Rattle.std.specs.Str.Iter.{chars_rest};
 ghost use Rattle.lot_base.specs.Name.{is_note, longest_note};
 ghost use Rattle.lot_command.specs.Canonical.{escaped};
 ghost use Rattle.lot_meaning.specs.Meaning.{FirstOutside, MeansPerhaps, Quotes, note_item, note_items};
 ghost use Rattle.lot_form.specs.Header.{notes_seen};
+ghost use Rattle.lot_meaning.specs.Checked.{is_plain, text_of};
 ghost use Rattle.lot_meaning.specs.Outside.{IsOutside};
 
 use crate::fault::ValueFault;
@@ -23,54 +25,65 @@ const LONGEST_NOTE: usize = 1_000;
 /// A text that isn't longer than a note may be.
 type NoteText = ArrayString<LONGEST_NOTE>;
 
-/// A part that is a note, without the backslashes that stand before its quotes and backslashes.
+/// A part that is a note, in which each quote and each backslash has a backslash before it.
+///
+/// A contract sees the note.
 #[derive(Drop)]
-pub(crate) struct NotePart {
-    text: NoteText,
+pub(crate) struct NotePart<'a> {
+    part: &'a str,
 }
 
-impl Model for NotePart {
-    ghost use Rattle.std.specs.Prelude.{ℕ, List, IsTrue};
+impl<'a> Model for NotePart<'a> {
+    ghost use Rattle.std.specs.Prelude.{ℕ, List};
     ghost use Rattle.lot_base.specs.Name.{is_note};
+    ghost use Rattle.lot_meaning.specs.Checked.{text_of};
+    ghost use Rattle.lot_meaning.specs.Meaning.{Quotes};
 
     ghost Value = { List ℕ };
 
-    ghost view = { λ p. p.text.bytes };
+    ghost view = { λ p. text_of p.part.now };
 
-    ghost invariant = { λ p. IsTrue (is_note p.text.bytes) };
+    ghost invariant = { λ p. Quotes is_note p.part.now (text_of p.part.now) };
 }
 
-impl NotePart {
+impl<'a> NotePart<'a> {
     /// Returns the note that a part means. The error is `BadName`, exactly where it means none.
-    pub(crate) fn new(part: &str) -> Result<NotePart, ValueFault>
+    pub(crate) fn new(part: &'a str) -> Result<NotePart<'a>, ValueFault>
         ensures means { IfOk result (λ note. Quotes is_note part.now note) }
         ensures outside { IfErr result (λ fault. IsOutside (note_item part.now) fault) }
     {
-        match unescaped(part) {
-            Some(text) if Note::is_name(text.as_str()) => Ok(NotePart { text }),
-            _ => Err(ValueFault::BadName),
+        if !quotes_note(part) {
+            return Err(ValueFault::BadName);
         }
+        Ok(NotePart { part })
     }
 
     /// Returns the note, which is kept. The only error is out of memory.
     pub(crate) fn keep(&self, alloc: Global) -> Result<Note, AllocError>
         ensures { IfOk result (λ note. note ≡ self.now) }
     {
-        Note::new(alloc, self.text.as_str()).map_err(out_of_memory)
+        if is_plain(self.part) {
+            return kept(alloc, self.part);
+        }
+        match unescaped(self.part) {
+            Some(text) => kept(alloc, text.as_str()),
+            // The part is the escape of a note.
+            None => unreachable!(),
+        }
     }
 }
 
 /// The parts that are the notes of a transaction.
 #[derive(Drop)]
-pub(crate) struct NotesPart {
-    payee: Option<NotePart>,
-    narration: NotePart,
+pub(crate) struct NotesPart<'a> {
+    payee: Option<NotePart<'a>>,
+    narration: NotePart<'a>,
 }
 
-impl NotesPart {
+impl<'a> NotesPart<'a> {
     /// Returns the notes that the parts mean. The error is `BadName`, exactly where one of them means none.
     #[tactic(auto, using(crate::proofs::ItemLemmas::outside_first, crate::proofs::ItemLemmas::outside_later))]
-    pub(crate) fn new(notes: &NotesForm<'_>) -> Result<NotesPart, ValueFault>
+    pub(crate) fn new(notes: &NotesForm<'a>) -> Result<NotesPart<'a>, ValueFault>
         ensures means { IfOk result (λ parts. MeansPerhaps (Quotes is_note) (notes_seen notes.now).0 parts.payee × Quotes is_note (notes_seen notes.now).1 parts.narration) }
         ensures outside { IfErr result (λ fault. FirstOutside (note_items (notes_seen notes.now)) fault) }
     {
@@ -98,6 +111,35 @@ impl NotesPart {
             text: self.narration.keep(alloc)?,
         })
     }
+}
+
+/// Returns the note with that text, which is one. The only error is out of memory.
+fn kept(alloc: Global, text: &str) -> Result<Note, AllocError>
+    requires { IsTrue (is_note text.now) }
+    ensures { IfOk result (λ note. note ≡ text.now) }
+{
+    Note::new(alloc, text).map_err(out_of_memory)
+}
+
+/// Returns whether a part is the escape of a note.
+fn quotes_note(part: &str) -> bool
+    ensures yes { IsTrue result → Quotes is_note part.now (text_of part.now) }
+    ensures no { result ≡ false → (note : List ℕ) → Quotes is_note part.now note → ⊥ }
+{
+    if is_plain(part) {
+        return Note::is_name(part);
+    }
+    match unescaped(part) {
+        Some(text) => Note::is_name(text.as_str()),
+        None => false,
+    }
+}
+
+/// Returns whether no quote and no backslash stands in a part, which is then its own escape.
+fn is_plain(part: &str) -> bool
+    ensures { result ≡ list_all is_plain part.now }
+{
+    part.as_bytes().iter().all(|b| !(*b == b'"' || *b == b'\\'))
 }
 
 /// Returns the text of which this is the escape, or `None` where there is none or it is longer than a note may be.

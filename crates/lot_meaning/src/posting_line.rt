@@ -8,26 +8,27 @@ ghost use Rattle.lot_meaning.specs.Checked.{amount_of, posting_of};
 
 use crate::cost::CheckedCost;
 use crate::fault::{MeaningFault, ValueFault};
+use crate::known::KnownNames;
 use crate::name::{AccountPart, CommodityPart};
 use crate::price::CheckedPrice;
 use crate::value::units;
 use lot_command::{Amount, Posting};
 use lot_form::{AmountForm, PostingForm};
 use lot_num::Units;
-use std::alloc::{AllocError, Global};
+use std::alloc::AllocError;
 
 /// Returns the posting that the parts of a line mean.
 ///
-/// The error is the fault of the first part from left to right that is outside its rule, and `Memory`, where all parts are
-/// within their rules, if there is no memory for the names.
-pub fn posting(alloc: Global, form: &PostingForm<'_>) -> Result<Posting, MeaningFault>
+/// The error is the fault of the first part, from left to right, that is outside its rule. Where all parts are within their
+/// rules, it is `Memory`: no memory for the names.
+pub fn posting(names: &mut KnownNames, form: &PostingForm<'_>) -> Result<Posting, MeaningFault>
     requires fits { FitsPerhaps (λ (a : WrittenAmount). FitsPerhaps FitsCost a.cost) (posting_seen form.now).amount }
     ensures means { IfOk result (λ posting. MeansPosting (posting_seen form.now) posting) }
     ensures outside { (fault : ValueFault) → IsErrOf result (Outside fault) → FirstOutside (posting_items (posting_seen form.now)) fault }
     ensures memory { IsErrOf result Memory → AreInside (posting_items (posting_seen form.now)) }
 {
     let checked = CheckedPosting::new(form)?;
-    Ok(checked.keep(alloc)?)
+    Ok(checked.keep(names)?)
 }
 
 /// A posting whose parts are within their rules. Nothing of it is kept yet.
@@ -53,15 +54,15 @@ impl<'a> CheckedPosting<'a> {
     }
 
     /// Returns the posting, which is kept. The only error is out of memory.
-    fn keep(&self, alloc: Global) -> Result<Posting, AllocError>
+    fn keep(&self, names: &mut KnownNames) -> Result<Posting, AllocError>
         ensures { IfOk result (λ posting. posting ≡ posting_of self.now) }
     {
         let amount = match &self.amount {
-            Some(amount) => Some(amount.keep(alloc)?),
+            Some(amount) => Some(amount.keep(names)?),
             None => None,
         };
         Ok(Posting {
-            account: self.account.keep(alloc)?,
+            account: self.account.keep(&mut names.accounts)?,
             amount,
         })
     }
@@ -107,20 +108,20 @@ impl<'a> CheckedAmount<'a> {
     }
 
     /// Returns the amount, which is kept. The only error is out of memory.
-    fn keep(&self, alloc: Global) -> Result<Amount, AllocError>
+    fn keep(&self, names: &mut KnownNames) -> Result<Amount, AllocError>
         ensures { IfOk result (λ amount. amount ≡ amount_of self.now) }
     {
         let cost = match &self.cost {
-            Some(cost) => Some(cost.keep(alloc)?),
+            Some(cost) => Some(cost.keep(names)?),
             None => None,
         };
         let price = match &self.price {
-            Some(price) => Some(price.keep(alloc)?),
+            Some(price) => Some(price.keep(names)?),
             None => None,
         };
         Ok(Amount {
             units: self.units,
-            commodity: self.commodity.keep(alloc)?,
+            commodity: self.commodity.keep(&mut names.commodities)?,
             cost,
             price,
         })

@@ -5,12 +5,13 @@ ghost use Rattle.lot_meaning.specs.Meaning.{AreInside, FirstOutside, MeansPrice,
 ghost use Rattle.lot_meaning.specs.Checked.{price_of};
 
 use crate::fault::ValueFault;
+use crate::known::KnownNames;
 use crate::name::CommodityPart;
 use crate::value::{Total, rate};
 use lot_command::{Price, UnitPrice, WholePrice};
 use lot_form::PriceForm;
 use lot_num::Rate;
-use std::alloc::{AllocError, Global};
+use std::alloc::AllocError;
 
 /// A price whose parts are within their rules. Nothing of it is kept yet.
 #[derive(Drop)]
@@ -56,16 +57,16 @@ impl<'a> CheckedPrice<'a> {
     }
 
     /// Returns the price, which is kept. The only error is out of memory.
-    pub(crate) fn keep(&self, alloc: Global) -> Result<Price, AllocError>
+    pub(crate) fn keep(&self, names: &mut KnownNames) -> Result<Price, AllocError>
         ensures { IfOk result (λ price. price ≡ price_of self.now) }
     {
         match self {
             CheckedPrice::Each(rate, currency) => Ok(Price::Each(UnitPrice {
                 rate: *rate,
-                currency: currency.keep(alloc)?,
+                currency: currency.keep(&mut names.commodities)?,
             })),
             CheckedPrice::Whole(total, currency) => {
-                match WholePrice::new(total.units(), currency.keep(alloc)?) {
+                match WholePrice::new(total.units(), currency.keep(&mut names.commodities)?) {
                     Some(price) => Ok(Price::Whole(price)),
                     // A total isn't below zero.
                     None => unreachable!(),

@@ -32,8 +32,8 @@ pub record LeftFrom (place : ℕ) (trees : Trees) (entries : List Entry) : Type 
   pub left : Left trees entries
   pub placed : left.stand.place ≡ place
 
--- the database has the tables of edition 2: the rows of those of edition 1 but for the edition, the
--- opening numbers that their legs come to, and as place of migration how many entries they have
+-- the database has the tables of edition 2: the rows of those of edition 1 but for the edition, the opening numbers of
+-- their legs, and as place of migration the number of entries
 pub record HasMigrated (tables : Tables) (s : State) : Type 0 where
   pub openings : List LotOpening
   pub lists : ListsTable openings tables
@@ -75,9 +75,8 @@ LeavesMigrated old trees = IsOlder old × LeavesTakenOver old trees
 
 -- ---- why it isn't migrated
 
--- Why a database of an older edition isn't taken over: it isn't one with the tables of edition 1
--- alone, or their rows are none of a book, the disk failed or there is no room. A commit is in
--- doubt only where the disk failed during the call.
+-- Why a database of an older edition isn't taken over. It hasn't the tables of edition 1 alone, or their rows are none
+-- of a book; or the disk failed, or there is no room. A commit is in doubt only where the disk failed during the call.
 abbrev pub NotTakenOver : State → State → MigrateFault → Type 0
 NotTakenOver old new migrate.NotABook = (tables : Tables) → ¬ HasFirst old tables
 NotTakenOver old new migrate.NewerEdition = ⊥

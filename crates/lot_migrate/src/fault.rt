@@ -5,8 +5,8 @@ use thiserror::Error;
 /// Why a book isn't migrated.
 #[derive(Clone, Copy, Debug, PartialEq, Eq, Error)]
 pub enum MigrateFault {
-    /// The table `book` isn't one row with the mark of a book and an edition, or the name of a
-    /// table that edition 2 adds is taken.
+    /// The table `book` isn't one row with the mark of a book and an edition, or a table that
+    /// edition 2 adds has a name that is taken.
     #[error("the database is no book")]
     NotABook,
     /// The edition of the book is newer than this program.
@@ -15,10 +15,10 @@ pub enum MigrateFault {
     /// The disk or a limit of the database's size refused; nothing was committed.
     #[error("the disk or a limit of its size refused")]
     Device,
-    /// The commit failed: the book was migrated or not.
+    /// The commit failed. The book was migrated or not.
     #[error("the commit failed: it was made or not")]
     InDoubt,
-    /// A row that no book has was read, or a statement was refused for another cause; nothing
+    /// A row was read that no book has, or a statement was refused for another cause. Nothing
     /// changed.
     #[error("the tables of the book are damaged")]
     Damaged,

@@ -38,9 +38,9 @@ use lot_write::{Write, write_all};
 use sqlite::{Alter, Row, Transaction};
 use std::alloc::{AllocError, Global};
 
-/// Makes the tables of edition 2 of those of edition 1, in the open transaction: the opening number
-/// of each lot in which the legs leave some units, the place of migration behind all entries, and
-/// the row of the edition.
+/// Makes the tables of edition 2 from those of edition 1, in the open transaction. These are the
+/// opening number of each lot in which the legs leave some units, the place of migration behind all
+/// entries, and the row of the edition.
 ///
 /// After an error the last commit stands, and the caller drops the transaction, which rolls back
 /// what was made.

@@ -29,8 +29,8 @@ const MOST_ENTRIES: u32 = 2_000_000_000;
 
 /// Returns what the legs of the table leave in each lot, and the posting that opened it last.
 ///
-/// The legs are read a page at a time, in the order of the table. The error is `Damaged` where a
-/// leg is none that a book has, or takes the units of its lot out of their range.
+/// The legs are read a page at a time, in the order of the table. The error is `Damaged` where no
+/// book has the leg, or where the leg takes the units of its lot out of their range.
 pub(crate) fn fold_legs<S: Alter, P: Progress>(
     alloc: Global,
     tx: &mut Transaction<'_, S>,

@@ -4,7 +4,7 @@
 //! - `fill`: what is read and put in its transaction; `fold`: the legs of the table, folded to
 //!   opening numbers.
 //! - `pages`: rows that are read in a transaction, a page at a time.
-//! - `progress`: who is told how far it is.
+//! - `progress`: the receiver of how far it is.
 //! - `fault`: `MigrateFault`, why a book isn't migrated.
 //! - `laws`: that the sales stay those of edition 1.
 #![tactic(auto)]

@@ -25,15 +25,21 @@ use lot_store::{AdoptFault, HandedBack, adopt, edition_row};
 use sqlite::{Alter, Connection, Error, ErrorCode};
 use std::alloc::Global;
 
-/// Makes a book of edition 2 of one of edition 1, in one commit, and gives the connection back.
+/// Makes a book of edition 1 one of edition 2, in one commit, and gives the connection back. A book
+/// of edition 2 stays as it is.
 ///
-/// The entries stay, each of which is of edition 1 from then on, and so does every row but that of
-/// the edition. A book of edition 2 stays as it is. On a book of edition 1 the error is `Device`
-/// (the disk failed, or room may lack), `InDoubt` (the disk failed in the commit, and the book was
-/// migrated or not) or `Memory`. After any error the connection is outside a transaction and, while
-/// it is open, shows every row as it was. A crash during the call leaves what it could leave
-/// before, or the book of edition 2 that one of an older edition becomes. How many legs are read is
-/// told as they are.
+/// The entries stay, and are of edition 1 from then on. Every other row stays, too, except that of
+/// the edition. While the legs are read, `progress` is told how many.
+///
+/// On a book of edition 1 the error is one of these:
+///
+/// - `Device`: the disk failed, or room may lack;
+/// - `InDoubt`: the disk failed in the commit, and the book was migrated or not;
+/// - `Memory`: out of memory.
+///
+/// After any error the connection is outside a transaction and, while it is open, shows every row
+/// as it was. A crash during the call leaves what it could leave before, or the book of edition 2
+/// that a book of an older edition becomes.
 pub fn migrate<S: Alter, P: Progress>(
     alloc: Global,
     conn: Connection<S>,
@@ -73,7 +79,7 @@ pub fn migrate<S: Alter, P: Progress>(
     }
 }
 
-/// Returns why a database isn't migrated that isn't taken up, or `None` where it is of an older
+/// Returns why a database that isn't taken up isn't migrated, or `None` where it is of an older
 /// edition.
 fn refusal_of(fault: AdoptFault) -> Option<MigrateFault>
     ensures { result ≡ refusal_of fault }
@@ -156,7 +162,7 @@ fn turn<S: Alter, P: Progress>(
     after_commit(tx.commit())
 }
 
-/// Returns what the outcome of the commit is to a caller.
+/// Returns the outcome of a commit, as the caller is told it.
 fn after_commit(outcome: Result<(), Error>) -> Result<(), MigrateFault>
     ensures { result ≡ migrate_outcome outcome }
 {

@@ -13,8 +13,8 @@ use sqlite::{Alter, Row, Transaction};
 /// How many rows a page has at most: 3 MB.
 const PAGE_ROWS: u32 = 5_000;
 
-/// Returns the next legs behind the last one given, by entry, posting and place, or the first ones.
-/// There is none only where all legs are given.
+/// Returns the next legs behind the last one given, by entry, posting and place. Before the first
+/// leg it is the first ones. There is none only where all legs are given.
 ///
 /// The queries change nothing. After an error nothing changed, or the transaction is rolled back.
 pub(crate) fn legs_behind<S: Alter>(

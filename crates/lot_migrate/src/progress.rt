@@ -1,13 +1,13 @@
-/// Who is told how far a migration is.
+/// Receives how far a migration is.
 pub trait Progress {
     /// So many more legs of the book were read.
     fn legs_read(&mut self, legs: usize);
 
-    /// Nothing more is told, and something else may be written.
+    /// Nothing more is told. Other output may follow.
     fn end(&mut self);
 }
 
-/// Nobody who is told.
+/// A receiver that does nothing.
 #[derive(Drop)]
 pub struct Unwatched;
 

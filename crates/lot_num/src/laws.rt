@@ -30,13 +30,13 @@ pub fn zero_weight() -> Wide
     Wide::ZERO
 }
 
-/// A rate for each unit is one at which the units come to exactly the total, and every such rate is.
+/// Units have a rate for a total exactly where they come to the total at that rate.
 pub fn a_rate_for_each_unit_comes_to_the_total()
     ensures { (units total : ℤ) (rate : ℕ) → (per_unit units total ≡ Some rate) ↔ IsPerUnit units total rate }
 {}
 
-/// The texts that are read as numbers are those of the grammar, and each is cut into the parts that the
-/// grammar gives it: so a number text has one sign, one whole part and one list of decimals.
+/// The texts that are read as numbers are those of the grammar. Each is cut into the parts that the grammar gives it,
+/// so a number text has one sign, one whole part and one list of decimals.
 pub fn number_text_is_its_grammar()
     ensures only { (text : List ℕ) → IsTrue (is_number text)
         → IsNumberText text (sign_of text) (whole_part text) (decimals text) }
@@ -46,15 +46,15 @@ pub fn number_text_is_its_grammar()
         × (sign_of text ≡ sign) × (whole_part text ≡ whole) × (decimals text ≡ fraction) }
 {}
 
-/// What is printed is read again as the amount that it was printed of.
+/// The printed text of an amount is read again as that amount.
 pub fn printed_text_reads_back()
     ensures units { (z : ℤ) → IsUnits z → units_of (amount_text 0 8 z) ≡ Ok z }
     ensures money { (z : ℤ) → IsUnits z → units_of (amount_text 2 8 z) ≡ Ok z }
     ensures rate { (n : ℕ) → IsRate n → rate_of (amount_text 0 8 (pos n)) ≡ Ok n }
 {}
 
-/// No number text that says an amount is shorter than the printed one; and none with at least two decimals
-/// is shorter than the one that is printed as money, which has at least two.
+/// No number text of an amount is shorter than the printed one. No number text of it with at least two decimals is
+/// shorter than the one that is printed as money, which has at least two.
 pub fn printed_text_is_shortest()
     ensures units { (z : ℤ) (text : List ℕ) → units_of text ≡ Ok z
         → length (amount_text 0 8 z) ≤ length text }

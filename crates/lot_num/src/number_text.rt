@@ -5,7 +5,7 @@ ghost use Rattle.lot_num.specs.NumberText.{sign_of, unsigned, is_point, is_digit
 
 use thiserror::Error;
 
-/// Why a text is refused as a number. Where several hold, the first in this order is reported.
+/// Why a text is refused as a number. Of several faults, the first in this order is reported.
 #[derive(Clone, Copy, Debug, PartialEq, Eq, Error)]
 pub enum NumberFault {
     /// The text is outside the grammar of numbers.
@@ -14,7 +14,7 @@ pub enum NumberFault {
     /// A decimal past the eighth is not zero.
     #[error("a number has at most eight decimals")]
     TooManyDecimals,
-    /// The absolute mantissa is at or past the limit of its kind: `Units::LIMIT` or `Rate::LIMIT`.
+    /// The absolute mantissa is at the limit of its kind or past it: `Units::LIMIT` or `Rate::LIMIT`.
     #[error("this number is too large")]
     TooLarge,
     /// The number is below zero, and is read as a rate.

@@ -63,8 +63,8 @@ impl Rate {
         }
     }
 
-    /// Returns the shortest number text that says this rate: no zeros at the end of its decimals, and no point
-    /// where it is whole. The only error is out of memory.
+    /// Returns the shortest number text of this rate. It has no zeros at the end of its decimals, and no point where
+    /// the rate is whole. The only error is out of memory.
     pub fn text(self, alloc: Global) -> Result<String, AllocError>
         ensures { IfOk result (λ t. string_bytes t ≡ amount_text 0 8 (pos self)) }
     {

@@ -8,8 +8,8 @@ use crate::wide::Wide;
 use std::alloc::{AllocError, Global};
 use std::marker::Model;
 
-/// Units of a commodity, or a total of units: a whole number of hundred-millionths, in absolute value below
-/// `Units::LIMIT`. Units below zero are owed, or taken out.
+/// Units of a commodity, or a total of units: a whole number of hundred-millionths. Its absolute value is below `Units::LIMIT`.
+/// Units below zero are owed, or taken out.
 #[derive(Clone, Copy, Debug, PartialEq, Eq, PartialOrd, Ord, Hash)]
 pub struct Units {
     mantissa: i64,
@@ -93,8 +93,8 @@ impl Units {
         })
     }
 
-    /// Returns the total that a number text says, which isn't below zero, or the first fault of the text in the order of
-    /// `NumberFault`; `-0` is zero (docs/RULES.md, Number text).
+    /// Returns the total that a number text says, or the first fault of the text in the order of `NumberFault`
+    /// (docs/RULES.md, Number text). A total isn't below zero; `-0` is zero.
     pub fn parse_total(text: &str) -> Result<Units, NumberFault>
         ensures { result ≡ total_of text.now }
     {
@@ -106,8 +106,8 @@ impl Units {
         }
     }
 
-    /// Returns the rate at which these units, sign aside, come to exactly the total: the total divided by the absolute
-    /// units. `None` where they are zero, or where the quotient is no rate: below zero, with more than eight decimals, or
+    /// Returns the rate at which these units, sign aside, come to exactly the total: the total divided by the absolute units.
+    /// It is `None` where the units are zero, or where the quotient is no rate: below zero, with more than eight decimals, or
     /// too large.
     pub fn per_unit(self, total: Units) -> Option<Rate>
         ensures some { IfSome result (IsPerUnit self total) }
@@ -124,16 +124,15 @@ impl Units {
         Rate::from_mantissa(u64::try_from(total / units).ok()?)
     }
 
-    /// Returns the shortest number text that says these units: no zeros at the end of its decimals, and no point
-    /// where they are whole. The only error is out of memory.
+    /// Returns the shortest number text of these units. It has no zeros at the end of its decimals, and no point where the
+    /// units are whole. The only error is out of memory.
     pub fn text(self, alloc: Global) -> Result<String, AllocError>
         ensures { IfOk result (λ t. string_bytes t ≡ amount_text 0 8 self) }
     {
         amount_text(alloc, i128::from(self.mantissa), Decimals::SHORTEST)
     }
 
-    /// Returns the shortest number text with at least two decimals that says these units. The only error is out of
-    /// memory.
+    /// Returns the shortest number text of these units that has at least two decimals. The only error is out of memory.
     pub fn text_money(self, alloc: Global) -> Result<String, AllocError>
         ensures { IfOk result (λ t. string_bytes t ≡ amount_text 2 8 self) }
     {

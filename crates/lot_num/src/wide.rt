@@ -8,7 +8,7 @@ use crate::units::Units;
 use std::alloc::{AllocError, Global};
 use std::marker::Model;
 
-/// A weight, or a sum of weights: a whole number at scale 16, in absolute value at most `Wide::GREATEST`.
+/// A weight, or a sum of weights: a whole number at scale 16. Its absolute value is at most `Wide::GREATEST`.
 #[derive(Clone, Copy, Debug, PartialEq, Eq, PartialOrd, Ord, Hash)]
 pub struct Wide {
     mantissa: i128,
@@ -92,7 +92,7 @@ impl Wide {
         Units::from_mantissa(i64::try_from(self.mantissa / 100_000_000).ok()?)
     }
 
-    /// Returns the shortest text with at least two decimals that says this weight. The only error is out of memory.
+    /// Returns the shortest text of this weight that has at least two decimals. The only error is out of memory.
     pub fn text_money(self, alloc: Global) -> Result<String, AllocError>
         ensures { IfOk result (λ t. string_bytes t ≡ amount_text 2 16 self) }
     {

@@ -44,8 +44,8 @@ impl<R: PagedRow> Cursor<R> {
 
     /// Returns the next row in the order of the key, or `None` past the last.
     ///
-    /// It changes nothing in the book. After an error the cursor is behind the same rows; the error is `Damaged` where the
-    /// next row is one that no book has.
+    /// It changes nothing in the book. After an error the cursor is behind the same rows. The error is `Damaged` where the next
+    /// row is one that no book has.
     pub fn next<S: Alter>(&mut self, conn: &mut Connection<S>) -> Result<Option<R>, Fault>
         ensures steps { Steps R.TableRow.encode R.TableRow.IsGood R.PagedRow.rows self.old self.new
             (state S.Store conn.old) (state S.Store conn.new) result }

@@ -1,7 +1,7 @@
 //! Cursors over tables of a book: the rows of one table, one after another in the order of their key, read a page at a time.
 //!
-//! - `paged`: `PagedRow`, a row of a table that is read so, and the numbers of rows of a page.
-//! - `cursor`: `Cursor`, a place in the table, which borrows nothing: the connection is passed beside it.
+//! - `paged`: `PagedRow`, a row of a table that is read a page at a time, and how many rows a page has at most.
+//! - `cursor`: `Cursor`, a place in the table. It borrows nothing: the connection is passed beside it.
 //! - `entry`, `leg`, `sale`, `lot`, `price`: one table each, with its cursor.
 #![tactic(auto)]
 

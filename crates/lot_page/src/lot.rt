@@ -86,8 +86,8 @@ fn texts_behind(alloc: Global, row: &LotRow) -> Result<Texts, AllocError>
     })
 }
 
-/// Returns the next lots past this one by its first columns of the key, so many and one more: those that have so many in
-/// common with it come first, then those that have fewer.
+/// Returns the next lots that are past this one by its first `same + 1` columns of the key. Lots with `same` first columns in
+/// common are looked for first, then those with fewer.
 fn behind<S: Alter>(
     conn: &mut Connection<S>,
     row: &LotRow,
@@ -106,8 +106,8 @@ fn behind<S: Alter>(
     behind(conn, row, texts, same - 1)
 }
 
-/// Returns the next lots of those that have so many first columns of the key in common with this one, and come after it by
-/// the next.
+/// Returns the next lots among those that have so many first columns of the key in common with this one and come after it by
+/// the next column.
 fn level<'a, S: Alter>(
     conn: &mut Connection<S>,
     row: &'a LotRow,

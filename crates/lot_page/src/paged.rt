@@ -28,8 +28,8 @@ pub trait PagedRow: TableRow {
 
     ghost most: { ℕ };
 
-    /// Returns the next rows in the order of the key behind the last one given, or the first ones. There is none only where
-    /// all rows are given.
+    /// Returns the next rows behind the last one given, in the order of the key. Before the first row it is the first ones.
+    /// There is none only where all rows are given.
     ///
     /// The queries change nothing. After an error nothing changed, or a transaction that was open is rolled back.
     fn page<S: Alter>(
@@ -44,8 +44,8 @@ pub trait PagedRow: TableRow {
     ghost rises: { (trees : Trees) (tables : Tables) → Holds layout trees tables → Rises width (map Self.encode (rows tables)) };
 }
 
-/// Returns the first text behind this one: no other is between them. A query from it on seeks past all rows that have this
-/// text, where one of the texts that are greater would read them.
+/// Returns the first text behind this one: no other text is between them. A query from it on skips all rows that have this
+/// text. A query for the texts that are greater would read these rows.
 pub(crate) fn text_behind(alloc: Global, text: &str) -> Result<Vec<u8>, AllocError>
     ensures ok { IfOk result (λ behind. behind.items ≡ text.now ++ 0 ∷ []) }
 {

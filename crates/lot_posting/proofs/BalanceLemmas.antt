@@ -1,5 +1,5 @@
 -- Weights and residuals.
-use Rattle.std.proofs.Common.{◌≡◌, ◌≢◌, ℕ, zero, suc, ◌*◌, ◌/◌, ◌%◌, ◌<◌, ◌≤◌, ℤ, pos, negsuc, ◌*ℤ◌, neg_ℤ, Bool, true, false, not, ◌&&◌, List, ◌∷◌, map, Option, Some, refl, ap, ◌∙◌, sym, true≢false, arith, eqb, ltb}
+use Rattle.std.proofs.Common.{◌≡◌, ◌≢◌, ℕ, zero, suc, ◌*◌, ◌/◌, ◌%◌, ◌<◌, ◌≤◌, ℤ, pos, negsuc, ◌*ℤ◌, neg_ℤ, Bool, true, false, not, ◌&&◌, List, [], ◌∷◌, ◌++◌, map, Option, Some, refl, ap, ◌∙◌, sym, true≢false, arith, eqb, ltb}
 use Rattle.std.specs.Prelude.{int_div, unsigned_abs}
 use Rattle.std.proofs.lemmas.Bool.{false_from_ne_true}
 use Rattle.std.proofs.lemmas.Bool.Decides.{nat_tests, Decides-int_eq}
@@ -108,3 +108,14 @@ pub fills_of-more : (currency : List ℕ) (z u : ℤ) (rs : List (List ℕ × �
 fills_of-more currency z u rs same other =
     let isnt : is_zero z ≡ false = ap is_zero same ∙ units_is_zero u ∙ not_zero u other in
     rw isnt (ap (λ v. (currency, v) ∷ fills_of rs) (ap opposite same ∙ opposite-units u))
+
+not_empty : {X : Type 0} (before after : List X) (x : X) → before ++ x ∷ after ≡ [] → ⊥
+not_empty [] after x h = cc
+not_empty (y ∷ before) after x h = cc
+
+-- where a fill stands among those of the residuals, some residual isn't zero
+pub some_left : (before after : List (List ℕ × ℤ)) (currency : List ℕ) (u : ℤ) (rs : List (List ℕ × ℤ))
+    → before ++ (currency, u) ∷ after ≡ fills_of rs → left_over rs ≢ []
+some_left before after currency u rs same none =
+    not_empty before after (currency, u)
+    (same ∙ ap (map (λ (r : List ℕ × ℤ). (r.0, opposite r.1))) none)

@@ -14,8 +14,8 @@ use lot_num::{Units, Wide, weight};
 use std::alloc::{AllocError, Global};
 use std::marker::Model;
 
-/// The residuals of what is booked so far: for each currency the sum of the weights in it, in the order in which the
-/// currencies first appear. A contract sees the currencies, each beside its residual.
+/// The residuals of what is booked so far: for each currency the sum of the weights in it. Currencies are in the order in which
+/// they first appear. A contract sees the currencies, each beside its residual.
 #[derive(Drop)]
 pub struct Residuals {
     sums: IndexMap<Commodity, Wide>,
@@ -88,8 +88,8 @@ impl Residuals {
         Ok(())
     }
 
-    /// Returns `NotBalanced` with the first currency whose residual isn't zero, if there is one. The refusal takes that
-    /// currency over, so it needs no memory.
+    /// Returns `NotBalanced` with the first currency whose residual isn't zero, if there is one. The refusal takes over that
+    /// currency, so it needs no memory.
     pub fn balanced(self) -> Result<(), Refusal>
         ensures ok { OnOk result (not_balanced [] self ≡ None) }
         ensures refused { IfErr result (λ refusal. not_balanced [] self ≡ Some refusal) }
@@ -116,7 +116,7 @@ impl Residuals {
     }
 
     /// Returns `InexactFill` with the first currency whose residual isn't that of units, if there is one. The refusal takes
-    /// that currency over, so it needs no memory.
+    /// over that currency, so it needs no memory.
     pub fn exact(self) -> Result<(), Refusal>
         ensures ok { OnOk result (first_currency (λ r. not (fits_units r.1)) self ≡ None) }
         ensures refused { IfErr result (λ refusal.
@@ -131,7 +131,7 @@ impl Residuals {
         Ok(())
     }
 
-    /// Returns whether an account that stands so allows each currency whose residual isn't zero.
+    /// Returns whether each currency whose residual isn't zero is allowed by the state of an account.
     pub fn are_allowed(&self, standing: &Standing) -> bool
         ensures { result
             ≡ is_none (first_currency (λ r. bars (Some standing.now) r.0) (left_over self.now)) }
@@ -144,8 +144,8 @@ impl Residuals {
         true
     }
 
-    /// Returns `FillNotAllowed` with the first currency, of those whose residual isn't zero, that the account doesn't
-    /// allow, if there is one. The refusal takes that currency over, so it needs no memory.
+    /// Returns `FillNotAllowed` with the first currency that the account doesn't allow and whose residual isn't zero, if there
+    /// is one. The refusal takes over that currency, so it needs no memory.
     pub fn allowed(self, standing: &Standing) -> Result<(), Refusal>
         ensures ok { OnOk result
             (first_currency (λ r. bars (Some standing.now) r.0) (left_over self) ≡ None) }
@@ -160,8 +160,8 @@ impl Residuals {
         Ok(())
     }
 
-    /// Returns what the elided posting takes: the opposite of each residual that isn't zero, as units, where each is that of
-    /// units. The only error is out of memory, and comes only where a residual isn't zero.
+    /// Returns what the elided posting takes: the opposite of each residual that isn't zero, as units. Each residual is that of
+    /// units. The only error is out of memory. It comes only where a residual isn't zero.
     pub fn fills(&self, alloc: Global) -> Result<Vec<(Commodity, Units)>, AllocError>
         requires { first_currency (λ r. not (fits_units r.1)) self.now ≡ None }
         ensures fills { IfOk result (λ fills. fills.items ≡ map (λ r. (r.0, opposite r.1)) (left_over self.now)) }
@@ -179,8 +179,8 @@ impl Residuals {
     }
 }
 
-/// Returns what an amount without braces weighs, with the currency: its units times the rate of its price, or the total
-/// with the sign of the units; without a price the units themselves, in their commodity.
+/// Returns what an amount without braces weighs, with the currency. With a price for each unit it is the units times the rate;
+/// with a total it is the total with the sign of the units. Without a price it is the units themselves, in their commodity.
 fn weight_at_price(amount: &Amount) -> (&Commodity, Wide)
     ensures value { (result.0.now, result.1) ≡ weight_at_price amount.now.commodity amount.now.units amount.now.price }
     ensures bound { unsigned_abs result.1 ≤ units_limit * rate_limit }

@@ -41,9 +41,9 @@ pub struct Site<'a> {
 
 /// Books a posting with an amount on what is booked so far. The error is its refusal, or out of memory (`MayLackMemory`).
 ///
-/// Without braces memory may lack only where the posting is booked; with braces only where it has legs, or where legs stand
-/// before it, whose lots may be copied. So no refusal of a posting without braces is told as out of memory, and where no legs
-/// stand before one with braces only its `Range`.
+/// A posting without braces may lack memory only where it is booked, so none of its refusals is told as out of memory. A
+/// posting with braces may lack memory only where it has legs, or where legs stand before it, since lots may then be copied.
+/// Where no legs stand before it, `Range` is its only refusal that may be told as out of memory.
 pub fn book_posting(
     alloc: Global,
     view: &View,

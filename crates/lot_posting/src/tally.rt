@@ -21,8 +21,8 @@ use lot_view::View;
 use std::alloc::{AllocError, Global};
 use std::collections::BTreeMap;
 
-/// The legs of a transaction so far, what each position that they touch holds after them, and the opening number of each
-/// lot that they open.
+/// The legs of a transaction so far, what each touched position holds after them, and the opening number of each lot that they
+/// open.
 #[derive(Drop)]
 pub struct Tally {
     pub legs: Items<Leg>,
@@ -58,7 +58,7 @@ impl Tally {
         }
     }
 
-    /// Returns what an account holds of a commodity beside its lots after the legs so far.
+    /// Returns the plain units that an account holds of a commodity after the legs so far.
     pub fn plain_units(&self, view: &View, account: &Account, commodity: &Commodity) -> Units
         requires { ListsTally (known view.now) self.now }
         ensures { result ≡ units_after (known view.now) self.now.legs
@@ -97,7 +97,7 @@ impl Tally {
         Ok(())
     }
 
-    /// Adds the legs of a posting. The refusal is `Range` where a position is out of the range of units after one of them, and
+    /// Adds the legs of a posting. The refusal is `Range` where, after one of them, a position is out of the range of units. It
     /// needs no memory where that is the first leg.
     pub fn post_all(&mut self, view: &View, legs: Vec<Leg>) -> Result<(), Stop>
         requires numbers { HaveNumbers legs.items }
@@ -119,8 +119,8 @@ impl Tally {
         Ok(())
     }
 
-    /// Returns whether units may take lots away from an account after the legs so far: where a lot of the commodity had
-    /// the other sign before them, or has it after one of them. It copies no lot.
+    /// Returns whether units may take lots away from an account after the legs so far. They may where some lot of the commodity
+    /// had the other sign before the legs, or has it after one of them. It copies no lot.
     pub(crate) fn may_reduce(
         &self,
         view: &View,
@@ -140,7 +140,7 @@ impl Tally {
         reduced || self.lists_lot_against(account, commodity, units)
     }
 
-    /// Returns whether a lot of that account and commodity that a leg so far is in has the other sign than the units.
+    /// Returns whether some leg so far is in a lot of that account and commodity that has the other sign than the units.
     fn lists_lot_against(&self, account: &Account, commodity: &Commodity, units: Units) -> bool
         ensures { result ≡ list_any (is_lot_against account.now commodity.now units)
             self.now.positions.entries }
@@ -203,8 +203,8 @@ impl Tally {
         Ok(lots)
     }
 
-    /// Returns the opening number of a lot after the legs so far: the one that is listed, or else its own among lots of its
-    /// commodity, 0 where it isn't held there.
+    /// Returns the opening number of a lot after the legs so far: the one that is listed, or else the lot's own among lots of
+    /// its commodity. It is 0 where the lot isn't held there.
     fn opening(&self, lots: &Inventory, position: &Position) -> u64
         ensures { (lot : LotKey) → position.now.lot ≡ Some lot
             → result ≡ listed_or self.now.openings position.now.account position.now.commodity lot

@@ -20,7 +20,7 @@ pub fn canonical_texts_read_as_their_commands()
         → Reads (flat_map canonical commands) commands }
 {}
 
-/// Canonical texts tell commands apart: commands with one text are one command, and lists of commands with one text are one
+/// Canonical texts tell commands apart. Commands with one text are one command, and lists of commands with one text are one
 /// list.
 pub fn canonical_texts_tell_commands_apart()
     ensures one { (a b : Command) → IsSayable a → IsSayable b → canonical a ≡ canonical b → a ≡ b }
@@ -28,7 +28,7 @@ pub fn canonical_texts_tell_commands_apart()
         → flat_map canonical a ≡ flat_map canonical b → a ≡ b }
 {}
 
-/// The lines of canonical texts have at most 4,018 bytes, and one has so many. It may be read.
+/// The lines of canonical texts have at most 4,018 bytes, and one line has that many. A line of that length may be read.
 pub fn canonical_lines_are_short()
     ensures most { (command : Command) (lines : List (List ℕ)) → IsSayable command → AreLines lines (canonical command)
         → AllByRecursion (λ line. length line ≤ longest_printed) lines }

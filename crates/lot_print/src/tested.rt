@@ -9,8 +9,8 @@ use lot_read::laws::a_text_says_one_thing;
 use lot_read::{TextFault, read};
 use std::alloc::{AllocError, Global};
 
-/// Returns whether a text is the canonical text of a command (docs/FORMATS.md, Canonical text): it says one command, whose
-/// canonical text it is.
+/// Returns whether a text is canonical: it says one command, and is the canonical text of that command
+/// (docs/FORMATS.md, Canonical text).
 ///
 /// The error is out of memory. It comes only where the first lines of the text, or all of them, say commands.
 pub fn is_canonical(alloc: Global, text: &str) -> Result<bool, AllocError>

@@ -11,7 +11,7 @@ use Rattle.lot_token.specs.declared.token.Mark.TheVariants as Marks
 use Rattle.lot_token.specs.Token.{Lexeme, Cuts, date, mark}
 use Rattle.lot_token.specs.Cutting.{next_of, run, token_at}
 use Rattle.lot_token.proofs.CutLemmas.{cut_follows, cut_or_not, cuts_found, one_cut}
-use Rattle.lot_form.specs.Form.{Directive, IsHeader, IsPosting, IsUnknown, WrittenPosting}
+use Rattle.lot_form.specs.Form.{IsHeader, IsPosting, IsUnknown, WrittenPosting}
 use Rattle.lot_form.specs.Shape.{posting_of}
 use Rattle.lot_form.specs.Header.{header_of}
 use Rattle.lot_form.specs.declared.fault.FormFault.{FormFault}

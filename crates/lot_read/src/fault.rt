@@ -6,7 +6,7 @@ pub enum TextFault {
     /// The first faulty line, counted from 1, and what is wrong with it.
     #[error("line {line}: {fault}")]
     Line { line: u64, fault: LineFault },
-    /// Out of memory at that line, counted from 1: up to it and with it the lines say commands.
+    /// Out of memory at that line, counted from 1. The lines up to it, and the line itself, say commands.
     #[error("out of memory at line {line}")]
     Memory { line: u64 },
 }

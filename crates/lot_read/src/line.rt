@@ -4,8 +4,8 @@ ghost use Rattle.lot_read.specs.Reading.{GivesStatement, IsLineOf, may_post};
 
 use crate::fault::LineFault;
 use crate::statement::{Statement, StatementFault};
-use lot_token::Tokens;
-use std::alloc::Global;
+use lot_meaning::KnownNames;
+use lot_token::{LineTokens, Tokens};
 use std::str;
 
 /// Where a line stands.
@@ -21,10 +21,12 @@ pub(crate) enum Place {
 const LONGEST_LINE: usize = 4_096;
 
 /// Returns what a line says, given without its line end, or nothing where it is skipped (docs/FORMATS.md, Forms). The error is
-/// out of memory, or what is wrong with the line (docs/FORMATS.md, Order of faults).
-pub(crate) fn statement(
-    alloc: Global,
-    line: &[u8],
+/// out of memory, or what is wrong with the line (docs/FORMATS.md, Order of faults). `kept` takes its tokens, and
+/// `names` its accounts, commodities and labels.
+pub(crate) fn statement<'a>(
+    names: &mut KnownNames,
+    kept: &mut LineTokens<'a>,
+    line: &'a [u8],
     place: Place,
 ) -> Result<Option<Statement>, StatementFault>
     ensures { GivesStatement (may_post place) line.now result }
@@ -33,15 +35,16 @@ pub(crate) fn statement(
     if is_heading(text) {
         return Ok(None);
     }
-    let tokens = Tokens::new(text)?;
+    kept.cut(text)?;
+    let tokens = kept.tokens();
     if tokens.split_first().is_none() {
         return Ok(None);
     }
     if !is_indented(text) {
-        return command(alloc, &tokens);
+        return command(names, &tokens);
     }
     match place {
-        Place::InTransaction => posting(alloc, &tokens),
+        Place::InTransaction => posting(names, &tokens),
         Place::Elsewhere => Err(StatementFault::Line(LineFault::Syntax)),
     }
 }
@@ -73,21 +76,27 @@ fn is_indented(line: &str) -> bool
 }
 
 /// Returns the command that begins on a line that isn't indented, by its tokens, of which there are some.
-fn command(alloc: Global, tokens: &Tokens<'_>) -> Result<Option<Statement>, StatementFault>
+fn command(
+    names: &mut KnownNames,
+    tokens: &Tokens<'_, '_>,
+) -> Result<Option<Statement>, StatementFault>
     ensures { (may_post : Bool) (line : List ℕ) → IsLineOf false tokens.now line → GivesStatement may_post line result }
 {
     let form = lot_form::header(tokens)?;
-    let command = lot_meaning::command(alloc, &form)?;
+    let command = lot_meaning::command(names, &form)?;
     Ok(Some(Statement::Begins(command)))
 }
 
 /// Returns the posting on an indented line, by its tokens, of which there are some.
-fn posting(alloc: Global, tokens: &Tokens<'_>) -> Result<Option<Statement>, StatementFault>
+fn posting(
+    names: &mut KnownNames,
+    tokens: &Tokens<'_, '_>,
+) -> Result<Option<Statement>, StatementFault>
     ensures { (line : List ℕ) → IsLineOf true tokens.now line → GivesStatement true line result }
 {
     let Some(form) = lot_form::posting(tokens) else {
         return Err(StatementFault::Line(LineFault::Syntax));
     };
-    let posting = lot_meaning::posting(alloc, &form)?;
+    let posting = lot_meaning::posting(names, &form)?;
     Ok(Some(Statement::Posts(posting)))
 }

@@ -38,8 +38,9 @@ CountsRow fits HasTaken rows row kept (Err Range) = IsTrue (not (fits rows row))
 CountsRow fits HasTaken rows row kept (Err Write) = ⊥
 CountsRow fits HasTaken rows row kept (Err Memory) = IsTrue (fits rows row)
 
--- a row that fits is kept, and all of it is written; of one that doesn't, nothing is; of a row that fits, whole lines but
--- not all out of memory, and where the writer fails, a prefix but not all of it
+-- What is kept of a row, and what is written. A row that fits is kept, and all of it is written. Of a row that doesn't fit,
+-- nothing is written. Out of memory, whole lines of a row that fits are written, but not all; where the writer fails, a prefix
+-- of it is, but not all of it.
 abbrev pub TakesRow : {Row Kept : Type 0} → (Row → List (List ℕ)) → (List Row → Row → Bool) → (List Row → Kept → Type 0)
     → List Row → Row → Kept → Option (List ℕ) → Option (List ℕ) → Result (Unit {0}) ReportFault → Type 0
 TakesRow lines fits HasTaken rows row kept old new (Ok done) =
@@ -55,9 +56,9 @@ TakesRow lines fits HasTaken rows row kept old new (Err Memory) =
 abbrev pub IsFed : {Row Kept : Type 0} → (List Row → Row → Bool) → (List Row → Kept → Type 0) → List Row → Option Kept → Type 0
 IsFed fits HasTaken rows kept = EachFits fits [] rows × IfSome kept (λ (some : _). HasTaken rows some)
 
--- what a writer holds of a report that began at a place, after one more row: the rows with it; those before it, where a
--- total leaves the range; with whole lines of it, but not all, out of memory; with a prefix of its lines, but not all of
--- them, where the writer fails; after a fault nothing more
+-- What a writer holds of a report that began at a place, after one more row. It is the rows with this one, where nothing
+-- fails. Where a total leaves the range, it is the rows before. Out of memory, whole lines of the row follow these, but not
+-- all; where the writer fails, a prefix of its lines does, but not all of them. After a fault nothing more is written.
 abbrev pub GrowsByRow : {Row Kept : Type 0} → (Row → List (List ℕ)) → (List Row → Row → Bool) → (List Row → Kept → Type 0)
     → List Row → Row → Option Kept → Option (List ℕ) → Option (List ℕ) → Result (Unit {0}) RowFault → Type 0
 GrowsByRow lines fits HasTaken rows row kept start now (Ok done) =
@@ -72,8 +73,9 @@ GrowsByRow lines fits HasTaken rows row kept start now (Err (Report Memory)) =
     × (part : List ℕ) × AreLinesBefore (lines row) part × Appends start now (text_of lines rows ++ part)
 GrowsByRow lines fits HasTaken rows row kept start now (Err Spent) = Appends start now (text_of lines rows)
 
--- the same at its end: the whole report; all rows with whole lines behind them, but not all, out of memory; all rows with a
--- prefix of these lines, but not all of them, where the writer fails; after a fault nothing more
+-- The same at the end of the report. It is the whole report, where nothing fails. Out of memory, all rows are there, and whole
+-- lines of what stands behind them, but not all; where the writer fails, a prefix of these lines, but not all of them. After a
+-- fault nothing more is written.
 abbrev pub EndsReport : {Row : Type 0} → (Row → List (List ℕ)) → (List Row → Row → Bool) → (List Row → List (List ℕ) → Type 0)
     → List Row → Option (List ℕ) → Option (List ℕ) → Result (Unit {0}) RowFault → Type 0
 EndsReport lines fits IsEnd rows start now (Ok done) = (text : List ℕ) × IsWhole lines fits IsEnd rows text × Appends start now text

@@ -93,8 +93,8 @@ abbrev pub HasTaken : List ValuedHolding → Progress → Type 0
 HasTaken rows progress =
     (progress.is_empty ≡ is_nil rows) × AreSums (costs_of rows) progress.costs.sums.entries × AreSums (values_of rows) progress.values.sums.entries
 
--- what becomes of the totals of costs and of values with more of both: they stay in range and are kept, or some doesn't, or
--- they do and there is no memory
+-- what becomes of the totals of costs and of values with more of both: all stay in range and are kept; or some total doesn't;
+-- or all do, and there is no memory
 abbrev pub CountsBoth : (costs values cost value : List (List ℕ × ℤ)) → Totals → Totals → Result (Unit {0}) ReportFault → Type 0
 CountsBoth costs values cost value kept_costs kept_values (Ok done) =
     IsTrue (stay_wide (costs ++ cost) cost && stay_wide (values ++ value) value)
@@ -175,8 +175,9 @@ AreKeptLines rows text = AreRowsBefore rows text ⊎ AreRowsAndFirstTotals rows 
 abbrev pub AreRowsOrReport : List ValuedHolding → List ℕ → Type 0
 AreRowsOrReport rows text = AreFirstRows rows text ⊎ IsReport rows text
 
--- what is written of rows: the report; or the rows before the one with which a total leaves the range; or, where
--- the writer fails, a prefix of the report that isn't all of it; or, out of memory, whole lines of it
+-- What is written of rows. It is the report, where nothing fails. Where a total leaves the range, it is the rows before the
+-- one that takes it out. Where the writer fails, it is a prefix of the report, but not all of it; out of memory, whole lines
+-- of the report.
 abbrev pub WritesReport : List ValuedHolding → Option (List ℕ) → Option (List ℕ) → Result (Unit {0}) ReportFault → Type 0
 WritesReport rows old new (Ok done) = (text : List ℕ) × IsReport rows text × Appends old new text
 WritesReport rows old new (Err Range) = (text : List ℕ) × IsReportToFault rows text × Appends old new text

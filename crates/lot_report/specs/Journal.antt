@@ -28,8 +28,8 @@ journal_text entries = flat_map entry_text entries
 abbrev pub is_spent : Journal → Bool
 is_spent journal = journal.is_spent
 
--- what a writer holds of a journal that began at a place, after one more entry: the journal with it; where the writer
--- fails, the journal before it and a prefix of its text, but not all of it; of a spent journal nothing more
+-- What a writer holds of a journal that began at a place, after one more entry: the journal with it. Where the writer
+-- fails, it is the journal before it and a prefix of its text, but not all of it. A spent journal stays as it is.
 abbrev pub GrowsByEntry : List Entry → Entry → Option (List ℕ) → Option (List ℕ) → Result (Unit {0}) JournalFault → Type 0
 GrowsByEntry entries entry start now (Ok done) = Appends start now (journal_text (entries ++ entry ∷ []))
 GrowsByEntry entries entry start now (Err Write) =

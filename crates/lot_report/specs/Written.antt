@@ -34,16 +34,16 @@ WritesLine old new (Ok done) line = Appends old new line
 WritesLine old new (Err Memory) line = Appends old new []
 WritesLine old new (Err Write) line = AppendsPrefix old new line
 
--- the texts of items are put one behind another, behind what the writer held: all of them; out of memory, whole texts, but
--- not all; where the writer fails, a prefix of them, but not all of it
+-- The texts of items are put one behind another, behind what the writer held. Out of memory, whole texts are, but not all;
+-- where the writer fails, a prefix of them is, but not all of it.
 abbrev pub WritesEach : {X : Type 0} → (X → List ℕ) → List X → Option (List ℕ) → Option (List ℕ) → Result (Unit {0}) PrintFault → Type 0
 WritesEach text items old new (Ok done) = Appends old new (flat_map text items)
 WritesEach text items old new (Err Memory) =
     (before : List _) × (next : _) × (after : List _) × (items ≡ before ++ next ∷ after) × Appends old new (flat_map text before)
 WritesEach text items old new (Err Write) = AppendsPrefix old new (flat_map text items)
 
--- what one call of `write` comes to: how many bytes it took, none where it was interrupted, after which it is tried
--- again; a call that took nothing, and one that failed otherwise, are a fault of the writer
+-- How many bytes one call of `write` took. An interrupted call took none, and is tried again. A call that took nothing, or
+-- failed otherwise, is a fault of the writer.
 abbrev pub IsTaken : Result ℕ Error → Result ℕ PrintFault → Type 0
 IsTaken (Ok taken) (Ok count) = (0 < taken) × (count ≡ taken)
 IsTaken (Ok taken) (Err fault) = (taken ≡ 0) × (fault ≡ Write)

@@ -52,7 +52,7 @@ impl<T: Drop> From<AllocFailed<T>> for ReportFault {
     }
 }
 
-/// Why a row of a report, or its end, wasn't written, or not all of it.
+/// Why a row of a report, or its end, wasn't written in full.
 #[derive(Clone, Copy, Debug, PartialEq, Eq, Error)]
 pub enum RowFault {
     /// The report ends here.

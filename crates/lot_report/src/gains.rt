@@ -17,7 +17,7 @@ use lot_command::Price;
 use std::alloc::Global;
 use std::fmt;
 
-/// The report of gains, which takes sales one after another and writes each with its legs behind those before it.
+/// The report of gains. It takes sales one after another, and writes each with its legs behind those before it.
 ///
 /// After a fault nothing more is written, and each call returns `Spent`.
 #[derive(Drop)]
@@ -37,12 +37,12 @@ impl Gains {
         }
     }
 
-    /// Writes one sale: its line and those of its legs.
+    /// Writes one sale: its line and those of its legs. The error is one of these:
     ///
-    /// Returns `Range` where its gain takes a total out of the range of weights: nothing of the sale is written then.
-    /// Returns `Memory` when out of memory: whole lines of the sale are written, but not all. Returns `Write` where the
-    /// writer fails: a prefix of the sale's lines is written, but not all of them. Returns `Spent` after such a fault, and
-    /// writes nothing.
+    /// - `Range`: its gain takes a total out of the range of weights. Nothing of the sale is written.
+    /// - `Memory`: out of memory. Whole lines of the sale are written, but not all.
+    /// - `Write`: the writer fails. A prefix of the sale's lines is written, but not all of them.
+    /// - `Spent`: an earlier call had such a fault. Nothing is written.
     pub fn row<W: CountedWrite>(&mut self, sale: &Sale, writer: &mut W) -> Result<(), RowFault>
         ensures text { (sales : List SaleParts) (start : Option (List ℕ)) → IsFed sales self.old
             → Appends start (W.contents writer.old) (sales_text sales)
@@ -61,10 +61,12 @@ impl Gains {
         Ok(())
     }
 
-    /// Writes the totals, by the bytes of their currencies, or that there are no gains where there was no sale.
+    /// Writes the totals, in the order of the bytes of their currencies. Where there was no sale, it writes that there are no
+    /// gains. The error is one of these:
     ///
-    /// Returns `Memory` when out of memory: whole lines are written, but not all. Returns `Write` where the writer fails: a
-    /// prefix of the lines is written, but not all of them. Returns `Spent` after a fault of `row`, and writes nothing.
+    /// - `Memory`: out of memory. Whole lines are written, but not all.
+    /// - `Write`: the writer fails. A prefix of the lines is written, but not all of them.
+    /// - `Spent`: a call of `row` had a fault. Nothing is written.
     pub fn end<W: CountedWrite>(self, writer: &mut W) -> Result<(), RowFault>
         ensures text { (sales : List SaleParts) (start : Option (List ℕ)) → IsFed sales self
             → Appends start (W.contents writer.old) (sales_text sales)

@@ -17,15 +17,15 @@ use lot_book::{Holding, LotKey};
 use lot_num::{Rate, Units, Wide, weight};
 use std::alloc::Global;
 
-/// A row of the report of what is held: what one position holds, and the price that it is valued at. The valuation of plain
-/// units isn't looked at.
+/// A row of the report of what is held: what one position holds, and the price at which it is valued. The valuation of plain
+/// units is ignored.
 #[derive(Debug, Drop)]
 pub struct ValuedHolding {
     pub holding: Holding,
     pub valuation: Valuation,
 }
 
-/// The report of what is held, which takes rows one after another and writes each behind those before it.
+/// The report of what is held. It takes rows one after another, and writes each behind those before it.
 ///
 /// After a fault nothing more is written, and each call returns `Spent`.
 #[derive(Drop)]
@@ -45,11 +45,12 @@ impl Holdings {
         }
     }
 
-    /// Writes one row: its line, with the value of a lot where one is asked for.
+    /// Writes one row: its line, with the value of a lot where one is asked for. The error is one of these:
     ///
-    /// Returns `Range` where it takes the total of the costs or that of the values out of the range of weights, and `Memory`
-    /// when out of memory: nothing of the row is written then. Returns `Write` where the writer fails: a prefix of the line is
-    /// written, but not all of it. Returns `Spent` after such a fault, and writes nothing.
+    /// - `Range`: it takes the total of the costs or of the values out of the range of weights. Nothing of the row is written.
+    /// - `Memory`: out of memory. Nothing of the row is written.
+    /// - `Write`: the writer fails. A prefix of the line is written, but not all of it.
+    /// - `Spent`: an earlier call had such a fault. Nothing is written.
     pub fn row<W: CountedWrite>(
         &mut self,
         row: &ValuedHolding,
@@ -72,11 +73,12 @@ impl Holdings {
         Ok(())
     }
 
-    /// Writes the totals, by the bytes of their currencies, those of the costs first; or that nothing is held, where there was
-    /// no row.
+    /// Writes the totals, in the order of the bytes of their currencies: those of the costs, then those of the values. Where
+    /// there was no row, it writes that nothing is held. The error is one of these:
     ///
-    /// Returns `Memory` when out of memory: whole lines are written, but not all. Returns `Write` where the writer fails: a
-    /// prefix of the lines is written, but not all of them. Returns `Spent` after a fault of `row`, and writes nothing.
+    /// - `Memory`: out of memory. Whole lines are written, but not all.
+    /// - `Write`: the writer fails. A prefix of the lines is written, but not all of them.
+    /// - `Spent`: a call of `row` had a fault. Nothing is written.
     pub fn end<W: CountedWrite>(self, writer: &mut W) -> Result<(), RowFault>
         ensures text { (rows : List Row) (start : Option (List ℕ)) → IsFed rows self
             → Appends start (W.contents writer.old) (rows_text rows)
@@ -134,7 +136,7 @@ impl Progress {
         Ok(())
     }
 
-    /// Adds what one more row costs, and what it is worth; plain units have neither.
+    /// Adds the cost and the value of one more row. Plain units have neither.
     fn count(&mut self, row: &ValuedHolding) -> Result<(), ReportFault>
         ensures counts { (rows : List Row) → HasTaken rows self.old → CountsHolding rows row.now self.new result }
         ensures cause { IfErr result (λ fault. fault ≢ ReportFault.Write) }

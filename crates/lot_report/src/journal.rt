@@ -21,7 +21,7 @@ pub struct Entry {
     pub body: String,
 }
 
-/// Why an entry of a journal wasn't written, or not all of it.
+/// Why an entry of a journal wasn't written in full.
 #[derive(Clone, Copy, Debug, PartialEq, Eq, Error)]
 pub enum JournalFault {
     /// The writer failed.
@@ -32,8 +32,7 @@ pub enum JournalFault {
     Spent,
 }
 
-/// The journal of a book, which takes its entries one after another and writes each behind those before it. It takes no
-/// memory.
+/// The journal of a book. It takes entries one after another, and writes each behind those before it. It takes no memory.
 ///
 /// After a fault of the writer nothing more is written, and each call returns `Spent`.
 #[derive(Debug, Drop)]
@@ -42,7 +41,7 @@ pub struct Journal {
 }
 
 impl Journal {
-    /// The journal before its first entry. That of no entries has no bytes.
+    /// The journal before its first entry. A journal without entries has no bytes.
     pub fn new() -> Journal
         ensures { IsFalse (is_spent result) }
     {
@@ -77,7 +76,7 @@ impl Journal {
         }
     }
 
-    /// Ends the journal, behind whose last entry nothing stands.
+    /// Ends the journal. Nothing stands behind its last entry.
     ///
     /// Returns `Spent` where the writer failed before.
     pub fn end<W: CountedWrite>(self, _writer: &mut W) -> Result<(), JournalFault>
@@ -93,8 +92,8 @@ impl Journal {
     }
 }
 
-/// Writes the text of an entry, through no buffer: the canonical text of a command may be longer than any line that is put
-/// together. The only fault is that of the writer.
+/// Writes the text of an entry without a buffer, since the canonical text of a command may be longer than any buffered line.
+/// The only fault is that of the writer.
 fn print_entry<W: CountedWrite>(writer: &mut W, entry: &Entry) -> Result<(), PrintFault>
     ensures bytes { WritesLine (W.contents writer.old) (W.contents writer.new) result (entry_text entry.now) }
     ensures fault { IfErr result (λ fault. fault ≡ PrintFault.Write) }

@@ -6,8 +6,8 @@ ghost use Rattle.lot_report.specs.Gains.{amounts_of};
 ghost use Rattle.lot_report.specs.Proceeds.{costs_in, is_priced_in, proceeds_in, total_in};
 ghost use Rattle.lot_report.specs.Report.{AreSums};
 
-/// The total of the report of gains in a currency is what the sales that are priced in it go for, less what the lots cost
-/// that they take. There is no total in a currency in which no sale is priced.
+/// The report of gains has a total in a currency exactly where a sale is priced in it. The total is what these sales go for,
+/// less what the lots cost that they take.
 pub fn a_total_gain_is_proceeds_less_costs()
     ensures { (sales : List SaleParts) (totals : List (List ℕ × ℤ)) (currency : List ℕ) → AreSums (amounts_of sales) totals
         → total_in totals currency

@@ -1,6 +1,6 @@
 //! The lines that are printed (docs/FORMATS.md, Printed texts).
 //!
-//! - `reply`: what became of a command.
+//! - `reply`: the reply to a command.
 //! - `holdings`: what a book holds, and what its lots cost and are worth, fed row by row.
 //! - `gains`: what the sales of a book gained, fed one by one.
 //! - `journal`: the entries of a book, fed one by one.
@@ -8,8 +8,8 @@
 //! - `totals`: sums of amounts in each of their currencies.
 //! - `lot`: the line of units in a lot, and their value.
 //! - `line`: how a line reaches the writer.
-//! - `output`: writers of which it is known what their calls came to (`CountedWrite`, `CountedWriter`).
-//! - `laws`: of the sums of reports.
+//! - `output`: writers whose calls are counted (`CountedWrite`, `CountedWriter`).
+//! - `laws`: laws of the sums of reports.
 #![tactic(auto)]
 
 mod fault;

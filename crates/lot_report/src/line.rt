@@ -10,7 +10,7 @@ use std::fmt::{Display, Write as _};
 use std::io::{self, ErrorKind};
 use thiserror::Error;
 
-/// Why a line wasn't written, or not all of it.
+/// Why a line wasn't written in full.
 #[derive(Clone, Copy, Debug, PartialEq, Eq, Error)]
 pub enum PrintFault {
     /// The writer failed.
@@ -32,15 +32,15 @@ impl From<AllocError> for PrintFault {
     }
 }
 
-/// The most bytes that a line may have, its line end included (`longest_written` of the definitions). The longest line there
-/// is, a valued lot with the longest names, numbers and label, has 368.
+/// The most bytes that a line may have, its line end included (`longest_written` of the definitions). The longest possible line
+/// has 368: a valued lot with the longest names, numbers and label.
 const LONGEST: usize = 512;
 
 /// Writes a text and a line end. It takes no memory.
 ///
-/// Returns `Memory` where the line has more than `LONGEST` bytes (no contract says when): the writer is as it was.
-/// Returns `Write` where the writer fails, or takes nothing: a prefix of the line is written, but not all of it. A write
-/// that was interrupted is tried again, up to `u64::MAX` calls.
+/// Returns `Memory` where the line has more than `LONGEST` bytes, and the writer is as it was. No contract says when this is.
+/// Returns `Write` where the writer fails, or takes nothing: a prefix of the line is written, but not all of it. A write that
+/// was interrupted is tried again, up to `u64::MAX` calls.
 pub fn print_line<W: CountedWrite, T: Display + Drop>(
     writer: &mut W,
     text: T,
@@ -72,9 +72,10 @@ fn line_of<T: Display + Drop>(text: T) -> Result<ArrayString<LONGEST>, PrintFaul
     }
 }
 
-/// Writes a line, given as the texts that it consists of, its line end among them. It takes no memory: the only fault is that of
-/// the writer, after which a prefix of the line is written, but not all of it. A line of at most `LONGEST` bytes goes to the
-/// writer in one piece.
+/// Writes a line, given as its texts, the line end among them. It takes no memory. A line of at most `LONGEST` bytes goes to
+/// the writer in one piece.
+///
+/// The only fault is that of the writer. A prefix of the line is then written, but not all of it.
 pub fn print_texts<W: CountedWrite>(writer: &mut W, texts: &[&str]) -> Result<(), PrintFault>
     ensures bytes { WritesLine (W.contents writer.old) (W.contents writer.new) result
         (flat_map (λ text. text.now) texts.now) }
@@ -101,8 +102,8 @@ fn joined(texts: &[&str]) -> Option<ArrayString<LONGEST>>
     Some(line)
 }
 
-/// Writes texts one behind another. It takes no memory: the only fault is that of the writer, after which a prefix of them is
-/// written, but not all.
+/// Writes texts one behind another. It takes no memory. The only fault is that of the writer. A prefix of the texts is then
+/// written, but not all of them.
 pub(crate) fn put_all<W: CountedWrite>(writer: &mut W, texts: &[&str]) -> Result<(), PrintFault>
     ensures bytes { WritesLine (W.contents writer.old) (W.contents writer.new) result (flat_map (λ text. text.now) texts.now) }
     ensures fault { IfErr result (λ fault. fault ≡ PrintFault.Write) }
@@ -137,8 +138,8 @@ fn put<W: CountedWrite>(writer: &mut W, bytes: &[u8]) -> Result<(), PrintFault>
     }
 }
 
-/// Returns how many bytes a call of `write` took, of those that it was given: none where it was interrupted, so that
-/// it is tried again. A call that took nothing, or failed otherwise, is a fault of the writer.
+/// Returns how many bytes a call of `write` took of those that it was given. An interrupted call took none, so it is tried
+/// again. A call that took nothing, or failed otherwise, is a fault of the writer.
 fn taken(outcome: io::Result<usize>) -> Result<usize, PrintFault>
     ensures { IsTaken outcome result }
 {

@@ -11,7 +11,7 @@ use lot_num::{Rate, Units, weight};
 use std::alloc::Global;
 use std::fmt;
 
-/// At which price a lot is valued.
+/// The price at which a lot is valued.
 #[derive(Clone, Copy, Debug, PartialEq, Eq)]
 pub enum Valuation {
     /// No value is asked for.

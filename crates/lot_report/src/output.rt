@@ -6,10 +6,9 @@ ghost use Rattle.lot_report.specs.Output.{CountsFlush, CountsWrite, WriteCalls, 
 
 use std::io::{self, ErrorKind, Write};
 
-/// A writer of which it may be known what its calls came to: how many were made, whether one failed, and whether all that it
-/// took is flushed.
+/// A writer whose calls may be counted: how many were made, whether one failed, and whether all that was taken is flushed.
 ///
-/// Each writer is one of which that isn't known. Of a `CountedWriter` it is.
+/// Every writer is one without such counts. A `CountedWriter` has them.
 pub trait CountedWrite {
     // The bytes that the writer holds, where they are known.
     ghost contents: { Self → Option (List ℕ) };
@@ -44,21 +43,21 @@ impl<W: Write> CountedWrite for W {
     }
 }
 
-/// A writer of which it is known what its calls came to. The count of calls of `write` stops at `u64::MAX`.
+/// A writer whose calls are counted. The count of calls of `write` stops at `u64::MAX`.
 #[derive(Drop)]
 pub struct CountedWriter<W> {
     writer: W,
     /// How many calls of `write` were made.
     made: u64,
-    /// Whether a call failed: one of `write` that took nothing or met an error, those aside that were interrupted, or one of
-    /// `flush`.
+    /// Whether a call failed. A call of `write` fails where it takes nothing or meets an error; one that was interrupted
+    /// doesn't count. A call of `flush` fails where it meets an error.
     has_failed: bool,
     /// Whether nothing was taken since the last flush that succeeded.
     is_flushed: bool,
 }
 
 impl<W> CountedWriter<W> {
-    /// Returns the writer, of which no call was counted yet.
+    /// Returns a counted writer over this one. No call is counted yet.
     pub fn new(writer: W) -> CountedWriter<W>
         ensures writer { writer_of result ≡ writer }
         ensures calls { calls_of result ≡ no_calls }

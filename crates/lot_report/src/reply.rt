@@ -9,9 +9,9 @@ use itoa::Buffer;
 use lot_base::Commodity;
 use lot_book::{Refusal, Verdict};
 
-/// Writes the reply to the command of that number: that it was accepted, that it stands already, or why it was refused.
+/// Writes the reply to the command of that number: that it was accepted, that it repeats an entry, or why it was refused.
 ///
-/// It takes no memory. The only fault is that of the writer, after which a prefix of the line is written, but not all of it.
+/// It takes no memory. The only fault is that of the writer. A prefix of the line is then written, but not all of it.
 pub fn print_reply<W: CountedWrite>(
     writer: &mut W,
     number: usize,

@@ -68,7 +68,7 @@ impl Totals {
         Ok(())
     }
 
-    /// Writes a line for each sum, by the bytes of the currencies, which says of what it is the total.
+    /// Writes a line for each sum, in the order of the bytes of the currencies. Each line names what is totalled.
     pub fn print<W: CountedWrite>(
         &self,
         alloc: Global,

@@ -9,7 +9,7 @@ use lot_table::{AnyText, Cell, Fault, TableRow, change, column};
 use sqlite::{Alter, Row, Transaction};
 use std::alloc::Global;
 
-/// The row of the table `book`, by which a database is told to be a book.
+/// The row of the table `book`, which marks a database as a book.
 #[derive(Drop)]
 pub struct BookRow {
     pub mark: AnyText,
@@ -32,7 +32,7 @@ impl TableRow for BookRow {
     }
 }
 
-/// Puts a row, instead of the row of its key.
+/// Puts a row. It replaces the row of the same key, if there is one.
 pub fn put<S: Alter>(tx: &mut Transaction<'_, S>, row: &BookRow) -> Result<(), Fault>
     requires { HasCleanDisk (state S.Store tx.old.conn.now) → IsTrue (state S.Store tx.old.conn.now).in_transaction }
     ensures same_reference { tx.new.conn.ghost_name ≡ tx.old.conn.ghost_name }

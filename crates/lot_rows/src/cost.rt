@@ -61,9 +61,9 @@ pub(crate) fn is_null(row: &Row, at: usize) -> bool
     matches!(row.get_ref(at), Ok(ValueRef::Null))
 }
 
-/// Returns the lot that the last four of the ten columns of a leg say, or none where all are null.
+/// Returns the lot that the last four of the ten columns of a leg say, or `None` where all four are null.
 ///
-/// The error is `Damaged`, exactly where they are those of no lot that a book can have and not all null, or `Memory`.
+/// The error is `Memory`, or `Damaged` exactly where the columns aren't all null and say no lot that a book can have.
 pub(crate) fn lot(alloc: Global, row: &Row) -> Result<Option<LotKey>, Fault>
     requires { length row.now ≡ 10 }
     ensures ok { IfOk result (λ lot. (column row.now 6 ≡ cost_number lot) × (column row.now 7 ≡ cost_currency lot) × (column row.now 8 ≡ cost_day lot) × (column row.now 9 ≡ cost_label lot)) }

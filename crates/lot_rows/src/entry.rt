@@ -39,7 +39,8 @@ impl TableRow for EntryRow {
     }
 }
 
-/// Puts a row, instead of the row of its number. The source and the name are told of no other row: look them up before.
+/// Puts a row. It replaces the row of the same number, if there is one. No other row may have its source and name: look
+/// them up before.
 pub fn put<S: Alter>(tx: &mut Transaction<'_, S>, row: &EntryRow) -> Result<(), Fault>
     requires { HasCleanDisk (state S.Store tx.old.conn.now) → IsTrue (state S.Store tx.old.conn.now).in_transaction }
     ensures same_reference { tx.new.conn.ghost_name ≡ tx.old.conn.ghost_name }

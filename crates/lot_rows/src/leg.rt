@@ -15,7 +15,7 @@ use lot_table::{Cell, Fault, Ordinal, TableRow, change, column, select};
 use sqlite::{Alter, Connection, Row, Transaction};
 use std::alloc::Global;
 
-/// A row of the table `leg`: units that a posting of an entry put into a position or, below zero, took out of it.
+/// A row of the table `leg`: units that a posting of an entry put into a position. Below zero it took them out.
 #[derive(Drop)]
 pub struct LegRow {
     pub entry: Ordinal,
@@ -50,7 +50,7 @@ impl TableRow for LegRow {
     }
 }
 
-/// Puts a row, instead of the row of its key.
+/// Puts a row. It replaces the row of the same key, if there is one.
 pub fn put<S: Alter>(tx: &mut Transaction<'_, S>, row: &LegRow) -> Result<(), Fault>
     requires { HasCleanDisk (state S.Store tx.old.conn.now) → IsTrue (state S.Store tx.old.conn.now).in_transaction }
     ensures same_reference { tx.new.conn.ghost_name ≡ tx.old.conn.ghost_name }

@@ -1,6 +1,6 @@
 //! The tables of a book of edition 2: a row type for each, and one call for each statement.
 //!
-//! - `tables`: `make` makes all of them, and `add_later` adds those that edition 1 had not.
+//! - `tables`: `make` makes all of them, and `add_later` adds those that edition 1 lacks.
 //! - `book`, `account`, `allowed`, `commodity`, `price`, `entry`, `leg`, `sale`, `lot`, `plain`, `head`, `opening`,
 //!   `migration`: one table each, with its row type, `put`, and what a book needs of `delete`, `find`, `greatest`, `list_of`
 //!   and `list`.

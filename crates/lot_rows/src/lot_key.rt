@@ -1,5 +1,5 @@
-//! A lot in the columns of a table that has a row for each: the account, the commodity, and day, currency, number and label
-//! of the cost are the key.
+//! A lot in the columns of a table that has a row for each lot. The key is the account, the commodity, and the day, currency,
+//! number and label of the cost.
 
 ghost use Rattle.std.specs.Prelude.{◌≡◌, ◌∷◌, []};
 ghost use Rattle.lot_rows.specs.LotKey.{lot_columns, lot_key};
@@ -28,7 +28,7 @@ pub(crate) fn cells<'a>(
     ]
 }
 
-/// Returns the columns of a row, which has this one behind its key.
+/// Returns the columns of a row: those of the key, and this one behind them.
 pub(crate) fn cells_with<'a>(
     account: &'a Account,
     commodity: &'a Commodity,

@@ -9,8 +9,8 @@ use lot_table::{Cell, Fault, TableRow, change, column};
 use sqlite::{Alter, Row, Transaction};
 use std::alloc::Global;
 
-/// The row of the table `migration`: how many entries the migration of the book found, 0 for a book that was made in
-/// edition 2.
+/// The row of the table `migration`: how many entries the migration of the book found. It is 0 for a book that was made
+/// in edition 2.
 #[derive(Drop)]
 pub struct MigrationRow {
     pub entries: u32,
@@ -31,7 +31,7 @@ impl TableRow for MigrationRow {
     }
 }
 
-/// Puts a row, instead of the row of its key.
+/// Puts a row. It replaces the row of the same key, if there is one.
 pub fn put<S: Alter>(tx: &mut Transaction<'_, S>, row: &MigrationRow) -> Result<(), Fault>
     requires { HasCleanDisk (state S.Store tx.old.conn.now)
         → IsTrue (state S.Store tx.old.conn.now).in_transaction }

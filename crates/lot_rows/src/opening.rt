@@ -47,7 +47,7 @@ impl TableRow for OpeningRow {
     }
 }
 
-/// Puts a row, instead of the row of its key.
+/// Puts a row. It replaces the row of the same key, if there is one.
 pub fn put<S: Alter>(tx: &mut Transaction<'_, S>, row: &OpeningRow) -> Result<(), Fault>
     requires { HasCleanDisk (state S.Store tx.old.conn.now)
         → IsTrue (state S.Store tx.old.conn.now).in_transaction }
@@ -87,7 +87,8 @@ pub fn delete<S: Alter>(
     )
 }
 
-/// Returns the rows of a commodity in an account, by the lots: by day, currency, number and label, no label before every label.
+/// Returns the rows of a commodity in an account, by the day, currency, number and label of the lot. A lot without a label
+/// stands before those with one.
 pub fn list_of<S: Alter>(
     alloc: Global,
     conn: &mut Connection<S>,

@@ -12,7 +12,7 @@ use lot_table::{Cell, Fault, Ordinal, Sum, TableRow, change, column};
 use sqlite::{Alter, Row, Transaction};
 use std::alloc::Global;
 
-/// A row of the table `sale`: a posting that took lots away, with its price, where it has one.
+/// A row of the table `sale`: a posting that took lots away, with its price, if it has one.
 #[derive(Drop)]
 pub struct SaleRow {
     pub entry: Ordinal,
@@ -45,7 +45,7 @@ impl TableRow for SaleRow {
     }
 }
 
-/// Puts a row, instead of the row of its key.
+/// Puts a row. It replaces the row of the same key, if there is one.
 pub fn put<S: Alter>(tx: &mut Transaction<'_, S>, row: &SaleRow) -> Result<(), Fault>
     requires { HasCleanDisk (state S.Store tx.old.conn.now) → IsTrue (state S.Store tx.old.conn.now).in_transaction }
     ensures same_reference { tx.new.conn.ghost_name ≡ tx.old.conn.ghost_name }

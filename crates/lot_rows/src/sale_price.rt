@@ -14,7 +14,7 @@ use sqlite::Row;
 use sqlite::types::ValueRef;
 use std::alloc::Global;
 
-/// Returns the column of the kind: 0 for no price, 1 for that of each unit, 2 for that of all.
+/// Returns the column of the kind: 0 without a price, 1 with a price for each unit, 2 with a price for all units.
 pub(crate) fn kind_cell(price: &Option<Price>) -> ValueRef<'_>
     ensures { owned result ≡ Int (kind_of price.now) }
 {
@@ -47,9 +47,10 @@ pub(crate) fn currency_cell(price: &Option<Price>) -> ValueRef<'_>
     }
 }
 
-/// Returns the price that the last three of the nine columns of a sale say, or none where they say that there is none.
+/// Returns the price that the last three of the nine columns of a sale say, or `None` where they say that there is
+/// none.
 ///
-/// The error is `Damaged`, exactly where they are those of no price that a book can have, or `Memory`.
+/// The error is `Memory`, or `Damaged` exactly where the columns say no price that a book can have.
 pub(crate) fn price(alloc: Global, row: &Row) -> Result<Option<Price>, Fault>
     requires { length row.now ≡ 9 }
     ensures ok { IfOk result (λ price. (column row.now 6 ≡ Int (kind_of price)) × (column row.now 7 ≡ amount_of price) × (column row.now 8 ≡ currency_of price)) }

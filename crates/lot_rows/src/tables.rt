@@ -26,9 +26,11 @@ const MIGRATION: &str =
 
 /// Makes the thirteen tables of a book.
 ///
-/// None is made where a table, an index or a view has the name of one, without regard to the case of ASCII letters. The error
-/// is `Taken` only there. In a file without tables it is `Memory`, or `Device` where the disk failed or had failed before. After
-/// an error the last commit stands, and the caller drops the transaction, which rolls back the tables that were made.
+/// The call fails where a table, an index or a view has the name of one of them, without regard to the case of ASCII letters.
+/// The error is `Taken` only there. In a file without tables it is `Memory`, or `Device` where the disk failed or had failed
+/// before.
+///
+/// After an error the last commit stands, and the caller drops the transaction, which rolls back the tables that were made.
 pub fn make<S: Alter>(tx: &mut Transaction<'_, S>) -> Result<(), MakeFault>
     requires { HasCleanDisk (state S.Store tx.old.conn.now) → IsTrue (state S.Store tx.old.conn.now).in_transaction }
     ensures same_reference { tx.new.conn.ghost_name ≡ tx.old.conn.ghost_name }
@@ -62,13 +64,13 @@ pub fn make<S: Alter>(tx: &mut Transaction<'_, S>) -> Result<(), MakeFault>
     )
 }
 
-/// Adds the two tables of edition 2 to the eleven of edition 1, whose rows stay as they are.
+/// Adds the two tables of edition 2 to the eleven of edition 1. The rows of these stay as they are.
 ///
-/// A book that had the tables of edition 1 then has the schema of one that `make` made. It fails
-/// where a table, an index or a view has the name of one of the two, without regard to the case of
-/// ASCII letters. The error is `Taken` only there. In a book of edition 1 it is `Memory`, or `Device`
-/// where the disk failed or had failed before. After an error the last commit stands, and the caller
-/// drops the transaction, which rolls back a table that was added.
+/// A book that had the tables of edition 1 then has the schema of a book that `make` made. The call fails where a table, an
+/// index or a view has the name of one of the two, without regard to the case of ASCII letters. The error is `Taken` only
+/// there. In a book of edition 1 it is `Memory`, or `Device` where the disk failed or had failed before.
+///
+/// After an error the last commit stands, and the caller drops the transaction, which rolls back a table that was added.
 pub fn add_later<S: Alter>(tx: &mut Transaction<'_, S>) -> Result<(), MakeFault>
     requires { HasCleanDisk (state S.Store tx.old.conn.now)
         → IsTrue (state S.Store tx.old.conn.now).in_transaction }

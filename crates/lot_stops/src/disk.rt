@@ -1,5 +1,5 @@
-//! The two files of a book, on disks in memory that stop: each call of one of them fails, once it has made so many. What such a
-//! stop leaves is opened again as other files.
+//! The two files of a book, on disks in memory that stop: after so many calls of one of the files, each further call fails.
+//! What such a stop leaves is opened again as other files.
 
 use crate::program::act;
 use lot_cli::Action;

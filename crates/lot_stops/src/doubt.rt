@@ -1,6 +1,6 @@
-//! A commit in doubt: the disk stops within the last commit of a batch whose first command was refused. The book goes on with
-//! nothing until it is opened again; then the batch comes to one of two books, as it is sent from the command in doubt or from the
-//! first.
+//! A commit in doubt: the disk stops within the last commit of a batch whose first command was refused. Until the book is
+//! opened again, it answers every command with a fault. Then the batch comes to one of two books: one where it is sent from the
+//! command in doubt, another where it is sent from the first.
 
 use crate::disk::{CALLS, Image, NO_STOP, Remains, SIDES, Stop, left_of, open, run};
 use crate::ledgers::DOUBT;

@@ -1,5 +1,5 @@
-//! A stop at each call of the log, and of the database's file, while a book is made; and a second one while it is made again. There
-//! is no book then, or an empty one, and what was no book can be made one.
+//! A stop at each call of the log, and of the database's file, while a book is made, and a second stop while it is made again.
+//! After a stop there is no book, or an empty one. Where there is none, one can be made.
 
 use crate::disk::{CALLS, Image, NO_STOP, SIDES, Stop, run};
 use crate::program::{action, reports};
@@ -13,8 +13,8 @@ const EMPTY_BOOK: &[u8] = b"nothing held\nno gains\n";
 /// What is said of a database that is no book, three times.
 const NO_BOOK: &[u8] = b"fault S1 NotABook\nfault S1 NotABook\nfault S1 NotABook\n";
 
-/// Whether files hold a book after what was told of its making. Asserts that they hold no other than an empty one, and one where it
-/// was told to be made, or in doubt, alone.
+/// Returns whether files hold a book after its making was reported as told. Asserts that they hold no book but an empty one,
+/// and a book only where it was told to be made, or in doubt.
 fn is_made(rt: &(impl Abort + AllocGlobal), image: &Image, told: &[u8]) -> bool {
     let found = reports(rt, image);
     let is_book = found.as_slice() == EMPTY_BOOK;
@@ -29,7 +29,7 @@ fn is_made(rt: &(impl Abort + AllocGlobal), image: &Image, told: &[u8]) -> bool 
     is_book
 }
 
-/// Asserts what is left where a file stops while a book is made, and adds what is no book to what was met. Returns whether there
+/// Asserts what is left where a file stops while a book is made. Adds what is no book to what was met. Returns whether there
 /// was a stop.
 fn assert_stop(
     rt: &(impl Abort + AllocGlobal),
@@ -57,8 +57,8 @@ fn assert_stop(
     remains.is_stopped
 }
 
-/// Has each file stop at each of its calls while a book is made, up to the first time without a stop. Returns all that is left and
-/// is no book, each once.
+/// Has each file stop at each of its calls while a book is made, up to the first time without a stop. Returns all that is left
+/// and is no book, each once.
 fn stops(rt: &(impl Abort + AllocGlobal), init: &[Action], from: &Image) -> Vec<Image> {
     let mut met = Vec::new(rt.alloc());
     for side in SIDES {

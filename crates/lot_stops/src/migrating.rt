@@ -1,5 +1,5 @@
-//! A stop at each call of the log, and of the database's file, while a book of edition 1 is migrated. It is of edition 1 or of
-//! edition 2 then, with the same entries and gains, and one of edition 1 can be migrated again.
+//! A stop at each call of the log, and of the database's file, while a book of edition 1 is migrated. After a stop it is of
+//! edition 1 or of edition 2, with the same entries and gains. A book of edition 1 can be migrated again.
 
 use crate::disk::{CALLS, Image, NO_STOP, SIDES, Stop, left_of, open, run};
 use crate::program::{action, reports};

@@ -16,8 +16,8 @@ use std::alloc::Global;
 
 /// Stops a connection as a machine that stops does, and opens its two files again.
 ///
-/// Where all that a crash may leave of the connection are books that a stop of a session leaves, the new connection shows one
-/// of these. A clean disk is one that returned what was written; it may lose what wasn't synced.
+/// Let all that a crash may leave of the connection be books that a stop of a session leaves. Then the new connection, on a
+/// clean disk, shows one of these books. A disk is clean where it returned what was written. It may lose what wasn't synced.
 ///
 /// The error is that of opening the files: no memory, or a disk that fails.
 pub fn stop_and_open<D: Crash + Drop>(

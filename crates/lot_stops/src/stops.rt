@@ -1,9 +1,10 @@
-//! A stop at each call of the log, and of the database's file, while a ledger is sent to a book; and a second one while what has no
-//! reply is sent again: of the smallest ledger at each call, of the others on a grid of the pairs of calls.
+//! A stop at each call of the log, and of the database's file, while a ledger is sent to a book. A second stop while the
+//! commands without a reply are sent again. The second stop is at each call for the smallest ledger, and on a grid of the pairs
+//! of calls for the others.
 //!
 //! After each stop the files are opened again, once with all that was written and once with what was synced alone. The book is
-//! then that of the commands that were replied to, or has one more whose commit was in doubt; and sent again from the first
-//! command without a reply, the ledger comes to the book of one uninterrupted run.
+//! then that of the commands that were replied to, or has one more command, whose commit was in doubt. Sent again from the
+//! first command without a reply, the ledger comes to the book of one uninterrupted run.
 
 use crate::disk::{CALLS, Image, NO_STOP, SIDES, Stop};
 use crate::ledgers::{DOUBT, EVERY_KIND, Ledger, PRICES, SALE};
@@ -68,8 +69,8 @@ fn replied<'a>(
     (replied, rest)
 }
 
-/// What a run told that may have been stopped. Asserts that behind the replies there is nothing, where all were replied to or the
-/// files weren't opened, or the line of a fault of the disk.
+/// What a run told that may have been stopped. Asserts that nothing stands behind the replies, where all were replied to or the
+/// files weren't opened, or else the line of a fault of the disk.
 fn judge(
     rt: &(impl Abort + AllocGlobal),
     ledger: &Ledger,
@@ -129,8 +130,8 @@ fn assert_comes_whole(rt: &(impl Abort + AllocGlobal), whole: &Whole<'_>, left: 
     assert_that(rt, whole.books.last() == Some(&book), at);
 }
 
-/// Asserts what a stop leaves of a book while the rest of a ledger is sent, and adds that to what was met. Returns whether there was
-/// a stop.
+/// Asserts what a stop leaves of a book while the rest of a ledger is sent. Adds that to what was met. Returns whether there
+/// was a stop.
 fn assert_stop(
     rt: &(impl Abort + AllocGlobal),
     whole: &Whole<'_>,
@@ -167,8 +168,8 @@ fn assert_stop(
     remains.is_stopped
 }
 
-/// Has each file stop at those of its calls while the rest of a ledger is sent, up to the first run without a stop. Returns all that
-/// is left, each once.
+/// Has each file stop at those of its calls while the rest of a ledger is sent, up to the first run without a stop. Returns all
+/// that is left, each once.
 fn stops(rt: &(impl Abort + AllocGlobal), whole: &Whole<'_>, from: &Left, at: Every) -> Vec<Left> {
     let mut met = Vec::new(rt.alloc());
     for side in SIDES {
@@ -185,8 +186,9 @@ fn stops(rt: &(impl Abort + AllocGlobal), whole: &Whole<'_>, from: &Left, at: Ev
     met
 }
 
-/// Has each file stop twice: at one in `firsts` of its calls while a ledger is sent, and at one in `seconds` of them while what has
-/// no reply is sent again. From one of what the first stops left to the next, the second stops begin one call later.
+/// Has each file stop twice: at one in `firsts` of its calls while a ledger is sent, then at one in `seconds` while the
+/// commands without a reply are sent again. From one of what the first stops left to the next, the second stops begin one call
+/// later.
 fn stops_on_a_grid(rt: &(impl Abort + AllocGlobal), ledger: &Ledger, firsts: u64, seconds: u64) {
     let whole = uninterrupted(rt, ledger);
     let at = Every {

@@ -93,8 +93,8 @@ verdict_of (Ok ack.Repeat) = Some verdict.Repeated
 verdict_of (Err (Refused refusal)) = Some (verdict.Refused refusal)
 verdict_of (Err (Failed fault)) = None
 
--- What a crash may leave anew, by the answer: the book with the entry of the command, where it is committed, and where
--- nobody knows or memory refused the commit. `Before` tells which book is there before the command.
+-- What a crash may leave anew, by the answer: the book with the entry of the command. This is where it is committed, where
+-- nobody knows, or where memory refused the commit.
 abbrev pub MayAdd : (List Entry → Type 0) → Key → Command → Result Ack ApplyFault → Trees → Type 0
 MayAdd Before key command (Ok ack.Accepted) trees = (entries : List Entry) → Before entries → LeavesEntry entries key command trees
 MayAdd Before key command (Err (Failed InDoubt)) trees = (entries : List Entry) → Before entries → LeavesEntry entries key command trees
@@ -139,8 +139,8 @@ AppliesWith Kept KeptThen key command old new = AppliesOn (StandsWith Kept old) 
 
 -- ---- a device that refuses
 
--- The database has no room for what a command writes that is accepted on facts which agree with the book's, and so do the
--- opening numbers that they say: a number of it doesn't fit its column, or a row its table.
+-- The database has no room for what a command writes: a number of it doesn't fit its column, or a row its table. The command
+-- is accepted on facts that agree with the book's, and so do their opening numbers.
 pub record HasNoRoomFor (key : Key) (command : Command) (entries : List Entry) (tables : Tables) (new : State) : Type 0 where
   pub known : FactsWithOpenings
   pub change : Change

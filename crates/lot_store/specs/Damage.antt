@@ -10,8 +10,8 @@ use Rattle.lot_store.specs.declared.fault.ApplyFault.{ApplyFault}
 use Rattle.lot_store.specs.declared.fault.ApplyFault.TheVariants as apply
 use Rattle.lot_store.specs.declared.fault.StoreFault.TheVariants.{Damaged, Device, InDoubt, Memory, NeedsReopen}
 
--- The answer to a command under whose key a damaged text stands: that the tables are damaged; or what may come before the text
--- is read: out of memory, that the disk failed, or that the book needs reopening.
+-- The answer to a command under whose key a damaged text stands. It is that the tables are damaged, or what may come before
+-- the text is read: out of memory, that the disk failed, or that the book needs reopening.
 abbrev pub IsOfDamage : State → State → Result Ack ApplyFault → Type 0
 IsOfDamage old new (Ok ack) = ⊥
 IsOfDamage old new (Err (apply.Refused refusal)) = ⊥

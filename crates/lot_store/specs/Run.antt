@@ -128,8 +128,8 @@ flush_outcome (Err error) = Err Output
 
 -- ---- a run
 
--- What is written behind the replies to the verdicts, the first of which has the number `from`: nothing; the line of the
--- fault; or, where the writer failed, some of the line of the answer to the next command.
+-- What is written behind the replies to the verdicts, the first of which has the number `from`. It is nothing, or the line of
+-- the fault. Where the writer failed, it is some of the line of the answer to the next command.
 abbrev pub WritesEnd : ℕ → List Verdict → Result Ack ApplyFault → Ending → Option (List ℕ) → Option (List ℕ) → Type 0
 WritesEnd from verdicts answer Complete old new = Appends old new (replies from verdicts)
 WritesEnd from verdicts answer (Stopped fault) old new = Appends old new (replies from verdicts ++ fault_line (length verdicts + from) fault)

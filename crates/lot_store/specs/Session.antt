@@ -23,7 +23,7 @@ pub record Session (before : List Entry) (commands : List (Key × Command)) (ver
 abbrev pub IsAfter : List Entry → List (Key × Command) → List Verdict → List Entry → Type 0
 IsAfter before commands verdicts book = (left : List (Key × Command)) × Session before commands verdicts book left
 
--- A stop of a session in which these verdicts were replied to may leave this book: the one after the commands that were
+-- A stop of a session in which these verdicts were replied to may leave this book. It is the book after the commands that were
 -- replied to, or after one more, which was accepted.
 abbrev pub StopLeaves : List Entry → List (Key × Command) → List Verdict → List Entry → Type 0
 StopLeaves before commands replied book =

@@ -107,8 +107,8 @@ pub record HasGivenRows {S Place Asked Shown : Type 0} (g : Ghosts S) (IsBehindR
 
 module _ {S Place Row Asked Shown : Type 0} (g : Ghosts S) (shown : Row → Shown) (AreAllRows : Asked → Tables → List Shown → Type 0)
     (IsBehindRows : Place → Tables → Asked → List Shown → Type 0) where
-  -- a row is the next one; with none, those that were given are all rows of the tables: a walk never ends at a damaged row as if
-  -- it were complete
+  -- A row is the next one. With none, those that were given are all rows of the tables, so that a walk never ends at a damaged
+  -- row as if it were complete.
   abbrev pub GivesRows : Walk S Place g → Asked → Tables → List Shown → Option Row → Type 0
   GivesRows walk asked tables given (Some row) = HasGivenRows g IsBehindRows walk asked tables (given ++ shown row ∷ [])
   GivesRows walk asked tables given None = AreAllRows asked tables given

@@ -13,12 +13,16 @@ use lot_table::{TableRow, ask};
 use sqlite::{Alter, Connection, Row};
 use std::alloc::Global;
 
-/// Returns the book that is in a file, and changes nothing.
+/// Returns the book that is in a file, and changes nothing. The error is one of these:
 ///
-/// The error is `NotABook` where the table `book` isn't one row with the mark of a book and, as edition, a whole number of at
-/// least 1, or there is no such table; `OlderEdition` where the edition is older than this program, and `NewerEdition` where it
-/// is newer; and `Device` only where the disk failed or had failed before. No other table is looked at. After an error the
-/// connection is outside a transaction, and every row is as it was.
+/// - `NotABook`: there is no table `book`, or it isn't one row with the mark of a book and a whole number of at least 1 as
+///   edition;
+/// - `OlderEdition`: the edition is older than this program;
+/// - `NewerEdition`: the edition is newer than this program;
+/// - `Device`, only where the disk failed or had failed before;
+/// - `Memory`: out of memory.
+///
+/// No other table is looked at. After an error the connection is outside a transaction, and every row is as it was.
 pub fn adopt<S: Alter>(
     alloc: Global,
     conn: Connection<S>,

@@ -23,7 +23,7 @@ use lot_write::writes;
 use sqlite::{Alter, Connection};
 use std::alloc::Global;
 
-/// That a command stands in the book, on disk.
+/// The answer to a command that stands in the book, on disk.
 #[derive(Clone, Copy, Debug, PartialEq, Eq)]
 pub enum Ack {
     /// It is an entry now.
@@ -50,14 +50,15 @@ pub struct Book<S: Alter> {
 }
 
 impl<S: Alter> Book<S> {
-    /// Applies a command under a key: judges it on the book by edition 2, and makes it an entry in one commit where it is
-    /// accepted. Returns whether it was accepted or repeats an entry.
+    /// Applies a command under a key: judges it on the book by edition 2 and, where it is accepted, makes it an entry in one
+    /// commit. Returns whether it was accepted or repeats an entry. It reads and writes only the rows that the command touches.
     ///
-    /// It reads and writes only the rows that the command touches. On a book `Device` comes only where the disk failed, or
-    /// the database has no room for what the command writes. After `Device` and `InDoubt`, and only then, the book
-    /// needs reopening, and each further call returns `NeedsReopen`. Where the text under the key is the canonical text of no
-    /// command the call fails with `Damaged`, unless memory or the disk fails before. Whatever the tables stand for, a verdict
-    /// is by the text that they have under the key, and after `Accepted` the canonical text of the command stands there.
+    /// On a book `Device` comes only where the disk failed, or the database has no room for what the command writes. After
+    /// `Device` and `InDoubt`, and only then, the book needs reopening, and each further call returns `NeedsReopen`.
+    ///
+    /// Where the text under the key is the canonical text of no command, the call fails: with `Damaged`, unless memory or the
+    /// disk fails before. Whatever the tables stand for, a verdict is by the text that they have under the key. After
+    /// `Accepted` the canonical text of the command stands there.
     pub fn apply(&mut self, key: &Key, command: &Command) -> Result<Ack, ApplyFault>
         ensures applies { Applies key.now command.now (state S.Store self.old.conn) (state S.Store self.new.conn) result }
         // With the connection open a crash leaves the last commit, and nothing else.
@@ -78,7 +79,7 @@ impl<S: Alter> Book<S> {
         self.apply_with(&mut None, key, command)
     }
 
-    /// Applies a command as `apply` does, on what is kept of the book, and keeps what is known of it then.
+    /// Applies a command as `apply` does, on what is kept of the book. Then keeps what is known of it.
     pub(crate) fn apply_with(
         &mut self,
         kept: &mut Option<Kept>,
@@ -179,8 +180,8 @@ impl<S: Alter> Book<S> {
 
 /// Applies a command to a book that doesn't need reopening, on what is kept of the book.
 ///
-/// With a verdict it keeps what the command was judged on, and what it changed, as far as memory goes. Without one nothing is
-/// kept.
+/// With a verdict it keeps what the command was judged on, and what it changed, as far as memory suffices. Without a verdict
+/// nothing is kept.
 fn apply_to<S: Alter>(
     alloc: Global,
     conn: &mut Connection<S>,

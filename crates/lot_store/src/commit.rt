@@ -14,9 +14,9 @@ use sqlite::{Alter, Connection, Error, ErrorCode};
 
 /// Writes rows in one commit.
 ///
-/// `Device` comes of tables that the writes fit only where the disk failed, or the database has no room for a row. After
-/// `InDoubt` the commit was made or not; after `Memory` it wasn't, but a crash may leave it. After any error the last
-/// commit stands as long as the connection is open.
+/// Where the writes fit the tables, `Device` comes only where the disk failed, or the database has no room for a row. After
+/// `InDoubt` the commit was made or not. After `Memory` it wasn't, but a crash may leave it. After any error the last commit
+/// stands as long as the connection is open.
 pub(crate) fn commit<S: Alter>(conn: &mut Connection<S>, writes: &[Write]) -> Result<(), StoreFault>
     requires { HasCleanDisk (state S.Store conn.old) → conn.old.in_transaction ≡ false }
     ensures outside { HasCleanDisk (state S.Store conn.new) → conn.new.in_transaction ≡ false }
@@ -40,7 +40,7 @@ pub(crate) fn commit<S: Alter>(conn: &mut Connection<S>, writes: &[Write]) -> Re
     after_commit(tx.commit())
 }
 
-/// Returns what the outcome of a commit is to a caller.
+/// Returns the outcome of a commit, as the caller is told it.
 fn after_commit(outcome: Result<(), Error>) -> Result<(), StoreFault>
     ensures { result ≡ commit_outcome outcome }
 {

@@ -20,7 +20,7 @@ use std::alloc::{AllocError, Global};
 
 /// Makes the tables of a book of this edition in one commit, and returns the book, which is empty.
 ///
-/// The error is `NotABook` where the database has a table already, and nowhere else while it is open: a book stands in a file
+/// The error is `NotABook` where the database has a table already and, while it is open, nowhere else: a book stands in a file
 /// of its own. After `InDoubt` the tables were made or not. After any error the connection is outside a transaction, and every
 /// row is as it was. A crash during the call leaves what it could leave before, or the tables of the empty book.
 pub fn create<S: Alter>(
@@ -68,7 +68,7 @@ fn is_empty(schema: &Schema) -> bool
         && schema.views.as_slice().is_empty()
 }
 
-/// Makes the tables on a connection that is lent. What is said of them holds in a database that had none.
+/// Makes the tables on a connection that is lent. The contract is about a database that had none.
 fn make<S: Alter>(alloc: Global, conn: &mut Connection<S>) -> Result<(), CreateFault>
     requires outside { conn.old.in_transaction ≡ false }
     requires unlimited { conn.old.step_limit ≡ None }
@@ -88,7 +88,7 @@ fn make<S: Alter>(alloc: Global, conn: &mut Connection<S>) -> Result<(), CreateF
     after_commit(tx.commit())
 }
 
-/// Returns the row by which a database is told to be a book of this edition.
+/// Returns the row that marks a database as a book of this edition.
 pub fn edition_row(alloc: Global) -> Result<BookRow, AllocError>
     ensures { IfOk result (λ row. row ≡ this_edition) }
 {
@@ -120,7 +120,7 @@ fn make_tables<S: Alter>(tx: &mut Transaction<'_, S>, row: &BookRow) -> Result<(
     Ok(())
 }
 
-/// Returns what the outcome of the commit is to a caller.
+/// Returns the outcome of a commit, as the caller is told it.
 fn after_commit(outcome: Result<(), Error>) -> Result<(), CreateFault>
     ensures { result ≡ create_outcome outcome }
 {

@@ -10,13 +10,13 @@ pub enum StoreFault {
     /// The disk or a limit of the database's size refused; nothing was committed.
     #[error("the disk or a limit of its size refused")]
     Device,
-    /// The commit failed: it was made or not.
+    /// The commit failed. It was made or not.
     #[error("the commit failed: it was made or not")]
     InDoubt,
-    /// After `Device` or `InDoubt`: the book has to be opened anew.
+    /// An earlier call had `Device` or `InDoubt`. The book has to be opened again.
     #[error("the book has to be opened anew")]
     NeedsReopen,
-    /// A row that no book has was read, or a statement was refused for another cause; nothing changed.
+    /// A row was read that no book has, or a statement was refused for another cause. Nothing changed.
     #[error("the tables of the book are damaged")]
     Damaged,
     /// Out of memory.
@@ -94,13 +94,13 @@ impl From<Fault> for ApplyFault {
 /// Why a book isn't made.
 #[derive(Clone, Copy, Debug, PartialEq, Eq, Error)]
 pub enum CreateFault {
-    /// The name of a table is taken, or the database takes no tables of a book for another cause.
+    /// The name of a table is taken, or the database refuses the tables of a book for another cause.
     #[error("a table of the database has the name of one of a book")]
     NotABook,
     /// The disk or a limit of the database's size refused; nothing was committed.
     #[error("the disk or a limit of its size refused")]
     Device,
-    /// The commit failed: the book was made or not.
+    /// The commit failed. The book was made or not.
     #[error("the commit failed: it was made or not")]
     InDoubt,
     /// Out of memory.
@@ -183,7 +183,7 @@ impl From<Fault> for AdoptFault {
     }
 }
 
-/// A connection that is handed back with the cause.
+/// A connection that is handed back, with the fault.
 pub struct HandedBack<S: Alter, F> {
     pub fault: F,
     pub conn: Connection<S>,

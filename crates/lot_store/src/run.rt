@@ -24,7 +24,7 @@ pub enum Ending {
     Complete,
     /// It stopped at a fault, whose line is written.
     Stopped(StoreFault),
-    /// The writer failed, at the reply to a command that was applied or at the line of a fault.
+    /// The writer failed at the reply to a command that was applied, or at the line of a fault.
     Output,
 }
 
@@ -39,13 +39,14 @@ pub struct RunEnd {
 }
 
 impl<S: Alter> Book<S> {
-    /// Applies commands in their order, each in one commit, and writes a reply to each before it begins the next one. The
-    /// first has the number `from`. Returns how many were replied to, and how the run ended.
+    /// Applies commands in their order, each in one commit. It writes a reply to each before it begins the next one. The first
+    /// command has the number `from`. Returns how many were replied to, and how the run ended.
     ///
-    /// Each command is judged on what is known of the book from those before it and on the rows that it touches beside
-    /// these. It stops at the first fault, whose line it writes with the number of the command, or where the writer fails.
-    /// If the book needs reopening, even an empty run stops with `NeedsReopen` at `from`. Where the writer failed, the
-    /// command whose line isn't written whole was applied, unless that line is one of a fault.
+    /// Each command is judged on what is known of the book from the commands before it, and on the further rows that it
+    /// touches. The run stops at the first fault, and writes its line with the number of the command. It also stops where the
+    /// writer fails. If the book needs reopening, even an empty run stops with `NeedsReopen` at `from`.
+    ///
+    /// Where the writer failed at a reply, the command of that reply was applied.
     pub fn run<W: CountedWrite>(
         &mut self,
         commands: &[(Key, Command)],
@@ -199,7 +200,7 @@ fn flush_line<W: CountedWrite>(
     }
 }
 
-/// Returns what the outcome of a flush is to a run.
+/// Returns the outcome of a flush, as the run is told it.
 fn flushed(outcome: io::Result<()>) -> Result<(), Ending>
     ensures { result ≡ flush_outcome outcome }
 {

@@ -61,8 +61,8 @@ enum Stage {
     Ended,
 }
 
-/// A walk over rows of a book, which it borrows. It holds a page of rows at a time; beside these one over the holdings holds
-/// all plain units, and one over the gains the legs of a sale. It may be dropped at any row: that changes nothing.
+/// A walk over rows of a book, which it borrows. It holds a page of rows at a time. A walk over the holdings also holds all
+/// plain units, and a walk over the gains the legs of a sale. It may be dropped at any row; that changes nothing.
 pub struct Walk<'a, S: Alter, P> {
     book: &'a mut Book<S>,
     place: P,
@@ -105,7 +105,7 @@ impl<S: Alter> Book<S> {
     }
 
     /// Returns a walk over the sales from the first day to the last, both included, before the first sale. Without a day that
-    /// end is open. It reads nothing yet.
+    /// end of the range is open. It reads nothing yet.
     pub fn gains(&mut self, first: Option<Day>, last: Option<Day>) -> Gains<'_, S>
         ensures same_reference { result.book.ghost_name ≡ self.entry.ghost_name }
         ensures same { result.book.now ≡ self.old }
@@ -144,8 +144,8 @@ impl<S: Alter, P: Place> Walk<'_, S, P> {
     /// Returns the next row, or `None` past the last. It changes nothing in the file.
     ///
     /// After a fault each further call returns `Ended`. After `Device`, and only then, the book needs reopening. The error is
-    /// `Damaged` only where the tables stand for no book. A row that is damaged never ends a walk as if it were complete: at `None`
-    /// all rows of the tables were given, whatever those stand for.
+    /// `Damaged` only where the tables stand for no book. A damaged row never ends a walk as if it were complete: at `None` all
+    /// rows of the tables were given, whatever the tables stand for.
     pub fn next(&mut self) -> Result<Option<P::Row>, WalkFault>
         ensures same_reference { self.new.book.ghost_name ≡ self.old.book.ghost_name }
         ensures walks { Walks S.Store P.Place.shown P.Place.IsGood P.Place.AreAll P.Place.IsBehind self.old self.new result }

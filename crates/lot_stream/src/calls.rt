@@ -6,10 +6,10 @@ ghost use Rattle.lot_stream.specs.Counted.{counts_of, reader_of};
 
 use std::io::{self, ErrorKind, Read};
 
-/// A reader of which it may be known what its calls came to: how many were made, how many failed, how many met the end, and how
-/// many bytes they gave.
+/// A reader whose calls may be counted: how many were made, how many failed, how many met the end, and how many bytes they
+/// gave.
 ///
-/// Each reader is one of which that isn't known. Of one that is `Counted` it is.
+/// Every reader is one without such counts. A `Counted` has them.
 pub trait CountedRead {
     // The bytes that calls will give from here on, where they are known.
     ghost remaining: { Self → Option (List ℕ) };
@@ -40,16 +40,16 @@ pub struct Counted<R> {
     reader: R,
     /// How many calls were made.
     made: u64,
-    /// How many of them failed, those aside that were interrupted.
+    /// How many of them failed. Interrupted calls don't count.
     failed: u64,
-    /// How many met the end: they gave nothing.
+    /// How many met the end: they gave no byte.
     ended: u64,
     /// How many bytes they gave.
     given: u64,
 }
 
 impl<R> Counted<R> {
-    /// Returns the reader, of which no call was counted yet.
+    /// Returns a counted reader over this one. No call is counted yet.
     pub fn new(reader: R) -> Counted<R>
         ensures reader { reader_of result ≡ reader }
         ensures calls { counts_of result ≡ no_calls }

@@ -105,8 +105,8 @@ impl Fault {
     }
 }
 
-/// Writes the line that reports a fault. It takes no memory, which may have ended: the only fault is that of the writer. A fault of
-/// the writer has no line.
+/// Writes the line that reports a fault. A fault of the writer has no line. It takes no memory, which may have ended. The only
+/// fault is that of the writer.
 pub fn print_fault<W: CountedWrite>(writer: &mut W, fault: Fault) -> Result<(), PrintFault>
     ensures bytes { WritesLine (W.contents writer.old) (W.contents writer.new) result
         (fault_line fault) }

@@ -17,7 +17,7 @@ const CALLS: usize = 20_000_000;
 /// How many bytes a reader is asked for at a time.
 const CHUNK: usize = 65_536;
 
-/// Why not all bytes of a reader were had.
+/// Why a reader wasn't read to its end.
 #[derive(Clone, Copy, Debug, PartialEq, Eq, Error)]
 pub enum SlurpFault {
     /// The reader failed, or wasn't at its end after 20,000,000 calls.
@@ -42,12 +42,14 @@ impl From<AllocError> for SlurpFault {
     }
 }
 
-/// Returns all bytes of a reader up to its end, at most 16 MiB of them.
+/// Returns all bytes of a reader up to its end, at most 16 MiB of them. A read that was interrupted is tried again. The error
+/// is one of these:
 ///
-/// A read that was interrupted is tried again. Returns `TooLong` where there are more bytes, of which up to 64 KiB past
-/// the limit are taken from the reader; `Memory` where there is no memory for them; and `Read` where the reader fails,
-/// or isn't at its end after 20,000,000 calls. That memory had ended is shown by the tests alone; that no other fault was there
-/// is proved.
+/// - `TooLong`: there are more bytes. Up to 64 KiB past the limit are taken from the reader.
+/// - `Memory`: there is no memory for the bytes.
+/// - `Read`: the reader fails, or isn't at its end after 20,000,000 calls.
+///
+/// For `Memory` it is proved that no other fault was there. That memory had ended is shown by the tests alone.
 pub fn slurp<R: CountedRead>(alloc: Global, reader: &mut R) -> Result<Vec<u8>, SlurpFault>
     // Where the reader's bytes are known, these are all of them, and it is at its end.
     ensures every_byte { IfOk result (λ bytes. IfSome (R.remaining reader.old) (λ known. bytes.items ≡ known)) }
@@ -92,9 +94,9 @@ enum Progress {
     Goes,
 }
 
-/// Puts the bytes that a call of `read` gave, at the start of the chunk, behind those that were read.
+/// Puts the bytes that a call of `read` gave behind those that were read. They stand at the start of the chunk.
 ///
-/// A call that gave none ends the input, one that was interrupted changes nothing. Returns `TooLong` past the limit,
+/// A call that gave none ends the input. A call that was interrupted changes nothing. Returns `TooLong` past the limit,
 /// `Memory` where there is no memory for the bytes, and `Read` where the call failed otherwise.
 fn take_in(
     bytes: &mut Vec<u8>,

@@ -1,7 +1,7 @@
-//! The streams of the program and the faults that it reports: what is read to its end, how a run ends, and the line that
-//! says why.
+//! The streams of the program and the faults that it reports: what is read to its end, how a run ends, and the line that says
+//! why.
 //!
-//! - `calls`: readers of which it is known what their calls came to (`CountedRead`, `Counted`).
+//! - `calls`: readers whose calls are counted (`CountedRead`, `Counted`).
 //! - `input`: all bytes of a reader (`slurp`).
 //! - `fault`: why a run ends before its end, and the line that reports it (`print_fault`).
 //! - `status`: how a run ended, and the end of its output (`finish`).

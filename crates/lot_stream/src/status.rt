@@ -19,7 +19,7 @@ pub enum Status {
 }
 
 impl Status {
-    /// Returns the status of two runs, one after the other, neither of which met a fault.
+    /// Returns the status of two runs, one after the other. Neither of them met a fault.
     pub fn and(self, next: Status) -> Status
         ensures { result ≡ status_after self next }
     {
@@ -40,8 +40,8 @@ impl Status {
     }
 }
 
-/// If all was written, flushes it and returns the status, or that of a stopped run if the flush fails. If not all was
-/// written, asks nothing more of the writer.
+/// Ends the output of a run. Where all was written, it flushes it, and returns the status, or that of a stopped run
+/// where the flush fails. Where not all was written, it asks nothing more of the writer.
 pub fn finish<W: CountedWrite>(writer: &mut W, concluded: Result<Status, PrintFault>) -> Status
     ensures kept { Keeps (W.contents writer.old) (W.contents writer.new) }
     ensures end { Ends concluded (W.calls writer.new) result }
@@ -57,7 +57,7 @@ pub fn finish<W: CountedWrite>(writer: &mut W, concluded: Result<Status, PrintFa
     }
 }
 
-/// Returns the status of a run that ends with that one, after the call of `flush`: one that fails stops the run.
+/// Returns the status of a run after the call of `flush`. A flush that fails stops the run.
 fn after_flush(status: Status, outcome: io::Result<()>) -> Status
     ensures { result ≡ after_flush status outcome }
 {

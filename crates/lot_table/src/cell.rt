@@ -37,7 +37,7 @@ pub trait Cell: Sized {
 
     /// Returns the value that the column holds.
     ///
-    /// The error is `Damaged`, exactly where the column holds none that a book can have, or `Memory`.
+    /// The error is `Memory`, or `Damaged` exactly where the column holds no value that a book can have.
     fn of_cell(alloc: Global, column: ValueRef<'_>) -> Result<Self, Fault>
         ensures ok { IfOk result (λ x. owned column.entry ≡ Self.cell x) }
         ensures good { IfOk result IsGood }

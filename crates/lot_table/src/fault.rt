@@ -11,7 +11,7 @@ pub enum Fault {
     /// The disk or a limit of the database's size refused.
     #[error("the disk or a limit of its size refused")]
     Device,
-    /// A row is one that no book has, or a statement was refused for another cause than memory, disk or size.
+    /// No book has the row, or a statement was refused for another cause than memory, disk or size.
     #[error("the tables of the book are damaged")]
     Damaged,
     /// Out of memory.

@@ -1,6 +1,7 @@
 //! Tables of a book over `sqlite`: what one statement does to the lists of all tables, whatever they are.
 //!
-//! - `statement`: `change` runs a statement that changes rows, `ask` a query, and `ask_within` one in a transaction.
+//! - `statement`: `change` runs a statement that changes rows, `ask` a query, and `ask_within` a query in a
+//!   transaction.
 //! - `row`: `TableRow`, a row of one table; `select` and `find`, the rows that a query answers.
 //! - `cell`: `Cell`, what one column holds; `column` reads it.
 //! - `make`: `make_each` makes tables, and `MakeFault`, why it doesn't.

@@ -3,7 +3,7 @@ ghost use Rattle.lot_table.specs.Cell.{IsOpeningNumber};
 
 use std::marker::Model;
 
-/// The number of the posting that opened a lot, from 1: 64 for each entry before its own, and its place there. It fits an
+/// The number of the posting that opened a lot, from 1: 64 for each entry before its own, plus its place in its own. It fits an
 /// integer of SQL.
 #[derive(Clone, Copy, Debug, PartialEq, Eq, PartialOrd, Ord, Hash)]
 pub struct OpeningNumber {

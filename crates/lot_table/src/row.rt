@@ -18,9 +18,9 @@ pub trait TableRow: Sized + Drop {
 
     ghost IsGood: { Self → Type 0 };
 
-    /// Returns the row that the columns say; each is tested.
+    /// Returns the row that the columns say. Each column is tested.
     ///
-    /// The error is `Damaged`, exactly where the columns are those of no row that a book can have, or `Memory`.
+    /// The error is `Memory`, or `Damaged` exactly where the columns say no row that a book can have.
     fn read(alloc: Global, row: &Row) -> Result<Self, Fault>
         ensures ok { IfOk result (λ x. row.now ≡ Self.encode x) }
         ensures good { IfOk result IsGood }
@@ -28,9 +28,9 @@ pub trait TableRow: Sized + Drop {
         ensures no_device { result ≢ Err Fault.Device };
 }
 
-/// Returns the rows that these say, in their order.
+/// Returns the rows that these columns say, in their order.
 ///
-/// The error is `Damaged`, exactly where they aren't those of rows that a book can have, or `Memory`.
+/// The error is `Memory`, or `Damaged` exactly where some of them say no row that a book can have.
 pub fn read_all<R: TableRow>(alloc: Global, rows: &[Row]) -> Result<Vec<R>, Fault>
     ensures ok { IfOk result (λ found. rows.now ≡ map R.TableRow.encode found.items) }
     ensures good { IfOk result (λ found. All R.TableRow.IsGood found.items) }

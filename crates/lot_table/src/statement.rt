@@ -12,8 +12,8 @@ use sqlite::{Alter, Connection, Row, Transaction};
 
 /// Runs one statement that changes rows, in a transaction.
 ///
-/// After an error nothing changed, or the transaction is rolled back. A crash during the call leaves nothing that a crash
-/// before it couldn't leave.
+/// After an error nothing changed, or the transaction is rolled back. A crash during the call leaves only what a crash before
+/// it could leave.
 pub fn change<S: Alter>(
     tx: &mut Transaction<'_, S>,
     text: &str,
@@ -47,7 +47,7 @@ pub fn ask<S: Alter>(
     Ok(rows)
 }
 
-/// The same in an open transaction, whose changes the query sees.
+/// Returns the rows that a query answers in an open transaction. The query sees the changes of the transaction.
 pub fn ask_within<S: Alter>(
     tx: &mut Transaction<'_, S>,
     text: &str,

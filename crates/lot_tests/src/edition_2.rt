@@ -1,5 +1,5 @@
-//! Edition 2, in which ties between lots go to the one that was opened first, where edition 1 takes the first by key: what the
-//! last of some commands changes, by both editions.
+//! Edition 2 decides ties between lots by which was opened first, where edition 1 takes the first by key. The tests show what
+//! the last of some commands changes, by both editions.
 
 use crate::assertions::{assert_is, assert_text};
 use crate::full_book::{MOST_ENTRIES, change_of};

@@ -1,5 +1,5 @@
-//! A book with as many entries as it may have, which no ledger text reaches: it is refused behind every other refusal, and
-//! every other refusal behind a key that stands.
+//! A book with as many entries as it may have, which no ledger text reaches. That it is full is the last refusal in the order,
+//! and a key that stands is the first.
 
 use crate::assertions::assert_is;
 use crate::make::{account, command, commands, commodity, lot, units};
@@ -13,8 +13,8 @@ use std::process::Abort;
 /// The most entries that a book may have.
 pub(crate) const MOST_ENTRIES: u32 = 2_000_000_000;
 
-/// The last commands of the book: accounts that are opened later, closed before or opened with EUR alone; two lots; postings at
-/// cost of a later day; and positions at the limit of units.
+/// The last commands of the book. Accounts are opened later, closed before or opened with EUR alone. There are two lots,
+/// postings at cost of a later day, and positions at the limit of units.
 const LAST: &str = "\
 2020-01-01 open Assets:Broker
 2020-01-01 open Assets:Cash

@@ -1,5 +1,5 @@
-//! Tests of the libraries through their public calls: what neither a contract says nor a script over the program shows. They
-//! stand here, above the libraries, so that none of those is proved twice.
+//! Tests of the libraries through their public calls. They test what no contract says and no script over the program shows.
+//! They stand here, above the libraries, so that no library is proved twice.
 //!
 //! - `assertions`: the assertions that tests call.
 //! - `make`: values made of texts.
@@ -11,9 +11,9 @@
 //! - `opening_numbers`: the lots that legs leave, with their opening numbers.
 //! - `streams`: readers and writers that give or take little, are interrupted, or fail, by a script (`scripted`).
 //!
-//! Each function here is proved, too. What keeps that short: tables of cases, in few tests; no `?`, which adds a path on which all
-//! that lives is dropped; tables that are slices, and not arrays that a loop takes by value; assertions in functions of
-//! their own.
+//! Each function here is proved, too. These habits keep the proofs short. Tables of cases stand in few tests. There is no `?`,
+//! which adds a path on which all live values are dropped. Tables are slices, not arrays that a loop takes by value. Assertions
+//! stand in functions of their own.
 #![tactic(auto)]
 
 #[cfg(test)]

@@ -10,8 +10,8 @@ use lot_ledger::{Leg, LotOpening, Position, openings};
 use lot_num::Units;
 use std::process::Abort;
 
-/// Legs, each by its entry, its posting, the label of its lot, or `-` for plain units, and its units; and the lots that are
-/// left, each by its label and its opening number.
+/// Legs, and the lots that they leave. A leg is given by its entry, its posting, the label of its lot (`-` for plain units) and
+/// its units. A lot is given by its label and its opening number.
 const CASES: &[(&[(u64, usize, &str, i64)], &str)] = &[
     (&[], ""),
     (&[(5, 1, "b", 5), (6, 1, "a", 5)], "a 321 b 257 "),

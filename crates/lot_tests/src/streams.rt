@@ -1,5 +1,5 @@
-//! Readers and writers that give or take few bytes a call, that are interrupted, fail or take nothing at each of their calls
-//! in turn; a flush that fails; and the limits of an input.
+//! Readers and writers that give or take few bytes a call, or whose calls in turn are interrupted, fail or take nothing. A
+//! flush that fails. The limits of an input.
 
 use crate::assertions::assert_is;
 use crate::scripted::{Flush, Script, ScriptedReader, ScriptedWriter, Trouble};
@@ -34,8 +34,8 @@ fn assert_read(rt: &(impl Abort + AllocGlobal), script: Script, case: &Case) {
     assert_is(rt, &ended, status, "status");
 }
 
-/// Asserts what is made of a reader each of whose calls in turn meets trouble: an interrupted one is made again, one that
-/// gives nothing is the end, and one that fails is a fault, after which no more are made.
+/// Asserts what is made of a reader each of whose calls in turn meets trouble. An interrupted call is made again. A call that
+/// gives nothing is the end. A call that fails is a fault, after which no more are made.
 fn assert_calls(rt: &(impl Abort + AllocGlobal), at: usize) {
     let (text, _, _) = MIXED;
     let broken = (text, b"fault K1 Read\n".as_slice(), 3);

@@ -1,15 +1,17 @@
 -- A line is cut into the tokens that it has, and can't be cut where it has none.
-use Rattle.std.proofs.Common.{◌≡◌, ◌⊎◌, inl, inr, ℕ, zero, suc, ◌<◌, ◌≤◌, Bool, true, false, cond, List, [], ◌∷◌, ◌++◌, length, drop, Option, Some, None, refl, ap, ◌∙◌, sym, subst, arith, eqb, length-append}
+use Rattle.std.proofs.Common.{◌≡◌, ◌⊎◌, inl, inr, ℕ, zero, suc, ◌<◌, ◌≤◌, Bool, true, false, cond, List, [], ◌∷◌, ◌++◌, length, map, drop, Option, Some, None, Result, Ok, Err, refl, ap, ◌∙◌, sym, subst, arith, eqb, length-append}
 use Rattle.std.specs.Prelude.{option_map}
 use Rattle.std.specs.Option.{is_some}
+use Rattle.std.specs.Result.{is_ok, is_err}
 use Rattle.std.specs.List.{list_all}
 use Rattle.std.proofs.lemmas.Bool.{or_cases, eqb-true, both_ways}
 use Rattle.std.proofs.lemmas.List.{append-nil}
 use Rattle.std.proofs.lemmas.Option.{same_Some, none-some}
 use Rattle.lot_token.specs.declared.token.Mark.{Mark}
 use Rattle.lot_token.specs.declared.token.Mark.TheVariants as Marks
+use Rattle.lot_token.specs.declared.token.Token.{Token}
 use Rattle.lot_token.specs.Token.{Lexeme, word, number, date, text, mark, is_blank, begins, IsWhole, IsNumber, IsDate, mark_bytes, spelled, Stands, HasNoToken, Cuts}
-use Rattle.lot_token.specs.Cutting.{token_at, next_in, next_of, cut_on, cut_within, cut_of, given}
+use Rattle.lot_token.specs.Cutting.{token_at, next_in, next_of, run, cut_on, cut_within, cut_of, cut_behind, given, lexeme_of}
 use Rattle.lot_token.proofs.OptionLemmas.{mapped}
 use Rattle.lot_token.proofs.RunLemmas.{run_found, HasRun, has_run, drop_front}
 use Rattle.lot_token.proofs.TokenLemmas.{token_stands}
@@ -323,6 +325,37 @@ cut_false line n = ap is_some (cut_none line n)
 
 pub cut_true : (line : List ℕ) → next_of line ≡ Some None → is_some (cut_of line) ≡ true
 cut_true line n = ap is_some (cut_end line n)
+
+next_empty : next_of [] ≡ Some None
+unfolding next_of run
+next_empty = refl
+
+-- an empty line has no token
+pub cut_empty : cut_of [] ≡ Some []
+cut_empty = cut_end [] next_empty
+
+-- ---- Tokens that are kept, and those behind them.
+
+-- what a vector has behind a push
+pub pushed_ok : {U E : Type 0} (r : Result U E) (before more after : List Token) → after ≡ cond (is_ok r) more before
+    → is_err r ≡ false → after ≡ more
+pushed_ok (Ok u) before more after e h = e
+pushed_ok (Err u) before more after e h = cc
+
+one_more : (first : List Token) (token : Token) (left : List Lexeme)
+    → map lexeme_of (first ++ token ∷ []) ++ left ≡ map lexeme_of first ++ lexeme_of token ∷ left
+one_more [] token left = refl
+one_more (t ∷ first) token left = ap (λ tokens. lexeme_of t ∷ tokens) (one_more first token left)
+
+-- with the next token the tokens of the line are still the same
+pub one_more_cut : (first after : List Token) (token : Token) (rest behind line : List ℕ) → after ≡ first ++ token ∷ []
+    → next_of rest ≡ Some (Some (lexeme_of token, behind)) → is_some (cut_of rest) ≡ is_some (cut_of line)
+    → (is_some (cut_of line) ≡ true → cut_behind first rest ≡ given (cut_of line))
+    → is_some (cut_of line) ≡ true → cut_behind after behind ≡ given (cut_of line)
+one_more_cut first after token rest behind line pushed next same so_far cut =
+    let s = splits rest (lexeme_of token, behind) (same ∙ cut) next in
+    ap (λ tokens. cut_behind tokens behind) pushed
+    ∙ (one_more first token (given (cut_of behind)) ∙ (ap (λ tokens. map lexeme_of first ++ tokens) (sym s.whole) ∙ so_far cut))
 
 -- ---- Laws.
 

@@ -1,6 +1,6 @@
 -- How a line is cut from its beginning on. That this gives the tokens of the line, both ways, is proved in
 -- proofs/TokenLemmas.antt and proofs/CutLemmas.antt.
-use Rattle.std.specs.Prelude.{◌⊎◌, IsTrue, ℕ, zero, suc, ◌+◌, ◌==◌, ◌&&◌, ◌||◌, Bool, if◌then◌else◌, List, [], ◌∷◌, length, take, drop, Option, Some, None, option_map}
+use Rattle.std.specs.Prelude.{◌⊎◌, IsTrue, ℕ, zero, suc, ◌+◌, ◌==◌, ◌&&◌, ◌||◌, Bool, if◌then◌else◌, List, [], ◌∷◌, ◌++◌, length, map, take, drop, Option, Some, None, option_map}
 use Rattle.std.specs.Char.{is_ascii_digit}
 use Rattle.lot_base.specs.Name.{is_note_byte}
 use Rattle.lot_base.specs.Day.{is_separator}
@@ -165,3 +165,7 @@ cut_of line = cut_within (length line) line
 abbrev pub given : Option (List Lexeme) → List Lexeme
 given None = []
 given (Some tokens) = tokens
+
+-- tokens that are cut, and those that stand behind them
+abbrev pub cut_behind : List Token → List ℕ → List Lexeme
+cut_behind first rest = map lexeme_of first ++ given (cut_of rest)

@@ -17,4 +17,4 @@ mod tokens;
 
 pub use lines::Lines;
 pub use token::{Mark, Token, Uncut};
-pub use tokens::Tokens;
+pub use tokens::{LineTokens, Tokens};

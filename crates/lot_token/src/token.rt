@@ -14,7 +14,7 @@ pub enum Token<'a> {
     Number(&'a str),
     /// A date, which the calendar need not have.
     Date(&'a str),
-    /// What stands between the quotes of a text: each quote and each backslash in it has a backslash before it.
+    /// The part of a text between its quotes. Each quote and each backslash in it has a backslash before it.
     Text(&'a str),
     /// A mark.
     Mark(Mark),

@@ -1,10 +1,2 @@
-pub mod Replay
-pub mod Agree
-pub mod Checks
-pub mod Entries
 pub mod Fault
-pub mod Pass
-pub mod Rates
-pub mod Told
-pub mod Legs
 pub mod Verify

@@ -1,25 +1,18 @@
--- What verifying the tables of a book comes to.
-use Rattle.std.specs.Prelude.{◌≡◌, List, [], ◌∷◌}
-use Rattle.lot_book.specs.Facts.{Entry}
-use Rattle.lot_rows.specs.Tables.{Tables, layout}
-use Rattle.lot_stored.specs.Rows.{this_edition}
-use Rattle.lot_stored.specs.StandFor.{AreOfBook}
-use Rattle.lot_verify.specs.Told.{AmountsTold, HeldHasRows, LegsWithin, NamesTold}
-use Rattle.lot_verify.specs.declared.pass.Known.{Known}
-use Rattle.lot_view.specs.View.{known as facts_known}
+-- What verifying a database tells of it.
+use Rattle.std.specs.Prelude.{Err}
+use Rattle.sqlite.specs.State.{State}
+use Rattle.lot_store.specs.Create.{IsTaken, TellsOf}
+use Rattle.lot_store.specs.declared.fault.AdoptFault.TheVariants as adopt
+use Rattle.lot_table.specs.Statement.{DiskFailed}
+use Rattle.lot_verify.specs.declared.fault.VerifyFault.{VerifyFault}
+use Rattle.lot_verify.specs.declared.fault.VerifyFault.TheVariants as verify
 
--- The tables agree with what is known of their entries.
-pub record Agree (known : Known) (tables : Tables) : Type 0 where
-  pub names : NamesTold known.replay.view tables
-  pub amounts : AmountsTold known.replay.view known.rates tables
-  pub held : HeldHasRows known.replay.view tables
-  pub legs : LegsWithin (facts_known known.replay.view).entries tables
-
--- they are marked as those of a book of this edition
-abbrev pub AreOfThisEdition : Tables → Type 0
-AreOfThisEdition tables = tables.book ≡ this_edition ∷ []
-
--- Tables with the same columns stand for a book. Two lists of rows can have the same columns: a label that is none and one
--- that is empty; only one of them is that of a book.
-abbrev pub StandByColumns : Tables → Type 0
-StandByColumns tables = (good : Tables) × (layout.slots good ≡ layout.slots tables) × AreOfBook good
+-- What a fault tells. The database isn't taken up as a book, for that reason; or it is one that is
+-- taken up, which alone can be damaged; or the disk failed.
+abbrev pub NotVerified : State → State → VerifyFault → Type 0
+NotVerified old new verify.NotABook = TellsOf old new (Err adopt.NotABook)
+NotVerified old new verify.OlderEdition = TellsOf old new (Err adopt.OlderEdition)
+NotVerified old new verify.NewerEdition = TellsOf old new (Err adopt.NewerEdition)
+NotVerified old new verify.Damaged = IsTaken old
+NotVerified old new verify.Device = DiskFailed old new
+NotVerified old new verify.Memory = Unit {0}

@@ -17,9 +17,10 @@ use std::collections::BTreeSet;
 pub struct Touched {
     /// The accounts whose standing it looks at.
     pub accounts: BTreeSet<Account>,
-    /// The commodities of which it looks whether they are declared.
+    /// The commodities that it asks for: whether they are declared.
     pub declared: BTreeSet<Commodity>,
-    /// The accounts and commodities whose latest day at cost it looks at, with all that is held there, plain or in lots.
+    /// The accounts and commodities whose latest day at cost it looks at. It looks at all that is held there, too, plain or in
+    /// lots.
     pub pairs: BTreeSet<Pair>,
     /// The accounts whose plain units it looks at, of every commodity.
     pub plain: BTreeSet<Account>,

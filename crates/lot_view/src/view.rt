@@ -35,7 +35,7 @@ pub struct View {
     entries: u32,
     /// The canonical text that stands under the command's key.
     text: Option<String>,
-    /// How each account stands that was opened.
+    /// The state of each account that was opened.
     standings: BTreeMap<Account, Standing>,
     declared: BTreeSet<Commodity>,
     /// For each account and commodity the latest day of a posting with braces.
@@ -44,7 +44,7 @@ pub struct View {
 }
 
 impl View {
-    /// Returns a view of a book with so many entries of which nothing else is known.
+    /// Returns a view of a book with so many entries, of which nothing else is known.
     pub fn new(alloc: Global, entries: u32) -> View
         ensures { known result ≡ nothing_but entries }
     {
@@ -77,7 +77,7 @@ impl View {
         self.text = None;
     }
 
-    /// Puts how an account stands. The error is out of memory; nothing changes then.
+    /// Puts the state of an account. The error is out of memory; nothing changes then.
     pub fn put_account(&mut self, account: &Account, standing: Standing) -> Result<(), AllocError>
         ensures ok { OnOk result (known self.new ≡ with_standing account.now standing (known self.old)) }
         ensures openings { (known_with_openings self.new).opening
@@ -115,9 +115,8 @@ impl View {
         Ok(())
     }
 
-    /// Puts further units at a position. A lot that holds nothing is opened under the opening number, and one that holds
-    /// some keeps its own. The error is `Range` exactly where the sum is out of range, else out of memory; nothing changes
-    /// then.
+    /// Puts further units at a position. A lot that holds nothing is opened under the opening number. A lot that holds some
+    /// keeps its own. The error is `Range` exactly where the sum is out of range, else out of memory; nothing changes then.
     pub fn put_position(
         &mut self,
         account: &Account,
@@ -157,8 +156,8 @@ impl View {
         Ok(())
     }
 
-    /// Records an accepted command and what it changes: there is an entry more, and no text stands under the next
-    /// command's key. The error is out of memory; the view is then lost.
+    /// Records an accepted command and what it changes. The view then has one entry more, and no text under the next command's
+    /// key. The error is out of memory, and the view is then lost.
     pub fn record(mut self, command: &Command, change: &Change) -> Result<View, AllocError>
         requires { (known self).entries < most_entries }
         ensures facts { IfOk result (λ view. known view ≡ recorded (known self) command.now change.now) }
@@ -190,7 +189,7 @@ impl View {
         self.text.as_deref()
     }
 
-    /// Returns how an account stands, if it was opened.
+    /// Returns the state of an account, if it was opened.
     pub fn standing(&self, account: &Account) -> Option<&Standing>
         ensures { option_copied result ≡ (known self.now).standing account.now }
     {

@@ -108,8 +108,8 @@ is_at_lot holding = is_lot holding.lot
 abbrev pub is_plain : Holding → Bool
 is_plain holding = not (is_lot holding.lot)
 
--- These are the rows of both tables, all of them: those at no lot are the rows of plain units, and the others the lots, which
--- are told by their columns, each kind in its order.
+-- These are all rows of both tables, each kind in its order. Those at no lot are the rows of plain units. The others are the
+-- lots, which are told by their columns.
 pub record AreAllHoldingRows (asked : Unit {0}) (tables : Tables) (given : List Holding) : Type 0 where
   pub lots : List LotRow
   pub of_lot : map lot_cells lots ≡ map lot_cells tables.lot

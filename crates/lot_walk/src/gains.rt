@@ -36,8 +36,8 @@ pub struct GainsPlace {
 }
 
 impl GainsPlace {
-    /// Returns the place before the first sale, of those from the first day to the last, both included. Without a day that end is
-    /// open. It takes no memory.
+    /// Returns the place before the first sale. The walk is over the sales from the first day to the last, both included.
+    /// Without a day that end of the range is open. It takes no memory.
     pub fn new(alloc: Global, first: Option<Day>, last: Option<Day>) -> GainsPlace
         ensures begun { HasGivenNone AreSalesWithin IsBehindSales result (first, last) }
         ensures rows { HasGivenNoRows IsBehindSaleRows result (first, last) }

@@ -16,7 +16,7 @@ use std::mem;
 use std::vec::IntoIter;
 
 /// The place of a walk over what a book holds: by account, then commodity, the plain units first, then the lots in the order of
-/// their keys. It merges the rows of two tables: those of plain units are read at once, the lots as they come.
+/// their keys. It merges the rows of two tables. The rows of plain units are read at once, the lots one after another.
 #[derive(Drop)]
 pub struct HoldingsPlace {
     has_begun: bool,

@@ -1,5 +1,6 @@
-//! Laws of what a book holds, of its sales and what they take, and of its prices at a day, over its entries and over the
-//! tables that stand for it; and that these stand for no other. Each is the contract of a function that does nothing.
+//! Laws of what a book holds, of its sales and what they take, and of its prices at a day. They are on the entries of a book
+//! and on the tables that stand for it. Tables stand for at most one book. Each law is the contract of a function that does
+//! nothing.
 ghost use Rattle.std.specs.Prelude.{◌≡◌, ◌+ℤ◌, ◌<ℤ◌, ℕ, ℤ, [], List, Option, Some, map};
 ghost use Rattle.std.specs.List.{AllByRecursion};
 ghost use Rattle.std.specs.Map.{lookup};
@@ -41,10 +42,11 @@ pub fn a_book_has_one_list_of_holdings()
     ensures { (entries : List Entry) (a b : List Holding) → IsHoldings entries a → IsHoldings entries b → a ≡ b }
 {}
 
-/// For each key of a lot, account and commodity: what the sales of a book took of the lot, with their sign, and what its
-/// holdings say is left of it add up to what was bought into it. All three are over all entries, so that they hold of a lot
-/// that was sold out and opened again under its key. Under NONE there are no sales: a posting of the other sign counts as
-/// bought, with its sign.
+/// The units that a book's sales took of a lot, with their sign, and the units that its holdings say are left add up to those
+/// that were bought into it. A lot is named by its account, commodity and key.
+///
+/// All three are over all entries, so that they hold of a lot that was sold out and opened again under its key. Under NONE
+/// there are no sales: a posting of the other sign counts as bought, with its sign.
 pub fn what_was_bought_into_a_lot_was_sold_or_is_held()
     ensures { (migration : Migration) (entries : List Entry) (booked : List Booked)
         (sales : List (ℕ × (ℕ × SaleParts))) (rows : List Holding)
@@ -65,18 +67,19 @@ pub fn a_book_has_one_list_of_prices_at_a_day()
     ensures { (entries : List Entry) (day : ℤ) (a b : List PairPrice) → ArePrices entries day a → ArePrices entries day b → a ≡ b }
 {}
 
-/// The rows of plain units and of lots of tables that stand for a book, merged in the order of positions, are what it holds.
+/// The rows of plain units and of lots of tables that stand for a book, merged in the order of positions, are what the book
+/// holds.
 pub fn merged_rows_are_what_a_book_holds()
     ensures { (tables : Tables) (entries : List Entry) → StandFor tables entries → IsHoldings entries (merged tables.plain tables.lot) }
 {}
 
-/// Of the rows of prices of tables that stand for a book, those up to a day that are the last of their pairs are its prices at
-/// the day.
+/// Take the rows of prices of tables that stand for a book, up to a day. The last row of each pair is the price of that pair at
+/// the day, and these are all prices at the day.
 pub fn last_rows_of_pairs_are_the_prices_at_a_day()
     ensures { (tables : Tables) (entries : List Entry) (day : ℤ) → StandFor tables entries → ArePrices entries day (prices_by day tables.price) }
 {}
 
-/// At most one list is the sales of a book on the days of a range, whatever its place of migration.
+/// A book has at most one list of sales on the days of a range, whatever its place of migration.
 pub fn a_book_has_one_list_of_sales_in_a_range()
     ensures { (entries : List Entry) (range : Range) (a b : List NumberedSale)
         → AreSalesWithin range entries a → AreSalesWithin range entries b → a ≡ b }

@@ -1,6 +1,6 @@
-//! Places of walks over the rows of a book in a file: each reads one row after another over a connection that is lent to it.
+//! Places of walks over the rows of a book in a file. Each reads one row after another over a connection that is lent to it.
 //!
-//! - `place`: what a place gives, and what it is behind.
+//! - `place`: what a place gives, and which rows it is behind.
 //! - `journal`: the entries; `holdings`: what accounts hold; `gains`: the sales of a range of days; `prices`: the prices at a
 //!   day.
 //! - `price`: the price of a pair at a day.

@@ -10,7 +10,7 @@ use lot_table::Fault;
 use sqlite::{Alter, Connection};
 use std::alloc::Global;
 
-/// The place of a walk among the rows of a book, which borrows nothing.
+/// The place of a walk among the rows of a book. It borrows nothing.
 pub trait Place: Drop {
     /// What the walk gives.
     type Row: Drop;
@@ -34,7 +34,8 @@ pub trait Place: Drop {
 
     ghost IsBehindRows: { Self → Tables → Asked → List Shown → Type 0 };
 
-    /// Returns the next row, or `None` past the last, which is never behind a row that is damaged. It changes nothing.
+    /// Returns the next row, or `None` past the last. No row that is damaged stands before a `None`. It changes
+    /// nothing.
     ///
     /// The error is `Damaged` only where the tables stand for no book.
     fn next<S: Alter>(

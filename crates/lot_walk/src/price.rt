@@ -5,7 +5,7 @@ use lot_num::Rate;
 #[derive(Debug, PartialEq, Eq, Drop)]
 pub struct PairPrice {
     pub base: Commodity,
-    /// What the rate is in.
+    /// The currency of the rate.
     pub quote: Commodity,
     /// What one unit of the base is worth.
     pub rate: Rate,

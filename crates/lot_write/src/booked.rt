@@ -23,8 +23,8 @@ use lot_view::View;
 use std::alloc::AllocError;
 use std::collections::BTreeMap;
 
-/// Adds what a transaction writes beside its entry, which has that number: its legs and sales, what the positions of its legs
-/// hold after them, with the opening numbers of their lots, and the latest days. The view is of the book before it.
+/// Adds what a transaction writes beside its entry, which has that number. These are its legs and sales, what the positions of
+/// its legs hold after them, the opening numbers of their lots, and the latest days. The view is of the book before it.
 pub(crate) fn push_change(
     writes: &mut Vec<Write>,
     number: Ordinal,
@@ -165,7 +165,7 @@ fn units_listed(view: &View, change: &Change, position: &Position) -> Units
     }
 }
 
-/// Adds what is written of the opening number of a position with those units, of which that number is listed.
+/// Adds what is written of the opening number of a position. The position has those units, and its number is listed as given.
 fn push_opening_number(
     writes: &mut Vec<Write>,
     position: &Position,

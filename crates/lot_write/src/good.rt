@@ -1,4 +1,4 @@
-//! Each row is one that a book can have. The functions do nothing: their contracts tell this to a caller.
+//! Each row is one that a book can have. The functions do nothing: their contracts state this for a caller.
 ghost use Rattle.std.specs.Prelude.{All};
 ghost use Rattle.lot_write.specs.Write.{IsGood};
 ghost use Rattle.lot_rows.specs.Account.{IsAccountRow};
@@ -29,7 +29,7 @@ use lot_rows::plain::PlainRow;
 use lot_rows::price::PriceRow;
 use lot_rows::sale::SaleRow;
 
-/// Each of the rows that are written is one that a book can have. It does nothing: its contract tells this to a caller.
+/// States for a caller that each row that is written is one that a book can have. It does nothing.
 pub fn are_good(writes: &[Write])
     ensures { All IsGood writes.now }
 {

@@ -1,5 +1,5 @@
-//! The law of what is written: tables that stand for a book stand, after the writes of an accepted command, for the book
-//! with its entry. It is the contract of a function that does nothing.
+//! The law of what is written. Tables that stand for a book stand, after the writes of an accepted command, for the book with
+//! its entry. It is the contract of a function that does nothing.
 ghost use Rattle.std.specs.Prelude.{◌≡◌, All, None, [], ◌∷◌, ◌++◌, List};
 ghost use Rattle.lot_book.specs.Book.{IsBook, entry_of};
 ghost use Rattle.lot_book.specs.Facts.{Entry};
@@ -13,9 +13,9 @@ ghost use Rattle.lot_write.specs.Write.{AreFit, IsGood, written_all};
 ghost use Rattle.lot_write.specs.Writes.{ListsInOrder, writes_of};
 ghost use Rattle.lot_rows.specs.Tables.{Tables};
 
-/// What an accepted command writes makes of tables that stand for a book tables that stand for the book with its entry.
+/// After the writes of an accepted command, tables that stood for a book stand for the book with its entry.
 ///
-/// It is written from facts that agree with the book's on what the command looks at, under a key that is new.
+/// The writes come from facts that agree with the book's on what the command looks at, under a key that is new.
 pub fn what_is_written_stands_for_the_book()
     ensures { (tables : Tables) (entries : List Entry) (known : FactsWithOpenings) (key : Key) (command : Command)
         (change : Change) → IsBook entries → StandFor tables entries

@@ -4,7 +4,7 @@ ghost use Rattle.lot_table.specs.declared.fault.Fault.TheVariants.{Device};
 
 use lot_table::{Fault, OpeningNumber, Ordinal};
 
-/// Returns a number that counts from 1 as its column has it. The error is `Device`, exactly where it doesn't fit.
+/// Returns a number that counts from 1, as its column holds it. The error is `Device`, exactly where it doesn't fit.
 pub fn ordinal(number: u64) -> Result<Ordinal, Fault>
     ensures value { IfOk result (λ ordinal. ordinal ≡ number) }
     ensures none { OnErr result (¬ IsOrdinal number) }
@@ -16,7 +16,7 @@ pub fn ordinal(number: u64) -> Result<Ordinal, Fault>
     Ordinal::new(number).ok_or(Fault::Device)
 }
 
-/// Returns a number that counts from 0 as its column has it. The error is `Device`, exactly where it doesn't fit.
+/// Returns a number that counts from 0, as its column holds it. The error is `Device`, exactly where it doesn't fit.
 pub fn place(number: usize) -> Result<u32, Fault>
     ensures value { IfOk result (λ place. place ≡ number) }
     ensures none { OnErr result (¬ IsPlace number) }
@@ -25,7 +25,7 @@ pub fn place(number: usize) -> Result<u32, Fault>
     u32::try_from(number).map_err(|_| Fault::Device)
 }
 
-/// Returns the number of a posting in its book as its column has it. The error is `Device`, exactly where it doesn't fit.
+/// Returns the number of a posting in its book, as its column holds it. The error is `Device`, exactly where it doesn't fit.
 pub fn opening_number(number: u64) -> Result<OpeningNumber, Fault>
     ensures value { IfOk result (λ opening. opening ≡ number) }
     ensures none { OnErr result (¬ IsOpeningNumber number) }

@@ -20,7 +20,7 @@ use lot_rows::{account, allowed, commodity, entry, head, leg, lot, opening, plai
 use lot_table::Fault;
 use sqlite::{Alter, Transaction};
 
-/// A row that is put, instead of the row of its key, or one that is deleted.
+/// A row that is put, in place of the row of its key if there is one, or a row that is deleted.
 #[derive(Drop)]
 pub enum Write {
     Account(AccountRow),

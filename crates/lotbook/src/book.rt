@@ -1,17 +1,16 @@
-//! The book that the words name, and how a call gets at it.
+//! The book that the arguments name, and how a call opens it.
 
 ghost use Rattle.std.specs.Prelude.{◌≡◌, None, false};
 
 use crate::call::Call;
-use crate::cause::Cause;
-use crate::copy::open_copy;
-use crate::files::{first_byte, has_long_name, is_missing, len_of, names_no_file, open};
-use crate::image::Image;
 use crate::notes::withdraw;
-use crate::record::{Keeper, Kept, Witness};
 use crate::words::UNUSABLE;
 use crate::{STOPPED, out_of_memory};
 use lot_cli::{Action, Effect, Served};
+use lot_files::{
+    Access, Cause, Opened, ensure_openable, is_missing, library_path, open, open_book, open_copy,
+};
+use lot_output::{Keeper, Kept, Witness};
 use sqlite::{Alter, Connection, File, FileStore};
 use std::io::{self, Read, Write};
 
@@ -21,26 +20,10 @@ const DONE: u8 = 0;
 /// The status of one where some were. That of a fault is greater.
 const REFUSED: u8 = 1;
 
-/// Does what a call is for, and returns the status of the program.
-pub fn act(call: &Call<'_>) -> u8 {
-    let status = match path_of(call.action) {
-        None => on_nothing(call),
-        Some(path) if !names_no_file(path) => on_path(call, path),
-        Some(path) => match format!(in call.rt.alloc(); "./{path}") {
-            Ok(path) => on_path(call, path.as_str()),
-            Err(_) => out_of_memory(call.rt),
-        },
-    };
-    if status == UNUSABLE {
-        let _ = eprintln!(call.rt; "lotbook: --row-of wants a text of one command");
-    }
-    status
-}
-
-/// Returns the path of the book that an action names.
-pub fn path_of(action: &Action) -> Option<&str> {
+/// Returns the path of the book that an action names, or nothing.
+pub fn path_of(action: &Action) -> &str {
     match action {
-        Action::Check => None,
+        Action::Check => "",
         Action::Init { book }
         | Action::Migrate { book }
         | Action::Post { book, .. }
@@ -49,63 +32,71 @@ pub fn path_of(action: &Action) -> Option<&str> {
         | Action::Holdings { book, .. }
         | Action::Gains { book, .. }
         | Action::Journal { book }
-        | Action::Verify { book } => Some(book.as_str()),
+        | Action::Verify { book } => book.as_str(),
     }
 }
 
-/// Does what a call is for on the book of that path, and returns the status. Where the book can't be
-/// opened, a line on standard output says so, and one on standard error why.
-fn on_path(call: &Call<'_>, path: &str) -> u8 {
-    match on_book(call, path) {
-        Ok(status) => status,
-        Err(Cause::Memory) => out_of_memory(call.rt),
+/// Does what a call is for, and returns the status of the program. Where the book can't be opened, a
+/// line on standard output says so, and one on standard error why.
+pub fn act(call: &Call<'_>) -> u8 {
+    let rt = call.rt;
+    let Ok(path) = library_path(rt.alloc(), call.path) else {
+        return out_of_memory(rt);
+    };
+    let path = path.as_str();
+    let ended = match call.action {
+        Action::Check => on_nothing(call),
+        _ => on_path(call, path),
+    };
+    match ended {
+        Ok(status) => {
+            if status == UNUSABLE {
+                let _ = eprintln!(rt; "lotbook: --row-of wants a text of one command");
+            }
+            status
+        }
+        Err(Cause::Memory) => out_of_memory(rt),
         Err(cause) => {
-            let _ = println!(call.rt; "fault open");
+            let _ = println!(rt; "fault open");
             if !call.is_quiet() {
-                let _ = eprintln!(call.rt; "lotbook: {path}: {cause}");
+                let _ = eprintln!(rt; "lotbook: {path}: {cause}");
             }
             STOPPED
         }
     }
 }
 
-/// Does what a call is for on the book of that path; where there is no such file, and none is to be
-/// made, on an empty database of which nothing stays. The file is opened before anything is read.
-fn on_book(call: &Call<'_>, path: &str) -> Result<u8, Cause> {
+/// Does what a call is for on an empty database in memory.
+fn on_nothing(call: &Call<'_>) -> Result<u8, Cause> {
+    match Connection::open_in_memory(call.rt.alloc()) {
+        Ok(conn) => Ok(on_copy(call, conn)),
+        Err(_) => Err(Cause::Memory),
+    }
+}
+
+/// Does what a call is for on the book of that path. Where there is no such file and none is to be made, it uses an
+/// empty database, of which nothing is kept. The file is opened before anything is read.
+fn on_path(call: &Call<'_>, path: &str) -> Result<u8, Cause> {
     let rt = call.rt;
-    if has_long_name(path) {
-        return Err(Cause::LongName);
-    }
+    ensure_openable(rt, path)?;
     if !matches!(call.action, Action::Init { .. }) && is_missing(rt, path) {
-        return Ok(on_nothing(call));
+        return on_nothing(call);
     }
-    let len = len_of(rt, path);
-    if len == Some(1) && !matches!(first_byte(rt, path), Ok(Some(0))) {
-        return Err(Cause::OneByte);
-    }
-    match (call.action, call.effect) {
+    let access = match (call.action, call.effect) {
         (
             Action::Holdings { .. }
             | Action::Gains { .. }
             | Action::Journal { .. }
             | Action::Verify { .. },
             _,
-        ) => report_on(call, path, len),
-        (_, Effect::Keep) => Ok(on_file(call, rt.reader(), open(rt, path)?)),
-        (_, Effect::DryRun) => on_copy(call, path),
-        (_, Effect::AllOrNone) => {
-            // The file is open meanwhile, so no other program writes it in between.
-            let file = open(rt, path)?;
-            Ok(all_or_none(call, open_copy(rt, path)?, file))
-        }
-    }
-}
-
-/// Does it on an empty database in memory.
-fn on_nothing(call: &Call<'_>) -> u8 {
-    match Connection::open_in_memory(call.rt.alloc()) {
-        Ok(conn) => dropped(call.answer(call.rt.reader(), conn)),
-        Err(_) => out_of_memory(call.rt),
+        ) => Access::Read,
+        (_, Effect::Keep) => Access::Write,
+        (_, Effect::DryRun) => Access::Copy,
+        (_, Effect::AllOrNone) => return all_or_none(call, path),
+    };
+    match open_book(rt, path, access)? {
+        Opened::File(file) => Ok(on_file(call, rt.reader(), file)),
+        Opened::Copy(copy) => Ok(on_copy(call, copy)),
     }
 }
 
@@ -126,68 +117,46 @@ fn on_file<R: Read + Drop>(call: &Call<'_>, input: R, file: Connection<FileStore
     status
 }
 
-/// Does it on a copy, which is dropped.
-fn on_copy(call: &Call<'_>, path: &str) -> Result<u8, Cause> {
-    let copy = open_copy(call.rt, path)?;
-    Ok(dropped(call.answer(call.rt.reader(), copy)))
-}
-
-/// Lets the book of an action go, and returns the status.
-fn dropped<S: Alter + Drop>(served: Served<S>) -> u8 {
+/// Does it on a database of which nothing stays.
+fn on_copy<S: Alter + Drop>(call: &Call<'_>, copy: Connection<S>) -> u8
+    requires outside { copy.in_transaction ≡ false }
+    requires unlimited { copy.step_limit ≡ None }
+{
     let Served {
         status,
         halt: _,
         conn: _,
-    } = served;
+    } = call.answer(call.rt.reader(), copy);
     status
 }
 
-/// Does it, a report or a verification, on the file, or on a copy where the file is empty or can't be opened for
-/// writing.
-fn report_on(call: &Call<'_>, path: &str, len: Option<u64>) -> Result<u8, Cause> {
-    if len == Some(0) {
-        return on_copy(call, path);
-    }
-    match open(call.rt, path) {
-        Ok(file) => Ok(on_file(call, call.rt.reader(), file)),
-        Err(Cause::NoPermission | Cause::ReadOnly | Cause::InUse) => on_copy(call, path),
-        Err(cause) => Err(cause),
-    }
-}
-
-/// Does it on the copy, with the replies held back; and then, with the same input, on the file where
-/// the copy accepted every command. Else the replies of the copy are those of the call.
-fn all_or_none(
-    call: &Call<'_>,
-    copy: Connection<FileStore<Image>>,
-    file: Connection<FileStore<File>>,
-) -> u8
-    requires outside { copy.in_transaction ≡ false }
-    requires unlimited { copy.step_limit ≡ None }
-    requires outside_in_file { file.in_transaction ≡ false }
-    requires unlimited_in_file { file.step_limit ≡ None }
-{
+/// Does it on a copy, with the replies held back. Where the copy accepted every command, it does the same on the
+/// file, with the same input. Else the replies of the copy are those of the call.
+fn all_or_none(call: &Call<'_>, path: &str) -> Result<u8, Cause> {
     let (rt, alloc) = (call.rt, call.rt.alloc());
+    // The file is open meanwhile, so no other program writes it in between.
+    let file = open(rt, path)?;
+    let copy = open_copy(rt, path)?;
     let mut reader = Keeper {
         reader: rt.reader(),
         kept: Kept::new(alloc),
     };
-    let mut writer = Witness::new(alloc, Kept::new(alloc), call.notes);
+    let mut writer = Witness::new(alloc, Kept::new(alloc), call.most());
     let Served {
         status,
         halt,
         mut conn,
     } = call.serve(&mut reader, &mut writer, copy);
     let (Some(input), Some(replies)) = (&reader.kept.bytes, &writer.writer.bytes) else {
-        return out_of_memory(rt);
+        return Err(Cause::Memory);
     };
     if status == DONE {
-        return on_file(call, input.as_slice(), file);
+        return Ok(on_file(call, input.as_slice(), file));
     }
     let is_written = io::writer(rt).write_all(replies).is_ok();
     call.speak(&reader.kept, &writer.heard, halt, &mut conn);
     if halt.is_none() {
         withdraw(call);
     }
-    if is_written { status } else { STOPPED }
+    Ok(if is_written { status } else { STOPPED })
 }

@@ -2,21 +2,24 @@
 
 ghost use Rattle.std.specs.Prelude.{◌≡◌, None, false};
 
-use crate::meter::Meter;
 use crate::notes::{advise, sum_up};
-use crate::output::Output;
-use crate::record::{Heard, Keeper, Kept, Witness};
 use crate::told::explain;
-use lot_cli::{Action, Counted, CountedWriter, Effect, Halt, Notes, Served, serve};
+use lot_cli::{Action, Counted, CountedWriter, Effect, Halt, Notes, Progress, Served, serve};
+use lot_output::{Heard, Keeper, Kept, Meter, Output, Witness};
 use sqlite::{Alter, Connection};
 use std::io::{Read, Write};
 use std::time::Instant;
+
+/// How many refusals are explained where not all are.
+const TEN: u64 = 10;
 
 /// What the program is called for.
 #[derive(Drop)]
 pub struct Call<'a> {
     pub rt: &'a HostRuntime,
     pub action: &'a Action,
+    /// That of the book which the action names, if it does.
+    pub path: &'a str,
     pub effect: Effect,
     pub notes: Notes,
     /// When it began, where the clock could be read.
@@ -38,6 +41,14 @@ impl Call<'_> {
         }
     }
 
+    /// Returns how many refusals are explained.
+    pub fn most(&self) -> u64 {
+        match self.notes {
+            Notes::All => u64::MAX,
+            Notes::Ten | Notes::Quiet => TEN,
+        }
+    }
+
     /// Does what the call is for on the book that the connection leads to, with that input, and says on
     /// standard error what there is to say of it.
     pub fn answer<R: Read + Drop, S: Alter>(&self, reader: R, conn: Connection<S>) -> Served<S>
@@ -51,7 +62,7 @@ impl Call<'_> {
             Kept::new(alloc)
         };
         let mut reader = Keeper { reader, kept };
-        let mut writer = Witness::new(alloc, Output::new(self.rt, self.runs()), self.notes);
+        let mut writer = Witness::new(alloc, Output::new(self.rt, self.runs()), self.most());
         let mut served = self.serve(&mut reader, &mut writer, conn);
         writer.writer.end();
         self.speak(&reader.kept, &writer.heard, served.halt, &mut served.conn);
@@ -71,7 +82,7 @@ impl Call<'_> {
     {
         let mut input = Counted::new(reader);
         let mut output = CountedWriter::new(writer);
-        let mut legs = Meter::of_legs(self.rt);
+        let mut legs = Legs(Meter::of_legs(self.rt));
         let alloc = self.rt.alloc();
         serve(alloc, self.action, &mut input, &mut output, &mut legs, conn)
     }
@@ -92,5 +103,19 @@ impl Call<'_> {
             Some(halt) => advise(self, halt, conn),
             None => sum_up(self, heard),
         }
+    }
+}
+
+/// How far a migration is, on standard error.
+#[derive(Drop)]
+struct Legs<'a>(Meter<'a>);
+
+impl Progress for Legs<'_> {
+    fn legs_read(&mut self, legs: usize) {
+        self.0.add(legs as u64);
+    }
+
+    fn end(&mut self) {
+        self.0.end();
     }
 }

@@ -1,6 +1,5 @@
 //! Where a book that isn't verified is damaged.
 
-use crate::book::path_of;
 use crate::call::Call;
 use lot_cli::{Spot, Table, VerifyFault, Watch, judge_book};
 use sqlite::types::ValueRef;
@@ -28,10 +27,7 @@ impl Watch for Place {
 /// Says on standard error where the damage is: the book is judged once more, and what is looked at
 /// then is followed.
 pub fn say_where<S: Alter>(call: &Call<'_>, conn: &mut Connection<S>) {
-    let rt = call.rt;
-    let Some(path) = path_of(call.action) else {
-        return;
-    };
+    let (rt, path) = (call.rt, call.path);
     let mut place = Place {
         spot: None,
         rows: 0,

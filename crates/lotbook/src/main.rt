@@ -1,31 +1,20 @@
-//! The program `lotbook`: it does what its words ask for.
+//! The program `lotbook`: it does what its arguments ask for.
 //!
 //! - `words`: what they ask for.
 //! - `call`: a call of the program, and what is said of it; `book`: the book that it is on.
-//! - `files`: the files of a book; `cause`: why they can't be opened.
-//! - `copy`: a copy of them in memory; `image`: a file in memory.
-//! - `output`: standard output; `meter`: how far a run is, on standard error.
-//! - `record`: what a call read and wrote; `notes`: what is said of it on standard error;
-//!   `told`: why commands were refused, and what the codes mean; `facts`: what the book says of it;
-//!   `damage`: where a book is damaged.
+//! - `notes`: what is said of a call on standard error; `told`: why commands were refused, and what
+//!   the codes mean; `facts`: what the book says of it; `damage`: where a book is damaged.
 #![tactic(auto)]
 
 mod book;
 mod call;
-mod cause;
-mod copy;
 mod damage;
 mod facts;
-mod files;
-mod image;
-mod meter;
 mod notes;
-mod output;
-mod record;
 mod told;
 mod words;
 
-use crate::book::act;
+use crate::book::{act, path_of};
 use crate::call::Call;
 use crate::told::tell;
 use crate::words::understand;
@@ -48,6 +37,7 @@ fn main(rt: HostRuntime) -> ExitCode {
         ) => act(&Call {
             rt: &rt,
             action: &action,
+            path: path_of(&action),
             effect,
             notes,
             begun,

@@ -1,11 +1,10 @@
 //! What is said of a call on standard error, once its answer is written.
 
-use crate::book::path_of;
 use crate::call::Call;
 use crate::damage::say_where;
-use crate::files::is_missing;
-use crate::record::Heard;
 use lot_cli::{AdoptFault, CreateFault, Effect, Halt, MigrateFault, VerifyFault};
+use lot_files::is_missing;
+use lot_output::Heard;
 use sqlite::{Alter, Connection, Error};
 use std::io::IsTerminal;
 
@@ -26,7 +25,7 @@ pub fn advise<S: Alter>(call: &Call<'_>, halt: Halt, conn: &mut Connection<S>) {
     if halt == Halt::Verify(VerifyFault::Damaged) {
         return say_where(call, conn);
     }
-    let path = path_of(call.action).unwrap_or("");
+    let path = call.path;
     let Some(standing) = found(rt, path, halt, conn) else {
         return;
     };
@@ -118,7 +117,7 @@ pub fn sum_up(call: &Call<'_>, heard: &Heard) {
 
 /// Says that nothing is kept of a call that keeps all or nothing.
 pub fn withdraw(call: &Call<'_>) {
-    let path = path_of(call.action).unwrap_or("");
+    let path = call.path;
     if !call.is_quiet() {
         let _ = eprintln!(call.rt; "lotbook: {path}: nothing is kept, since not all was accepted");
     }

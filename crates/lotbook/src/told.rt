@@ -3,11 +3,10 @@
 use crate::STOPPED;
 use crate::call::Call;
 use crate::facts::Facts;
-use crate::output::Output;
-use crate::record::{Heard, Kept, TEN};
 use crate::words::UNUSABLE;
-use lot_cli::{Action, Notes};
+use lot_cli::Action;
 use lot_explain::{Source, list, nearest_code, notes};
+use lot_output::{Heard, Kept, Output};
 use sqlite::{Alter, Connection};
 
 /// The status where what was asked for was written.
@@ -39,16 +38,13 @@ fn unknown(rt: &HostRuntime, word: &str) -> u8 {
     UNUSABLE
 }
 
-/// Says on standard error why commands were refused, what a fault means, and what may have been
-/// meant otherwise than it was read. Where memory ends or that can't be written, less is said.
+/// Says on standard error why commands were refused, what a fault means, and what was perhaps read
+/// otherwise than it was meant. Where memory ends or that can't be written, less is said.
 pub fn explain<S: Alter>(call: &Call<'_>, read: &Kept, heard: &Heard, conn: &mut Connection<S>) {
     let (Some(input), Some(lines)) = (&read.bytes, &heard.lines.bytes) else {
         return;
     };
-    let most = match call.notes {
-        Notes::All => u64::MAX,
-        Notes::Ten | Notes::Quiet => TEN,
-    };
+    let most = call.most();
     let (source, from) = source_of(call.action);
     let asked = lot_explain::Call {
         source,

@@ -1,4 +1,4 @@
-//! The words of the program.
+//! The arguments of the program.
 
 use crate::{STOPPED, out_of_memory};
 use clap::error::ErrorKind as UsageKind;
@@ -12,11 +12,11 @@ const SHOWN: u8 = 0;
 /// The longest value of an option that is shown where it is bad, in bytes.
 const LONGEST_SHOWN: usize = 80;
 
-/// The status of words that can't be used.
+/// The status of arguments that can't be used.
 pub const UNUSABLE: u8 = 2;
 
-/// Returns what the words ask for; else the status of the program, once help or the version was shown, or words
-/// that can't be used were reported.
+/// Returns what the arguments ask for. Else help or the version was shown, or arguments that can't be used were reported, and
+/// it returns the status of the program.
 pub fn understand(rt: &HostRuntime) -> Result<Request, u8> {
     match words(rt) {
         Ok(words) => match parse_words(rt.alloc(), &words) {
@@ -31,12 +31,12 @@ pub fn understand(rt: &HostRuntime) -> Result<Request, u8> {
     }
 }
 
-/// Returns the words, the program's name first.
+/// Returns the arguments, the program's name first.
 fn words(rt: &HostRuntime) -> io::Result<Vec<String>> {
     Ok(env::args(rt)?.collect(rt.alloc())?)
 }
 
-/// Shows help or the version, or reports why words can't be used, and returns the status.
+/// Shows help or the version, or reports why arguments can't be used. Returns the status.
 fn answer(rt: &HostRuntime, words: &[String], fault: &WordsFault) -> u8 {
     match fault {
         WordsFault::Usage(error) => match error.print(rt) {
@@ -58,7 +58,7 @@ fn answer(rt: &HostRuntime, words: &[String], fault: &WordsFault) -> u8 {
     }
 }
 
-/// Calls of the words that need options.
+/// Calls of the subcommands that need options.
 const EXAMPLES: [(&str, &str); 8] = [
     ("init", "lotbook init --book family.book"),
     ("migrate", "lotbook migrate --book family.book"),
@@ -82,7 +82,7 @@ const EXAMPLES: [(&str, &str); 8] = [
     ("verify", "lotbook verify --book family.book"),
 ];
 
-/// Shows on standard error how the word is called that stands first among the words.
+/// Shows on standard error how the subcommand is called that stands first among the arguments.
 fn show_example(rt: &HostRuntime, words: &[String]) {
     for word in words.iter().skip(1) {
         for (name, example) in EXAMPLES {
@@ -94,7 +94,7 @@ fn show_example(rt: &HostRuntime, words: &[String]) {
     }
 }
 
-/// Shows on standard error the value of an option that is outside its rule, where it isn't long, and the form that it should
+/// Shows on standard error the value of an option that is outside its rule, unless it is long, and the form that it should
 /// have.
 fn show_form(rt: &HostRuntime, words: &[String], option: BadOption) {
     let form = form(option);

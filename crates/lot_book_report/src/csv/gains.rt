@@ -13,14 +13,15 @@ use lot_walk::NumberedSale;
 use sqlite::Alter;
 use std::alloc::Global;
 
-/// Writes what the sales of a book gained from the first day to the last, both included, as CSV: a
-/// record for each lot of each sale, as it is read. Without a day that end of the range is open.
-/// Nothing is flushed.
+/// Writes what the sales of a book gained as CSV: a record for each lot of each sale, as the sale
+/// is read. The sales are those from the first day to the last, both included. Without a day that
+/// end of the range is open. Nothing is flushed.
 ///
-/// Where the book stops, the records of the sales before are written, and nothing behind them;
-/// where it stops before the first sale, nothing is, no header. Where the writer fails, a prefix of
-/// what was to be written is. The book can be used on then. Where it ends well the records of all
-/// rows of sales on those days are written, whatever the tables stand for.
+/// Where the book stops, the records of the sales before are written, and nothing behind them.
+/// Where it stops before the first sale, nothing is written, not even the header. Where the writer
+/// fails, a prefix of the output is written, and the book can still be used. Where the call
+/// succeeds, the records of all rows of sales on those days are written, whatever the tables stand
+/// for.
 pub fn show_gains_csv<S: Alter, W: CountedWrite>(
     alloc: Global,
     book: &mut Book<S>,

@@ -17,15 +17,15 @@ use lot_store::Book;
 use sqlite::Alter;
 use std::alloc::Global;
 
-/// Writes what a book holds as CSV, a record for each position, as it is read; with a day also what
-/// its lots are worth: each at the price of its commodity in the currency of its cost. Nothing is
+/// Writes what a book holds as CSV: a record for each position, as it is read. With a day each lot
+/// has its value, too, at the price of its commodity in the currency of its cost. Nothing is
 /// flushed.
 ///
-/// Where the book stops, the records of the rows before are written, and nothing behind them; at a
-/// fault of reading the prices or the first row, nothing is, no header. Where the writer fails, a
-/// prefix of what was to be written is. The book can be used on then. Where it ends well the
-/// records of all rows of plain units and of lots are written, at the prices that the rows of
-/// prices give, whatever the tables stand for.
+/// Where the book stops, the records of the rows before are written, and nothing behind them. Where
+/// it stops while the prices or the first row are read, nothing is written, not even the header.
+/// Where the writer fails, a prefix of the output is written, and the book can still be used. Where
+/// the call succeeds, the records of all rows of plain units and of lots are written, whatever the
+/// tables stand for, at the prices that the rows of prices give.
 pub fn show_holdings_csv<S: Alter, W: CountedWrite>(
     alloc: Global,
     book: &mut Book<S>,
@@ -109,7 +109,8 @@ impl Records<Holding> for HoldingRecords<'_> {
     }
 }
 
-/// Returns the columns of a table: those of prices and values are there where there are prices.
+/// Returns the columns of a table. It has a price and a value for each position only where there
+/// are prices.
 fn columns(prices: &Option<DayPrices>) -> Columns
     ensures { result ≡ columns_for prices.now }
 {

@@ -9,12 +9,12 @@ use lot_book::Holding;
 use lot_report::{CountedWrite, Holdings, ReportFault, RowFault, Valuation, ValuedHolding};
 use std::alloc::Global;
 
-/// Writes the report of what is held, with no values: a line for each row, in the order in which they are given, and then
-/// what the lots cost in each currency.
+/// Writes the report of what is held, without values: a line for each row, in the order in which they are given, then what the
+/// lots cost in each currency.
 ///
-/// Returns `Range` at the first row with which a total leaves the range of weights: the rows before it are written, and
-/// no total is. Returns `Memory` where there is no memory for a line or a total: whole lines of the report are written.
-/// Returns `Write` where the writer fails: a prefix of the report is written, but not all of it.
+/// Returns `Range` at the first row that takes a total out of the range of weights: the rows before it are written, and no
+/// total. Returns `Memory` where there is no memory for a line or a total: whole lines of the report are written. Returns
+/// `Write` where the writer fails: a prefix of the report is written, but not all of it.
 pub(super) fn print_holdings<W: CountedWrite>(
     alloc: Global,
     rows: Vec<Holding>,
@@ -70,7 +70,7 @@ fn print_end<W: CountedWrite>(report: Holdings, writer: &mut W) -> Result<(), Re
     }
 }
 
-/// Returns with what a report ends here that no fault has ended before.
+/// Returns the fault with which a report ends that had no fault before.
 fn ended(fault: RowFault) -> ReportFault
     requires { fault ≢ RowFault.Spent }
     ensures { fault ≡ RowFault.Report result }

@@ -1,4 +1,4 @@
-//! The words of the program, its input, and the faults that have no code.
+//! The arguments of the program, its input, and the faults that have no code.
 
 use super::{Code, Examples};
 
@@ -6,8 +6,8 @@ pub(super) static CODES: [Code; 6] = [
     Code {
         code: "U1",
         name: "Usage",
-        brief: "the words can't be used",
-        rule: "The words of the call can't be used: one isn't known, or an option is missing or \
+        brief: "the arguments can't be used",
+        rule: "The arguments of the call can't be used: one isn't known, or an option is missing or \
             given twice. Standard error says which, and the status is 2.",
         examples: Examples::Calls {
             refused: r#"

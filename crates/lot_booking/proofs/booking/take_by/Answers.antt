@@ -1,94 +1,116 @@
--- Each method's order in each edition is that of its ties; the oldest lots first are those that STRICT takes.
-use Rattle.std.proofs.Common.{◌≡◌, Global, IfOk, List, Result, Vec, map, ap, subst, sym, ℕ, ℤ}
+-- Each method's order in each edition is that of its ties, and goes by the days of the lots that are lent; the oldest lots first
+-- are those that STRICT takes.
+use Rattle.std.proofs.Common.{◌≡◌, Global, IfOk, List, Result, Vec, Bool, length, map, subst, refl, sym, ℕ, ℤ, unsigned_abs}
 use Rattle.std.proofs.lemmas.Result.{IfOk-weaker}
 use Rattle.std.specs.declared.alloc.AllocError.{AllocError}
 use Rattle.lot_cost.specs.declared.lot_key.LotKey.{LotKey}
 use Rattle.lot_cost.specs.declared.method.Method.{Method}
-use Rattle.lot_cost.specs.declared.method.Method.TheVariants.{Fifo, Lifo, Hifo}
+use Rattle.lot_cost.specs.declared.method.Method.TheVariants.{Strict, Fifo, Lifo, Hifo}
+use Rattle.lot_inv.specs.declared.days.Days.{Days}
+use Rattle.lot_inv.specs.declared.days.Days.TheVariants as of_days
 use Rattle.lot_inv.specs.declared.lot.Lot.{Lot}
+use Rattle.lot_inv.specs.Days.{AreLentOf, numbered}
+use Rattle.lot_inv.specs.Inventory.{held_in}
 use Rattle.lot_inv.specs.Lot.{AreNumberedBy, key_and_units}
 use Rattle.lot_booking.specs.declared.edition.Edition.{Edition}
 use Rattle.lot_booking.specs.declared.edition.Edition.TheVariants.{First, Second}
-use Rattle.lot_booking.specs.Choice.{Takes}
-use Rattle.lot_booking.specs.Method.{is_strict, order_by, rule_by, ties_by}
+use Rattle.lot_booking.specs.Choice.{HaveDistinctKeys, InTurn, Takes}
+use Rattle.lot_booking.specs.Front.{ComeFirstOf, is_earlier}
+use Rattle.lot_booking.specs.OpeningOrder.{OpenedLot, by_key, by_numbers, highest_opened_first, newest_opened_first, oldest_opened_first}
+use Rattle.lot_booking.specs.Order.{highest_first, newest_first, oldest_first}
+use Rattle.lot_booking.specs.Way.{Suffice, TakesLent, days_of}
 use Rattle.lot_booking.proofs.BookLemmas.{taken_strictly}
+use Rattle.lot_booking.proofs.DaysLemmas.{GoesBy, any_by_day, newest_by_day, newest_opened_by_day, oldest_by_day, oldest_opened_by_day, takes_of_all}
 use Rattle.lot_booking.proofs.booking.take_by.Goals as goal
 
 abbrev Legs : Type 0
 Legs = Vec (LotKey × ℤ) Global
 
--- the legs are what a method takes of numbered lots in an edition
-abbrev AreTakenIn : Method → Edition → List Lot → ℤ → Legs → Type 0
-AreTakenIn method edition lots units legs =
-    (opening : LotKey → ℕ) → AreNumberedBy opening lots
-    → Takes (rule_by (ties_by edition opening) method) (order_by (ties_by edition opening) method) (map key_and_units lots) units legs.items
-
 module _ (result : Result Legs AllocError) (lots : List Lot) (units : ℤ) where
+  -- what is taken in an order of lots of which these come first
+  abbrev TakenBy : (OpenedLot → OpenedLot → Bool) → Type 0
+  TakenBy before = IfOk result (λ legs. (opening : LotKey → ℕ) (all : List Lot) → HaveDistinctKeys (map key_and_units all)
+      → AreNumberedBy opening all → ComeFirstOf (is_earlier before) all lots
+      → Takes (InTurn (by_numbers before opening)) (by_numbers before opening) (map key_and_units all) units legs.items)
+
+  -- and of lots of which these are lent
+  abbrev LentBy : Days → (OpenedLot → OpenedLot → Bool) → Legs → Type 0
+  LentBy days before legs = (opening : LotKey → ℕ) (all : List (LotKey × ℤ)) → HaveDistinctKeys all
+      → AreLentOf days (unsigned_abs units) (numbered opening all) lots
+      → Takes (InTurn (by_numbers before opening)) (by_numbers before opening) all units legs.items
+
   abbrev Taken : Method → Edition → Type 0
-  Taken method edition = IfOk result (AreTakenIn method edition lots units)
+  Taken method edition = IfOk result (λ legs. TakesLent method edition lots units legs.items)
+
+  lent_by : (days : Days) (before : OpenedLot → OpenedLot → Bool) → GoesBy days before → TakenBy before → IfOk result (LentBy days before)
+  lent_by days before goes taken =
+      IfOk-weaker result _ (LentBy days before)
+      (λ legs by_front opening all distinct lent. takes_of_all days before goes opening all lots units legs.items by_front distinct lent) taken
 
   taken_by : (method method' : Method) (edition edition' : Edition) → method' ≡ method → edition' ≡ edition → Taken method edition → Taken method' edition'
   taken_by method method' edition edition' m e taken =
       subst (λ (x : Method). Taken x edition') (sym m) (subst (λ (x : Edition). Taken method x) (sym e) taken)
 
+  taken_strict : (edition : Edition) → TakenBy (by_key oldest_first) → Taken Strict edition
+  taken_strict edition taken =
+      IfOk-weaker result _ _
+      (λ (legs : Legs) by_front (opening : LotKey → ℕ) (all : List (LotKey × ℤ)) (distinct : HaveDistinctKeys all)
+      (suffice : Suffice Strict (length all) (held_in all) (unsigned_abs units)) (lent : AreLentOf (days_of Strict) (unsigned_abs units) (numbered opening all) lots).
+      taken_strictly all units legs.items (suffice.exact refl) (by_front opening all distinct lent))
+      (lent_by of_days.First (by_key oldest_first) oldest_by_day taken)
+
 pub returns-in-Strict-default : goal.returns-in-Strict-default
 returns-in-Strict-default c =
+    let result = c.take_enough.result in
     let lots = c.args.lots.items in
-    let units = c.args.units in
     let edition = c.args.selection.edition in
-    let strict = c.in-Strict-default.is-0 in
-    record {
-      taken = subst (λ (method : Method). Taken c.take_enough.result lots units method edition) (sym strict)
-          (IfOk-weaker c.take_enough.result _ _
-          (λ (legs : Legs) taken (opening : LotKey → ℕ) (numbered : AreNumberedBy opening lots).
-          taken_strictly (map key_and_units lots) units legs.items (c.requires.suffice.exact (ap is_strict strict)) (taken opening numbered))
-          c.take_enough.ensures.taken);
-    }
+    subst (λ (method : Method). Taken result lots c.args.units method edition) (sym c.in-Strict-default.is-0)
+    (taken_strict result lots c.args.units edition c.take_enough.ensures)
 
 pub returns-in-Fifo-First : goal.returns-in-Fifo-First
 returns-in-Fifo-First c =
     let call = c.take_enough-in-Fifo-First in
-    record {
-      taken = taken_by call.result c.args.lots.items c.args.units Fifo c.args.selection.method First c.args.selection.edition
-          c.in-Fifo-First.is-0 c.in-Fifo-First.is-1 call.ensures.taken;
-    }
+    let lots = c.args.lots.items in
+    taken_by call.result lots c.args.units Fifo c.args.selection.method First c.args.selection.edition c.in-Fifo-First.is-0 c.in-Fifo-First.is-1
+    (IfOk-weaker call.result _ _ (λ (legs : Legs) taken opening all distinct suffice lent. taken opening all distinct lent)
+    (lent_by call.result lots c.args.units of_days.First (by_key oldest_first) oldest_by_day call.ensures))
 
 pub returns-in-Fifo-Second : goal.returns-in-Fifo-Second
 returns-in-Fifo-Second c =
     let call = c.take_enough-in-Fifo-Second in
-    record {
-      taken = taken_by call.result c.args.lots.items c.args.units Fifo c.args.selection.method Second c.args.selection.edition
-          c.in-Fifo-Second.is-0 c.in-Fifo-Second.is-1 call.ensures.taken;
-    }
+    let lots = c.args.lots.items in
+    taken_by call.result lots c.args.units Fifo c.args.selection.method Second c.args.selection.edition c.in-Fifo-Second.is-0 c.in-Fifo-Second.is-1
+    (IfOk-weaker call.result _ _ (λ (legs : Legs) taken opening all distinct suffice lent. taken opening all distinct lent)
+    (lent_by call.result lots c.args.units of_days.First oldest_opened_first oldest_opened_by_day call.ensures))
 
 pub returns-in-Lifo-First : goal.returns-in-Lifo-First
 returns-in-Lifo-First c =
     let call = c.take_enough-in-Lifo-First in
-    record {
-      taken = taken_by call.result c.args.lots.items c.args.units Lifo c.args.selection.method First c.args.selection.edition
-          c.in-Lifo-First.is-0 c.in-Lifo-First.is-1 call.ensures.taken;
-    }
+    let lots = c.args.lots.items in
+    taken_by call.result lots c.args.units Lifo c.args.selection.method First c.args.selection.edition c.in-Lifo-First.is-0 c.in-Lifo-First.is-1
+    (IfOk-weaker call.result _ _ (λ (legs : Legs) taken opening all distinct suffice lent. taken opening all distinct lent)
+    (lent_by call.result lots c.args.units of_days.Last (by_key newest_first) newest_by_day call.ensures))
 
 pub returns-in-Lifo-Second : goal.returns-in-Lifo-Second
 returns-in-Lifo-Second c =
     let call = c.take_enough-in-Lifo-Second in
-    record {
-      taken = taken_by call.result c.args.lots.items c.args.units Lifo c.args.selection.method Second c.args.selection.edition
-          c.in-Lifo-Second.is-0 c.in-Lifo-Second.is-1 call.ensures.taken;
-    }
+    let lots = c.args.lots.items in
+    taken_by call.result lots c.args.units Lifo c.args.selection.method Second c.args.selection.edition c.in-Lifo-Second.is-0 c.in-Lifo-Second.is-1
+    (IfOk-weaker call.result _ _ (λ (legs : Legs) taken opening all distinct suffice lent. taken opening all distinct lent)
+    (lent_by call.result lots c.args.units of_days.Last newest_opened_first newest_opened_by_day call.ensures))
 
 pub returns-in-Hifo-First : goal.returns-in-Hifo-First
 returns-in-Hifo-First c =
     let call = c.take_enough-in-Hifo-First in
-    record {
-      taken = taken_by call.result c.args.lots.items c.args.units Hifo c.args.selection.method First c.args.selection.edition
-          c.in-Hifo-First.is-0 c.in-Hifo-First.is-1 call.ensures.taken;
-    }
+    let lots = c.args.lots.items in
+    taken_by call.result lots c.args.units Hifo c.args.selection.method First c.args.selection.edition c.in-Hifo-First.is-0 c.in-Hifo-First.is-1
+    (IfOk-weaker call.result _ _ (λ (legs : Legs) taken opening all distinct suffice lent. taken opening all distinct lent)
+    (lent_by call.result lots c.args.units of_days.All (by_key highest_first) (any_by_day (by_key highest_first)) call.ensures))
 
 pub returns-in-Hifo-Second : goal.returns-in-Hifo-Second
 returns-in-Hifo-Second c =
     let call = c.take_enough-in-Hifo-Second in
-    record {
-      taken = taken_by call.result c.args.lots.items c.args.units Hifo c.args.selection.method Second c.args.selection.edition
-          c.in-Hifo-Second.is-0 c.in-Hifo-Second.is-1 call.ensures.taken;
-    }
+    let lots = c.args.lots.items in
+    taken_by call.result lots c.args.units Hifo c.args.selection.method Second c.args.selection.edition c.in-Hifo-Second.is-0 c.in-Hifo-Second.is-1
+    (IfOk-weaker call.result _ _ (λ (legs : Legs) taken opening all distinct suffice lent. taken opening all distinct lent)
+    (lent_by call.result lots c.args.units of_days.All highest_opened_first (any_by_day highest_opened_first) call.ensures))

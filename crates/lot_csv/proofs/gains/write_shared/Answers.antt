@@ -1,7 +1,7 @@
 use Rattle.std.specs.Prelude.{ℤ, None, Some, zip}
 use Rattle.std.specs.Iterator.Adapters.{zip_first, zip_second}
 use Rattle.std.specs.Slice.Iter.{iter_rest}
-use Rattle.std.proofs.Common.{◌∙◌, [], Err, ap, refl, subst, sym}
+use Rattle.std.proofs.Common.{◌∙◌, [], ap, refl, sym}
 use Rattle.std.proofs.KnownBytes.{Appends-nil}
 use Rattle.std.proofs.lemmas.Result.{err_from_is_err_and}
 use Rattle.std.proofs.lemmas.Slice.Zip.{either_empty_from_Zip}

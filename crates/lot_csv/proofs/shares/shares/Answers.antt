@@ -1,7 +1,7 @@
 -- What is left has room for each part, and is the last share.
-use Rattle.std.specs.Prelude.{◌≡◌, ◌-◌, ◌<◌, ◌≤◌, length, pos, take, unsigned_abs}
-use Rattle.std.proofs.Common.{ap, arith, refl, rules, sym, ◌∙◌, ◌++◌, ◌∷◌, []}
-use Rattle.lot_csv.specs.Shares.{part_of, shares_of}
+use Rattle.std.specs.Prelude.{◌≡◌, ◌-◌, pos, unsigned_abs}
+use Rattle.std.proofs.Common.{ap, arith, sym, ◌∙◌, ◌++◌, ◌∷◌, []}
+use Rattle.lot_csv.specs.Shares.{part_of}
 use Rattle.lot_csv.proofs.ShareLemmas.{all_shares, leg_within, lent_within, part_at, part_left, part_taken, parts_more, some_of}
 use Rattle.lot_csv.proofs.shares.shares.Goals as goal
 

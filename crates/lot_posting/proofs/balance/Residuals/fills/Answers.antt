@@ -1,7 +1,8 @@
 -- A sum that is units is taken up, unless it is zero; the first that isn't refuses.
-use Rattle.std.proofs.Common.{of_z, w64, ◌≡◌, ◌≢◌, Some, ◌++◌, ◌∷◌, ℤ, pos, ◌*ℤ◌, sym, ap, ◌∙◌, append_assoc}
+use Rattle.std.proofs.Common.{of_z, w64, ◌≡◌, ◌≢◌, Some, ◌++◌, ◌∷◌, ℤ, pos, ◌*ℤ◌, neg_ℤ, sym, ap, ◌∙◌, append_assoc}
 use Rattle.lot_num.specs.Amount.{one, IsUnits}
-use Rattle.lot_posting.proofs.BalanceLemmas.{fills_of, misfits_units, fills_of-more, misfit-passes, misfit-stops}
+use Rattle.lot_inv.proofs.SetLemmas.{on_err}
+use Rattle.lot_posting.proofs.BalanceLemmas.{fills_of, misfits_units, fills_of-more, misfit-passes, misfit-stops, some_left}
 use Rattle.lot_book.specs.Refusals.{first_currency}
 use Rattle.lot_posting.proofs.balance.Residuals.fills.Goals as goal
 
@@ -40,3 +41,19 @@ unreachable-requires c =
     ∙ misfit-stops currency sum c.next.new.self none in
     let whole = c.requires in
     cc
+
+-- The sum that is taken up here is one that isn't zero, so there are some.
+pub returns-in_err-push-in-Some-2-clause-memory : goal.returns-in_err-push-in-Some-2-clause-memory
+returns-in_err-push-in-Some-2-clause-memory c =
+    let old = c.loop-currency.fills.items in
+    let currency = c.in-Some.currency.now in
+    let sum = c.in-Some.sum.now in
+    let rest = c.next.new.self in
+    let units = c.in-Some-to_units.units in
+    let same : sum ≡ units *ℤ pos one = c.in-Some-to_units.ensures.some in
+    let other : units ≢ pos 0 = λ zero. c.if-mantissa-eq0.false (ap (of_z w64) (c.mantissa.ensures.value ∙ zero)) in
+    on_err c.from_residual-in_err-push-in-Some-2.result
+    (some_left old (fills_of rest) currency (neg_ℤ units) c.args.self.now
+    (ap (λ fills. old ++ fills) (sym (fills_of-more currency sum units rest same other))
+    ∙ ap (λ sums. old ++ fills_of sums) (sym c.in-Some.ensures.steps)
+    ∙ c.loop-currency.invariant.taken))

@@ -1,0 +1,1 @@
+use Rattle.lot_audit.proofs.has.have_rows.Goals as goal

@@ -1,0 +1,21 @@
+-- The row that is found tells it.
+use Rattle.sqlite.specs.Held.{state}
+use Rattle.lot_rows.specs.Head.{IsHeadRow, head_cells}
+use Rattle.lot_rows.specs.declared.head.HeadRow.{HeadRow}
+use Rattle.lot_stored.specs.Rows.{pair_key}
+use Rattle.lot_table.specs.Rows.{has_key}
+use Rattle.lot_audit.proofs.SeenLemmas.{good_filtered, is_there, tells_not, tells_whether}
+use Rattle.lot_audit.proofs.has.head_is_there.Goals as goal
+
+pub returns-in_err-found : goal.returns-in_err-found
+returns-in_err-found g c = record {
+  checks = tells_not _ _ _ _ (state g.S.Store c.args.conn.now) (state g.S.Store c.find.new.conn) c.in_err-found.field-0.0
+      c.from_residual.result c.from_residual.ensures.1 c.in_err-found.ensures.finds
+      (λ tables of. good_filtered IsHeadRow (λ (row : HeadRow). has_key 2 (pair_key c.args.account.now c.args.commodity.now) (head_cells row)) tables.head of.2.good.head);
+}
+
+pub returns : goal.returns
+returns g c = record {
+  checks = tells_whether _ _ _ _ (state g.S.Store c.args.conn.now) (state g.S.Store c.find.new.conn) c.in_ok-found.found _
+      c.in_ok-found.ensures.finds (λ tables has good told. is_there c.in_ok-found.found _ c.is_some.result c.is_some.ensures told);
+}

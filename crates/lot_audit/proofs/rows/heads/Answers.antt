@@ -1,0 +1,10 @@
+use Rattle.sqlite.specs.Held.{state}
+use Rattle.lot_audit.proofs.RowLemmas.{head_query, head_rows}
+use Rattle.lot_audit.proofs.rows.heads.Goals as goal
+
+pub select-requires : goal.select-requires
+select-requires g c = head_query.selects
+
+pub returns : goal.returns
+returns g c =
+    record { lists = head_rows (state g.S.Store c.args.conn.now) (state g.S.Store c.select.new.conn) c.select.result c.select.ensures.selects }

@@ -1,0 +1,9 @@
+pub mod Replay
+pub mod Agree
+pub mod Checks
+pub mod Entries
+pub mod Pass
+pub mod Rates
+pub mod Told
+pub mod Legs
+pub mod Judge

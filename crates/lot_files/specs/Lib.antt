@@ -1,0 +1,4 @@
+pub mod Cause
+pub mod Image
+pub mod Opened
+pub mod Path

@@ -1,0 +1,164 @@
+//! Why the book in a file can't be opened.
+
+ghost use Rattle.std.specs.Prelude.{◌≡◌, ◌≢◌};
+ghost use Rattle.lot_files.specs.Cause.{copy_cause, library_cause};
+
+use crate::files::{is_missing, locate};
+use sqlite::{Error, ErrorCode};
+use std::alloc::AllocError;
+use std::fmt;
+use std::fs::{self, OpenOptions};
+use std::io::{self, ErrorKind};
+
+/// Why the book in a file can't be opened.
+#[derive(Clone, Copy)]
+pub enum Cause {
+    /// Memory ended.
+    Memory,
+    /// The name of the file has more bytes than that of a book may have.
+    LongName,
+    /// The file holds one byte, which isn't zero.
+    OneByte,
+    /// The folder in which the file would be isn't there.
+    NoFolder,
+    /// The path leads to no file.
+    NoFile,
+    /// The path is that of a folder.
+    Folder,
+    /// The path is that of a pipe, a device or the like.
+    Irregular,
+    /// The file has another name beside this one.
+    SecondName,
+    /// Another program left a journal beside the file, which isn't played back.
+    Journal,
+    /// The file or its log may not be opened so.
+    NoPermission,
+    /// The file is on a file system that can't be written.
+    ReadOnly,
+    /// Another program has the file open.
+    InUse,
+    /// The file is no database.
+    NotADatabase,
+    /// The file is a database that is damaged, or a part of one.
+    Damaged,
+    /// Another error of the library of the database.
+    Library(ErrorCode),
+    /// Another error of the system.
+    System(io::Error),
+}
+
+impl Cause {
+    /// Returns what an error of the library says by itself.
+    pub(crate) fn of_library(error: Error) -> Cause
+        ensures { result ≡ library_cause error }
+    {
+        match error {
+            Error::SqliteFailure(ErrorCode::OutOfMemory) => Cause::Memory,
+            Error::SqliteFailure(ErrorCode::DatabaseBusy) => Cause::InUse,
+            Error::SqliteFailure(ErrorCode::NotADatabase) => Cause::NotADatabase,
+            Error::SqliteFailure(ErrorCode::DatabaseCorrupt) => Cause::Damaged,
+            Error::SqliteFailure(code) => Cause::Library(code),
+            _ => Cause::Library(ErrorCode::CannotOpen),
+        }
+    }
+
+    /// Returns what an error of the library says where the files are in memory: such a file fails
+    /// where memory ends, and for nothing else.
+    pub(crate) fn of_copy(error: Error) -> Cause
+        ensures { result ≡ copy_cause error }
+    {
+        match error {
+            Error::SqliteFailure(ErrorCode::SystemIoFailure) => Cause::Memory,
+            _ => Cause::of_library(error),
+        }
+    }
+}
+
+impl From<AllocError> for Cause {
+    ghost use Rattle.std.specs.Prelude.{◌≡◌};
+    ghost use Rattle.lot_files.specs.declared.cause.Cause.TheVariants.{Memory};
+
+    ghost from_gives = { λ _ cause. cause ≡ Memory };
+
+    fn from(_error: AllocError) -> Cause {
+        Cause::Memory
+    }
+}
+
+impl From<io::Error> for Cause {
+    ghost use Rattle.std.specs.Prelude.{◌≡◌};
+    ghost use Rattle.lot_files.specs.Cause.{system_cause};
+
+    ghost from_gives = { λ error cause. cause ≡ system_cause error };
+
+    fn from(error: io::Error) -> Cause {
+        match error.kind() {
+            ErrorKind::OutOfMemory => Cause::Memory,
+            ErrorKind::NotFound => Cause::NoFile,
+            ErrorKind::PermissionDenied => Cause::NoPermission,
+            ErrorKind::ReadOnlyFilesystem => Cause::ReadOnly,
+            ErrorKind::NotADirectory => Cause::NoFolder,
+            ErrorKind::IsADirectory => Cause::Folder,
+            _ => Cause::System(error),
+        }
+    }
+}
+
+impl fmt::Display for Cause {
+    fn fmt<W: fmt::Write>(&self, f: &mut fmt::Formatter<W>) -> fmt::Result {
+        f.write_str(match self {
+            Cause::Memory => "out of memory",
+            Cause::LongName => "its name has more than 247 bytes",
+            Cause::OneByte => "one byte is no database",
+            Cause::NoFolder => "there is no such folder",
+            Cause::NoFile => "there is no such file",
+            Cause::Folder => "it is a folder",
+            Cause::Irregular => "it is a pipe, a device or the like",
+            Cause::SecondName => "the file has a second name",
+            Cause::Journal => "another program left a journal beside it: open it there first",
+            Cause::NoPermission => "no permission",
+            Cause::ReadOnly => "the file system is read-only",
+            Cause::InUse => "another program has it open",
+            Cause::NotADatabase => "it is no database",
+            Cause::Damaged => "it is a damaged database, or a part of one",
+            Cause::Library(code) => return write!(f, "{code}"),
+            Cause::System(error) => return write!(f, "{error}"),
+        })
+    }
+}
+
+/// Returns why the library didn't open the book in the file of that path. Where it doesn't say so
+/// itself, the system is asked again what it was asked.
+pub(crate) fn why(rt: &HostRuntime, path: &str, error: Error) -> Cause
+    ensures { library_cause error ≢ Cause.Library ErrorCode.CannotOpen
+        → result ≡ library_cause error }
+{
+    match Cause::of_library(error) {
+        Cause::Library(ErrorCode::CannotOpen) => match refused(rt, path) {
+            Ok(()) => Cause::Library(ErrorCode::CannotOpen),
+            Err(cause) => cause,
+        },
+        cause => cause,
+    }
+}
+
+/// Returns why the system refuses the file of that path or its log, where it does.
+fn refused(rt: &HostRuntime, path: &str) -> Result<(), Cause> {
+    if is_missing(rt, path) {
+        open_or_make(rt, path)?;
+    }
+    let files = locate(rt, path)?;
+    open_or_make(rt, files.book.as_str())?;
+    open_or_make(rt, files.log.as_str())
+}
+
+/// Opens a file for reading and writing, or makes it, as the library does.
+fn open_or_make(rt: &HostRuntime, path: &str) -> Result<(), Cause> {
+    let is_new = fs::symlink_metadata(rt, path).is_err();
+    let _file = OpenOptions::new()
+        .read(true)
+        .write(true)
+        .create_new(is_new)
+        .open(rt, path)?;
+    Ok(())
+}

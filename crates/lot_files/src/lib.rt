@@ -1,0 +1,19 @@
+//! The files of a book, as the program opens them, or why it can't.
+//!
+//! - `files`: a book's file and its log, and what may stand there in their place.
+//! - `cause`: why a book can't be opened.
+//! - `copy`: a copy of a book in memory; `image`: a file in memory.
+//! - `opened`: a book that is opened: its file, or a copy of it.
+#![tactic(auto)]
+
+mod cause;
+mod copy;
+mod files;
+mod image;
+mod opened;
+
+pub use cause::Cause;
+pub use copy::open_copy;
+pub use files::{ensure_openable, is_missing, library_path, open};
+pub use image::Image;
+pub use opened::{Access, Opened, open_book};

@@ -1,0 +1,14 @@
+//! What a call of the program writes as it runs, and what it read and wrote, kept for what is said of
+//! it afterwards.
+//!
+//! - `output`: standard output; `meter`: how far a run is, on standard error.
+//! - `record`: bytes that are kept, a reader and a writer that keep them, and what was heard of a call.
+#![tactic(auto)]
+
+mod meter;
+mod output;
+mod record;
+
+pub use meter::Meter;
+pub use output::Output;
+pub use record::{Heard, Keeper, Kept, Witness};
