@@ -23,7 +23,7 @@ whole() {
     rm -f "$scratch/real"*
     if [[ -e $book ]]; then cp "$book" "$scratch/real"; fi
     if [[ -e $book-wal ]]; then cp "$book-wal" "$scratch/real-wal"; fi
-    timeout 120 "$program" "${@:4}" --book "$scratch/real" <"$2" >"$scratch/expected" 2>/dev/null
+    timeout 600 "$program" "${@:4}" --book "$scratch/real" <"$2" >"$scratch/expected" 2>/dev/null
     status_wanted=$?
     run "${@:4}" --book "$book" --all-or-none <"$2"
     expect "$1" "$status_wanted" "$scratch/expected"
@@ -91,13 +91,13 @@ if ((status == 4)) && [[ $(<"$scratch/out") == "fault open" ]]; then pass "a tex
 mkfifo "$scratch/slow"
 "$program" post --book "$book" --batch slow --all-or-none <"$scratch/slow" >"$scratch/posted" 2>&1 &
 exec 8>"$scratch/slow"
-for _ in {1..200}; do
+for _ in {1..1200}; do
     run init --book "$book" </dev/null
     if [[ $(<"$scratch/out") == "fault open" ]]; then break; fi
     sleep 0.05
 done
 exec 9<"$first"
-timeout 20 "$program" post --book "$book" --batch a --all-or-none <&9 >"$scratch/out" 2>"$scratch/err" && status=0 || status=$?
+timeout 600 "$program" post --book "$book" --batch a --all-or-none <&9 >"$scratch/out" 2>"$scratch/err" && status=0 || status=$?
 cat <&9 >"$scratch/unread" && exec 9<&-
 if ((status == 4)) && [[ $(<"$scratch/out") == "fault open" ]] && cmp -s "$first" "$scratch/unread"; then
     pass "a book that another program has open"

@@ -168,7 +168,7 @@ closed() {
 }
 mkfifo "$scratch/nothing" && exec 7<>"$scratch/nothing" # an input of which no byte ever comes
 unopened() {
-    timeout 20 "$program" "${@:2}" <&7 >"$scratch/out" 2>"$scratch/err" && status=0 || status=$?
+    timeout 600 "$program" "${@:2}" <&7 >"$scratch/out" 2>"$scratch/err" && status=0 || status=$?
     if ((status == 4)) && [[ $(<"$scratch/out") == "fault open" && -s $scratch/err ]]; then
         pass "$1"
     else
@@ -265,8 +265,8 @@ makes "$scratch/shared.book"
 mkfifo "$scratch/slow"
 "$program" post --book "$scratch/shared.book" --batch a <"$scratch/slow" >"$scratch/first" 2>&1 &
 exec 8>"$scratch/slow"
-for _ in {1..200}; do # the other one has opened the file once it is locked
-    timeout 20 "$program" post --book "$scratch/shared.book" --batch b </dev/null >"$scratch/out" 2>"$scratch/err" && status=0 || status=$?
+for _ in {1..1200}; do # the other one has opened the file once it is locked
+    timeout 600 "$program" post --book "$scratch/shared.book" --batch b </dev/null >"$scratch/out" 2>"$scratch/err" && status=0 || status=$?
     if ((status == 4)); then break; fi
     sleep 0.05
 done
@@ -276,7 +276,7 @@ else
     fail "a second post" "status $status, $(head -n 1 "$scratch/out")"
 fi
 exec 9<"$first" # the program and this shell share the place in the file, so a byte that the one reads is gone for the other
-timeout 20 "$program" post --book "$scratch/shared.book" --batch b <&9 >"$scratch/out" 2>"$scratch/err" && status=0 || status=$?
+timeout 600 "$program" post --book "$scratch/shared.book" --batch b <&9 >"$scratch/out" 2>"$scratch/err" && status=0 || status=$?
 cat <&9 >"$scratch/unread" && exec 9<&-
 if ((status == 4)) && [[ $(<"$scratch/out") == "fault open" && -s $scratch/err ]] && cmp -s "$first" "$scratch/unread"; then
     pass "a second post reads no byte of its input"

@@ -30,7 +30,7 @@ dry() {
         return
     fi
     rm -rf "$scratch/real" && cp -a "$home" "$scratch/real"
-    timeout 120 "$program" "${@:3}" --book "$scratch/real/${book##*/}" <"$2" >"$scratch/expected" 2>"$scratch/real.err"
+    timeout 600 "$program" "${@:3}" --book "$scratch/real/${book##*/}" <"$2" >"$scratch/expected" 2>"$scratch/real.err"
     real_status=$?
     expect "$1" "$real_status" "$scratch/expected"
 }
@@ -81,7 +81,7 @@ as "they are accepted" 0 "1 accepted"
 mkfifo "$scratch/slow"
 "$program" post --book "$book" --batch slow <"$scratch/slow" >"$scratch/posted" 2>&1 &
 exec 8>"$scratch/slow"
-for _ in {1..200}; do
+for _ in {1..1200}; do
     run init --book "$book" </dev/null
     if [[ $(<"$scratch/out") == "fault open" ]]; then break; fi
     sleep 0.05

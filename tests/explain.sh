@@ -46,7 +46,7 @@ answer() {
         "a broker file") book "$folder" && "$program" import --book "$folder/rows.book" --batch deals "${accounts[@]}" <"$2" 2>/dev/null ;;
         calls)
             ln -s "$program" "$folder/lotbook"
-            sed 's/^\$ //' "$2" | (cd "$folder" && PATH=.:$PATH timeout 60 sh) 2>&1
+            sed 's/^\$ //' "$2" | (cd "$folder" && PATH=.:$PATH timeout 600 sh) 2>&1
             ;;
     esac
 }

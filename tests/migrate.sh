@@ -195,7 +195,7 @@ first
 mkfifo "$scratch/slow"
 "$program" post --book "$book" --batch b <"$scratch/slow" >"$scratch/posted" 2>&1 &
 exec 8>"$scratch/slow"
-for _ in {1..200}; do
+for _ in {1..1200}; do
     run init --book "$book" </dev/null
     if [[ $(<"$scratch/out") == "fault open" ]]; then break; fi
     sleep 0.05
@@ -235,7 +235,7 @@ unusable "--book" migrate --book f --book g
 
 first
 mkfifo "$scratch/nothing" && exec 7<>"$scratch/nothing" # an input of which no byte ever comes
-timeout 60 "$program" migrate --book "$book" <&7 >"$scratch/out" 2>"$scratch/err" && status=0 || status=$?
+timeout 600 "$program" migrate --book "$book" <&7 >"$scratch/out" 2>"$scratch/err" && status=0 || status=$?
 echo "book migrated" >"$scratch/expected"
 expect "its input isn't waited for" 0 "$scratch/expected"
 

@@ -85,7 +85,7 @@ mkfifo "$scratch/slow"
 "$program" post --book "$book" --batch more <"$scratch/slow" >"$scratch/posted" 2>&1 &
 writer=$!
 exec 8>"$scratch/slow"
-for _ in {1..200}; do # it has the file once nobody else can open it
+for _ in {1..1200}; do # it has the file once nobody else can open it
     run init --book "$book" </dev/null
     if [[ $(<"$scratch/out") == "fault open" ]]; then break; fi
     sleep 0.05
@@ -151,7 +151,7 @@ if ((status == 4)) && [[ ! -s $scratch/err ]]; then pass "nothing is said with -
 "$program" post --book "$book" --batch slow <"$scratch/slow" >"$scratch/posted" 2>&1 &
 slow=$!
 exec 8>"$scratch/slow"
-for _ in {1..600}; do
+for _ in {1..1200}; do
     if [[ $(readlink "/proc/$slow/fd/"*) == *family.book* ]]; then break; fi
     sleep 0.05
 done

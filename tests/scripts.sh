@@ -135,14 +135,14 @@ path=$with
 
 # begun COUNT: the stand-in has begun so often with a crate that takes its time.
 begun() {
-    for _ in {1..200}; do
+    for _ in {1..1200}; do
         if [[ -e $CALLS.slow ]] && (($(wc -l <"$CALLS.slow") >= $1)); then return; fi
         sleep 0.05
     done
 }
 # ended NAME: none of the stand-in's calls that take their time goes on.
 ended() {
-    for _ in {1..100}; do
+    for _ in {1..1200}; do
         if ! xargs -r ps -o pid= -p <"$CALLS.slow" >/dev/null; then
             pass "$1"
             return
@@ -157,7 +157,7 @@ begun 1
 kill -TERM -- -$! && wait $! && status=0 || status=$?
 if ((status == 143)); then pass "a build that is ended by a signal"; else fail "a build that is ended by a signal" "status $status"; fi
 ended "nothing of it goes on"
-for _ in {1..100}; do # what builds ends a little later than the script
+for _ in {1..1200}; do # what builds ends a little later than the script
     if grep -q stopped "$scratch/err"; then break; fi
     sleep 0.05
 done

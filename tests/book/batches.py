@@ -32,7 +32,7 @@ def commands_of(text):
 
 
 def call(program, words, text=b""):
-    done = subprocess.run([program, *words], input=text, capture_output=True, timeout=120)
+    done = subprocess.run([program, *words], input=text, capture_output=True, timeout=600)
     return done.stdout.decode(), notes.without(done.stderr).decode(), done.returncode
 
 

@@ -247,7 +247,7 @@ NEEDED = {
 
 
 def call(program, words, text=""):
-    done = subprocess.run([program, *words], input=text.encode(), capture_output=True, timeout=120)
+    done = subprocess.run([program, *words], input=text.encode(), capture_output=True, timeout=600)
     return done.stdout.decode(), done.stderr.decode(), done.returncode
 
 

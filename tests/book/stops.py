@@ -65,7 +65,7 @@ def kill_at(rng, run, most):
     """Kills a run at a random moment, and returns what it had written by then."""
     time.sleep(rng.uniform(0, most))
     run.kill()
-    return run.communicate(timeout=60)[0]
+    return run.communicate(timeout=600)[0]
 
 
 def stopped_posts(program, scratch, path, rng, kills, count, took):
@@ -113,7 +113,7 @@ def stopped_inits(program, scratch, rng, kills):
         output = kill_at(rng, run, took)
         # Those count that had begun with the file and hadn't said yet that the book is made.
         unready += run.returncode < 0 and not output and os.path.exists(book)
-        again = subprocess.run([program, "init", "--book", book], capture_output=True, timeout=60)
+        again = subprocess.run([program, "init", "--book", book], capture_output=True, timeout=600)
         used = subprocess.run(
             [program, "post", "--book", book, "--batch", "a"], input=CASES[1].encode(), capture_output=True, timeout=60
         )

@@ -95,7 +95,7 @@ class Program:
 
     def run(self, word, options, data):
         words = [self.program, word, "--book", self.book, *options]
-        done = subprocess.run(words, input=data, capture_output=True, timeout=120)
+        done = subprocess.run(words, input=data, capture_output=True, timeout=600)
         return done.stdout, done.returncode, notes.without(done.stderr)
 
     def begin(self, openings):

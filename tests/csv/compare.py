@@ -146,7 +146,7 @@ def sums_differ(text, table):
 
 
 def call(program, words):
-    done = subprocess.run([program, *words], input=b"", capture_output=True, timeout=120)
+    done = subprocess.run([program, *words], input=b"", capture_output=True, timeout=600)
     return done.stdout.decode(), done.returncode, done.stderr.decode()
 
 
@@ -157,7 +157,7 @@ def compare(program, scratch, seed):
     book = os.path.join(scratch, f"drawn-{seed}.book")
     text = spell.Speller(drawing.rng).ledger([it.command for it in drawing.judged])
     call(program, ["init", "--book", book])
-    subprocess.run([program, "post", "--book", book, "--batch", "r"], input=text, capture_output=True, timeout=120)
+    subprocess.run([program, "post", "--book", book, "--batch", "r"], input=text, capture_output=True, timeout=600)
     days, ranges = reports.asked(rng, drawing.book)
     asked = [(["holdings"], holdings(drawing.book, None, seen))]
     asked += [(["holdings", "--day", day_text(day)], holdings(drawing.book, day, seen)) for day in days[:2]]

@@ -109,7 +109,7 @@ class Different(Exception):
 def run(program, words, book, text=b""):
     """Status, output and messages of a call with ample memory."""
     words = [book if word == BOOK else word for word in words]
-    done = subprocess.run([program, *words], input=text, capture_output=True, timeout=120)
+    done = subprocess.run([program, *words], input=text, capture_output=True, timeout=600)
     return done.returncode, done.stdout, done.stderr
 
 

@@ -24,7 +24,7 @@ import text as second  # noqa: E402
 ROOT = os.path.join(HERE, "..", "..")
 SHOWN = 3  # differences of a sweep
 A_PART = 200  # cases that one process looks at before it takes others
-PATIENCE = 60  # seconds, on a machine with much other work: a call takes hundredths of one
+PATIENCE = 600  # seconds, on a machine with much other work: a call takes hundredths of one
 
 FIRST_PURCHASE = os.path.join(ROOT, "examples", "first-purchase.ledger")
 

@@ -43,7 +43,7 @@ need_program() {
 
 # run WORDS..: runs the program on this call's standard input. Keeps its output, its messages and its status.
 run() {
-    timeout 120 "$program" "$@" >"$scratch/out" 2>"$scratch/err"
+    timeout 600 "$program" "$@" >"$scratch/out" 2>"$scratch/err"
     status=$?
 }
 
@@ -94,7 +94,7 @@ prints() {
 # shown there matches WANTED. Keeps the status.
 watched() {
     local shown
-    shown=$(timeout 120 python3 -B "$root/tests/lib/terminal.py" "$2" "$3" "$program" "${@:5}")
+    shown=$(timeout 600 python3 -B "$root/tests/lib/terminal.py" "$2" "$3" "$program" "${@:5}")
     status=$?
     if [[ $shown =~ $4 ]]; then pass "$1"; else fail "$1" "$(head -c 200 <<<"$shown" | tr '\r\n' '@|')"; fi
 }

@@ -24,7 +24,7 @@ MIGRATED = ("book migrated\n", "", 0)
 
 
 def call(program, word, book, *more):
-    done = subprocess.run([program, word, "--book", book, *more], stdin=subprocess.DEVNULL, capture_output=True, timeout=120)
+    done = subprocess.run([program, word, "--book", book, *more], stdin=subprocess.DEVNULL, capture_output=True, timeout=600)
     return done.stdout.decode(), done.stderr.decode(), done.returncode
 
 

@@ -84,7 +84,7 @@ def killed(ground, rng, kills):
         running = subprocess.Popen([ground.program, "migrate", "--book", ground.book], stdin=subprocess.DEVNULL, stdout=subprocess.PIPE)
         time.sleep(rng.uniform(0, ground.took))
         running.kill()
-        output = running.communicate(timeout=60)[0]
+        output = running.communicate(timeout=600)[0]
         untold += running.returncode < 0 and not output
         if output not in (b"", b"book migrated\n"):
             return f"stop {number}: it said {output[:60]}"

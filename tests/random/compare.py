@@ -198,7 +198,7 @@ def both_signs(book):
 
 
 def run(program, text):
-    done = subprocess.run([program], input=text, capture_output=True, timeout=120)
+    done = subprocess.run([program], input=text, capture_output=True, timeout=600)
     return done.stdout, done.returncode, notes.without(done.stderr)
 
 

@@ -253,7 +253,7 @@ def openings(book, seen):
 
 
 def call(program, words, text=b""):
-    done = subprocess.run([program, *words], input=text, capture_output=True, timeout=120)
+    done = subprocess.run([program, *words], input=text, capture_output=True, timeout=600)
     return done.stdout.decode(), done.returncode, notes.without(done.stderr).decode()
 
 
