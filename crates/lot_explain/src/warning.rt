@@ -13,7 +13,6 @@ use lot_num::Units;
 use lot_read::{TextFault, read};
 use lot_token::{Lines, Token, Tokens};
 use memchr::memchr;
-use memchr::memmem::Finder;
 use std::alloc::{AllocError, Global};
 use std::collections::BTreeMap;
 use std::io::{self, Write};
@@ -29,16 +28,15 @@ pub(crate) fn warn_of_text<W: Write, B: Known>(
     book: &mut B,
     call: &Call<'_>,
 ) -> io::Result<()> {
-    // Few other lines have one of these words, and lines without one aren't read.
-    let (opening, closing) = (Finder::new(b"open"), Finder::new(b"close"));
+    let has_commas = memchr(b',', call.input).is_some();
     let mut number = 0u64;
     for line in Lines::new(call.input) {
         number = number.saturating_add(1);
         let place = Place::Line { number, line };
-        if !is_indented(line) && (opening.find(line).is_some() || closing.find(line).is_some()) {
+        if may_open_or_close(line) {
             warn_of_command(alloc, notes, book, place, line)?;
         }
-        if let Some(number) = odd_number(line) {
+        if has_commas && let Some(number) = odd_number(line) {
             warn_of_number(alloc, notes, place, number)?;
         }
     }
@@ -46,6 +44,21 @@ pub(crate) fn warn_of_text<W: Write, B: Known>(
         warn_of_start(notes, call.from, commands_in(call.input), "commands")?;
     }
     Ok(())
+}
+
+/// Returns whether a line may be an opening or a closing: behind its date stands a word with the
+/// first letter of one. Other lines aren't read.
+fn may_open_or_close(line: &[u8]) -> bool {
+    if is_indented(line) {
+        return false;
+    }
+    for byte in line {
+        match *byte {
+            b'0'..=b'9' | b'-' | b'/' | b' ' | b'\t' => {}
+            first => return first == b'o' || first == b'c',
+        }
+    }
+    false
 }
 
 /// Warns of a line on which a command begins: of a method that stands among the currencies of an
