@@ -23,7 +23,7 @@ use lot_form::{DirectiveForm, HeaderForm, NotesForm};
 ///
 /// The error is the fault of the first part, from left to right, that is outside its rule. Where all parts are within their
 /// rules, it is `Memory`: no memory for the names and notes.
-pub fn command(names: &mut KnownNames, form: &HeaderForm<'_>) -> Result<Command, MeaningFault>
+pub fn command(names: &mut KnownNames, form: &HeaderForm<'_, '_>) -> Result<Command, MeaningFault>
     ensures means { IfOk result (λ command. MeansHeader form.now.day.now (directive_seen form.now.directive) command) }
     ensures outside { (fault : ValueFault) → IsErrOf result (Outside fault) → FirstOutside (header_items form.now.day.now (directive_seen form.now.directive)) fault }
     ensures memory { IsErrOf result Memory → AreInside (header_items form.now.day.now (directive_seen form.now.directive)) }
@@ -36,7 +36,7 @@ pub fn command(names: &mut KnownNames, form: &HeaderForm<'_>) -> Result<Command,
 fn directive(
     names: &mut KnownNames,
     day: Day,
-    form: &DirectiveForm<'_>,
+    form: &DirectiveForm<'_, '_>,
 ) -> Result<Command, MeaningFault>
     ensures means { IfOk result (λ command. (when : List ℕ) → MeansDay when day → MeansHeader when (directive_seen form.now) command) }
     ensures refused { IfErr result (λ fault. IsRefusal (directive_items (directive_seen form.now)) fault) }
