@@ -26,7 +26,7 @@ abbrev pub notes_seen : NotesForm → Option (List ℕ) × List ℕ
 notes_seen notes = (option_map seen_text notes.payee, notes.narration.now)
 
 abbrev pub directive_seen : DirectiveForm → Directive
-directive_seen (Forms.Opening account currencies method) = opening account.now (map seen_text currencies.items) (option_map seen_text method)
+directive_seen (Forms.Opening account currencies method) = opening account.now (map seen_text currencies.now.items) (option_map seen_text method)
 directive_seen (Forms.Closing account) = closing account.now
 directive_seen (Forms.Declaring commodity) = declaring commodity.now
 directive_seen (Forms.Quoting base rate quote) = quoting base.now rate.now quote.now

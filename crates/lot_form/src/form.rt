@@ -123,9 +123,9 @@ impl<'a> Part<'a> {
 
 /// A line that isn't indented: a day, and what is done on it.
 #[derive(Drop)]
-pub struct HeaderForm<'a> {
+pub struct HeaderForm<'w, 'a> {
     pub day: &'a str,
-    pub directive: DirectiveForm<'a>,
+    pub directive: DirectiveForm<'w, 'a>,
 }
 
 /// The most currencies that an opening may have (`most_currencies` of the definitions).
@@ -136,9 +136,9 @@ pub type CurrencyWords<'a> = ArrayVec<&'a str, MOST_CURRENCIES>;
 
 /// What is done on a day.
 #[derive(Drop)]
-pub enum DirectiveForm<'a> {
+pub enum DirectiveForm<'w, 'a> {
     /// An account, its currencies, and perhaps a method.
-    Opening(&'a str, CurrencyWords<'a>, Option<&'a str>),
+    Opening(&'a str, &'w CurrencyWords<'a>, Option<&'a str>),
     /// An account.
     Closing(&'a str),
     /// A commodity.

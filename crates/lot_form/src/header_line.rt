@@ -5,7 +5,6 @@ ghost use Rattle.lot_form.specs.Header.{closing_of, currencies_at, declaring_of,
 use crate::fault::FormFault;
 use crate::form::{CurrencyWords, DirectiveForm, HeaderForm, NotesForm};
 use crate::take::{comma, is_end, last_word, number, text, word};
-use arrayvec::ArrayVec;
 use lot_command::Flag;
 use lot_token::{Mark, Token, Tokens};
 
@@ -13,23 +12,31 @@ use lot_token::{Mark, Token, Tokens};
 ///
 /// The error is `UnknownDirective` where there is no token, the first token is no date, or the second is no directive. Else it
 /// is `Syntax` where the tokens have none of the forms.
-pub fn header<'a>(tokens: &Tokens<'_, 'a>) -> Result<HeaderForm<'a>, FormFault>
+///
+/// `room` takes the currencies of an opening.
+pub fn header<'w, 'a>(
+    room: &'w mut CurrencyWords<'a>,
+    tokens: &Tokens<'_, 'a>,
+) -> Result<HeaderForm<'w, 'a>, FormFault>
     ensures is { IfOk result (λ form. IsHeader tokens.now form.day.now (directive_seen form.directive)) }
     ensures unknown { IsErrOf result FormFault.UnknownDirective → (tokens.now ≡ []) ⊎ IsUnknown tokens.now }
     ensures known { IsErrOf result FormFault.Syntax → IsUnknown tokens.now → ⊥ }
     ensures some { IsErrOf result FormFault.Syntax → tokens.now ≢ [] }
     ensures none { OnErr result ((day : List ℕ) (directive : Directive) → IsHeader tokens.now day directive → ⊥) }
 {
-    written(tokens)
+    written(room, tokens)
 }
 
 /// Returns the same, by the tokens from the first on.
 #[tactic(auto, unfolding(crate::specs::Header::header_of))]
-fn written<'a>(tokens: &Tokens<'_, 'a>) -> Result<HeaderForm<'a>, FormFault>
+fn written<'w, 'a>(
+    room: &'w mut CurrencyWords<'a>,
+    tokens: &Tokens<'_, 'a>,
+) -> Result<HeaderForm<'w, 'a>, FormFault>
     ensures { MatchResult result (λ header. header_of tokens.now ≡ Ok (header_seen header)) (λ fault. header_of tokens.now ≡ Err fault) }
 {
     match tokens.split_first() {
-        Some((Token::Date(day), rest)) => match directive(&rest) {
+        Some((Token::Date(day), rest)) => match directive(room, &rest) {
             Ok(directive) => Ok(HeaderForm { day, directive }),
             Err(fault) => Err(fault),
         },
@@ -39,12 +46,15 @@ fn written<'a>(tokens: &Tokens<'_, 'a>) -> Result<HeaderForm<'a>, FormFault>
 
 /// Returns what is done on a day, by the tokens behind the day.
 #[tactic(auto, unfolding(crate::specs::Header::directive_of))]
-fn directive<'a>(tokens: &Tokens<'_, 'a>) -> Result<DirectiveForm<'a>, FormFault>
+fn directive<'w, 'a>(
+    room: &'w mut CurrencyWords<'a>,
+    tokens: &Tokens<'_, 'a>,
+) -> Result<DirectiveForm<'w, 'a>, FormFault>
     ensures { MatchResult result (λ form. directive_of tokens.now ≡ Ok (directive_seen form)) (λ fault. directive_of tokens.now ≡ Err fault) }
 {
     match tokens.split_first() {
         None => Err(FormFault::Syntax),
-        Some((Token::Word(word), rest)) => named(word, &rest),
+        Some((Token::Word(word), rest)) => named(word, room, &rest),
         Some((Token::Mark(Mark::Star), rest)) => fitting(transaction(Flag::Complete, &rest)),
         Some((Token::Mark(Mark::Exclamation), rest)) => {
             fitting(transaction(Flag::Incomplete, &rest))
@@ -55,11 +65,15 @@ fn directive<'a>(tokens: &Tokens<'_, 'a>) -> Result<DirectiveForm<'a>, FormFault
 
 /// Returns the directive of that word, by the tokens behind it.
 #[tactic(auto, unfolding(crate::specs::Header::named))]
-fn named<'a>(word: &str, rest: &Tokens<'_, 'a>) -> Result<DirectiveForm<'a>, FormFault>
+fn named<'w, 'a>(
+    word: &str,
+    room: &'w mut CurrencyWords<'a>,
+    rest: &Tokens<'_, 'a>,
+) -> Result<DirectiveForm<'w, 'a>, FormFault>
     ensures { MatchResult result (λ form. named word.now rest.now ≡ Ok (directive_seen form)) (λ fault. named word.now rest.now ≡ Err fault) }
 {
     match word {
-        "open" => fitting(opening(rest)),
+        "open" => fitting(opening(room, rest)),
         "close" => fitting(closing(rest)),
         "commodity" => fitting(declaring(rest)),
         "price" => fitting(quoting(rest)),
@@ -69,7 +83,7 @@ fn named<'a>(word: &str, rest: &Tokens<'_, 'a>) -> Result<DirectiveForm<'a>, For
 }
 
 /// Returns the form, or `Syntax` where there is none.
-fn fitting(form: Option<DirectiveForm<'_>>) -> Result<DirectiveForm<'_>, FormFault>
+fn fitting<'w, 'a>(form: Option<DirectiveForm<'w, 'a>>) -> Result<DirectiveForm<'w, 'a>, FormFault>
     ensures { MatchResult result (λ made. fitting (option_map directive_seen form.entry) ≡ Ok (directive_seen made)) (λ fault. fitting (option_map directive_seen form.entry) ≡ Err fault) }
 {
     match form {
@@ -80,23 +94,29 @@ fn fitting(form: Option<DirectiveForm<'_>>) -> Result<DirectiveForm<'_>, FormFau
 
 /// Returns an opening: an account, its currencies, and a method where there is one.
 #[tactic(auto, unfolding(crate::specs::Header::opening_of))]
-fn opening<'a>(tokens: &Tokens<'_, 'a>) -> Option<DirectiveForm<'a>>
+fn opening<'w, 'a>(
+    room: &'w mut CurrencyWords<'a>,
+    tokens: &Tokens<'_, 'a>,
+) -> Option<DirectiveForm<'w, 'a>>
     ensures { opening_of tokens.now ≡ option_map directive_seen result }
 {
     let (account, rest) = word(tokens)?;
-    let (currencies, rest) = currencies(rest)?;
+    let rest = currencies(room, rest)?;
     let method = last_text(&rest)?;
-    Some(DirectiveForm::Opening(account, currencies, method))
+    Some(DirectiveForm::Opening(account, room, method))
 }
 
-/// Returns the currencies at the front and the tokens behind them. There are at most 64.
+/// Puts the currencies at the front into their room, and returns the tokens behind them. There are at most 64.
 #[tactic(auto, unfolding(crate::specs::Header::currencies_at))]
-fn currencies<'t, 'a>(tokens: Tokens<'t, 'a>) -> Option<(CurrencyWords<'a>, Tokens<'t, 'a>)>
-    ensures { MatchOption result (currencies_at tokens.entry ≡ None) (λ found. currencies_at tokens.entry ≡ Some (map seen_text found.0.items, found.1)) }
+fn currencies<'t, 'a>(
+    currencies: &mut CurrencyWords<'a>,
+    tokens: Tokens<'t, 'a>,
+) -> Option<Tokens<'t, 'a>>
+    ensures { MatchOption result (currencies_at tokens.entry ≡ None) (λ rest. currencies_at tokens.entry ≡ Some (map seen_text currencies.new.items, rest)) }
 {
-    let mut currencies = ArrayVec::new();
+    currencies.clear();
     let Some((first, mut rest)) = word(&tokens) else {
-        return Some((currencies, tokens));
+        return Some(tokens);
     };
     currencies.push(first);
     while let Some(behind) = comma(&rest) {
@@ -107,7 +127,7 @@ fn currencies<'t, 'a>(tokens: Tokens<'t, 'a>) -> Option<(CurrencyWords<'a>, Toke
         currencies.push(next);
         rest = after;
     }
-    Some((currencies, rest))
+    Some(rest)
 }
 
 /// Returns the text at the end of a line, where there is one.
@@ -127,7 +147,7 @@ fn last_text<'a>(tokens: &Tokens<'_, 'a>) -> Option<Option<&'a str>>
 
 /// Returns a closing: an account.
 #[tactic(auto, unfolding(crate::specs::Header::closing_of))]
-fn closing<'a>(tokens: &Tokens<'_, 'a>) -> Option<DirectiveForm<'a>>
+fn closing<'w, 'a>(tokens: &Tokens<'_, 'a>) -> Option<DirectiveForm<'w, 'a>>
     ensures { closing_of tokens.now ≡ option_map directive_seen result }
 {
     Some(DirectiveForm::Closing(last_word(tokens)?))
@@ -135,7 +155,7 @@ fn closing<'a>(tokens: &Tokens<'_, 'a>) -> Option<DirectiveForm<'a>>
 
 /// Returns a declaring: a commodity.
 #[tactic(auto, unfolding(crate::specs::Header::declaring_of))]
-fn declaring<'a>(tokens: &Tokens<'_, 'a>) -> Option<DirectiveForm<'a>>
+fn declaring<'w, 'a>(tokens: &Tokens<'_, 'a>) -> Option<DirectiveForm<'w, 'a>>
     ensures { declaring_of tokens.now ≡ option_map directive_seen result }
 {
     Some(DirectiveForm::Declaring(last_word(tokens)?))
@@ -143,7 +163,7 @@ fn declaring<'a>(tokens: &Tokens<'_, 'a>) -> Option<DirectiveForm<'a>>
 
 /// Returns a quoting: a base, a rate and a quote.
 #[tactic(auto, unfolding(crate::specs::Header::quoting_of))]
-fn quoting<'a>(tokens: &Tokens<'_, 'a>) -> Option<DirectiveForm<'a>>
+fn quoting<'w, 'a>(tokens: &Tokens<'_, 'a>) -> Option<DirectiveForm<'w, 'a>>
     ensures { quoting_of tokens.now ≡ option_map directive_seen result }
 {
     let (base, rest) = word(tokens)?;
@@ -154,7 +174,7 @@ fn quoting<'a>(tokens: &Tokens<'_, 'a>) -> Option<DirectiveForm<'a>>
 
 /// Returns a transaction with that flag, and with notes where there are such.
 #[tactic(auto, unfolding(crate::specs::Header::transaction_of))]
-fn transaction<'a>(flag: Flag, tokens: &Tokens<'_, 'a>) -> Option<DirectiveForm<'a>>
+fn transaction<'w, 'a>(flag: Flag, tokens: &Tokens<'_, 'a>) -> Option<DirectiveForm<'w, 'a>>
     ensures { transaction_of flag tokens.now ≡ option_map directive_seen result }
 {
     Some(DirectiveForm::Transaction(flag, notes(tokens)?))

@@ -70,3 +70,22 @@ pub outside_behind_listed : (items : CostPart → List Item) (a b : List CostPar
     → FirstOutside (flat_map items b) fault → FirstOutside (flat_map items (a ++ b)) fault
 outside_behind_listed items a b fault h first =
     subst (λ (x : List Item). FirstOutside x fault) (sym (flat_map-append items a b)) (outside_behind (flat_map items a) (flat_map items b) fault h first)
+
+-- ---- One part alone, or none.
+
+listed_alone : (part : Option Part) → listed part ++ [] ≡ listed part
+listed_alone None = refl
+listed_alone (Some part) = refl
+
+pub means_alone : {N : Type 0} (Means : List ℕ → N → Type 0) (part : Option Part) (given : Given N) → MeansGiven Means (listed part) given
+    → MeansGiven Means (listed part ++ []) given
+means_alone Means part given h = subst (λ (parts : List CostPart). MeansGiven Means parts given) (sym (listed_alone part)) h
+
+pub inside_alone : (items : CostPart → List Item) (part : Option Part) → AreInside (flat_map items (listed part))
+    → AreInside (flat_map items (listed part ++ []))
+inside_alone items part h = subst (λ (parts : List CostPart). AreInside (flat_map items parts)) (sym (listed_alone part)) h
+
+pub outside_alone : (items : CostPart → List Item) (part : Option Part) (fault : ValueFault) → FirstOutside (flat_map items (listed part)) fault
+    → FirstOutside (flat_map items (listed part ++ [])) fault
+outside_alone items part fault first =
+    subst (λ (parts : List CostPart). FirstOutside (flat_map items parts) fault) (sym (listed_alone part)) first

@@ -25,16 +25,19 @@ pub(crate) enum CheckedCost<'a> {
 
 impl<'a> CheckedCost<'a> {
     /// Returns what a cost means. The error is the fault of its first part that is outside its rule.
-    pub(crate) fn new(form: &CostForm<'a>) -> Result<CheckedCost<'a>, ValueFault>
+    pub(crate) fn new(
+        names: &KnownNames,
+        form: &CostForm<'a>,
+    ) -> Result<CheckedCost<'a>, ValueFault>
         requires { FitsCost (cost_seen form.now) }
         ensures means { IfOk result (λ cost. MeansCost (cost_seen form.now) (cost_of cost)) }
         ensures inside { OnOk result (AreInside (cost_items (cost_seen form.now))) }
         ensures outside { IfErr result (λ fault. FirstOutside (cost_items (cost_seen form.now)) fault) }
     {
         match form {
-            CostForm::Each(parts) => Ok(CheckedCost::Each(Given::new(parts)?)),
+            CostForm::Each(parts) => Ok(CheckedCost::Each(Given::new(names, parts)?)),
             CostForm::Whole(parts) => {
-                let given: Given<'_, Total> = Given::new(parts)?;
+                let given: Given<'_, Total> = Given::new(names, parts)?;
                 match given.number {
                     Some(total) => Ok(CheckedCost::Whole(total, given)),
                     // One of the parts is a number.
@@ -46,6 +49,7 @@ impl<'a> CheckedCost<'a> {
 
     /// Returns the same, where there is a cost.
     pub(crate) fn perhaps(
+        names: &KnownNames,
         form: &Option<CostForm<'a>>,
     ) -> Result<Option<CheckedCost<'a>>, ValueFault>
         requires { FitsPerhaps FitsCost (option_map cost_seen form.now) }
@@ -54,7 +58,7 @@ impl<'a> CheckedCost<'a> {
         ensures outside { IfErr result (λ fault. FirstOutside (listed_by cost_items (option_map cost_seen form.now)) fault) }
     {
         match form {
-            Some(cost) => Ok(Some(CheckedCost::new(cost)?)),
+            Some(cost) => Ok(Some(CheckedCost::new(names, cost)?)),
             None => Ok(None),
         }
     }

@@ -67,21 +67,34 @@ pub(crate) struct Given<'a, N: Drop> {
 
 impl<'a, N: CostNumber> Given<'a, N> {
     /// Returns what the parts give. The error is the fault of the first part that is outside its rule.
-    #[tactic(auto, using(crate::proofs::GivenLemmas::both_inside_listed, crate::proofs::GivenLemmas::outside_before_listed, crate::proofs::GivenLemmas::outside_behind_listed))]
-    pub(crate) fn new(parts: &Parts<'a>) -> Result<Given<'a, N>, ValueFault>
+    #[tactic(auto, using(crate::proofs::GivenLemmas::means_alone, crate::proofs::GivenLemmas::inside_alone, crate::proofs::GivenLemmas::outside_alone))]
+    pub(crate) fn new(names: &KnownNames, parts: &Parts<'a>) -> Result<Given<'a, N>, ValueFault>
         ensures means { IfOk result (λ given. MeansGiven N.Means (parts_seen parts.now) given) }
         ensures inside { OnOk result (AreInside (flat_map (part_items N.item) (parts_seen parts.now))) }
         ensures outside { IfErr result (λ fault. FirstOutside (flat_map (part_items N.item) (parts_seen parts.now)) fault) }
     {
-        let first = Given::by(&parts.first)?;
-        let second = Given::by(&parts.second)?;
-        let third = Given::by(&parts.third)?;
+        match (&parts.second, &parts.third) {
+            (None, None) => Given::by(names, &parts.first),
+            _ => Given::by_all(names, parts),
+        }
+    }
+
+    /// Returns the same, by each of the three parts.
+    #[tactic(auto, using(crate::proofs::GivenLemmas::both_inside_listed, crate::proofs::GivenLemmas::outside_before_listed, crate::proofs::GivenLemmas::outside_behind_listed))]
+    fn by_all(names: &KnownNames, parts: &Parts<'a>) -> Result<Given<'a, N>, ValueFault>
+        ensures means { IfOk result (λ given. MeansGiven N.Means (parts_seen parts.now) given) }
+        ensures inside { OnOk result (AreInside (flat_map (part_items N.item) (parts_seen parts.now))) }
+        ensures outside { IfErr result (λ fault. FirstOutside (flat_map (part_items N.item) (parts_seen parts.now)) fault) }
+    {
+        let first = Given::by(names, &parts.first)?;
+        let second = Given::by(names, &parts.second)?;
+        let third = Given::by(names, &parts.third)?;
         Ok(first.or(second.or(third)))
     }
 
     /// Returns what a part gives, where there is one.
     #[tactic(auto, using(crate::proofs::ItemLemmas::outside_first, crate::proofs::ItemLemmas::outside_later))]
-    fn by(part: &Option<Part<'a>>) -> Result<Given<'a, N>, ValueFault>
+    fn by(names: &KnownNames, part: &Option<Part<'a>>) -> Result<Given<'a, N>, ValueFault>
         ensures means { IfOk result (λ given. MeansGiven N.Means (listed part.now) given) }
         ensures inside { OnOk result (AreInside (flat_map (part_items N.item) (listed part.now))) }
         ensures outside { IfErr result (λ fault. FirstOutside (flat_map (part_items N.item) (listed part.now)) fault) }
@@ -95,7 +108,7 @@ impl<'a, N: CostNumber> Given<'a, N> {
         match part {
             Some(Part::Money(number, currency)) => Ok(Given {
                 number: Some(N::of_part(number)?),
-                currency: Some(CommodityPart::new(currency)?),
+                currency: Some(CommodityPart::new(&names.commodities, currency)?),
                 ..nothing
             }),
             Some(Part::Number(number)) => Ok(Given {
@@ -103,7 +116,7 @@ impl<'a, N: CostNumber> Given<'a, N> {
                 ..nothing
             }),
             Some(Part::Currency(currency)) => Ok(Given {
-                currency: Some(CommodityPart::new(currency)?),
+                currency: Some(CommodityPart::new(&names.commodities, currency)?),
                 ..nothing
             }),
             Some(Part::Day(text)) => Ok(Given {
@@ -111,7 +124,7 @@ impl<'a, N: CostNumber> Given<'a, N> {
                 ..nothing
             }),
             Some(Part::Label(label)) => Ok(Given {
-                label: Some(LabelPart::new(label)?),
+                label: Some(LabelPart::new(&names.labels, label)?),
                 ..nothing
             }),
             None => Ok(nothing),

@@ -23,7 +23,7 @@ use lot_form::{DirectiveForm, HeaderForm, NotesForm};
 ///
 /// The error is the fault of the first part, from left to right, that is outside its rule. Where all parts are within their
 /// rules, it is `Memory`: no memory for the names and notes.
-pub fn command(names: &mut KnownNames, form: &HeaderForm<'_>) -> Result<Command, MeaningFault>
+pub fn command(names: &mut KnownNames, form: &HeaderForm<'_, '_>) -> Result<Command, MeaningFault>
     ensures means { IfOk result (λ command. MeansHeader form.now.day.now (directive_seen form.now.directive) command) }
     ensures outside { (fault : ValueFault) → IsErrOf result (Outside fault) → FirstOutside (header_items form.now.day.now (directive_seen form.now.directive)) fault }
     ensures memory { IsErrOf result Memory → AreInside (header_items form.now.day.now (directive_seen form.now.directive)) }
@@ -36,7 +36,7 @@ pub fn command(names: &mut KnownNames, form: &HeaderForm<'_>) -> Result<Command,
 fn directive(
     names: &mut KnownNames,
     day: Day,
-    form: &DirectiveForm<'_>,
+    form: &DirectiveForm<'_, '_>,
 ) -> Result<Command, MeaningFault>
     ensures means { IfOk result (λ command. (when : List ℕ) → MeansDay when day → MeansHeader when (directive_seen form.now) command) }
     ensures refused { IfErr result (λ fault. IsRefusal (directive_items (directive_seen form.now)) fault) }
@@ -65,7 +65,7 @@ fn opening(
     ensures means { let directive = opening account.now (map seen_text currencies.now) (option_map seen_text method.now) in IfOk result (λ command. (when : List ℕ) → MeansDay when day → MeansHeader when directive command) }
     ensures refused { let directive = opening account.now (map seen_text currencies.now) (option_map seen_text method.now) in IfErr result (λ fault. IsRefusal (directive_items directive) fault) }
 {
-    let account = AccountPart::new(account)?;
+    let account = AccountPart::new(&names.accounts, account)?;
     let currencies = CurrencyParts::new(currencies)?;
     let method = method_of(method)?;
     Ok(Command::Opening(Opening {
@@ -96,7 +96,7 @@ fn closing(names: &mut KnownNames, day: Day, account: &str) -> Result<Command, M
     ensures means { IfOk result (λ command. (when : List ℕ) → MeansDay when day → MeansHeader when (closing account.now) command) }
     ensures refused { IfErr result (λ fault. IsRefusal (directive_items (closing account.now)) fault) }
 {
-    let account = AccountPart::new(account)?;
+    let account = AccountPart::new(&names.accounts, account)?;
     Ok(Command::Closing(Closing {
         day,
         account: account.keep(&mut names.accounts)?,
@@ -109,7 +109,7 @@ fn declaring(names: &mut KnownNames, day: Day, commodity: &str) -> Result<Comman
     ensures means { IfOk result (λ command. (when : List ℕ) → MeansDay when day → MeansHeader when (declaring commodity.now) command) }
     ensures refused { IfErr result (λ fault. IsRefusal (directive_items (declaring commodity.now)) fault) }
 {
-    let commodity = CommodityPart::new(commodity)?;
+    let commodity = CommodityPart::new(&names.commodities, commodity)?;
     Ok(Command::Declaring(Declaring {
         day,
         commodity: commodity.keep(&mut names.commodities)?,
@@ -128,9 +128,9 @@ fn quoting(
     ensures means { IfOk result (λ command. (when : List ℕ) → MeansDay when day → MeansHeader when (quoting base.now rate_part.now quote.now) command) }
     ensures refused { IfErr result (λ fault. IsRefusal (directive_items (quoting base.now rate_part.now quote.now)) fault) }
 {
-    let base = CommodityPart::new(base)?;
+    let base = CommodityPart::new(&names.commodities, base)?;
     let rate = rate(rate_part)?;
-    let quote = CommodityPart::new(quote)?;
+    let quote = CommodityPart::new(&names.commodities, quote)?;
     Ok(Command::Quoting(Quoting {
         day,
         base: base.keep(&mut names.commodities)?,

@@ -1,5 +1,5 @@
 //! Names that were kept before, of which a further one shares the text.
-ghost use Rattle.std.specs.Prelude.{◌≡◌, ◌<◌, IfOk, IsTrue};
+ghost use Rattle.std.specs.Prelude.{◌≡◌, ◌<◌, IfOk, IfSome, IsTrue};
 
 use crate::name::out_of_memory;
 use lot_base::{AccountGrammar, CommodityGrammar, Grammar, LabelGrammar, Name};
@@ -44,19 +44,29 @@ impl<G: Grammar> Known<G> {
         }
     }
 
+    /// Returns a copy of the known name with that text, or none where no such name is known.
+    pub(crate) fn find(&self, text: &str) -> Option<Name<G>>
+        ensures name { IfSome result (λ name. name ≡ text.now) }
+        ensures grammar { IfSome result (λ _. IsTrue (G.is_name text.now)) }
+    {
+        if let Some(name) = &self.names[place_of(text)]
+            && name.as_str() == text
+        {
+            return name.copy().ok();
+        }
+        None
+    }
+
     /// Returns the name with that text, which is of the grammar. The only error is out of memory.
     pub(crate) fn keep(&mut self, text: &str) -> Result<Name<G>, AllocError>
         requires { IsTrue (G.is_name text.now) }
         ensures { IfOk result (λ name. name ≡ text.now) }
     {
-        let known = &mut self.names[place_of(text)];
-        if let Some(name) = known
-            && name.as_str() == text
-        {
-            return name.copy();
+        if let Some(name) = self.find(text) {
+            return Ok(name);
         }
         let name = Name::new(self.alloc, text).map_err(out_of_memory)?;
-        *known = name.copy().ok();
+        self.names[place_of(text)] = name.copy().ok();
         Ok(name)
     }
 }

@@ -11,7 +11,7 @@ use crate::fault::ValueFault;
 use crate::known::Known;
 use lot_base::{AccountGrammar, CommodityGrammar, Grammar, LabelGrammar, Name, NameFault};
 use std::alloc::AllocError;
-use std::marker::{Model, PhantomData};
+use std::marker::Model;
 
 /// A part that is an account.
 pub(crate) type AccountPart<'a> = NamePart<'a, AccountGrammar>;
@@ -71,22 +71,37 @@ impl PartGrammar for LabelGrammar {
 #[derive(Drop)]
 pub(crate) struct NamePart<'a, G: Grammar> {
     text: &'a str,
-    grammar: PhantomData<G>,
+    /// A copy of the name, where it is known.
+    known: Option<Name<G>>,
 }
 
 impl<'a, G: Grammar> Model for NamePart<'a, G> {
-    ghost use Rattle.std.specs.Prelude.{ℕ, List, IsTrue};
+    ghost use Rattle.std.specs.Prelude.{ℕ, List, IsTrue, IfSome, ◌≡◌};
 
     ghost Value = { List ℕ };
 
     ghost view = { λ p. p.text.now };
 
-    ghost invariant = { λ p. IsTrue (G.is_name p.text.now) };
+    ghost invariant = { λ p. IsTrue (G.is_name p.text.now) × IfSome p.known (λ name. name ≡ p.text.now) };
 }
 
 impl<'a, G: PartGrammar> NamePart<'a, G> {
     /// Returns the name that a part means. The error is `BadName`, exactly where it means none.
-    pub(crate) fn new(part: &'a str) -> Result<NamePart<'a, G>, ValueFault>
+    pub(crate) fn new(known: &Known<G>, part: &'a str) -> Result<NamePart<'a, G>, ValueFault>
+        ensures means { IfOk result (λ name. G.Means part.now name) }
+        ensures outside { IfErr result (λ fault. IsOutside (G.item part.now) fault) }
+    {
+        match known.find(part) {
+            Some(name) => Ok(NamePart {
+                text: part,
+                known: Some(name),
+            }),
+            None => NamePart::unknown(part),
+        }
+    }
+
+    /// Returns the same of a part that is no known name.
+    fn unknown(part: &'a str) -> Result<NamePart<'a, G>, ValueFault>
         ensures means { IfOk result (λ name. G.Means part.now name) }
         ensures outside { IfErr result (λ fault. IsOutside (G.item part.now) fault) }
     {
@@ -95,7 +110,7 @@ impl<'a, G: PartGrammar> NamePart<'a, G> {
         }
         Ok(NamePart {
             text: part,
-            grammar: PhantomData,
+            known: None,
         })
     }
 
@@ -103,7 +118,10 @@ impl<'a, G: PartGrammar> NamePart<'a, G> {
     pub(crate) fn keep(&self, known: &mut Known<G>) -> Result<Name<G>, AllocError>
         ensures { IfOk result (λ name. name ≡ self.now) }
     {
-        known.keep(self.text)
+        match &self.known {
+            Some(name) => name.copy(),
+            None => known.keep(self.text),
+        }
     }
 }
 

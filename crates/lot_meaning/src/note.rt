@@ -65,6 +65,14 @@ impl<'a> NotePart<'a> {
         if is_plain(self.part) {
             return kept(alloc, self.part);
         }
+        self.keep_unescaped(alloc)
+    }
+
+    /// Returns the same by the text of which the part is the escape. A plain part needs no room for that text.
+    #[inline(never)]
+    fn keep_unescaped(&self, alloc: Global) -> Result<Note, AllocError>
+        ensures { IfOk result (λ note. note ≡ self.now) }
+    {
         match unescaped(self.part) {
             Some(text) => kept(alloc, text.as_str()),
             // The part is the escape of a note.
@@ -129,6 +137,15 @@ fn quotes_note(part: &str) -> bool
     if is_plain(part) {
         return Note::is_name(part);
     }
+    unescapes_to_note(part)
+}
+
+/// Returns the same by the text of which the part is the escape. A plain part needs no room for that text.
+#[inline(never)]
+fn unescapes_to_note(part: &str) -> bool
+    ensures yes { IsTrue result → Quotes is_note part.now (text_of part.now) }
+    ensures no { result ≡ false → (note : List ℕ) → Quotes is_note part.now note → ⊥ }
+{
     match unescaped(part) {
         Some(text) => Note::is_name(text.as_str()),
         None => false,

@@ -27,7 +27,7 @@ pub fn posting(names: &mut KnownNames, form: &PostingForm<'_>) -> Result<Posting
     ensures outside { (fault : ValueFault) → IsErrOf result (Outside fault) → FirstOutside (posting_items (posting_seen form.now)) fault }
     ensures memory { IsErrOf result Memory → AreInside (posting_items (posting_seen form.now)) }
 {
-    let checked = CheckedPosting::new(form)?;
+    let checked = CheckedPosting::new(names, form)?;
     Ok(checked.keep(names)?)
 }
 
@@ -41,15 +41,15 @@ struct CheckedPosting<'a> {
 impl<'a> CheckedPosting<'a> {
     /// Returns what a posting means. The error is the fault of its first part that is outside its rule.
     #[tactic(auto, using(crate::proofs::ItemLemmas::outside_first, crate::proofs::ItemLemmas::outside_later))]
-    fn new(form: &PostingForm<'a>) -> Result<CheckedPosting<'a>, ValueFault>
+    fn new(names: &KnownNames, form: &PostingForm<'a>) -> Result<CheckedPosting<'a>, ValueFault>
         requires { FitsPerhaps (λ (a : WrittenAmount). FitsPerhaps FitsCost a.cost) (posting_seen form.now).amount }
         ensures means { IfOk result (λ posting. MeansPosting (posting_seen form.now) (posting_of posting)) }
         ensures inside { OnOk result (AreInside (posting_items (posting_seen form.now))) }
         ensures outside { IfErr result (λ fault. FirstOutside (posting_items (posting_seen form.now)) fault) }
     {
         Ok(CheckedPosting {
-            account: AccountPart::new(form.account)?,
-            amount: CheckedAmount::perhaps(&form.amount)?,
+            account: AccountPart::new(&names.accounts, form.account)?,
+            amount: CheckedAmount::perhaps(names, &form.amount)?,
         })
     }
 
@@ -80,7 +80,7 @@ struct CheckedAmount<'a> {
 impl<'a> CheckedAmount<'a> {
     /// Returns what an amount means. The error is the fault of its first part that is outside its rule.
     #[tactic(auto, using(crate::proofs::ItemLemmas::outside_first, crate::proofs::ItemLemmas::outside_later))]
-    fn new(form: &AmountForm<'a>) -> Result<CheckedAmount<'a>, ValueFault>
+    fn new(names: &KnownNames, form: &AmountForm<'a>) -> Result<CheckedAmount<'a>, ValueFault>
         requires { FitsPerhaps FitsCost (option_map cost_seen form.now.cost) }
         ensures means { IfOk result (λ amount. MeansAmount (amount_seen form.now) (amount_of amount)) }
         ensures inside { OnOk result (AreInside (amount_items (amount_seen form.now))) }
@@ -88,21 +88,24 @@ impl<'a> CheckedAmount<'a> {
     {
         Ok(CheckedAmount {
             units: units(form.units)?,
-            commodity: CommodityPart::new(form.commodity)?,
-            cost: CheckedCost::perhaps(&form.cost)?,
-            price: CheckedPrice::perhaps(&form.price)?,
+            commodity: CommodityPart::new(&names.commodities, form.commodity)?,
+            cost: CheckedCost::perhaps(names, &form.cost)?,
+            price: CheckedPrice::perhaps(names, &form.price)?,
         })
     }
 
     /// Returns the same, where there is an amount.
-    fn perhaps(form: &Option<AmountForm<'a>>) -> Result<Option<CheckedAmount<'a>>, ValueFault>
+    fn perhaps(
+        names: &KnownNames,
+        form: &Option<AmountForm<'a>>,
+    ) -> Result<Option<CheckedAmount<'a>>, ValueFault>
         requires { FitsPerhaps (λ (a : WrittenAmount). FitsPerhaps FitsCost a.cost) (option_map amount_seen form.now) }
         ensures means { IfOk result (λ amount. MeansPerhaps MeansAmount (option_map amount_seen form.now) (option_map amount_of amount)) }
         ensures inside { OnOk result (AreInside (listed_by amount_items (option_map amount_seen form.now))) }
         ensures outside { IfErr result (λ fault. FirstOutside (listed_by amount_items (option_map amount_seen form.now)) fault) }
     {
         match form {
-            Some(amount) => Ok(Some(CheckedAmount::new(amount)?)),
+            Some(amount) => Ok(Some(CheckedAmount::new(names, amount)?)),
             None => Ok(None),
         }
     }

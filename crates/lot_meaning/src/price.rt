@@ -25,7 +25,10 @@ pub(crate) enum CheckedPrice<'a> {
 impl<'a> CheckedPrice<'a> {
     /// Returns what a price means. The error is the fault of its first part that is outside its rule.
     #[tactic(auto, using(crate::proofs::ItemLemmas::outside_first, crate::proofs::ItemLemmas::outside_later))]
-    pub(crate) fn new(form: &PriceForm<'a>) -> Result<CheckedPrice<'a>, ValueFault>
+    pub(crate) fn new(
+        names: &KnownNames,
+        form: &PriceForm<'a>,
+    ) -> Result<CheckedPrice<'a>, ValueFault>
         ensures means { IfOk result (λ price. MeansPrice (price_seen form.now) (price_of price)) }
         ensures inside { OnOk result (AreInside (price_items (price_seen form.now))) }
         ensures outside { IfErr result (λ fault. FirstOutside (price_items (price_seen form.now)) fault) }
@@ -33,17 +36,18 @@ impl<'a> CheckedPrice<'a> {
         match form {
             PriceForm::Each(number, currency) => Ok(CheckedPrice::Each(
                 rate(number)?,
-                CommodityPart::new(currency)?,
+                CommodityPart::new(&names.commodities, currency)?,
             )),
             PriceForm::Whole(number, currency) => Ok(CheckedPrice::Whole(
                 Total::new(number)?,
-                CommodityPart::new(currency)?,
+                CommodityPart::new(&names.commodities, currency)?,
             )),
         }
     }
 
     /// Returns the same, where there is a price.
     pub(crate) fn perhaps(
+        names: &KnownNames,
         form: &Option<PriceForm<'a>>,
     ) -> Result<Option<CheckedPrice<'a>>, ValueFault>
         ensures means { IfOk result (λ price. MeansPerhaps MeansPrice (option_map price_seen form.now) (option_map price_of price)) }
@@ -51,7 +55,7 @@ impl<'a> CheckedPrice<'a> {
         ensures outside { IfErr result (λ fault. FirstOutside (listed_by price_items (option_map price_seen form.now)) fault) }
     {
         match form {
-            Some(price) => Ok(Some(CheckedPrice::new(price)?)),
+            Some(price) => Ok(Some(CheckedPrice::new(names, price)?)),
             None => Ok(None),
         }
     }

@@ -4,8 +4,10 @@ ghost use Rattle.lot_read.specs.Reading.{GivesStatement, IsLineOf, may_post};
 
 use crate::fault::LineFault;
 use crate::statement::{Statement, StatementFault};
+use lot_form::CurrencyWords;
 use lot_meaning::KnownNames;
 use lot_token::{LineTokens, Tokens};
+use std::alloc::Global;
 use std::str;
 
 /// Where a line stands.
@@ -20,12 +22,32 @@ pub(crate) enum Place {
 /// The most bytes of a line (`longest_line` of the definitions).
 const LONGEST_LINE: usize = 4_096;
 
+/// What is kept from line to line, so that a further one takes the same memory.
+#[derive(Drop)]
+pub(crate) struct Kept<'a> {
+    /// The accounts, commodities and labels.
+    names: KnownNames,
+    /// The tokens of the line.
+    tokens: LineTokens<'a>,
+    /// The currencies of an opening.
+    currencies: CurrencyWords<'a>,
+}
+
+impl<'a> Kept<'a> {
+    /// Returns what is kept before the first line.
+    pub(crate) fn new(alloc: Global) -> Kept<'a> {
+        Kept {
+            names: KnownNames::new(alloc),
+            tokens: LineTokens::new(alloc),
+            currencies: CurrencyWords::new(),
+        }
+    }
+}
+
 /// Returns what a line says, given without its line end, or nothing where it is skipped (docs/FORMATS.md, Forms). The error is
-/// out of memory, or what is wrong with the line (docs/FORMATS.md, Order of faults). `kept` takes its tokens, and
-/// `names` its accounts, commodities and labels.
+/// out of memory, or what is wrong with the line (docs/FORMATS.md, Order of faults).
 pub(crate) fn statement<'a>(
-    names: &mut KnownNames,
-    kept: &mut LineTokens<'a>,
+    kept: &mut Kept<'a>,
     line: &'a [u8],
     place: Place,
 ) -> Result<Option<Statement>, StatementFault>
@@ -35,16 +57,16 @@ pub(crate) fn statement<'a>(
     if is_heading(text) {
         return Ok(None);
     }
-    kept.cut(text)?;
-    let tokens = kept.tokens();
+    kept.tokens.cut(text)?;
+    let tokens = kept.tokens.tokens();
     if tokens.split_first().is_none() {
         return Ok(None);
     }
     if !is_indented(text) {
-        return command(names, &tokens);
+        return command(&mut kept.names, &mut kept.currencies, &tokens);
     }
     match place {
-        Place::InTransaction => posting(names, &tokens),
+        Place::InTransaction => posting(&mut kept.names, &tokens),
         Place::Elsewhere => Err(StatementFault::Line(LineFault::Syntax)),
     }
 }
@@ -75,14 +97,16 @@ fn is_indented(line: &str) -> bool
     matches!(line.as_bytes(), [b' ' | b'\t', ..])
 }
 
-/// Returns the command that begins on a line that isn't indented, by its tokens, of which there are some.
-fn command(
+/// Returns the command that begins on a line that isn't indented, by its tokens, of which there are some. `room` takes the
+/// currencies of an opening.
+fn command<'a>(
     names: &mut KnownNames,
-    tokens: &Tokens<'_, '_>,
+    room: &mut CurrencyWords<'a>,
+    tokens: &Tokens<'_, 'a>,
 ) -> Result<Option<Statement>, StatementFault>
     ensures { (may_post : Bool) (line : List ℕ) → IsLineOf false tokens.now line → GivesStatement may_post line result }
 {
-    let form = lot_form::header(tokens)?;
+    let form = lot_form::header(room, tokens)?;
     let command = lot_meaning::command(names, &form)?;
     Ok(Some(Statement::Begins(command)))
 }

@@ -3,11 +3,10 @@ ghost use Rattle.lot_read.specs.Reading.{Continues, Posted, Stops, may_post, of_
 ghost use Rattle.lot_read.specs.Text.{IsFaultOf, Reads, takes_posting};
 
 use crate::fault::TextFault;
-use crate::line::{Place, statement};
+use crate::line::{Kept, Place, statement};
 use crate::statement::{Statement, StatementFault};
 use lot_command::{Command, Posting};
-use lot_meaning::KnownNames;
-use lot_token::{LineTokens, Lines};
+use lot_token::Lines;
 use std::alloc::{AllocFailed, Global};
 
 /// Returns the commands that a ledger text says (docs/FORMATS.md, Ledger text). The error is the first faulty line with its
@@ -17,12 +16,11 @@ pub fn read(alloc: Global, text: &[u8]) -> Result<Vec<Command>, TextFault>
     ensures fault { IfErr result (λ fault. IsFaultOf text.now fault) }
 {
     let mut commands = Vec::new(alloc);
-    let mut names = KnownNames::new(alloc);
-    let mut kept = LineTokens::new(alloc);
+    let mut kept = Kept::new(alloc);
     let mut number = 0u64;
     for line in Lines::new(text) {
         number += 1;
-        if let Err(fault) = take(&mut commands, &mut names, &mut kept, line) {
+        if let Err(fault) = take(&mut commands, &mut kept, line) {
             return Err(at_line(number, fault));
         }
     }
@@ -39,18 +37,16 @@ fn at_line(line: u64, fault: StatementFault) -> TextFault
     }
 }
 
-/// Adds what the next line says to the commands so far. `kept` takes its tokens, and `names` its accounts, commodities and
-/// labels.
+/// Adds what the next line says to the commands so far.
 fn take<'a>(
     commands: &mut Vec<Command>,
-    names: &mut KnownNames,
-    kept: &mut LineTokens<'a>,
+    kept: &mut Kept<'a>,
     line: &'a [u8],
 ) -> Result<(), StatementFault>
     ensures ok { OnOk result (Continues line.now commands.old.items commands.new.items) }
     ensures fault { IfErr result (λ fault. Stops line.now commands.old.items fault) }
 {
-    match statement(names, kept, line, place_behind(commands))? {
+    match statement(kept, line, place_behind(commands))? {
         None => Ok(()),
         Some(Statement::Begins(command)) => Ok(commands.push(command)?),
         Some(Statement::Posts(posting)) => Ok(post(commands, posting)?),

@@ -1,12 +1,13 @@
 -- A text has its lines in one way, and they are cut from its beginning on.
 use Rattle.std.proofs.Common.{◌≡◌, inl, inr, ℕ, ◌+◌, ◌-◌, ◌<◌, ◌≤◌, Bool, true, false, cond, eqb, List, [], ◌∷◌, ◌++◌, map, length, take, drop, get_or, Some, None, refl, ap, ◌∙◌, sym, subst, arith}
-use Rattle.std.specs.Prelude.{nat_lt}
+use Rattle.std.specs.Prelude.{◌⊎◌, Option, nat_lt}
 use Rattle.std.specs.List.{onto_first, position, position_or_len}
-use Rattle.std.proofs.lemmas.Bool.{and_parts, and_from, not-true, not_from_false, eqb-true}
+use Rattle.std.proofs.lemmas.Bool.{and_parts, and_from, not-true, not_from_false, eqb-true, false≢true}
 use Rattle.std.proofs.lemmas.Bool.Decides.{nat_tests}
 use Rattle.std.proofs.lemmas.List.{take-append-drop, drop_more, take_all, get_or-take, length-take, length-drop}
 use Rattle.std.proofs.lemmas.List.Elements.{All-from_get_or}
 use Rattle.std.proofs.lemmas.List.Sums.{list_all-from_AllPass, fails_before_first, passes_at_first}
+use Rattle.memchr.specs.Find.{IsFirstByte, is_byte}
 use Rattle.lot_token.specs.Line.{is_within_line, IsLine, AreEnded, AreLines, without_return, without_mark, ended_lines, lines_of}
 
 -- ---- Each text has lines.
@@ -99,6 +100,32 @@ place_of at end place e = grind (arith, nat_tests)
 
 no_place : (at end : ℕ) → None ≡ cond (nat_lt at end) (Some at) None → end ≤ at
 no_place at end e = grind (arith, nat_tests)
+
+before_or_not : (m n : ℕ) → (m < n) ⊎ (n ≤ m)
+before_or_not m n = grind arith
+
+-- the first place of an LF is the position of one
+pub first_is : (text : List ℕ) (found : Option ℕ) → IsFirstByte (is_byte 10) text found → found ≡ position (λ b. eqb b 10) text
+first_is text None none =
+    let at = position_or_len (λ b. eqb b 10) text in
+    elim (before_or_not at (length text)) [
+      | inl lt ↦ absurd (none at (omega arith) lt (passes_at_first (λ b. eqb b 10) text 0 lt))
+      | inr le ↦ grind (arith, nat_tests)
+    ]
+first_is text (Some place) (before, passes) =
+    let at = position_or_len (λ b. eqb b 10) text in
+    elim (before_or_not place at) [
+      | inl lt ↦ absurd (false≢true (sym (fails_before_first (λ b. eqb b 10) text place 0 lt) ∙ passes))
+      | inr le ↦
+          elim (before_or_not at place) [
+            | inl lt ↦
+                absurd (before.before at (omega arith) lt (passes_at_first (λ b. eqb b 10) text 0 (omega (arith, before.high))))
+            | inr ge ↦
+                let same : place ≡ at = omega arith in
+                let within : at < length text = omega (arith, before.high) in
+                grind (arith, nat_tests)
+          ]
+    ]
 
 -- the first line, up to its LF
 pub line_found : (text : List ℕ) (at : ℕ) → Some at ≡ position (λ b. eqb b 10) text

@@ -64,11 +64,21 @@ pub(crate) fn is_word_start(b: u8) -> bool
     b.is_ascii_alphabetic() || b >= 128
 }
 
+/// Each byte of a word stands at its own place, `x` for all of those beyond ASCII, and `!` at the place of any other byte.
+static WORD_BYTES: [u8; 256] = *b"\
+    !!!!!!!!!!!!!!!!!!!!!!!!!!!!!!!!\
+    !!!!!!!'!!!!!-.!0123456789:!!!!!\
+    !ABCDEFGHIJKLMNOPQRSTUVWXYZ!!!!_\
+    !abcdefghijklmnopqrstuvwxyz!!!!!\
+    xxxxxxxxxxxxxxxxxxxxxxxxxxxxxxxx\
+    xxxxxxxxxxxxxxxxxxxxxxxxxxxxxxxx\
+    xxxxxxxxxxxxxxxxxxxxxxxxxxxxxxxx\
+    xxxxxxxxxxxxxxxxxxxxxxxxxxxxxxxx";
+
 fn is_word_byte(b: u8) -> bool
     ensures { result ≡ is_word_byte b }
 {
-    (b.is_ascii_alphanumeric() || b >= 128)
-        || (b == b':' || b == b'-' || b == b'.' || b == b'_' || b == b'\'')
+    WORD_BYTES[usize::from(b)] != b'!'
 }
 
 fn is_escape(b: u8) -> bool

@@ -1,6 +1,7 @@
 ghost use Rattle.std.specs.Prelude.{◌≡◌};
 ghost use Rattle.lot_token.specs.Line.{AreLines, without_mark, without_return};
 
+use memchr::memchr;
 use std::marker::Model;
 
 /// The lines of a text, one after another, without their line ends. A contract sees them as a list.
@@ -43,7 +44,7 @@ impl<'a> Iterator for Lines<'a> {
         if text.is_empty() {
             return None;
         }
-        match text.iter().position(|b| *b == b'\n') {
+        match memchr(b'\n', text) {
             Some(end) => {
                 self.rest = &text[end + 1..];
                 Some(without_return(&text[..end]))

@@ -18,20 +18,20 @@ loop-behind-preserved c = record {
 pub returns : goal.returns
 returns c =
     let most = c.loop-behind.invariant.most in
-    currencies_from c.args.tokens _ _ c.in-Some.first c.in-Some.rest c.new-currencies.ensures c.push.ensures.items c.in-Some.ensures
+    currencies_from c.args.tokens _ _ c.in-Some.first c.in-Some.rest c.clear.ensures c.push.ensures.items c.in-Some.ensures
     ∙ words_end (map seen_text c.loop-behind.currencies.items) c.loop-behind.rest _
     (omega (arith, same_len c.loop-behind.currencies.items)) c.in_default-comma.ensures c.loop-behind.invariant.so_far
 
 pub returns-in_err-next : goal.returns-in_err-next
 returns-in_err-next c =
     rw c.from_residual.ensures
-    (currencies_from c.args.tokens _ _ c.in-Some.first c.in-Some.rest c.new-currencies.ensures c.push.ensures.items c.in-Some.ensures
+    (currencies_from c.args.tokens _ _ c.in-Some.first c.in-Some.rest c.clear.ensures c.push.ensures.items c.in-Some.ensures
     ∙ words_fail (map seen_text c.loop-behind.currencies.items) c.loop-behind.rest c.in-Some-comma.behind _
     c.in-Some-comma.ensures c.in_err-next.ensures c.loop-behind.invariant.so_far)
 
 pub returns-then-is_full : goal.returns-then-is_full
 returns-then-is_full c =
-    currencies_from c.args.tokens _ _ c.in-Some.first c.in-Some.rest c.new-currencies.ensures c.push.ensures.items c.in-Some.ensures
+    currencies_from c.args.tokens _ _ c.in-Some.first c.in-Some.rest c.clear.ensures c.push.ensures.items c.in-Some.ensures
     ∙ words_over (map seen_text c.loop-behind.currencies.items) c.loop-behind.rest c.in-Some-comma.behind (c.in_ok-next.next.now, c.in_ok-next.after) _
     (same_len c.loop-behind.currencies.items ∙ grind (arith, nat_tests, c.is_full.ensures.value))
     c.in-Some-comma.ensures c.in_ok-next.ensures c.loop-behind.invariant.so_far

@@ -1,8 +1,8 @@
--- The text of which the part is the escape.
+-- A plain part is the note.
 use Rattle.std.proofs.Common.{ℕ, List, ◌≡◌, sym, ap, subst, ◌∙◌}
 use Rattle.std.specs.Prelude.{IfOk}
 use Rattle.lot_base.specs.Name.{is_note}
-use Rattle.lot_meaning.proofs.EscapeLemmas.{plain_escaped, text_is, note_length}
+use Rattle.lot_meaning.proofs.EscapeLemmas.{plain_escaped, text_is}
 use Rattle.lot_meaning.proofs.note.NotePart.keep.Goals as goal
 
 pub kept-requires : goal.kept-requires
@@ -16,18 +16,3 @@ returns-then-is_plain c =
     let part = c.self.inside.part.now in
     let same = text_is part part (plain_escaped part (sym c.is_plain.ensures ∙ c.if-is_plain.true)) in
     subst (λ (text : List ℕ). IfOk c.kept.result (λ note. note ≡ text)) (sym same ∙ c.self.view_is) c.kept.ensures
-
-pub kept-requires-in-Some : goal.kept-requires-in-Some
-kept-requires-in-Some c =
-    let same = text_is c.self.inside.part.now c.in-Some.text.bytes c.in-Some.ensures in
-    ap is_note (c.as_str.ensures.value ∙ sym same) ∙ c.self.invariant.good
-
-pub unreachable-requires : goal.unreachable-requires
-unreachable-requires c =
-    c.in-None.ensures _ c.self.invariant.spelled (note_length _ c.self.invariant.good)
-
-pub returns : goal.returns
-returns c =
-    let same = text_is c.self.inside.part.now c.in-Some.text.bytes c.in-Some.ensures in
-    subst (λ (text : List ℕ). IfOk c.kept-in-Some.result (λ note. note ≡ text)) (c.as_str.ensures.value ∙ sym same ∙ c.self.view_is)
-    c.kept-in-Some.ensures

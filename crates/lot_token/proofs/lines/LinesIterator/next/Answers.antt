@@ -1,11 +1,7 @@
 -- A line ends at the first line end, or with the text.
-use Rattle.std.proofs.Common.{rules, ◌≡◌, sym, ◌∙◌, refl, eqb, arith}
-use Rattle.std.specs.List.{position}
-use Rattle.std.proofs.lemmas.Iterator.{YieldsList-from_slice}
-use Rattle.std.proofs.lemmas.Iterator.Search.{position_from_yields_List}
+use Rattle.std.proofs.Common.{sym, ◌∙◌, refl, arith}
 use Rattle.std.proofs.lemmas.Bool.Decides.{nat_tests}
-use borrow.Author.Tests.{tests}
-use Rattle.lot_token.proofs.LineLemmas.{next_line, last_line, empty_text, shorter}
+use Rattle.lot_token.proofs.LineLemmas.{first_is, next_line, last_line, empty_text, shorter}
 use Rattle.lot_token.proofs.lines.LinesIterator.next.Goals as goal
 
 pub returns-then-is_empty-clause-steps : goal.returns-then-is_empty-clause-steps
@@ -15,16 +11,12 @@ returns-then-is_empty-clause-steps c =
 
 pub returns-in-Some-clause-steps : goal.returns-in-Some-clause-steps
 returns-in-Some-clause-steps c =
-    let place : c.position.result ≡ position (λ b. eqb b 10) c.self.inside.rest.now =
-    position_from_yields_List (λ b. eqb b 10) _ _ c.position.result c.position.ensures.ran
-    (YieldsList-from_slice c.self.inside.rest.now cc) (λ x b q k. search (rules, tests)) in
+    let place = first_is c.self.inside.rest.now c.memchr.result c.memchr.ensures in
     sym c.self.view_is ∙ next_line c.self.inside.rest.now _ _ c.in-Some.end (sym c.in-Some.is ∙ place) c.without_return.ensures refl
 
 pub returns-in-None-clause-steps : goal.returns-in-None-clause-steps
 returns-in-None-clause-steps c =
-    let place : c.position.result ≡ position (λ b. eqb b 10) c.self.inside.rest.now =
-    position_from_yields_List (λ b. eqb b 10) _ _ c.position.result c.position.ensures.ran
-    (YieldsList-from_slice c.self.inside.rest.now cc) (λ x b q k. search (rules, tests)) in
+    let place = first_is c.self.inside.rest.now c.memchr.result c.memchr.ensures in
     sym c.self.view_is
     ∙ last_line c.self.inside.rest.now _ (grind (arith, nat_tests)) (sym c.in-None.is ∙ place) c.without_return-in-None.ensures
 
