@@ -139,7 +139,6 @@ pub drafts-more : (ties : TieRule) (facts : Facts) (day : ℤ) (place : ℕ) (ac
     → IsDraft facts day old booked → (books : Books ties facts day place account amount old new) → IsDraft facts day new (booked ++ books.booked ∷ [])
 drafts-more ties facts day place account amount old new booked is books = record {
   legs = books.legs ∙ ap (λ legs. legs ++ books.booked.legs) is.legs ∙ sym (legs_in-push booked books.booked);
-  lists = books.lists;
   residuals = books.sum (weights_in booked) is.residuals ∙ ap residuals (sym (weights_in-push booked books.booked));
   sales = books.sales ∙ ap (λ sales. sales ++ sales_of day books.booked) is.sales ∙ sym (sales_in-push day booked books.booked);
 }

@@ -22,7 +22,6 @@ use Rattle.lot_book.specs.Booking.{All, Booked, BooksAllUnder, Stopped, TieRule,
 use Rattle.lot_book.specs.Change.{IsAcceptedUnder, ListsUnder}
 use Rattle.lot_book.specs.Facts.{Facts}
 use Rattle.lot_posting.specs.Posting.{Books, MayLackMemory as PostingMayLackMemory, StopsPosting, StoresFor}
-use Rattle.lot_posting.specs.Tally.{ListsTally}
 use Rattle.lot_book.specs.Sale.{sales_in}
 use Rattle.lot_book.specs.Step.{first_conditions, first_of}
 use Rattle.lot_book.specs.Step.{Accept, DecidesUnder, JudgesUnder, Refuse, Repeat}
@@ -52,7 +51,6 @@ StopsJudging ties facts command Memory = ⊤
 -- a draft is that of the postings that are booked
 pub record IsDraft (facts : Facts) (day : ℤ) (draft : Draft) (booked : List Booked) : Type 0 where
   pub legs : draft.tally.legs ≡ legs_in booked
-  pub lists : ListsTally facts draft.tally
   pub residuals : draft.residuals ≡ residuals (weights_in booked)
   pub sales : draft.sales ≡ sales_in day booked
 

@@ -3,7 +3,7 @@ ghost use Rattle.lot_book.specs.Balance.{elided_postings};
 ghost use Rattle.lot_book.specs.Refusals.{back_dated, bars_amount, book_full, closed, closed_before, currency_not_allowed, dates_back, holds_too_many, not_open_yet, opens_after, too_many_lots, too_many_postings, two_elided, unknown_account};
 ghost use Rattle.lot_book.specs.Leg.{with_legs};
 ghost use Rattle.lot_posting.specs.Tally.{ListsTally};
-ghost use Rattle.lot_view.specs.View.{known};
+ghost use Rattle.lot_view.specs.View.{known, known_with_openings};
 
 use lot_base::{Account, Day};
 use lot_book::{MOST_POSTINGS, Refusal};
@@ -185,7 +185,7 @@ fn dates_back(view: &View, day: Day, posting: &Posting) -> bool
 /// Returns `TooManyLots` with the first posting with braces whose account then holds too many lots of its commodity, if
 /// there is one.
 pub(crate) fn few_lots(view: &View, draft: &Draft, postings: &[Posting]) -> Result<(), Refusal>
-    requires { ListsTally (known view.now) draft.now.tally }
+    requires { ListsTally (known_with_openings view.now) draft.now.tally }
     ensures { MatchResult result (λ _. too_many_lots (known view.now) draft.now.tally.legs postings.now ≡ None)
         (λ refusal. too_many_lots (known view.now) draft.now.tally.legs postings.now ≡ Some refusal) }
 {
@@ -200,7 +200,7 @@ pub(crate) fn few_lots(view: &View, draft: &Draft, postings: &[Posting]) -> Resu
 
 /// Returns whether a posting has braces, and its account holds too many lots of its commodity after all legs.
 fn holds_too_many(view: &View, draft: &Draft, posting: &Posting) -> bool
-    requires { ListsTally (known view.now) draft.now.tally }
+    requires { ListsTally (known_with_openings view.now) draft.now.tally }
     ensures { result ≡ holds_too_many (with_legs posting.now.account ((known view.now).held posting.now.account) draft.now.tally.legs) posting.now.amount }
 {
     match &posting.amount {

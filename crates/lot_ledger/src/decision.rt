@@ -202,7 +202,7 @@ fn conclude(
 ) -> Result<Change, Stop>
     requires few { length transaction.now.postings ≤ most_postings }
     requires elided { IsElided elided transaction.now }
-    requires lists { ListsTally (known view.now) draft.tally }
+    requires lists { ListsTally (known_with_openings view.now) draft.tally }
     ensures passed { IsOk result → first_of (conditions_on (known view.now) transaction.now draft.tally.legs draft.residuals) ≡ None }
     ensures legs { IfOk result (λ change. change.legs ≡ legs_with_fill (known view.now) transaction.now draft.tally.legs draft.residuals) }
     ensures sales { IfOk result (λ change. change.sales ≡ draft.sales) }
@@ -233,10 +233,10 @@ fn take_up(
 ) -> Result<(), Stop>
     requires few { length transaction.now.postings ≤ most_postings }
     requires elided { IsElided elided transaction.now }
-    requires lists { ListsTally (known view.now) draft.old.tally }
+    requires lists { ListsTally (known_with_openings view.now) draft.old.tally }
     ensures passed { IsOk result → first_of (residual_conditions (known view.now) transaction.now draft.old.tally.legs draft.old.residuals) ≡ None }
     ensures legs { OnOk result (draft.new.tally.legs ≡ legs_with_fill (known view.now) transaction.now draft.old.tally.legs draft.old.residuals) }
-    ensures lists { OnOk result (ListsTally (known view.now) draft.new.tally) }
+    ensures lists { OnOk result (ListsTally (known_with_openings view.now) draft.new.tally) }
     ensures sales { OnOk result (draft.new.sales ≡ draft.old.sales) }
     ensures stops { IfErr result (λ stop. Stops (first_of (residual_conditions (known view.now) transaction.now draft.old.tally.legs draft.old.residuals)) stop) }
     ensures memory { IsErrOf result Memory
@@ -264,6 +264,8 @@ fn book_amounts(
     ensures drafts { IfOk result (λ draft.
         DraftsAll (ties_for edition (known_with_openings view.now))
         (known view.now) transaction.now draft) }
+    ensures lists { IfOk result (λ draft.
+        ListsTally (known_with_openings view.now) draft.tally) }
     ensures stops { IfErr result (λ stop.
         StopsBooking (ties_for edition (known_with_openings view.now))
         (known view.now) transaction.now stop) }
@@ -296,11 +298,12 @@ fn book_next(
     posting: &Posting,
     draft: &mut Draft,
 ) -> Result<(), Stop>
-    requires lists { ListsTally (known view.now) draft.old.tally }
+    requires lists { ListsTally (known_with_openings view.now) draft.old.tally }
     requires few { place ≤ most_postings }
     requires room { AreWithin (most_postings - 1) draft.old.residuals }
     ensures books { OnOk result (BooksNext (ties_for edition (known_with_openings view.now))
         (known view.now) day place posting.now.account posting.now.amount draft.old draft.new) }
+    ensures lists { OnOk result (ListsTally (known_with_openings view.now) draft.new.tally) }
     ensures stops { IfErr result (λ stop.
         StopsNext (ties_for edition (known_with_openings view.now))
         (known view.now) day place posting.now.account posting.now.amount draft.old stop) }
@@ -354,6 +357,7 @@ fn change_of(draft: Draft, heads: BTreeMap<Pair, Day>) -> Change
         legs,
         positions,
         openings,
+        ..
     } = tally;
     Change {
         legs,

@@ -6,7 +6,7 @@ ghost use Rattle.lot_book.specs.Balance.{fill_of, fits_units, left_over};
 ghost use Rattle.lot_ledger.specs.Decide.{FillMayLackMemory, filled, first_barred};
 ghost use Rattle.lot_book.specs.Refusals.{Stops, fill_not_allowed, fill_out_of_range, first_currency, inexact_fill, most_postings};
 ghost use Rattle.lot_posting.specs.Tally.{HaveNumbers, ListsTally};
-ghost use Rattle.lot_view.specs.View.{known};
+ghost use Rattle.lot_view.specs.View.{known, known_with_openings};
 
 use crate::checks::Elided;
 use lot_base::{Account, Commodity};
@@ -28,14 +28,14 @@ pub(crate) fn fill(
     draft: &mut Draft,
 ) -> Result<(), Stop>
     requires few { elided.0 ≤ most_postings }
-    requires lists { ListsTally (known view.now) draft.old.tally }
+    requires lists { ListsTally (known_with_openings view.now) draft.old.tally }
     ensures exact { OnOk result (inexact_fill (elided.entry ∷ []) draft.old.residuals ≡ None) }
     ensures allowed { OnOk result (fill_not_allowed (known view.now) (elided.entry ∷ []) draft.old.residuals ≡ None) }
     ensures in_range { OnOk result (fill_out_of_range (known view.now) (elided.entry ∷ []) draft.old.tally.legs
         (fill_of (suc (known view.now).entries) (elided.entry ∷ []) draft.old.residuals) ≡ None) }
     ensures legs { OnOk result (draft.new.tally.legs ≡ draft.old.tally.legs
         ++ fill_of (suc (known view.now).entries) (elided.entry ∷ []) draft.old.residuals) }
-    ensures lists { OnOk result (ListsTally (known view.now) draft.new.tally) }
+    ensures lists { OnOk result (ListsTally (known_with_openings view.now) draft.new.tally) }
     ensures sales { OnOk result (draft.new.sales ≡ draft.old.sales) }
     ensures stops { IfErr result (λ stop. Stops (option_or (inexact_fill (elided.entry ∷ []) draft.old.residuals)
         (option_or (fill_not_allowed (known view.now) (elided.entry ∷ []) draft.old.residuals)
@@ -62,7 +62,7 @@ fn fill_exactly(
     draft: &mut Draft,
 ) -> Result<(), Stop>
     requires few { elided.0 ≤ most_postings }
-    requires lists { ListsTally (known view.now) draft.old.tally }
+    requires lists { ListsTally (known_with_openings view.now) draft.old.tally }
     requires exact { first_currency (λ r. not (fits_units r.1)) draft.old.residuals ≡ None }
     ensures exact { OnOk result (inexact_fill (elided.entry ∷ []) draft.old.residuals ≡ None) }
     ensures allowed { OnOk result
@@ -72,7 +72,7 @@ fn fill_exactly(
         (fill_of (suc (known view.now).entries) (elided.entry ∷ []) draft.old.residuals) ≡ None) }
     ensures legs { OnOk result (draft.new.tally.legs ≡ draft.old.tally.legs
         ++ fill_of (suc (known view.now).entries) (elided.entry ∷ []) draft.old.residuals) }
-    ensures lists { OnOk result (ListsTally (known view.now) draft.new.tally) }
+    ensures lists { OnOk result (ListsTally (known_with_openings view.now) draft.new.tally) }
     ensures sales { OnOk result (draft.new.sales ≡ draft.old.sales) }
     ensures stops { IfErr result (λ stop. Stops
         (option_or (inexact_fill (elided.entry ∷ []) draft.old.residuals)

@@ -5,4 +5,5 @@ pub mod TallyLemmas
 pub mod TallyCount
 pub mod TallyOpenings
 pub mod TallyLots
+pub mod KeptLemmas
 pub mod TallyReducing

@@ -16,6 +16,7 @@ use Rattle.lot_booking.specs.Choice.{Choice, chosen_legs, given, with_sign_of}
 use Rattle.lot_booking.proofs.BookingLaws.{size_of-sign, units_of_legs}
 use Rattle.lot_command.specs.declared.transaction.Amount.{Amount}
 use Rattle.lot_posting.specs.declared.draft.Draft.{Draft}
+use Rattle.lot_posting.specs.declared.tally.Tally.{Tally}
 use Rattle.lot_book.specs.declared.leg.Leg.{Leg}
 use Rattle.lot_book.specs.declared.refusal.Refusal.TheVariants.{Range}
 use Rattle.lot_book.specs.declared.refusal.Stop.{Stop}
@@ -30,7 +31,7 @@ use Rattle.lot_book.specs.Sale.{lots_in_legs, sales_of, AreLegsOf, SaleParts, sa
 use Rattle.lot_book.proofs.LegLemmas.{leave_range-passes, leave_range-stops}
 use Rattle.lot_num.specs.Amount.{IsUnits}
 use Rattle.lot_posting.specs.Posting.{Books, MayLackMemory, StopsPosting, StoresFor}
-use Rattle.lot_posting.specs.Tally.{AreOf, HaveNumbers, ListsTally, StopsAt, plain}
+use Rattle.lot_posting.specs.Tally.{AreOf, HaveNumbers, StopsAt, plain}
 
 -- ---- legs at lots
 
@@ -133,17 +134,27 @@ has_lots line cost entry reduces lots passed legs is number comes same are =
 -- what a draft has once the legs of a posting are added to it
 pub record Adds (facts : Facts) (amount : Amount) (added : List Leg) (old new : Draft) : Type 0 where
   pub legs : new.tally.legs ≡ old.tally.legs ++ added
-  pub lists : ListsTally facts new.tally
   pub sum : (weights : List (List ℕ × ℤ)) → old.residuals ≡ residuals weights
       → new.residuals ≡ residuals (weights ++ weights_by amount.cost amount added)
   pub within : (count : ℕ) → AreWithin count old.residuals → AreWithin (suc count) new.residuals
   pub in_range : (account : List ℕ) (posting : ℕ) → AreOf account posting added
       → leave_range (with_legs account (facts.held account) old.tally.legs) added ≡ false
 
+-- so it is where another tally had the same legs before
+pub adds_after : (facts : Facts) (amount : Amount) (added : List Leg) (old : Draft) (tally : Tally) (new : Draft)
+    → tally.legs ≡ old.tally.legs → Adds facts amount added (record old { tally = tally }) new → Adds facts amount added old new
+adds_after facts amount added old tally new same adds = record {
+  legs = adds.legs ∙ ap (λ (legs : List Leg). legs ++ added) same;
+  sum = adds.sum;
+  within = adds.within;
+  in_range = λ account posting of.
+      subst (λ (legs : List Leg). leave_range (with_legs account (facts.held account) legs) added ≡ false) same
+      (adds.in_range account posting of);
+}
+
 -- the same, of what an addition ensures, which leaves the sales
 pub adds_at : {T E : Type 0} (facts : Facts) (amount : Amount) (added : List Leg) (old new : Draft) (r : Result T E)
     → OnOk r (new.tally.legs ≡ old.tally.legs ++ added)
-    → OnOk r (ListsTally facts new.tally)
     → OnOk r ((weights : List (List ℕ × ℤ)) → old.residuals ≡ residuals weights
     → new.residuals ≡ residuals (weights ++ weights_by amount.cost amount added))
     → OnOk r ((count : ℕ) → AreWithin count old.residuals → AreWithin (suc count) new.residuals)
@@ -151,9 +162,9 @@ pub adds_at : {T E : Type 0} (facts : Facts) (amount : Amount) (added : List Leg
     → leave_range (with_legs account (facts.held account) old.tally.legs) added ≡ false)
     → OnOk r (new.sales ≡ old.sales)
     → OnOk r (Adds facts amount added old new × (new.sales ≡ old.sales))
-adds_at facts amount added old new (Ok x) legs lists sum within in_range sales =
-    (record { legs = legs; lists = lists; sum = sum; within = within; in_range = in_range }, sales)
-adds_at facts amount added old new (Err e) legs lists sum within in_range sales = tt
+adds_at facts amount added old new (Ok x) legs sum within in_range sales =
+    (record { legs = legs; sum = sum; within = within; in_range = in_range }, sales)
+adds_at facts amount added old new (Err e) legs sum within in_range sales = tt
 
 -- ---- sales
 
@@ -205,7 +216,6 @@ books ties facts day place account amount old new reduces legs has adds sales =
         range = adds.in_range account place (AreOf-legs line amount.cost reduces legs has);
       };
       legs = adds.legs;
-      lists = adds.lists;
       sum = adds.sum;
       within = adds.within;
       sales = sales;

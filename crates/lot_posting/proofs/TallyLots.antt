@@ -24,7 +24,7 @@ use Rattle.lot_book.specs.Openings.{FactsWithOpenings, HaveSameOpenings, opening
 use Rattle.lot_book.proofs.CaseLemmas.{by_bool}
 use Rattle.lot_book.proofs.HeldLemmas.{at, no_zeros-legs}
 use Rattle.lot_book.proofs.OrderLemmas.{one_position, same_position-itself}
-use Rattle.lot_posting.specs.Tally.{is_lot_of}
+use Rattle.lot_posting.specs.Tally.{HasLotsAfter, is_lot_of}
 use Rattle.lot_posting.proofs.TallyLemmas.{lot-parts, not_at}
 use Rattle.lot_posting.proofs.TallyOpenings.{AreElsewhere, get-elsewhere, opening-elsewhere, same_after_legs}
 
@@ -46,7 +46,7 @@ module _ (stock : Stock) (commodity : List ℕ) (key : LotKey) (units : ℤ) (op
   set_lot = with_lot stock (commodity, Some key) units opening
 
   -- a lot that is set to some units has that number
-  number-here : units ≢ pos 0 → opening_at set_lot commodity key ≡ opening
+  pub number-here : units ≢ pos 0 → opening_at set_lot commodity key ≡ opening
   number-here some =
       let place : Place = (commodity, Some key) in
       let zero : int_eq units (pos 0) ≡ false = by_bool (int_eq units (pos 0)) (λ e. absurd (some ((signed_Decides units (pos 0)).0 e))) (λ e. e) in
@@ -56,7 +56,7 @@ module _ (stock : Stock) (commodity : List ℕ) (key : LotKey) (units : ℤ) (op
       ∙ ap (λ b. cond b None (Some opening)) zero)
 
   -- and any other its own
-  number-apart : (other : LotKey) → other ≢ key → opening_at set_lot commodity other ≡ opening_at stock commodity other
+  pub number-apart : (other : LotKey) → other ≢ key → opening_at set_lot commodity other ≡ opening_at stock commodity other
   number-apart other apart =
       let place : Place = (commodity, Some key) in
       let there : Place = (commodity, Some other) in
@@ -70,7 +70,7 @@ module _ (stock : Stock) (commodity : List ℕ) (key : LotKey) (units : ℤ) (op
       ∙ ap (λ b. cond b (cond (int_eq units (pos 0)) None (Some opening)) (get stock.opened there)) other_place)
 
   -- what the others hold
-  units-apart : (other : LotKey) → other ≢ key → get set_lot.held (commodity, Some other) ≡ get stock.held (commodity, Some other)
+  pub units-apart : (other : LotKey) → other ≢ key → get set_lot.held (commodity, Some other) ≡ get stock.held (commodity, Some other)
   units-apart other apart =
       get-with_units_apart stock.held (commodity, Some key) units (commodity, Some other)
       (λ e. let lots : Some other ≡ Some key = ap (λ (p : Place). p.1) e in apart cc)
@@ -89,7 +89,7 @@ pub record AreSet (known : FactsWithOpenings) (legs : List Leg) (openings : BTre
       → units_at (with_legs account (known.facts.held account) legs) (commodity, Some key) ≢ pos 0
       → opening_at lots commodity key ≡ opening_after known legs account commodity key
 
-some_units : (found other : Option ℤ) → found ≡ other → unwrap_or other (pos 0) ≢ pos 0 → unwrap_or found (pos 0) ≢ pos 0
+pub some_units : (found other : Option ℤ) → found ≡ other → unwrap_or other (pos 0) ≢ pos 0 → unwrap_or found (pos 0) ≢ pos 0
 some_units found other same some none = some (ap (λ (o : Option ℤ). unwrap_or o (pos 0)) (sym same) ∙ none)
 
 listed_twice : (listed : Option ℕ) (own : ℕ) → unwrap_or listed (unwrap_or listed own) ≡ unwrap_or listed own
@@ -97,7 +97,7 @@ listed_twice None own = refl
 listed_twice (Some n) own = refl
 
 -- the key of a lot
-key_of : (account commodity : List ℕ) (p : Position) → is_lot_of account commodity p ≡ true
+pub key_of : (account commodity : List ℕ) (p : Position) → is_lot_of account commodity p ≡ true
     → (key : LotKey) × (p ≡ at account (commodity, Some key))
 key_of account commodity p is =
     let parts = lot-parts account commodity p is in
@@ -113,9 +113,6 @@ module _ (known : FactsWithOpenings) (legs : List Leg) (openings : BTreeMap Posi
   -- what the account holds behind the legs
   abbrev after : Held
   after = with_legs account (known.facts.held account) legs
-
-  abbrev number : LotKey → ℕ
-  number = opening_after known legs account commodity
 
   -- the lots of the account, before any is set
   pub before_any : (lots : Stock) → ListsOpened known.facts legs openings
@@ -230,12 +227,10 @@ module _ (known : FactsWithOpenings) (legs : List Leg) (openings : BTreeMap Posi
       → opening ≡ listed_or openings p.account p.commodity lot (opening_at lots p.commodity lot)) is numbered key refl)
       set)
 
-  -- where no leg is left, they are those behind all legs
-  pub all_set : (lots : Stock) → AreSet known legs openings account commodity [] lots → lots_of lots.held commodity ≡ lots_of after commodity
-  all_set lots set = same_lots lots.held after commodity (λ key. set.held key tt)
-
-  -- and so are their numbers
-  pub all_numbered : (lots : Stock) → AreSet known legs openings account commodity [] lots
-      → HaveSameOpenings commodity lots.held (opening_at lots commodity) number
-  all_numbered lots set key some =
-      set.opened key tt (some_units (get after (commodity, Some key)) (get lots.held (commodity, Some key)) (sym (set.held key tt)) some)
+  -- where no leg is left, they are those behind all legs, with their numbers
+  pub all_set : (lots : Stock) → AreSet known legs openings account commodity [] lots → HasLotsAfter known legs account commodity lots
+  all_set lots set = record {
+    lots = same_lots lots.held after commodity (λ key. set.held key tt);
+    openings = λ key some.
+        set.opened key tt (some_units (get after (commodity, Some key)) (get lots.held (commodity, Some key)) (sym (set.held key tt)) some);
+  }

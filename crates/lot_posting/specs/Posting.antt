@@ -14,7 +14,6 @@ use Rattle.lot_book.specs.Booking.{IsRefusalOf, Booked, BooksTo, Fails, HasNoLeg
 use Rattle.lot_book.specs.Facts.{Facts}
 use Rattle.lot_book.specs.Openings.{FactsWithOpenings, line_in, ties_for}
 use Rattle.lot_posting.specs.declared.posting.Site.{Site}
-use Rattle.lot_posting.specs.Tally.{ListsTally}
 use Rattle.lot_book.specs.Leg.{leave_range}
 use Rattle.lot_book.specs.Sale.{sales_of}
 
@@ -29,7 +28,6 @@ pub record Books (ties : TieRule) (facts : Facts) (day : ℤ) (place : ℕ) (acc
   pub booked : Booked
   pub is : IsBooked (line_under ties facts day old.tally.legs place account amount) booked
   pub legs : new.tally.legs ≡ old.tally.legs ++ booked.legs
-  pub lists : ListsTally facts new.tally
   pub sum : (weights : List (List ℕ × ℤ)) → old.residuals ≡ residuals weights → new.residuals ≡ residuals (weights ++ weights_of booked)
   pub within : (count : ℕ) → AreWithin count old.residuals → AreWithin (suc count) new.residuals
   pub sales : new.sales ≡ old.sales ++ sales_of day booked

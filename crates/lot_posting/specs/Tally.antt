@@ -1,26 +1,40 @@
--- How booking the legs of one posting ends where a sum leaves the range of units.
-use Rattle.std.specs.Prelude.{◌≡◌, ℕ, Bool, true, false, ◌&&◌, is_none, is_some, if◌then◌else◌, List, [], ◌∷◌, None, ℤ, pos, ◌+ℤ◌, ⊤}
+-- What a tally lists of its legs, and how booking the legs of one posting ends where a sum leaves the range of units.
+use Rattle.std.specs.Prelude.{◌≡◌, ℕ, Bool, true, false, ◌&&◌, is_none, is_some, if◌then◌else◌, List, [], ◌∷◌, Option, None, Some, ℤ, pos, ◌+ℤ◌, ⊤}
 use Rattle.std.specs.List.{AllByRecursion}
 use Rattle.std.specs.Ordering.{int_eq}
 use Rattle.lot_num.specs.Amount.{IsUnits}
-use Rattle.lot_inv.specs.Inventory.{Held, other_sign}
+use Rattle.lot_inv.specs.Inventory.{Held, Stock, lots_of, opening_at, other_sign}
 use Rattle.lot_base.specs.Text.{same_text}
 use Rattle.lot_book.specs.declared.leg.Position.{Position}
 use Rattle.lot_book.specs.declared.leg.Leg.{Leg}
 use Rattle.lot_book.specs.declared.refusal.Refusal.TheVariants.{Range}
 use Rattle.lot_book.specs.declared.refusal.Stop.{Stop}
 use Rattle.lot_book.specs.declared.refusal.Stop.TheVariants.{Refused, Memory}
+use Rattle.lot_posting.specs.declared.kept.KeptLots.{KeptLots}
 use Rattle.lot_posting.specs.declared.tally.Tally.{Tally}
 use Rattle.lot_book.specs.Change.{ListsOpened, ListsSums, units_after}
 use Rattle.lot_book.specs.OpeningNumber.{HasNumber}
 use Rattle.lot_book.specs.Facts.{Facts}
-use Rattle.lot_book.specs.Leg.{leave_range}
+use Rattle.lot_book.specs.Leg.{leave_range, with_legs}
+use Rattle.lot_book.specs.Openings.{FactsWithOpenings, HaveSameOpenings, opening_after}
+
+-- an inventory has the lots that an account holds of a commodity after legs, each under its opening number
+pub record HasLotsAfter (known : FactsWithOpenings) (legs : List Leg) (account commodity : List ℕ) (stock : Stock) : Type 0 where
+  pub lots : lots_of stock.held commodity ≡ lots_of (with_legs account (known.facts.held account) legs) commodity
+  pub openings : HaveSameOpenings commodity stock.held (opening_at stock commodity)
+      (opening_after known legs account commodity)
+
+-- the lots that are kept, if any are, are those of their pair after the legs
+abbrev pub KeepsLots : FactsWithOpenings → List Leg → Option KeptLots → Type 0
+KeepsLots known legs None = ⊤
+KeepsLots known legs (Some kept) = HasLotsAfter known legs kept.pair.account kept.pair.commodity kept.lots
 
 -- a tally lists what its legs change: the units that each position holds after them, and the opening number of each lot that
--- they open
-pub record ListsTally (facts : Facts) (tally : Tally) : Type 0 where
-  pub sums : ListsSums facts tally.legs tally.positions.entries
-  pub openings : ListsOpened facts tally.legs tally.openings
+-- they open; and it keeps lots as they leave them
+pub record ListsTally (known : FactsWithOpenings) (tally : Tally) : Type 0 where
+  pub sums : ListsSums known.facts tally.legs tally.positions.entries
+  pub openings : ListsOpened known.facts tally.legs tally.openings
+  pub kept : KeepsLots known tally.legs tally.kept
 
 -- each leg has a number
 abbrev pub HaveNumbers : List Leg → Type 0

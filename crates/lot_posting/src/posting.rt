@@ -52,9 +52,10 @@ pub fn book_posting(
 ) -> Result<(), Stop>
     requires entry { site.now.entry ≡ suc (known view.now).entries }
     requires number { HasNumber site.now.entry site.now.posting }
-    requires lists { ListsTally (known view.now) draft.old.tally }
+    requires lists { ListsTally (known_with_openings view.now) draft.old.tally }
     requires room { AreWithin (most_postings - 1) draft.old.residuals }
     ensures books { OnOk result (BooksAt (known_with_openings view.now) site.now draft.old draft.new) }
+    ensures lists { OnOk result (ListsTally (known_with_openings view.now) draft.new.tally) }
     ensures stops { IfErr result (λ stop. StopsPosting (line_at (known_with_openings view.now) site.now draft.old.tally.legs) stop) }
     ensures memory { IsErrOf result Memory → MayLackMemory draft.old.tally.legs
         (line_at (known_with_openings view.now) site.now draft.old.tally.legs) }
@@ -70,9 +71,10 @@ fn book_plain(alloc: Global, view: &View, site: &Site<'_>, draft: &mut Draft) ->
     requires plain { site.now.amount.now.cost ≡ None }
     requires entry { site.now.entry ≡ suc (known view.now).entries }
     requires number { HasNumber site.now.entry site.now.posting }
-    requires lists { ListsTally (known view.now) draft.old.tally }
+    requires lists { ListsTally (known_with_openings view.now) draft.old.tally }
     requires room { AreWithin (most_postings - 1) draft.old.residuals }
     ensures books { OnOk result (BooksAt (known_with_openings view.now) site.now draft.old draft.new) }
+    ensures lists { OnOk result (ListsTally (known_with_openings view.now) draft.new.tally) }
     ensures stops { IfErr result (λ stop. StopsPosting (line_at (known_with_openings view.now) site.now draft.old.tally.legs) stop) }
     ensures memory { IsErrOf result Memory → MayLackMemory draft.old.tally.legs
         (line_at (known_with_openings view.now) site.now draft.old.tally.legs) }
@@ -101,9 +103,10 @@ fn book_at_cost(
     requires cost { site.now.amount.now.cost ≡ Some cost.now }
     requires entry { site.now.entry ≡ suc (known view.now).entries }
     requires number { HasNumber site.now.entry site.now.posting }
-    requires lists { ListsTally (known view.now) draft.old.tally }
+    requires lists { ListsTally (known_with_openings view.now) draft.old.tally }
     requires room { AreWithin (most_postings - 1) draft.old.residuals }
     ensures books { OnOk result (BooksAt (known_with_openings view.now) site.now draft.old draft.new) }
+    ensures lists { OnOk result (ListsTally (known_with_openings view.now) draft.new.tally) }
     ensures stops { IfErr result (λ stop. StopsPosting (line_at (known_with_openings view.now) site.now draft.old.tally.legs) stop) }
     ensures memory { IsErrOf result Memory → MayLackMemory draft.old.tally.legs
         (line_at (known_with_openings view.now) site.now draft.old.tally.legs) }
@@ -112,7 +115,7 @@ fn book_at_cost(
     let Booked {
         reduces,
         legs: lots,
-    } = book_lots(alloc, view, &draft.tally, site, cost)?;
+    } = book_lots(alloc, view, &mut draft.tally, site, cost)?;
     let legs = legs_of_lots(alloc, site, &lots)?;
     draft.add(view, site.amount, legs)?;
     if reduces {
@@ -126,19 +129,21 @@ fn book_at_cost(
 fn book_lots(
     alloc: Global,
     view: &View,
-    tally: &Tally,
+    tally: &mut Tally,
     site: &Site<'_>,
     cost: &Cost,
 ) -> Result<Booked, Stop>
     requires cost { site.now.amount.now.cost ≡ Some cost.now }
-    requires lists { ListsTally (known view.now) tally.now }
+    requires lists { ListsTally (known_with_openings view.now) tally.old }
     ensures booked { IfOk result (λ booked. ComesTo
-        (braced (line_at (known_with_openings view.now) site.now tally.now.legs) cost.now)
+        (braced (line_at (known_with_openings view.now) site.now tally.old.legs) cost.now)
         (Legs booked.reduces booked.legs.items)) }
+    ensures legs { OnOk result (tally.new.legs ≡ tally.old.legs) }
+    ensures lists { OnOk result (ListsTally (known_with_openings view.now) tally.new) }
     ensures stops { IfErr result (λ stop. StopsWithoutLegs
-        (line_at (known_with_openings view.now) site.now tally.now.legs) stop) }
-    ensures memory { IsErrOf result Memory → MayLackMemory tally.now.legs
-        (line_at (known_with_openings view.now) site.now tally.now.legs) }
+        (line_at (known_with_openings view.now) site.now tally.old.legs) stop) }
+    ensures memory { IsErrOf result Memory → MayLackMemory tally.old.legs
+        (line_at (known_with_openings view.now) site.now tally.old.legs) }
 {
     let selection = Selection {
         edition: site.edition,
@@ -149,8 +154,10 @@ fn book_lots(
         return book_on(alloc, selection, &Inventory::new(alloc), site, cost);
     }
     if tally.has_changed(site.account, &site.amount.commodity) {
-        let lots = tally.lots_of(alloc, view, site.account, &site.amount.commodity)?;
-        return book_on(alloc, selection, &lots, site, cost);
+        let kept = tally.take_lots(alloc, view, site.account, &site.amount.commodity)?;
+        let booked = book_on(alloc, selection, &kept.lots, site, cost);
+        tally.kept = Some(kept);
+        return booked;
     }
     match view.held(site.account) {
         Some(held) => book_on(alloc, selection, held, site, cost),
@@ -160,7 +167,7 @@ fn book_lots(
 
 /// Returns whether a posting under a method may take lots away, on what its account holds after the legs so far.
 fn may_reduce(view: &View, tally: &Tally, site: &Site<'_>, method: Method) -> bool
-    requires { ListsTally (known view.now) tally.now }
+    requires { ListsTally (known_with_openings view.now) tally.now }
     ensures never { IsFalse result
         → (may_reduce method && reduces
         (with_legs site.now.account.now ((known view.now).held site.now.account.now) tally.now.legs)

@@ -5,15 +5,16 @@ ghost use Rattle.lot_cost.specs.declared.lot_key.LotKey.{LotKey};
 ghost use Rattle.lot_inv.specs.Inventory.{Held, lots_of, opening_at, reduces};
 ghost use Rattle.lot_num.specs.Amount.{IsUnits};
 ghost use Rattle.lot_book.specs.Change.{listed_or, units_after};
-ghost use Rattle.lot_book.specs.Facts.{Facts};
+ghost use Rattle.lot_book.specs.declared.leg.Leg.{Leg};
 ghost use Rattle.lot_book.specs.Leg.{leave_range, with_legs};
 ghost use Rattle.lot_book.specs.OpeningNumber.{HasNumber, opening_with_legs};
-ghost use Rattle.lot_book.specs.Openings.{HaveSameOpenings, opening_after};
-ghost use Rattle.lot_posting.specs.Tally.{AreOf, BeginInRange, HaveNumbers, ListsTally, StopsAt, StopsAtLeg, is_lot_of, is_lot_against, is_plain_of, lot_count, plain};
+ghost use Rattle.lot_book.specs.Openings.{FactsWithOpenings};
+ghost use Rattle.lot_posting.specs.Tally.{AreOf, BeginInRange, HasLotsAfter, HaveNumbers, KeepsLots, ListsTally, StopsAt, StopsAtLeg, is_lot_of, is_lot_against, is_plain_of, lot_count, plain};
 ghost use Rattle.lot_view.specs.View.{known, known_with_openings};
 
+use crate::kept::KeptLots;
 use lot_base::{Account, Commodity};
-use lot_book::{Leg, Position, Refusal, Stop};
+use lot_book::{Leg, Pair, Position, Refusal, Stop};
 use lot_command::Items;
 use lot_inv::{Inventory, is_other_sign};
 use lot_num::Units;
@@ -28,24 +29,27 @@ pub struct Tally {
     pub legs: Items<Leg>,
     pub positions: BTreeMap<Position, Units>,
     pub openings: BTreeMap<Position, u64>,
+    /// The lots of the pair that was copied last, if they are kept.
+    pub kept: Option<KeptLots>,
 }
 
 impl Tally {
     /// Returns a tally without legs.
     pub(crate) fn new(alloc: Global) -> Tally
         ensures legs { result.legs ≡ [] }
-        ensures lists { (facts : Facts) → ListsTally facts result }
+        ensures lists { (known : FactsWithOpenings) → ListsTally known result }
     {
         Tally {
             legs: Items::new(alloc),
             positions: BTreeMap::new(alloc),
             openings: BTreeMap::new(alloc),
+            kept: None,
         }
     }
 
     /// Returns what a position holds after the legs so far.
     fn units(&self, view: &View, position: &Position) -> Units
-        requires { ListsTally (known view.now) self.now }
+        requires { ListsTally (known_with_openings view.now) self.now }
         ensures { result ≡ units_after (known view.now) self.now.legs position.now }
     {
         match self.positions.get(position) {
@@ -60,7 +64,7 @@ impl Tally {
 
     /// Returns the plain units that an account holds of a commodity after the legs so far.
     pub fn plain_units(&self, view: &View, account: &Account, commodity: &Commodity) -> Units
-        requires { ListsTally (known view.now) self.now }
+        requires { ListsTally (known_with_openings view.now) self.now }
         ensures { result ≡ units_after (known view.now) self.now.legs
             (plain account.now commodity.now) }
     {
@@ -76,9 +80,9 @@ impl Tally {
     /// memory.
     fn post(&mut self, view: &View, leg: Leg) -> Result<(), Stop>
         requires number { HasNumber leg.entry leg.posting }
-        requires lists { ListsTally (known view.now) self.old }
+        requires lists { ListsTally (known_with_openings view.now) self.old }
         ensures legs { OnOk result (self.new.legs ≡ self.old.legs ++ leg ∷ []) }
-        ensures lists { OnOk result (ListsTally (known view.now) self.new) }
+        ensures lists { OnOk result (ListsTally (known_with_openings view.now) self.new) }
         ensures in_range { OnOk result (IsUnits (units_after (known view.now) self.old.legs leg.position +ℤ leg.units)) }
         ensures stops { IfErr result (λ stop. StopsAtLeg (known view.now) self.old.legs leg stop) }
         ensures memory { IsErrOf result Memory
@@ -93,17 +97,33 @@ impl Tally {
             self.openings.insert(leg.position.copy()?, leg.number())?;
         }
         self.positions.insert(leg.position.copy()?, units)?;
+        self.add_to_kept(&leg);
         self.legs.push(leg)?;
         Ok(())
+    }
+
+    /// Adds one more leg to the kept lots. They are kept no more where there is no memory for it.
+    fn add_to_kept(&mut self, leg: &Leg)
+        requires { HasNumber leg.now.entry leg.now.posting }
+        ensures kept { (known : FactsWithOpenings) (legs : List Leg)
+            → KeepsLots known legs self.old.kept
+            → KeepsLots known (legs ++ leg.now ∷ []) self.new.kept }
+        ensures others { self.new ≡ record self.old { kept = self.new.kept } }
+    {
+        if let Some(kept) = &mut self.kept {
+            if kept.add(leg).is_err() {
+                self.kept = None;
+            }
+        }
     }
 
     /// Adds the legs of a posting. The refusal is `Range` where, after one of them, a position is out of the range of units. It
     /// needs no memory where that is the first leg.
     pub fn post_all(&mut self, view: &View, legs: Vec<Leg>) -> Result<(), Stop>
         requires numbers { HaveNumbers legs.items }
-        requires lists { ListsTally (known view.now) self.old }
+        requires lists { ListsTally (known_with_openings view.now) self.old }
         ensures legs { OnOk result (self.new.legs ≡ self.old.legs ++ legs.items) }
-        ensures lists { OnOk result (ListsTally (known view.now) self.new) }
+        ensures lists { OnOk result (ListsTally (known_with_openings view.now) self.new) }
         ensures in_range { OnOk result ((account : List ℕ) (posting : ℕ) → AreOf account posting legs.items
             → leave_range (with_legs account ((known view.now).held account) self.old.legs) legs.items ≡ false) }
         ensures stops { IfErr result (λ stop. (account : List ℕ) (posting : ℕ) → AreOf account posting legs.items
@@ -128,7 +148,7 @@ impl Tally {
         commodity: &Commodity,
         units: Units,
     ) -> bool
-        requires { ListsTally (known view.now) self.now }
+        requires { ListsTally (known_with_openings view.now) self.now }
         ensures never { IsFalse result
             → reduces (with_legs account.now ((known view.now).held account.now) self.now.legs)
             commodity.now units ≡ false }
@@ -171,22 +191,47 @@ impl Tally {
         false
     }
 
-    /// Returns the lots that an account holds of a commodity after the legs so far, and nothing else. The only error is out
-    /// of memory.
-    pub(crate) fn lots_of(
+    /// Takes out the lots that an account holds of a commodity after the legs so far, or copies them where they aren't kept.
+    /// None are kept then. The only error is out of memory.
+    pub(crate) fn take_lots(
+        &mut self,
+        alloc: Global,
+        view: &View,
+        account: &Account,
+        commodity: &Commodity,
+    ) -> Result<KeptLots, AllocError>
+        requires { ListsTally (known_with_openings view.now) self.old }
+        ensures pair { IfOk result (λ kept. kept.pair
+            ≡ record { account = account.now; commodity = commodity.now }) }
+        ensures lots { IfOk result (λ kept. HasLotsAfter (known_with_openings view.now)
+            self.old.legs account.now commodity.now kept.lots) }
+        ensures others { OnOk result (self.new ≡ record self.old { kept = None }) }
+    {
+        if let Some(kept) = self.kept.take() {
+            if kept.are_of(account, commodity) {
+                return Ok(kept);
+            }
+        }
+        let lots = self.copy_lots(alloc, view, account, commodity)?;
+        let pair = Pair {
+            account: account.copy()?,
+            commodity: commodity.copy()?,
+        };
+        Ok(KeptLots { pair, lots })
+    }
+
+    /// Returns a copy of the lots that an account holds of a commodity after the legs so far, and nothing else. The only error
+    /// is out of memory.
+    fn copy_lots(
         &self,
         alloc: Global,
         view: &View,
         account: &Account,
         commodity: &Commodity,
     ) -> Result<Inventory, AllocError>
-        requires { ListsTally (known view.now) self.now }
-        ensures lots { IfOk result (λ lots. lots_of lots.held commodity.now
-            ≡ lots_of (with_legs account.now ((known view.now).held account.now) self.now.legs) commodity.now) }
-        ensures openings { IfOk result (λ lots. HaveSameOpenings commodity.now lots.held
-            (opening_at lots commodity.now)
-            (opening_after (known_with_openings view.now) self.now.legs
-            account.now commodity.now)) }
+        requires { ListsTally (known_with_openings view.now) self.now }
+        ensures { IfOk result (λ lots. HasLotsAfter (known_with_openings view.now)
+            self.now.legs account.now commodity.now lots) }
     {
         let mut lots = match view.held(account) {
             Some(held) => held.only_lots(commodity)?,
@@ -219,7 +264,7 @@ impl Tally {
 
     /// Returns how many lots of a commodity an account holds after the legs so far.
     pub fn count_lots(&self, view: &View, account: &Account, commodity: &Commodity) -> u128
-        requires { ListsTally (known view.now) self.now }
+        requires { ListsTally (known_with_openings view.now) self.now }
         ensures { result ≡ length (lots_of (with_legs account.now ((known view.now).held account.now) self.now.legs) commodity.now) }
     {
         let before = match view.held(account) {
@@ -253,7 +298,7 @@ fn is_plain_of(position: &Position, account: &Account, commodity: &Commodity) ->
 }
 
 /// Returns whether a position is a lot of that account and commodity.
-fn is_lot_of(position: &Position, account: &Account, commodity: &Commodity) -> bool
+pub(crate) fn is_lot_of(position: &Position, account: &Account, commodity: &Commodity) -> bool
     ensures { result ≡ is_lot_of account.now commodity.now position.now }
 {
     position.lot.is_some() && position.account == *account && position.commodity == *commodity

@@ -23,22 +23,24 @@ loop-index-init c =
     let ties = ties_for c.args.edition (known_with_openings c.args.view.now) in
     let draft = c.new-draft.result in
     record {
-      booked = [];
-      is = record {
-        legs = c.new-draft.ensures.legs;
-        lists = c.new-draft.ensures.lists (known c.args.view.now);
-        residuals = c.new-draft.ensures.residuals;
-        sales = c.new-draft.ensures.sales;
+      booking = record {
+        booked = [];
+        is = record {
+          legs = c.new-draft.ensures.legs;
+          residuals = c.new-draft.ensures.residuals;
+          sales = c.new-draft.ensures.sales;
+        };
+        within = subst (AreWithin 0) (sym c.new-draft.ensures.residuals) tt;
+        others = λ more h. subst (λ legs. BooksAllUnder ties (known c.args.view.now) c.args.transaction.now.day legs 1 c.args.transaction.now.postings more) c.new-draft.ensures.legs h;
+        first = inl (c.new-draft.ensures.legs, λ stores. stores);
       };
-      within = subst (AreWithin 0) (sym c.new-draft.ensures.residuals) tt;
-      others = λ more h. subst (λ legs. BooksAllUnder ties (known c.args.view.now) c.args.transaction.now.day legs 1 c.args.transaction.now.postings more) c.new-draft.ensures.legs h;
-      first = inl (c.new-draft.ensures.legs, λ stores. stores);
+      lists = c.new-draft.ensures.lists (known_with_openings c.args.view.now);
     }
 
 pub book_next-requires-clause-room : goal.book_next-requires-clause-room
 book_next-requires-clause-room c =
     let below : c.loop-index.index < length c.args.transaction.now.postings = rw c.as_slice-posting-items.ensures at c.loop-index-test.true in
-    AreWithin-more c.loop-index.index (most_postings - 1) c.loop-index.draft.residuals (omega arith) c.loop-index.invariant.within
+    AreWithin-more c.loop-index.index (most_postings - 1) c.loop-index.draft.residuals (omega arith) c.loop-index.invariant.booking.within
 
 -- the postings that are left begin with this one
 left_now : (ties : TieRule) (facts : Facts) (day : ℤ) (all items : List Posting) (draft : Draft) (index : ℕ) (posting : Posting) → items ≡ all → index < length items
@@ -56,10 +58,13 @@ loop-index-preserved c =
     let day = c.args.transaction.now.day in
     let index = c.loop-index.index in
     let posting = c.posting-item.result in
-    let so = left_now ties facts day all c.as_slice-posting-items.result.now c.loop-index.draft index posting c.as_slice-posting-items.ensures c.loop-index-test.true c.posting-item.is c.loop-index.invariant in
+    let so = left_now ties facts day all c.as_slice-posting-items.result.now c.loop-index.draft index posting c.as_slice-posting-items.ensures c.loop-index-test.true c.posting-item.is c.loop-index.invariant.booking in
     let more = booking-more ties facts day all c.loop-index.draft c.book_next.new.draft index (index + 1) posting.account posting.amount (drop (index + 1) all) so c.in_ok-book_next.ensures.books in
     let counted = subst (λ (n : ℕ). Booking ties facts day all c.book_next.new.draft n (suc (index + 1)) (drop (index + 1) all)) (sym (add-one index)) more in
-    subst (λ (n : ℕ). Booking ties facts day all c.book_next.new.draft (index + 1) n (drop (index + 1) all)) (sym (add-one (index + 1))) counted
+    record {
+      booking = subst (λ (n : ℕ). Booking ties facts day all c.book_next.new.draft (index + 1) n (drop (index + 1) all)) (sym (add-one (index + 1))) counted;
+      lists = c.in_ok-book_next.ensures.lists;
+    }
 
 stops_all : (ties : TieRule) (facts : Facts) (t : TransactionOf) (draft : Draft) (index : ℕ) (posting : Posting) (left : List Posting) (stop : Stop)
     → Booking ties facts t.day t.postings draft index (index + 1) (posting ∷ left)
@@ -75,7 +80,7 @@ returns-in_err-book_next-clause-stops c =
     let t = c.args.transaction.now in
     let index = c.loop-index.index in
     let posting = c.posting-item.result in
-    let so = left_now ties facts t.day t.postings c.as_slice-posting-items.result.now c.loop-index.draft index posting c.as_slice-posting-items.ensures c.loop-index-test.true c.posting-item.is c.loop-index.invariant in
+    let so = left_now ties facts t.day t.postings c.as_slice-posting-items.result.now c.loop-index.draft index posting c.as_slice-posting-items.ensures c.loop-index-test.true c.posting-item.is c.loop-index.invariant.booking in
     passed_on c.from_residual.result c.in_err-book_next.field-0.0 (StopsBooking ties facts t) c.from_residual.ensures.1
     (stops_all ties facts t c.loop-index.draft index posting (drop (index + 1) t.postings) c.in_err-book_next.field-0.0 so c.in_err-book_next.ensures.stops)
 
@@ -85,7 +90,7 @@ returns-clause-drafts c =
     let facts = known c.args.view.now in
     let t = c.args.transaction.now in
     let draft = c.loop-index.draft in
-    let so = c.loop-index.invariant in
+    let so = c.loop-index.invariant.booking in
     let none : drop c.loop-index.index t.postings ≡ [] = no_left t.postings c.as_slice-posting-items.result.now c.loop-index.index c.as_slice-posting-items.ensures (omega arith) in
     record {
       booked = so.booked;
@@ -102,7 +107,7 @@ returns-in_err-book_next-clause-memory c = λ lacks.
     let index = c.loop-index.index in
     let posting = c.posting-item.result in
     let draft = c.loop-index.draft in
-    let so = left_now ties facts t.day t.postings c.as_slice-posting-items.result.now draft index posting c.as_slice-posting-items.ensures c.loop-index-test.true c.posting-item.is c.loop-index.invariant in
+    let so = left_now ties facts t.day t.postings c.as_slice-posting-items.result.now draft index posting c.as_slice-posting-items.ensures c.loop-index-test.true c.posting-item.is c.loop-index.invariant.booking in
     let stop = c.in_err-book_next.field-0.0 in
     let memory : Memory ≡ stop = subst (λ (r : Result _ Stop). IsErrAnd r (λ e. e ≡ stop)) lacks c.from_residual.ensures.1 in
     first_lacks ties facts t.day t.postings draft (index + 1) posting.account posting.amount (drop (index + 1) t.postings) so.first

@@ -1,5 +1,5 @@
 -- The legs are those at the lots that the posting comes to; they move as much as the posting.
-use Rattle.std.proofs.Common.{◌≡◌, ◌++◌, ◌∷◌, [], Bool, Err, Result, List, ℤ, sym, ap, subst, ◌∙◌, arith}
+use Rattle.std.proofs.Common.{◌≡◌, ◌++◌, ◌∷◌, [], Bool, ℕ, Err, Result, List, ℤ, sym, ap, subst, ◌∙◌, arith}
 use Rattle.std.proofs.lemmas.Result.{err_from_is_err_and}
 use Rattle.std.specs.Result.{IsErrAnd}
 use Rattle.lot_cost.specs.declared.lot_key.LotKey.{LotKey}
@@ -10,14 +10,14 @@ use Rattle.lot_book.specs.declared.leg.Leg.{Leg}
 use Rattle.lot_book.specs.declared.refusal.Stop.{Stop}
 use Rattle.lot_book.specs.declared.refusal.Stop.TheVariants.{Memory}
 use Rattle.lot_book.specs.Booking.{Booked, TieRule, braced}
-use Rattle.lot_book.specs.Leg.{legs_at_lots, units_moved}
+use Rattle.lot_book.specs.Leg.{legs_at_lots, units_moved, with_legs}
 use Rattle.lot_book.specs.Sale.{lots_in_legs}
 use Rattle.lot_posting.specs.Posting.{Books, line_at}
 use Rattle.lot_book.specs.Openings.{ties_for}
 use Rattle.lot_view.specs.View.{known, known_with_openings}
-use Rattle.lot_posting.specs.Tally.{HaveNumbers}
+use Rattle.lot_posting.specs.Tally.{AreOf, HaveNumbers, ListsTally, StopsAt}
 use Rattle.lot_book.proofs.SaleLemmas.{lots_in_legs-lots}
-use Rattle.lot_posting.proofs.PostingLemmas.{AreLegsOf-taken, HaveNumbers-lots, books, has_lots, held_in-legs, no_sale, one_sale, stops_with, units_moved-lots}
+use Rattle.lot_posting.proofs.PostingLemmas.{Adds, AreLegsOf-taken, adds_after, HaveNumbers-lots, books, has_lots, held_in-legs, no_sale, one_sale, stops_with, units_moved-lots}
 use Rattle.lot_posting.proofs.posting.book_at_cost.Goals as goal
 use Rattle.lot_posting.proofs.posting.book_at_cost.Goals.{then-reduces+in_ok-sale+in_ok-push, else-reduces}
 
@@ -59,7 +59,10 @@ returns-in_err-add-clause-stops c =
     let p = err_from_is_err_and c.from_residual-in_err-add.result c.from_residual-in_err-add.ensures.1 in
     rw (p.1, p.2)
     (stops_with (ties_for site.edition (known_with_openings c.args.view.now)) facts site.day before site.posting site.account.now amount reduces c.in_ok-legs.legs.items c.in_err-add.field-0.0 has
-    c.in_err-add.ensures.stops)
+    (subst
+    (λ (legs : List Leg). (other : List ℕ) (posting : ℕ) → AreOf other posting c.in_ok-legs.legs.items
+    → StopsAt (with_legs other (facts.held other) legs) posting c.in_ok-legs.legs.items c.in_err-add.field-0.0)
+    c.in_ok-reduces.ensures.legs c.in_err-add.ensures.stops))
 
 pub returns-clause-books : goal.returns-clause-books
 returns-clause-books c =
@@ -80,18 +83,29 @@ returns-clause-books c =
     ∙ lots_in_legs-lots site.entry site.posting account amount.commodity 0 lots in
     let booked : Booked = record { place = site.posting; account = account; amount = amount; reduces = reduces; legs = legs } in
     let added = c.in_ok-add.ensures in
+    let adds = λ (new : Draft) (adds : Adds facts amount legs (record old { tally = c.book_lots.new.tally }) new).
+    adds_after facts amount legs old c.book_lots.new.tally new c.in_ok-reduces.ensures.legs adds in
     elim c.if-reduces.branch [
       | then-reduces+in_ok-sale+in_ok-push w ↦
           subst (λ (new : Draft). Books ties facts site.day site.posting account amount old new) (sym w.draft-is)
           (books ties facts site.day site.posting account amount old _ reduces legs has
-          (record { legs = added.legs; lists = added.lists; sum = added.sum; within = added.within; in_range = added.in_range })
+          (adds _ (record { legs = added.legs; sum = added.sum; within = added.within; in_range = added.in_range }))
           (one_sale site.day booked old.sales w.push.new.self lots w.if-reduces.true taken
           (w.in_ok-push.ensures.ok ∙ (λ i. added.sales i ++ (site.posting, w.in_ok-sale.ensures i) ∷ []))))
       | else-reduces w ↦
           subst (λ (new : Draft). Books ties facts site.day site.posting account amount old new) (sym w.draft-is)
           (books ties facts site.day site.posting account amount old c.add.new.self reduces legs has
-          (record { legs = added.legs; lists = added.lists; sum = added.sum; within = added.within; in_range = added.in_range })
+          (adds c.add.new.self (record { legs = added.legs; sum = added.sum; within = added.within; in_range = added.in_range }))
           (no_sale site.day booked old.sales c.add.new.self.sales w.if-reduces.false added.sales))
+    ]
+
+pub returns-clause-lists : goal.returns-clause-lists
+returns-clause-lists c =
+    let known = known_with_openings c.args.view.now in
+    elim c.if-reduces.branch [
+      | then-reduces+in_ok-sale+in_ok-push w ↦
+          subst (λ (new : Draft). ListsTally known new.tally) (sym w.draft-is) c.in_ok-add.ensures.lists
+      | else-reduces w ↦ subst (λ (new : Draft). ListsTally known new.tally) (sym w.draft-is) c.in_ok-add.ensures.lists
     ]
 
 pub returns-in_err-reduces-clause-memory : goal.returns-in_err-reduces-clause-memory

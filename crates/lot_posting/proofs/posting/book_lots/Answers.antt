@@ -1,12 +1,12 @@
 -- What the posting comes to on an inventory with the same lots of its commodity, of the same numbers, it comes to on what its
 -- account holds.
-use Rattle.std.proofs.Common.{◌≡◌, ℕ, Bool, true, false, ◌&&◌, List, Option, Some, Result, Ok, Err, inl, inr, ℤ, pos, refl, sym, ap, subst, ◌∙◌}
+use Rattle.std.proofs.Common.{◌≡◌, ℕ, Bool, true, false, ◌&&◌, List, Option, None, Some, Result, Ok, Err, inl, inr, ℤ, pos, refl, sym, ap, subst, ◌∙◌}
 use Rattle.std.proofs.lemmas.Bool.{true≢false}
 use Rattle.std.specs.List.{list_any}
 use Rattle.std.specs.Map.{values_of}
 use Rattle.std.specs.FinMap.{get-empty}
 use Rattle.std.specs.Option.{unwrap_or}
-use Rattle.std.specs.Result.{IfOk, IfErr}
+use Rattle.std.specs.Result.{IfOk, IfErr, OnOk}
 use Rattle.lot_cost.specs.declared.cost.Cost.{Cost}
 use Rattle.lot_cost.specs.declared.lot_key.LotKey.{LotKey}
 use Rattle.lot_cost.specs.declared.method.Method.{Method}
@@ -19,23 +19,19 @@ use Rattle.lot_booking.specs.declared.fault.BookingFault.TheVariants as fault
 use Rattle.lot_booking.specs.Booking.{Augments, Braced, ComesTo, ComesToLegs, Legs, Outcome, Reduces, Refused as Rejected, is_reducing, posting_on}
 use Rattle.lot_booking.specs.Method.{may_reduce, ties_by}
 use Rattle.lot_booking.proofs.SameTies.{IsHeldLot, SameOrders, comes_alike, same_by_opening}
+use Rattle.lot_book.specs.declared.change.Pair.{Pair}
 use Rattle.lot_book.specs.declared.leg.Leg.{Leg}
 use Rattle.lot_book.specs.declared.refusal.Stop.{Stop}
 use Rattle.lot_book.specs.declared.refusal.Stop.TheVariants.{Refused, Memory}
 use Rattle.lot_book.specs.Booking.{HasNoLegs, Line, braced}
-use Rattle.lot_book.specs.Leg.{with_legs}
-use Rattle.lot_book.specs.Openings.{FactsWithOpenings, HaveSameOpenings, opening_after, ties_for}
+use Rattle.lot_book.specs.Openings.{FactsWithOpenings, opening_after, ties_for}
+use Rattle.lot_posting.specs.declared.kept.KeptLots.{KeptLots}
 use Rattle.lot_posting.specs.declared.posting.Site.{Site}
+use Rattle.lot_posting.specs.declared.tally.Tally.{Tally}
 use Rattle.lot_posting.specs.Posting.{CopiesLots, StopsOn, StopsWithoutLegs, StoresFor, line_at}
+use Rattle.lot_posting.specs.Tally.{HasLotsAfter, ListsTally}
 use Rattle.lot_view.specs.View.{known_with_openings}
 use Rattle.lot_posting.proofs.posting.book_lots.Goals as goal
-
--- an inventory has the lots of the posting's commodity that its account holds, and their numbers
-record HasItsLots (known : FactsWithOpenings) (site : Site) (before : List Leg) (stock : Stock) : Type 0 where
-  same : lots_of stock.held site.amount.now.commodity
-      ≡ lots_of (with_legs site.account.now (known.facts.held site.account.now) before) site.amount.now.commodity
-  numbers : HaveSameOpenings site.amount.now.commodity stock.held (opening_at stock site.amount.now.commodity)
-      (opening_after known before site.account.now site.amount.now.commodity)
 
 and_false : (b : Bool) → (b && false) ≡ false
 and_false true = refl
@@ -78,7 +74,7 @@ module _ (known : FactsWithOpenings) (site : Site) (before : List Leg) (cost : C
     legs_on braces legs = subst (StoresFor line) (sym braces) (legs.0, legs.1, comes_to (Legs legs.0 legs.1) legs.2)
 
   -- so it is on an inventory with its lots
-  module _ (is : method ≡ line.method) (has : HasItsLots known site before stock) where
+  module _ (is : method ≡ line.method) (has : HasLotsAfter known before site.account.now commodity stock) where
     -- an edition decides ties alike on both
     same_orders : (edition : Edition)
         → SameOrders (IsHeldLot stock.held commodity) (ties_by edition (opening_at stock commodity))
@@ -86,12 +82,12 @@ module _ (known : FactsWithOpenings) (site : Site) (before : List Leg) (cost : C
     same_orders First = λ method x y held other. refl
     same_orders Second =
         same_by_opening (IsHeldLot stock.held commodity) (opening_at stock commodity)
-        (opening_after known before site.account.now commodity) has.numbers
+        (opening_after known before site.account.now commodity) has.openings
 
     with_its_lots : ComesAlike
     with_its_lots outcome comes =
         comes_alike (ties_by site.edition (opening_at stock commodity)) line.ties line.method stock.held line.held commodity
-        site.amount.now.units cost site.day has.same (same_orders site.edition) outcome
+        site.amount.now.units cost site.day has.lots (same_orders site.edition) outcome
         (subst (λ (m : Method). ComesTo (under m) outcome) is comes)
 
   -- and on one that holds nothing, where the posting takes no lots away
@@ -151,28 +147,47 @@ returns-then-not-may_reduce-clause-memory c = λ lacks.
 
 -- ---- some lot of the commodity has changed
 
-has_in_lots : (c : goal.After-drop-lots-inside)
-    → HasItsLots (known_with_openings c.args.view.now) c.args.site.now c.args.tally.now.legs c.in_ok-lots.lots
-has_in_lots c = record { same = c.in_ok-lots.ensures.lots; numbers = c.in_ok-lots.ensures.openings }
+-- a tally from which lots are taken lists its legs, and keeps the lots that are put back
+keeps : (known : FactsWithOpenings) (old taken : Tally) (kept : KeptLots) (pair : Pair) → ListsTally known old
+    → taken ≡ record old { kept = None } → kept.pair ≡ pair → HasLotsAfter known old.legs pair.account pair.commodity kept.lots
+    → ListsTally known (record taken { kept = Some kept })
+keeps known old taken kept pair lists same is has =
+    subst (λ (t : Tally). ListsTally known (record t { kept = Some kept })) (sym same)
+    (record {
+      sums = lists.sums;
+      openings = lists.openings;
+      kept = subst (λ (p : Pair). HasLotsAfter known old.legs p.account p.commodity kept.lots) (sym is) has;
+    })
 
-alike_in_lots : (c : goal.After-drop-lots-inside)
-    → ComesAlike (known_with_openings c.args.view.now) c.args.site.now c.args.tally.now.legs c.args.cost.now c.method_of.result c.in_ok-lots.lots
-alike_in_lots c =
-    with_its_lots (known_with_openings c.args.view.now) c.args.site.now c.args.tally.now.legs c.args.cost.now c.method_of.result
-    c.in_ok-lots.lots c.method_of.ensures (has_in_lots c)
+always : {T E P : Type 0} (r : Result T E) → P → OnOk r P
+always (Ok x) is = is
+always (Err e) is = tt
 
 pub returns-then-has_changed-clause-booked : goal.returns-then-has_changed-clause-booked
 returns-then-has_changed-clause-booked c =
     booked_on (known_with_openings c.args.view.now) c.args.site.now c.args.tally.now.legs c.args.cost.now c.method_of.result
-    c.in_ok-lots.lots (alike_in_lots c) c.book_on-then-has_changed.result c.book_on-then-has_changed.ensures.booked
+    c.in_ok-kept.kept.lots
+    (with_its_lots (known_with_openings c.args.view.now) c.args.site.now c.args.tally.now.legs c.args.cost.now c.method_of.result
+    c.in_ok-kept.kept.lots c.method_of.ensures c.in_ok-kept.ensures.lots)
+    c.book_on-booked.result c.book_on-booked.ensures.booked
 
 pub returns-then-has_changed-clause-stops : goal.returns-then-has_changed-clause-stops
 returns-then-has_changed-clause-stops c =
     stops_on (known_with_openings c.args.view.now) c.args.site.now c.args.tally.now.legs c.args.cost.now c.method_of.result
-    c.in_ok-lots.lots (alike_in_lots c) c.requires.cost c.book_on-then-has_changed.result c.book_on-then-has_changed.ensures.stops
+    c.in_ok-kept.kept.lots
+    (with_its_lots (known_with_openings c.args.view.now) c.args.site.now c.args.tally.now.legs c.args.cost.now c.method_of.result
+    c.in_ok-kept.kept.lots c.method_of.ensures c.in_ok-kept.ensures.lots)
+    c.requires.cost c.book_on-booked.result c.book_on-booked.ensures.stops
 
-pub returns-in_err-lots-clause-memory : goal.returns-in_err-lots-clause-memory
-returns-in_err-lots-clause-memory c = λ _.
+pub returns-then-has_changed-clause-lists : goal.returns-then-has_changed-clause-lists
+returns-then-has_changed-clause-lists c =
+    always c.book_on-booked.result
+    (keeps (known_with_openings c.args.view.now) c.args.tally.now c.take_lots.new.self c.in_ok-kept.kept
+    (record { account = c.args.site.now.account.now; commodity = c.args.site.now.amount.now.commodity }) c.requires.lists c.in_ok-kept.ensures.others c.in_ok-kept.ensures.pair
+    c.in_ok-kept.ensures.lots)
+
+pub returns-in_err-kept-clause-memory : goal.returns-in_err-kept-clause-memory
+returns-in_err-kept-clause-memory c = λ _.
     inr (subst (CopiesLots c.args.tally.now.legs) (sym c.requires.cost) (c.if-has_changed.ensures.begun refl))
 
 pub returns-then-has_changed-clause-memory : goal.returns-then-has_changed-clause-memory
@@ -182,7 +197,8 @@ returns-then-has_changed-clause-memory c = λ _.
 -- ---- none has, and the account holds something
 
 has_in-Some : (c : goal.After-book_on-in-Some)
-    → HasItsLots (known_with_openings c.args.view.now) c.args.site.now c.args.tally.now.legs c.in-Some.held.now
+    → HasLotsAfter (known_with_openings c.args.view.now) c.args.tally.now.legs c.args.site.now.account.now
+    c.args.site.now.amount.now.commodity c.in-Some.held.now
 has_in-Some c =
     let site = c.args.site.now in
     let commodity = site.amount.now.commodity in
@@ -190,10 +206,10 @@ has_in-Some c =
     let held = known.facts.held site.account.now in
     let opening = known.opening site.account.now commodity in
     record {
-      same =
+      lots =
           ap (λ (h : Held). lots_of h commodity) c.in-Some.ensures.value
           ∙ sym (c.if-has_changed.ensures.lots refl held);
-      numbers = λ lot some.
+      openings = λ lot some.
           ap (λ (f : LotKey → ℕ). f lot) (c.in-Some.ensures.openings commodity)
           ∙ sym (c.if-has_changed.ensures.openings refl held opening lot);
     }
@@ -223,17 +239,18 @@ returns-in-Some-clause-memory c = λ lacks.
 -- ---- none has, and the account holds nothing
 
 has_in-None : (c : goal.After-drop-new-in-None)
-    → HasItsLots (known_with_openings c.args.view.now) c.args.site.now c.args.tally.now.legs c.new-in-None.result
+    → HasLotsAfter (known_with_openings c.args.view.now) c.args.tally.now.legs c.args.site.now.account.now
+    c.args.site.now.amount.now.commodity c.new-in-None.result
 has_in-None c =
     let site = c.args.site.now in
     let commodity = site.amount.now.commodity in
     let held = (known_with_openings c.args.view.now).facts.held site.account.now in
     record {
-      same =
+      lots =
           ap (λ (stock : Stock). lots_of stock.held commodity) c.new-in-None.ensures
           ∙ ap (λ (h : Held). lots_of h commodity) (sym c.in-None.ensures.value)
           ∙ sym (c.if-has_changed.ensures.lots refl held);
-      numbers = λ lot some.
+      openings = λ lot some.
           absurd
           (some
           (ap (λ (stock : Stock). units_at stock.held (commodity, Some lot)) c.new-in-None.ensures

@@ -44,7 +44,7 @@ returns-clause-books c =
     on_ok_weaker c.add.result
     (λ adds. books (ties_for site.edition (known_with_openings c.args.view.now)) facts site.day site.posting site.account.now amount old new false legs (one_leg c) adds.0
     (adds.1 ∙ sym (append-nil old.sales)))
-    (adds_at facts amount legs old new c.add.result added.legs added.lists added.sum added.within added.in_range added.sales)
+    (adds_at facts amount legs old new c.add.result added.legs added.sum added.within added.in_range added.sales)
 
 pub returns-clause-stops : goal.returns-clause-stops
 returns-clause-stops c =

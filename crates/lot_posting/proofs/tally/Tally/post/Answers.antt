@@ -1,5 +1,5 @@
 -- The leg's position is listed anew, and the number of the lot that it opens, and no other.
-use Rattle.std.proofs.Common.{◌≡◌, ℕ, Bool, Some, cond, true, false, refl, ap, ap₂, sym, subst, ◌∙◌, ◌+ℤ◌, ◌∷◌, [], ◌++◌, List, ℤ, pos}
+use Rattle.std.proofs.Common.{◌≡◌, ℕ, Bool, Option, Some, cond, true, false, refl, ap, ap₂, sym, subst, ◌∙◌, ◌+ℤ◌, ◌∷◌, [], ◌++◌, List, ℤ, pos}
 use Rattle.std.specs.Map.{lookup}
 use Rattle.std.specs.Ordering.{int_eq}
 use Rattle.lot_book.specs.declared.leg.Leg.{Leg}
@@ -8,8 +8,10 @@ use Rattle.lot_book.specs.Change.{ListsOpened, ListsSums, units_after}
 use Rattle.lot_book.specs.Facts.{Facts}
 use Rattle.lot_book.specs.Leg.{same_position}
 use Rattle.lot_book.specs.OpeningNumber.{posting_number}
-use Rattle.lot_view.specs.View.{known}
+use Rattle.lot_view.specs.View.{known, known_with_openings}
+use Rattle.lot_posting.specs.declared.kept.KeptLots.{KeptLots}
 use Rattle.lot_posting.specs.declared.tally.Tally.{Tally}
+use Rattle.lot_posting.specs.Tally.{KeepsLots}
 use Rattle.lot_book.proofs.LegLemmas.{ListsSums-push}
 use Rattle.lot_posting.proofs.TallyOpenings.{lists-held, lists-new, lists-plain}
 use Rattle.lot_posting.proofs.tally.Tally.post.Goals as goal
@@ -19,6 +21,7 @@ use Rattle.lot_posting.proofs.tally.Tally.post.Goals.{then-eq+then-is_some+in_ok
 record IsOpened (facts : Facts) (leg : Leg) (old new : Tally) : Type 0 where
   legs : new.legs ≡ old.legs
   positions : new.positions ≡ old.positions
+  kept : new.kept ≡ old.kept
   openings : ListsOpened facts (old.legs ++ leg ∷ []) new.openings
 
 is_opened : (c : goal.In_ok-push) → IsOpened (known c.args.view.now) c.args.leg c.args.self.now c.if-eq.self
@@ -32,7 +35,7 @@ is_opened c =
     λ b e. ap (λ z. int_eq z (pos 0)) (sym c.units-before.ensures) ∙ sym c.eq.ensures ∙ e in
     let left : ListsOpened facts (tally.legs ++ leg ∷ []) tally.openings → c.if-eq.self ≡ tally → IsOpened facts leg tally c.if-eq.self =
     λ openings same. subst (λ (now : Tally). IsOpened facts leg tally now) (sym same)
-    (record { legs = refl; positions = refl; openings = openings }) in
+    (record { legs = refl; positions = refl; kept = refl; openings = openings }) in
     elim c.if-eq.branch [
       | then-eq+then-is_some+in_ok-copy+in_ok-insert w ↦
           let copied : w.in_ok-copy.field-0 ≡ leg.position = w.in_ok-copy.ensures in
@@ -48,6 +51,7 @@ is_opened c =
           (record {
             legs = refl;
             positions = refl;
+            kept = refl;
             openings = lists-new facts tally.legs leg tally.openings w.insert.new.self lists (had true w.if-eq.true) listed;
           })
       | else-eq w ↦ elim w.else-eq.branch [
@@ -60,7 +64,8 @@ is_opened c =
 
 pub returns-clause-lists : goal.returns-clause-lists
 returns-clause-lists c =
-    let facts = known c.args.view.now in
+    let known = known_with_openings c.args.view.now in
+    let facts = known.facts in
     let leg = c.args.leg in
     let tally = c.args.self.now in
     let opened = is_opened c in
@@ -70,9 +75,18 @@ returns-clause-lists c =
     ≡ cond (same_position c.in_ok-copy-2.field-0 q) (Some c.in-Some.units) (lookup (same_position q) c.if-eq.self.positions.entries) = c.in_ok-insert-2.ensures.updates.0 in
     let same = rw (copied, opened.positions) at updates in
     let after : c.in-Some.units ≡ units_after facts tally.legs leg.position +ℤ leg.units = c.in-Some.ensures.1 ∙ ap (λ z. z +ℤ leg.units) c.units-before.ensures in
-    let pushed : c.push.new.self ≡ tally.legs ++ leg ∷ [] = c.in_ok-push.ensures.ok ∙ ap (λ (legs : List Leg). legs ++ leg ∷ []) opened.legs in
+    let now : Tally = c.add_to_kept.new.self in
+    let others = c.add_to_kept.ensures.others in
+    let pushed : c.push.new.self ≡ tally.legs ++ leg ∷ [] =
+    c.in_ok-push.ensures.ok ∙ ap (λ (t : Tally). t.legs ++ leg ∷ []) others ∙ ap (λ (legs : List Leg). legs ++ leg ∷ []) opened.legs in
+    let kept : KeepsLots known (tally.legs ++ leg ∷ []) now.kept =
+    c.add_to_kept.ensures.kept known tally.legs
+    (subst (λ (lots : Option KeptLots). KeepsLots known tally.legs lots) (sym opened.kept) c.requires.lists.kept) in
     record {
-      sums = subst (λ (legs : List Leg). ListsSums facts legs rows) (sym pushed)
-          (ListsSums-push facts tally.legs leg tally.positions.entries rows c.in-Some.units c.requires.lists.sums after same);
-      openings = subst (λ (legs : List Leg). ListsOpened facts legs c.if-eq.self.openings) (sym pushed) opened.openings;
+      sums = subst (λ (legs : List Leg). ListsSums facts legs now.positions.entries) (sym pushed)
+          (subst (λ (t : Tally). ListsSums facts (tally.legs ++ leg ∷ []) t.positions.entries) (sym others)
+          (ListsSums-push facts tally.legs leg tally.positions.entries rows c.in-Some.units c.requires.lists.sums after same));
+      openings = subst (λ (legs : List Leg). ListsOpened facts legs now.openings) (sym pushed)
+          (subst (λ (t : Tally). ListsOpened facts (tally.legs ++ leg ∷ []) t.openings) (sym others) opened.openings);
+      kept = subst (λ (legs : List Leg). KeepsLots known legs now.kept) (sym pushed) kept;
     }

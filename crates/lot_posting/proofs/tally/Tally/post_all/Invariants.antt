@@ -1,7 +1,7 @@
 use Rattle.std.proofs.Common.{◌≡◌, ◌⊎◌, ℕ, List, ◌++◌}
 use Rattle.lot_book.specs.Leg.{leave_range, with_legs}
 use Rattle.lot_posting.specs.Tally.{AreOf, BeginInRange, HaveNumbers, ListsTally}
-use Rattle.lot_view.specs.View.{known}
+use Rattle.lot_view.specs.View.{known, known_with_openings}
 use Rattle.lot_posting.proofs.tally.Tally.post_all.Given as goal
 
 -- the legs so far and those that are left are all; no sum so far is out of range, so the legs that are left decide; either
@@ -15,7 +15,7 @@ invariant-loop-leg l =
       begun : (account : List ℕ) (posting : ℕ) → AreOf account posting all
           → ((left ≡ all) × (l.self.legs ≡ l.fn.self.legs))
           ⊎ BeginInRange (with_legs account (facts.held account) l.fn.self.legs) all;
-      lists : ListsTally facts l.self;
+      lists : ListsTally (known_with_openings l.view) l.self;
       numbers : HaveNumbers left;
       legs : l.self.legs ++ left ≡ l.fn.self.legs ++ all;
       own : (account : List ℕ) (posting : ℕ) → AreOf account posting all → AreOf account posting left;

@@ -1,7 +1,7 @@
 use Rattle.std.proofs.Common.{drop}
 use Rattle.lot_view.specs.View.{known_with_openings}
 use Rattle.lot_posting.proofs.TallyLots.{AreSet}
-use Rattle.lot_posting.proofs.tally.Tally.lots_of.Given as goal
+use Rattle.lot_posting.proofs.tally.Tally.copy_lots.Given as goal
 
 -- the lots at which no leg is that is left are set
 abbrev pub invariant-loop-leg : goal.invariant-loop-leg

@@ -10,9 +10,9 @@ use Rattle.lot_inv.proofs.OnlyLotsLemmas.{lots_of-only_lots}
 use Rattle.lot_book.specs.declared.leg.Leg.{Leg}
 use Rattle.lot_book.specs.Openings.{HaveSameOpenings}
 use Rattle.lot_view.specs.View.{known_with_openings}
-use Rattle.lot_posting.proofs.TallyLots.{AreSet, all_numbered, all_set, before_any, leaves_all, sets_lot}
-use Rattle.lot_posting.proofs.tally.Tally.lots_of.Goals as goal
-use Rattle.lot_posting.proofs.tally.Tally.lots_of.Goals.{in-Some+in_ok-lots-in-Some, in-None, then-is_lot_of+in_ok-set, else-is_lot_of}
+use Rattle.lot_posting.proofs.TallyLots.{AreSet, all_set, before_any, leaves_all, sets_lot}
+use Rattle.lot_posting.proofs.tally.Tally.copy_lots.Goals as goal
+use Rattle.lot_posting.proofs.tally.Tally.copy_lots.Goals.{in-Some+in_ok-lots-in-Some, in-None, then-is_lot_of+in_ok-set, else-is_lot_of}
 
 pub loop-leg-init : goal.loop-leg-init
 loop-leg-init c =
@@ -82,12 +82,7 @@ none_left c =
     c.args.account.now c.args.commodity.now left c.loop-leg.lots)
     (drop_all c.loop-leg.leg-index c.as_slice-leg-items.result.now c.loop-leg-test.false) c.loop-leg.invariant
 
-pub returns-clause-lots : goal.returns-clause-lots
-returns-clause-lots c =
+pub returns : goal.returns
+returns c =
     all_set (known_with_openings c.args.view.now) c.args.self.now.legs c.args.self.now.openings c.args.account.now c.args.commodity.now
-    c.loop-leg.lots (none_left c)
-
-pub returns-clause-openings : goal.returns-clause-openings
-returns-clause-openings c =
-    all_numbered (known_with_openings c.args.view.now) c.args.self.now.legs c.args.self.now.openings c.args.account.now c.args.commodity.now
     c.loop-leg.lots (none_left c)
