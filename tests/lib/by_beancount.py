@@ -24,7 +24,7 @@ EXACT = Context(prec=60)
 
 def number_text(number, decimals=0):
     """The shortest text of a number, with at least so many decimals."""
-    whole, _, digits = format(abs(number), "f").partition(".")
+    whole, _, digits = format(number.copy_abs(), "f").partition(".")
     digits = digits.rstrip("0").ljust(decimals, "0")
     return ("-" if number < 0 else "") + whole + ("." + digits if digits else "")
 
