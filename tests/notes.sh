@@ -107,6 +107,19 @@ lotbook: line 4, command 2: L14 NotBalanced: the postings don't balance: 2024-01
   Assets:Cash
 lotbook: line 1, command 1: L12 InexactFill: what the others leave has more than eight decimals, or is too large: they leave 25.0001252771 USD, which has 10 decimals: 2024-01-02 * "Buy"
 lotbook: line 5, command 2: B5 InexactCost: the whole cost can't be divided by the units: 1000 / 3 = 333.33333333..: Assets:Broker 3 HOOL {{1000 USD}}
+== 1 post whole costs that are too large for a unit
+2024-01-02 * "Buy"
+  Assets:Broker 7 HOOL {{9999999999.99999999 USD}}
+  Assets:Cash
+2024-01-02 * "Buy"
+  Assets:Broker 0.00000001 HOOL {{1000000 USD}}
+  Assets:Cash
+2024-01-02 * "Buy"
+  Assets:Broker 3 HOOL {{1000000000 USD}}
+  Assets:Cash
+lotbook: line 2, command 1: B5 InexactCost: the whole cost can't be divided by the units: 9999999999.99999999 / 7 = 1428571428.57142857, which is too large for the cost of a unit: Assets:Broker 7 HOOL {{9999999999.99999999 USD}}
+lotbook: line 5, command 2: B5 InexactCost: the whole cost can't be divided by the units: 1000000 / 0.00000001 = 100000000000000.00000000, which is too large for the cost of a unit: Assets:Broker 0.00000001 HOOL {{1000000 USD}}
+lotbook: line 8, command 3: B5 InexactCost: the whole cost can't be divided by the units: 1000000000 / 3 = 333333333.33333333.., which is too large for the cost of a unit: Assets:Broker 3 HOOL {{1000000000 USD}}
 == 1 post the line of the posting
 * a heading
 ; a comment
@@ -209,7 +222,7 @@ lotbook: line 18, command 6: B3 NotEnough: the lots that fit hold less than the 
   Assets:Broker 5 HOOL {510 USD}
   Assets:Broker 9.5 HOOL {500 USD}
   Assets:Cash
-lotbook: line 6, command 2: B2 Ambiguous: several lots fit the braces, and STRICT doesn't choose among them: lots that fit now: 1, with 0.5 units: Assets:Broker 4 HOOL {}
+lotbook: line 6, command 2: B2 Ambiguous: several lots fit the braces, and STRICT doesn't choose among them: Assets:Broker 4 HOOL {}
 lotbook: line 9, command 3: B3 NotEnough: the lots that fit hold less than the units: held now: 0.5; wanted: 12: Assets:Broker 12 HOOL {500 USD}
 == 1 post lots that are sold once the run is over
 2024-01-02 * "Buy"
@@ -222,6 +235,34 @@ lotbook: line 9, command 3: B3 NotEnough: the lots that fit hold less than the u
   Assets:Broker -3 HOOL {}
   Assets:Cash
 lotbook: line 5, command 2: B3 NotEnough: the lots that fit hold less than the units: Assets:Broker -5 HOOL {}
+== 1 post lots that hold enough once the run is over
+2024-01-02 * "Buy"
+  Assets:Broker 10 HOOL {500 USD}
+  Assets:Cash
+2024-01-03 * "Sell in two postings, the second too many"
+  Assets:Broker -5 HOOL {}
+  Assets:Broker -8 HOOL {}
+  Assets:Cash
+2024-01-03 * "Sell too many"
+  Assets:Broker -15 HOOL {}
+  Assets:Cash
+2024-01-04 * "Buy more"
+  Assets:Broker 5 HOOL {500 USD, 2024-01-02}
+  Assets:Cash
+lotbook: line 6, command 2: B3 NotEnough: the lots that fit hold less than the units: Assets:Broker -8 HOOL {}
+lotbook: line 9, command 3: B3 NotEnough: the lots that fit hold less than the units: Assets:Broker -15 HOOL {}
+== 1 post lots that hold more than units can say
+2024-01-02 open Assets:Fund
+2024-01-02 * "Buy"
+  Assets:Broker 9000000000 HOOL {1 USD, "a"}
+  Assets:Cash
+2024-01-02 * "Buy"
+  Assets:Broker 9000000000 HOOL {1 USD, "b"}
+  Assets:Fund
+2024-01-03 * "Sell some"
+  Assets:Broker -1 HOOL {}
+  Assets:Cash
+lotbook: line 9, command 4: B2 Ambiguous: several lots fit the braces, and STRICT doesn't choose among them: lots that fit now: 2; they differ in label: Assets:Broker -1 HOOL {}
 == 1 post the latest day
 2024-02-01 * "Buy"
   Assets:Broker 10 HOOL {500 USD}
@@ -299,8 +340,15 @@ lotbook: line 7: X2 Syntax: the line has none of the forms: the line ends too ea
 2024-01-02 * "Buy"
   Assets:Broker 1,000 HOOL {111,64 USD}
   Assets:Cash -11,164,000.0 USD
+2024-01-03 * "Interest"
+  Assets:Cash -0,500 USD
+  Income:Gains 0500 USD
+2024-01-03 price HOOL 0,125 USD
+2024-01-03 price HOOL 100,125 USD
 lotbook: line 1: warning: FIFO is read as a currency: the method of an account stands in quotes: 2024-01-01 open Assets:First FIFO
 lotbook: line 3: warning: 111,64 is read as 11164: decimals stand behind a point: Assets:Broker 1,000 HOOL {111,64 USD}
+lotbook: line 6: warning: -0,500 is read as -500: decimals stand behind a point: Assets:Cash -0,500 USD
+lotbook: line 8: warning: 0,125 is read as 125: decimals stand behind a point: 2024-01-03 price HOOL 0,125 USD
 == 1 rows refused rows
 ref,date,action,symbol,units,price,currency,fee
 D-1,2024-01-15,BUY,HOOL,10,102.50,USD,4.95
@@ -318,6 +366,20 @@ lotbook: row 2 (D-2): C2 BadRow: a field is outside the rule of its column: acti
 lotbook: row 3 (D-3): C2 BadRow: a field is outside the rule of its column: units isn't a number of units, or is below zero: `1,000.5x`: D-3,2024-01-16,BUY,HOOL,"1,000.5x",102.50,USD,4.95
 lotbook: row 4 (D-4): C2 BadRow: a field is outside the rule of its column: date isn't a day: `15.1.2024`: D-4,15.1.2024,BUY,HOOL,10,102.50,USD,4.95
 lotbook: row 5 (D-5): C2 BadRow: a field is outside the rule of its column: another number of fields than the header: 9: D-5,2024-01-16,BUY,HOOL,10,102,50,USD,4.95
+== 3 rows fields with blanks
+ref,date,action,symbol,units,price,currency,fee
+D-1, 2024-01-15,BUY,HOOL,10,102.50,USD,4.95
+D-2,2024-01-15, BUY ,HOOL,10,102.50,USD,4.95
+D-3,2024-01-15,BUY,HOOL,10,102.50,USD, 
+lotbook: row 1 (D-1): C2 BadRow: a field is outside the rule of its column: date isn't a day: ` 2024-01-15`: D-1, 2024-01-15,BUY,HOOL,10,102.50,USD,4.95
+lotbook: row 2 (D-2): C2 BadRow: a field is outside the rule of its column: action is neither BUY nor SELL: ` BUY `: D-2,2024-01-15, BUY ,HOOL,10,102.50,USD,4.95
+lotbook: row 3 (D-3): C2 BadRow: a field is outside the rule of its column: fee is neither empty nor a rate: ` `: D-3,2024-01-15,BUY,HOOL,10,102.50,USD,
+== 3 rows lots that aren't right
+ref,date,action,symbol,units,price,currency,fee,lot
+D-1,2024-01-15,BUY,HOOL,10,102.50,USD,4.95,D-2
+D-2,2024-01-15,SELL,HOOL,10,102.50,USD,4.95,a\b
+lotbook: row 1 (D-1): C2 BadRow: a field is outside the rule of its column: lot isn't the ref of the purchase: `D-2`: D-1,2024-01-15,BUY,HOOL,10,102.50,USD,4.95,D-2
+lotbook: row 2 (D-2): C2 BadRow: a field is outside the rule of its column: lot isn't the label of a lot: `a\b`: D-2,2024-01-15,SELL,HOOL,10,102.50,USD,4.95,a\b
 == 3 rows cash that isn't exact
 ref,date,action,symbol,units,price,currency,fee
 D-1,2024-01-15,BUY,HOOL,10,102.50,USD,4.95
@@ -351,6 +413,12 @@ notes "bytes that aren't UTF-8" 3
 printf '2020-01-01 open Assets:A\n2020-01-02 * "\303\274" \033[2J\n' >"$scratch/in"
 printf 'lotbook: line 2: X2 Syntax: the line has none of the forms: column 18: `?[2J`: 2020-01-02 * "\303\274" ?[2J\n' >"$scratch/told"
 notes "control characters" 3
+printf '2020-01-02 *\n  \302\240Assets:A 1 USD\n  \fAssets:A 1 USD\n' >"$scratch/in"
+{
+    printf 'lotbook: line 2: X5 BadName: a name is outside its rule: column 3: `\302\240Assets:A`: \302\240Assets:A 1 USD\n'
+    printf 'lotbook: line 3: X2 Syntax: the line has none of the forms: column 3: `?Assets:A`: Assets:A 1 USD\n'
+} >"$scratch/told"
+notes "blanks that separate no tokens" 3
 long=$(printf 'x%.0s' {1..200})
 printf '2020-01-01 open Assets:A\n2020-01-02 * "%s"\n  Assets:A 1 USD\n' "$long" >"$scratch/in"
 printf 'lotbook: line 2, command 2: L14 NotBalanced: the postings don'"'"'t balance: they leave 1.00 USD: 2020-01-02 * "%s..\n' "${long:0:66}" >"$scratch/told"
@@ -396,14 +464,14 @@ reused() {
         fail "$1" "status $status, and $(head -n 2 "$scratch/err" | tr '\n' '|')"
     fi
 }
-key="L1 KeyReused: another command has this key already: entry 5, with the line"
+key="L1 KeyReused: another command has this key already: entry 5, with"
 printf '2024-01-02 * "Gift"\n  Assets:Cash 10 USD\n  Income:Gains -10 USD\n' >"$scratch/sent"
 printf '2024-01-02 * "Gift"\n  Assets:Cash 11 USD\n  Income:Gains -11 USD\n' >"$scratch/in"
-reused "a key that stands with another line" "line 1, command 1: $key \`Assets:Cash 10 USD\`: 2024-01-02 * \"Gift\"" "${post[@]}"
+reused "a key that stands with another line" "line 1, command 1: $key the line \`Assets:Cash 10 USD\`: 2024-01-02 * \"Gift\"" "${post[@]}"
 printf '2024-01-02 * "Gift"\n  Assets:Cash 10 USD\n  Income:Gains -10 USD\n  Assets:Cash 0 USD\n' >"$scratch/in"
-reused "a key that stands with fewer lines" "line 1, command 1: $key \`2024-01-02 * \"Gift\"\`: 2024-01-02 * \"Gift\"" "${post[@]}"
+reused "a key that stands with fewer lines" "line 1, command 1: ${key}out the line \`Assets:Cash 0 USD\`: 2024-01-02 * \"Gift\"" "${post[@]}"
 printf '2024-01-02 close Assets:Cash\n' >"$scratch/in"
-reused "the key of a row" "line 1, command 1: $key \`2024-01-02 * \"Gift\"\`: 2024-01-02 close Assets:Cash" \
+reused "the key of a row" "line 1, command 1: $key the line \`2024-01-02 * \"Gift\"\`: 2024-01-02 close Assets:Cash" \
     post --book "$book" --row-of b --ref D-1
 
 # What is kept nowhere: a dry run, and a call that keeps all or nothing. Their facts are those of the copy on which they ran.

@@ -100,6 +100,10 @@ unusable "fault U2 BadValue --ref" post --book f --row-of a
 unusable "fault U2 BadValue --ref" post --book f --row-of a --ref 'r"'
 unusable "fault U2 BadValue --ref" post --book f --batch a --ref r
 unusable "fault U2 BadValue --from" post --book f --row-of a --ref r --from 2
+unusable "lotbook: one of --batch and --row-of has to be given" post --book f
+unusable "lotbook: --batch and --row-of can't stand together" post --book f --batch a --row-of b
+unusable "lotbook: --ref stands beside --row-of alone" post --book f --batch a --ref r
+unusable "lotbook: --ref wants the ref of a row" post --book f --row-of a
 unusable "--quiet" post --book f --batch a --quiet --quiet
 unusable "--all-or-none" init --book f --all-or-none
 unusable "--dry-run" holdings --book f --dry-run

@@ -124,6 +124,8 @@ cause() {
     done
 }
 cause "a folder that isn't there" "$scratch/nowhere/family.book" "there is no such folder"
+run journal --book '' </dev/null
+says "an empty path" "lotbook: the path of the book is empty"
 cause "a folder" "$home" "it is a folder"
 mkfifo "$scratch/pipe.book"
 cause "a pipe" "$scratch/pipe.book" "it is a pipe, a device or the like"

@@ -17,9 +17,9 @@ OF_DAMAGE = r".+: (entry|table|a row) .+"  # of `verify`
 OF_ROWS = re.compile(r"row [1-9][0-9]* \(.*\): C2 BadRow: .+")
 # What the book says at the end of a run, which another run ends otherwise with, or that can't be read.
 OF_THE_BOOK = re.compile(
-    r": (entry [1-9][0-9]*, with the line `[^`]*`|the nearest is [^ ]+(?=: )|it is opened further down"
+    r": (entry [1-9][0-9]*(, with(out)? the line `[^`]*`)?|the nearest is [^ ]+(?=: )|it is opened further down"
     r"|the latest is [0-9]{4}-[0-9]{2}-[0-9]{2}, of entry [1-9][0-9]*"
-    r"|lots that fit now: [0-9]+, with [0-9.]+ units(; they differ in [a-z, ]+)?|held now: [0-9.]+; wanted: [0-9.]+)"
+    r"|lots that fit now: [0-9]+(, with [0-9.]+ units)?(; they differ in [a-z, ]+)?|held now: [0-9.]+; wanted: [0-9.]+)"
 )
 HELD = re.compile(r".*: warning: the account is closed, and still holds .+")
 

@@ -57,7 +57,7 @@ pub struct Lot {
     pub units: Units,
 }
 
-/// Says which entry stands under the key of a command, and a line of it that the command hasn't.
+/// Says which entry stands under the key of a command, and the first line in which they differ.
 pub(crate) fn key_reused<B: Known>(
     alloc: Global,
     book: &mut B,
@@ -69,21 +69,41 @@ pub(crate) fn key_reused<B: Known>(
         return Ok(String::new(alloc));
     };
     let sent = body(alloc, refused.command)?;
-    let line = Shown(other_line(entry.body.as_str(), sent.as_str()).as_bytes());
     let number = entry.number;
-    format!(in alloc; ": entry {number}, with the line `{line}`")
+    match first_difference(entry.body.as_str(), sent.as_str()) {
+        Difference::Has(line) => {
+            let line = Shown(line.trim_start().as_bytes());
+            format!(in alloc; ": entry {number}, with the line `{line}`")
+        }
+        Difference::Lacks(line) => {
+            let line = Shown(line.trim_start().as_bytes());
+            format!(in alloc; ": entry {number}, without the line `{line}`")
+        }
+        Difference::Absent => format!(in alloc; ": entry {number}"),
+    }
 }
 
-/// Returns the first line of the standing text that differs from the text that was sent. Where the standing text is the
-/// beginning of the other, it is the first line.
-fn other_line<'a>(standing: &'a str, sent: &str) -> &'a str {
+/// The first difference of an entry from a text that was sent.
+enum Difference<'a> {
+    /// The entry has this line there.
+    Has(&'a str),
+    /// The entry ends in front of this line of the other text.
+    Lacks(&'a str),
+    /// There is none.
+    Absent,
+}
+
+/// Returns the first difference of the text of an entry from the text that was sent. Both end with a line end.
+fn first_difference<'a>(standing: &'a str, sent: &'a str) -> Difference<'a> {
     let mut others = sent.split('\n');
     for line in standing.split('\n') {
-        if others.next() != Some(line) && !line.is_empty() {
-            return line;
+        match others.next() {
+            Some(other) if other == line => {}
+            Some(other) if line.is_empty() => return Difference::Lacks(other),
+            _ => return Difference::Has(line),
         }
     }
-    standing.split('\n').next().unwrap_or(standing)
+    Difference::Absent
 }
 
 /// Says which opened account has the name nearest to that of an account that wasn't opened. Without a book the opened
@@ -137,9 +157,9 @@ pub(crate) fn back_dated<B: Known>(
     format!(in alloc; ": the latest is {day}, of entry {entry}")
 }
 
-/// Says how many lots the braces of a posting fit, what they hold, and in what they differ. Where they hold less than
-/// the posting takes, it says both amounts. It says nothing where no lot of the commodity is held, or where the lots
-/// can't be read.
+/// Says how many lots the braces of a posting fit, what they hold, and in what they differ. Of a posting that takes more
+/// than they hold it says both amounts. It says nothing where no lot of the commodity is held, or where the lots can't be
+/// read.
 pub(crate) fn fitting<B: Known>(
     alloc: Global,
     book: &mut B,
@@ -161,24 +181,54 @@ pub(crate) fn fitting<B: Known>(
     if lots.is_empty() {
         return Ok(String::new(alloc));
     }
-    let (mut keys, mut held) = (Vec::new(alloc), Units::ZERO);
+    let (mut keys, mut held) = (Vec::new(alloc), Some(Units::ZERO));
     for lot in &lots {
         if fits(lot, *units, cost) {
-            held = held.checked_add(lot.units).unwrap_or(held);
+            held = sum(held, lot.units);
             keys.push(&lot.key)?;
         }
     }
-    let (held, wanted) = (
-        without_sign(held).text(alloc)?,
-        without_sign(*units).text(alloc)?,
-    );
-    let (held, wanted) = (held.as_str(), wanted.as_str());
     if code == "B3" {
-        return format!(in alloc; ": held now: {held}; wanted: {wanted}");
+        missing(alloc, held, *units)
+    } else {
+        choices(alloc, &keys, held)
     }
-    let (count, parts) = (keys.len(), differing(alloc, &keys)?);
+}
+
+/// Returns the sum with more units, if it is in range.
+fn sum(held: Option<Units>, more: Units) -> Option<Units> {
+    held?.checked_add(more)
+}
+
+/// Says what fitting lots hold, and what is wanted of them, where that is more. A sum that is out of range isn't less.
+fn missing(alloc: Global, held: Option<Units>, wanted: Units) -> Result<String, AllocError> {
+    let wanted = without_sign(wanted);
+    match held {
+        Some(held) if without_sign(held).mantissa() < wanted.mantissa() => {
+            let (held, wanted) = (without_sign(held).text(alloc)?, wanted.text(alloc)?);
+            let (held, wanted) = (held.as_str(), wanted.as_str());
+            format!(in alloc; ": held now: {held}; wanted: {wanted}")
+        }
+        _ => Ok(String::new(alloc)),
+    }
+}
+
+/// Says how many lots fit where there is a choice, what they hold together, if that is in range, and in what they differ.
+fn choices(alloc: Global, keys: &[&LotKey], held: Option<Units>) -> Result<String, AllocError> {
+    let count = keys.len();
+    if count < 2 {
+        return Ok(String::new(alloc));
+    }
+    let parts = differing(alloc, keys)?;
     let parts = parts.as_str();
-    format!(in alloc; ": lots that fit now: {count}, with {held} units{parts}")
+    match held {
+        Some(held) => {
+            let held = without_sign(held).text(alloc)?;
+            let held = held.as_str();
+            format!(in alloc; ": lots that fit now: {count}, with {held} units{parts}")
+        }
+        None => format!(in alloc; ": lots that fit now: {count}{parts}"),
+    }
 }
 
 /// Returns whether units with that cost may be taken of a lot.

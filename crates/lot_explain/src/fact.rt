@@ -93,13 +93,18 @@ fn quotient(alloc: Global, posting: &Posting) -> Result<String, AllocError> {
         return Ok(String::new(alloc));
     };
     let more = if rest == 0 { "" } else { ".." };
+    let limit = if each < u128::from(Rate::LIMIT) {
+        ""
+    } else {
+        ", which is too large for the cost of a unit"
+    };
     let (total, units) = (
         whole.total().text(alloc)?,
         without_sign(*units).text(alloc)?,
     );
     let (total, units) = (total.as_str(), units.as_str());
     let (whole, decimals) = (each / ONE, each % ONE);
-    format!(in alloc; ": {total} / {units} = {whole}.{decimals:08}{more}")
+    format!(in alloc; ": {total} / {units} = {whole}.{decimals:08}{more}{limit}")
 }
 
 /// Returns the same units without their sign.

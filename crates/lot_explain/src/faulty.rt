@@ -140,6 +140,13 @@ fn note_row<W: Write>(
     };
     let (place, brief) = (records.place(), code.brief);
     match column(cause) {
+        Some(column) if matches!(cause, Cause::Lot) && records.is_purchase() => {
+            let field = Shown(records.field(column));
+            notes.note(
+                place,
+                format_args!("{code}: {brief}: lot isn't the ref of the purchase: `{field}`"),
+            )
+        }
         Some(column) => {
             let field = Shown(records.field(column));
             notes.note(place, format_args!("{code}: {brief}: {cause}: `{field}`"))

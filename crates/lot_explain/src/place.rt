@@ -30,11 +30,11 @@ pub(crate) enum Place<'a> {
 }
 
 impl<'a> Place<'a> {
-    /// Returns what stands there, where that is a line.
+    /// Returns what stands there without its indent, where that is a line.
     pub(crate) fn line(&self) -> Option<Shown<'a>> {
         match self {
             Place::Line { line, .. } | Place::Command { line, .. } | Place::Row { line, .. } => {
-                Some(Shown(line))
+                Some(Shown(line.trim_ascii_start()))
             }
             Place::Number(_) | Place::Whole => None,
         }

@@ -8,6 +8,9 @@ use std::alloc::{AllocError, Global};
 /// The byte order mark, which may stand at the start of a file.
 const MARK: &[u8] = b"\xef\xbb\xbf";
 
+/// The column of the action, counted from 0.
+const COLUMN_OF_ACTION: usize = 2;
+
 /// How far a broker file was read.
 #[derive(Drop)]
 pub(crate) struct Records<'a> {
@@ -98,6 +101,11 @@ impl<'a> Records<'a> {
         self.record.get(column).unwrap_or(b"")
     }
 
+    /// Returns whether the last record is of a purchase, whose lot is its `ref`.
+    pub(crate) fn is_purchase(&self) -> bool {
+        self.field(COLUMN_OF_ACTION) == b"BUY".as_slice()
+    }
+
     /// Returns the place of the last record.
     pub(crate) fn place(&self) -> Place<'_> {
         Place::Row {
@@ -114,7 +122,7 @@ pub(crate) fn column(cause: Cause) -> Option<usize> {
         Cause::Length => None,
         Cause::Ref => Some(0),
         Cause::Date => Some(1),
-        Cause::Action => Some(2),
+        Cause::Action => Some(COLUMN_OF_ACTION),
         Cause::Symbol => Some(3),
         Cause::Units => Some(4),
         Cause::Price => Some(5),

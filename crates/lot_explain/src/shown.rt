@@ -5,15 +5,15 @@ use std::{fmt, str};
 /// The most columns that are shown of a line of the input.
 const MOST_COLUMNS: usize = 80;
 
-/// A text of the input on one line, without blanks before it, cut at 80 columns. A character that
-/// would move the cursor or isn't UTF-8 is shown as a question mark.
+/// A text of the input on one line, cut at 80 columns. A character that would move the cursor or
+/// isn't UTF-8 is shown as a question mark.
 #[derive(Clone, Copy)]
 pub(crate) struct Shown<'a>(pub(crate) &'a [u8]);
 
 impl fmt::Display for Shown<'_> {
     fn fmt<W: fmt::Write>(&self, f: &mut fmt::Formatter<W>) -> fmt::Result {
         match str::from_utf8(self.0) {
-            Ok(text) => write_text(text.trim_start(), f),
+            Ok(text) => write_text(text, f),
             Err(_) => write_bytes(self.0, f),
         }
     }

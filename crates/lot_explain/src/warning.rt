@@ -111,8 +111,8 @@ fn warn_of_method<W: Write>(
     Ok(())
 }
 
-/// Returns the first number, of a line that isn't skipped, with a comma that doesn't stand before a
-/// group of three digits.
+/// Returns the first number, of a line that isn't skipped, with a comma that doesn't group its
+/// digits.
 fn odd_number(line: &[u8]) -> Option<&str> {
     memchr(b',', line)?;
     if matches!(kind_of(line), Kind::Other) {
@@ -129,13 +129,20 @@ fn odd_number(line: &[u8]) -> Option<&str> {
     None
 }
 
-/// Returns whether a comma of a number doesn't stand before a group of three digits.
+/// Returns whether a comma of a number doesn't group its digits: it doesn't stand before a group of
+/// three digits, or it stands behind a lone zero.
 fn is_odd(number: &str) -> bool {
     let whole = match number.split_once('.') {
         Some((whole, _)) => whole,
         None => number,
     };
-    for group in whole.split(',').skip(1) {
+    let Some((first, groups)) = whole.split_once(',') else {
+        return false;
+    };
+    if first.trim_start_matches(['-', '+']) == "0" {
+        return true;
+    }
+    for group in groups.split(',') {
         if group.len() != 3 {
             return true;
         }
@@ -143,7 +150,7 @@ fn is_odd(number: &str) -> bool {
     false
 }
 
-/// Warns of a number with a comma that doesn't stand before a group of three digits.
+/// Warns of a number with a comma that doesn't group its digits.
 fn warn_of_number<W: Write>(
     alloc: Global,
     notes: &mut Notebook<'_, W>,
@@ -227,7 +234,7 @@ fn warn_of_order<W: Write>(
     )
 }
 
-/// Warns of numbers of the last row with a comma that doesn't stand before a group of three digits.
+/// Warns of numbers of the last row with a comma that doesn't group their digits.
 fn warn_of_fields<W: Write>(
     alloc: Global,
     notes: &mut Notebook<'_, W>,

@@ -59,11 +59,20 @@ pub fn act(call: &Call<'_>) -> u8 {
         Err(cause) => {
             let _ = println!(rt; "fault open");
             if !call.is_quiet() {
-                let _ = eprintln!(rt; "lotbook: {path}: {cause}");
+                say_why(rt, path, cause);
             }
             STOPPED
         }
     }
+}
+
+/// Says on standard error why the book of that path can't be opened.
+fn say_why(rt: &HostRuntime, path: &str, cause: Cause) {
+    let _ = if path.is_empty() {
+        eprintln!(rt; "lotbook: the path of the book is empty")
+    } else {
+        eprintln!(rt; "lotbook: {path}: {cause}")
+    };
 }
 
 /// Does what a call is for on an empty database in memory.

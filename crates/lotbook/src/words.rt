@@ -94,9 +94,13 @@ fn show_example(rt: &HostRuntime, words: &[String]) {
     }
 }
 
-/// Shows on standard error the value of an option that is outside its rule, unless it is long, and the form that it should
-/// have.
+/// Shows on standard error which options can't stand together, or the value of one that is outside its rule, unless it is
+/// long, and the form that it should have.
 fn show_form(rt: &HostRuntime, words: &[String], option: BadOption) {
+    if let Some(pair) = pair(words, option) {
+        let _ = eprintln!(rt; "lotbook: {pair}");
+        return;
+    }
     let form = form(option);
     match value_of(words, option.name()) {
         Some(value) if value.len() <= LONGEST_SHOWN => {
@@ -108,11 +112,27 @@ fn show_form(rt: &HostRuntime, words: &[String], option: BadOption) {
     }
 }
 
+/// Returns what is to be said of a `post` whose batch, or whose row, isn't given as it has to be, where that is why an
+/// option is bad.
+fn pair(words: &[String], option: BadOption) -> Option<&'static str> {
+    let has_row = value_of(words, "row-of").is_some();
+    match option {
+        BadOption::PostBatch if has_row => Some("--batch and --row-of can't stand together"),
+        BadOption::PostBatch if value_of(words, "batch").is_none() => {
+            Some("one of --batch and --row-of has to be given, as in --batch 2024")
+        }
+        BadOption::Ref if !has_row => {
+            Some("--ref stands beside --row-of alone, as in --row-of broker --ref A17")
+        }
+        _ => None,
+    }
+}
+
 /// Returns the form that the value of an option has.
 fn form(option: BadOption) -> &'static str {
     match option {
         BadOption::Batch | BadOption::PostBatch => {
-            "1 to 32 letters, digits, '.', '_' or '-', as in --batch 2024, and stands without --row-of"
+            "1 to 32 letters, digits, '.', '_' or '-', as in --batch 2024"
         }
         BadOption::RowOf => "the batch of a broker file, as in --row-of broker --ref A17",
         BadOption::Ref => "the ref of a row, as in --row-of broker --ref A17",

@@ -129,7 +129,8 @@ pub(super) static CODES: [Code; 6] = [
 "#,
         },
         help: "Give number and currency in the braces. Of a sale it says that no lot is held: post \
-            the purchase first, with braces.",
+            the purchase first, with braces. Or the account is of NONE, whose lots no sale takes: \
+            such a posting gives its cost, and no SELL row of a broker file can be booked there.",
         page: "docs/RULES.md, Reduce or augment",
     },
     Code {
@@ -137,7 +138,7 @@ pub(super) static CODES: [Code; 6] = [
         name: "InexactCost",
         brief: "the whole cost can't be divided by the units",
         rule: "A whole cost {{T CUR}} is divided by the units. The cost of one unit has to come to \
-            at most eight decimals, and nothing is rounded.",
+            at most eight decimals and to be below 100,000,000: nothing is rounded.",
         examples: Examples::Ledger {
             refused: r#"
 2020-01-01 open Assets:Broker

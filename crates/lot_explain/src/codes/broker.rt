@@ -69,7 +69,7 @@ D-1,2024-01-15,BUY,HOOL,0.3170215,78.8594,USD,
 "#,
             accepted: r#"
 ref,date,action,symbol,units,price,currency,fee
-D-1,2024-01-15,BUY,HOOL,0.3170,78.8594,USD,
+D-1,2024-01-15,BUY,HOOL,0.3170215,78.9,USD,
 "#,
         },
         help: "The decimals of units and price are at most eight together: give the price fewer, \

@@ -110,9 +110,11 @@ pub(super) static CODES: [Code; 8] = [
             accepted: r#"
 2020-01-01 open Assets:Broker
 2020-01-01 open Assets:Cash
+2020-01-01 open Equity:Rounding
 2020-01-02 * "Buy"
-  Assets:Broker 0.3170 HOOL {78.8594 USD}
-  Assets:Cash
+  Assets:Broker 0.3170215 HOOL {78.9 USD}
+  Assets:Cash -25 USD
+  Equity:Rounding
 "#,
         },
         help: "The decimals of the units and of the cost are at most eight together: shorten the \

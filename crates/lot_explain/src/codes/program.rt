@@ -25,8 +25,9 @@ $ lotbook --help
         name: "BadValue",
         brief: "the value of an option is outside its rule",
         rule: "The value of an option is outside its rule: a batch has 1 to 32 letters, digits, \
-            points, underlines and dashes, an account and a day are those of ledger text. It \
-            stands on standard error, and the status is 2.",
+            points, underlines and dashes, an account and a day are those of ledger text. A post \
+            has either --batch or --row-of, and --ref stands beside --row-of alone. Standard error \
+            says which it is, and the status is 2.",
         examples: Examples::Calls {
             refused: r#"
 $ lotbook init --book u.book
@@ -37,7 +38,7 @@ $ lotbook init --book u.book
 $ lotbook post --book u.book --batch my-batch < /dev/null
 "#,
         },
-        help: "Give a value of the form that standard error names.",
+        help: "Give the options and values that standard error names.",
         page: "docs/RULES.md, The program",
     },
     Code {
@@ -69,7 +70,8 @@ $ head -c 16777217 /dev/zero | lotbook
 $ head -c 16777216 /dev/zero | tr '\0' '\n' | lotbook
 "#,
         },
-        help: "Cut the text in front of a command, and post each part under a batch of its own.",
+        help: "Cut the text in front of a command, and post each part under a batch of its own. \
+            Parts of a broker file, with the header before each, are imported under the same batch.",
         page: "docs/RULES.md, Limits",
     },
     Code {
@@ -98,7 +100,8 @@ $ lotbook init --book o.book
 $ lotbook holdings --book o.book
 "#,
         },
-        help: "Correct the path or the rights, or close the other program.",
+        help: "Correct the path or the rights, or close the other program. Where the file is \
+            damaged, go back to a copy of it and its log.",
         page: "docs/RULES.md, The program",
     },
 ];

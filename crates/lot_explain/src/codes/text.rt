@@ -25,7 +25,8 @@ $ printf '; Z\303\274rich\n' | lotbook
         brief: "the line has none of the forms",
         rule: "Each line is an opening, a closing, a commodity, a price, a transaction or, \
             indented, a posting, and this one has the form of none. A posting belongs to a \
-            transaction before it. Tags, links, metadata and arithmetic aren't known.",
+            transaction before it, and an opening has at most 64 currencies. Tags, links, metadata \
+            and arithmetic aren't known.",
         examples: Examples::Ledger {
             refused: r#"
 2020-01-01 open Assets:Cash
@@ -79,7 +80,7 @@ $ printf '; Z\303\274rich\n' | lotbook
 2020-01-01 open Assets:Broker
 2020-01-01 open Assets:Cash
 2020-01-02 * "Buy"
-  Assets:Broker 1.9915 HOOL {502.50 USD}
+  Assets:Broker 1.9915558 HOOL {502.50 USD}
   Assets:Cash
 "#,
         },
