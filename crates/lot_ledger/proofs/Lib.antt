@@ -1,6 +1,7 @@
 pub mod DecideLemmas
 pub mod ConcludeLemmas
 pub mod CheckLemmas
+pub mod FitLemmas
 pub mod HeadLemmas
 pub mod FillLemmas
 pub mod OpenLotLemmas

@@ -1,2 +1,3 @@
 pub mod Decide
 pub mod LotOpenings
+pub mod Fit

@@ -1,7 +1,9 @@
-ghost use Rattle.std.specs.Prelude.{◌≡◌, [], ◌∷◌, None, Some, MatchOption, MatchResult};
+ghost use Rattle.std.specs.Prelude.{◌≡◌, [], ◌∷◌, None, Some, IfErr, IsTrue, MatchOption, MatchResult, OnOk};
+ghost use Rattle.std.specs.Option.{option_or};
 ghost use Rattle.lot_book.specs.Balance.{elided_postings};
 ghost use Rattle.lot_book.specs.Refusals.{back_dated, bars_amount, book_full, closed, closed_before, currency_not_allowed, dates_back, holds_too_many, not_open_yet, opens_after, too_many_lots, too_many_postings, two_elided, unknown_account};
 ghost use Rattle.lot_book.specs.Leg.{with_legs};
+ghost use Rattle.lot_ledger.specs.Fit.{is_unfit};
 ghost use Rattle.lot_posting.specs.Tally.{ListsTally};
 ghost use Rattle.lot_view.specs.View.{known, known_with_openings};
 
@@ -18,8 +20,58 @@ const MOST_LOTS: u128 = 10_000;
 /// The most entries that a book may have (`most_entries` of the definitions).
 const MOST_ENTRIES: u32 = 2_000_000_000;
 
+/// Makes the checks of the accounts of postings: that each is known, is open on the day and allows the commodity. Each check
+/// looks at all postings before the next does.
+pub(crate) fn every_account_fits(view: &View, postings: &[Posting], day: Day) -> Result<(), Refusal>
+    ensures known { OnOk result (unknown_account (known view.now) postings.now ≡ None) }
+    ensures open { OnOk result (not_open_yet (known view.now) day postings.now ≡ None) }
+    ensures not_closed { OnOk result (closed (known view.now) day postings.now ≡ None) }
+    ensures allowed { OnOk result (currency_not_allowed (known view.now) postings.now ≡ None) }
+    ensures refused { IfErr result (λ refusal.
+        option_or (unknown_account (known view.now) postings.now)
+        (option_or (not_open_yet (known view.now) day postings.now)
+        (option_or (closed (known view.now) day postings.now)
+        (currency_not_allowed (known view.now) postings.now))) ≡ Some refusal) }
+{
+    if none_is_unfit(view, postings, day) {
+        return Ok(());
+    }
+    every_account_known(view, postings)?;
+    every_account_open(view, postings, day)?;
+    no_account_closed(view, postings, day)?;
+    every_currency_allowed(view, postings)
+}
+
+/// Returns whether no posting fails a check of its account. It looks up each account once.
+fn none_is_unfit(view: &View, postings: &[Posting], day: Day) -> bool
+    ensures known { IsTrue result → unknown_account (known view.now) postings.now ≡ None }
+    ensures open { IsTrue result → not_open_yet (known view.now) day postings.now ≡ None }
+    ensures not_closed { IsTrue result → closed (known view.now) day postings.now ≡ None }
+    ensures allowed { IsTrue result → currency_not_allowed (known view.now) postings.now ≡ None }
+{
+    postings
+        .iter()
+        .position(|posting| is_unfit(view, day, posting))
+        .is_none()
+}
+
+/// Returns whether a posting fails a check of its account.
+fn is_unfit(view: &View, day: Day, posting: &Posting) -> bool
+    ensures { result ≡ is_unfit day ((known view.now).standing posting.now.account)
+        posting.now.amount }
+{
+    let Some(standing) = view.standing(&posting.account) else {
+        return true;
+    };
+    let barred = match &posting.amount {
+        Some(amount) => !standing.allowed.allows(&amount.commodity),
+        None => false,
+    };
+    day < standing.opened || standing.closed.is_some_and(|closed| closed < day) || barred
+}
+
 /// Returns `UnknownAccount` with the first posting to an account that was never opened, if there is one.
-pub(crate) fn every_account_known(view: &View, postings: &[Posting]) -> Result<(), Refusal>
+fn every_account_known(view: &View, postings: &[Posting]) -> Result<(), Refusal>
     ensures { MatchResult result (λ _. unknown_account (known view.now) postings.now ≡ None)
         (λ refusal. unknown_account (known view.now) postings.now ≡ Some refusal) }
 {
@@ -35,7 +87,7 @@ pub(crate) fn every_account_known(view: &View, postings: &[Posting]) -> Result<(
 }
 
 /// Returns `NotOpenYet` with the first posting to an account that is opened after the day, if there is one.
-pub(crate) fn every_account_open(view: &View, postings: &[Posting], day: Day) -> Result<(), Refusal>
+fn every_account_open(view: &View, postings: &[Posting], day: Day) -> Result<(), Refusal>
     ensures { MatchResult result (λ _. not_open_yet (known view.now) day postings.now ≡ None)
         (λ refusal. not_open_yet (known view.now) day postings.now ≡ Some refusal) }
 {
@@ -59,7 +111,7 @@ fn opens_after(view: &View, day: Day, account: &Account) -> bool
 }
 
 /// Returns `Closed` with the first posting to an account that is closed before the day, if there is one.
-pub(crate) fn no_account_closed(view: &View, postings: &[Posting], day: Day) -> Result<(), Refusal>
+fn no_account_closed(view: &View, postings: &[Posting], day: Day) -> Result<(), Refusal>
     ensures { MatchResult result (λ _. closed (known view.now) day postings.now ≡ None)
         (λ refusal. closed (known view.now) day postings.now ≡ Some refusal) }
 {
@@ -86,7 +138,7 @@ fn closed_before(view: &View, day: Day, account: &Account) -> bool
 
 /// Returns `CurrencyNotAllowed` with the first posting whose commodity isn't among the currencies of its account's opening, if
 /// there is one.
-pub(crate) fn every_currency_allowed(view: &View, postings: &[Posting]) -> Result<(), Refusal>
+fn every_currency_allowed(view: &View, postings: &[Posting]) -> Result<(), Refusal>
     ensures { MatchResult result (λ _. currency_not_allowed (known view.now) postings.now ≡ None)
         (λ refusal. currency_not_allowed (known view.now) postings.now ≡ Some refusal) }
 {

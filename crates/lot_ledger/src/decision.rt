@@ -17,8 +17,7 @@ ghost use Rattle.lot_posting.specs.Tally.{ListsTally};
 ghost use Rattle.lot_view.specs.View.{known, known_with_openings};
 
 use crate::checks::{
-    Elided, every_account_known, every_account_open, every_currency_allowed, few_lots,
-    few_postings, no_account_closed, none_back_dated, not_full, only_elided,
+    Elided, every_account_fits, few_lots, few_postings, none_back_dated, not_full, only_elided,
 };
 use crate::fill::fill;
 use crate::heads::heads_of;
@@ -182,10 +181,7 @@ fn check_first<'a>(view: &View, transaction: &'a Transaction) -> Result<Option<E
     ensures refused { IfErr result (λ refusal. first_of (first_conditions (known view.now) transaction.now) ≡ Some refusal) }
 {
     let postings = transaction.postings.as_slice();
-    every_account_known(view, postings)?;
-    every_account_open(view, postings, transaction.day)?;
-    no_account_closed(view, postings, transaction.day)?;
-    every_currency_allowed(view, postings)?;
+    every_account_fits(view, postings, transaction.day)?;
     few_postings(postings)?;
     let elided = only_elided(postings)?;
     none_back_dated(view, postings, transaction.day)?;
