@@ -358,7 +358,7 @@ prints "the holdings of long names" 0 "$account -1.00 $commodity
 $account 1 $commodity {1 $commodity, 2020-01-02, \"$label\"}
 total cost 1.00 $commodity" holdings --book "$book" </dev/null
 
-# ---- 100,000 entries
+# ---- 100,000 entries: a few seconds for each report, of which the file's opening is most
 
 fresh
 trades 97558 40 >"$scratch/many"
@@ -371,10 +371,12 @@ awk 'BEGIN { for (n = 0; n < 97558; n++) if (n % 2 == 0 || n % 40 == 1) printf "
 tac "$scratch/bought" | awk '++of[$1] <= 2' | tac >"$scratch/left"
 tac "$scratch/bought" | awk '++of[$1] > 2' | tac >"$scratch/sold"
 
-# reports NAME WORDS..: the report is what is expected. `run` ends one that takes minutes.
-reports() {
+# in_time NAME WORDS..: the report is what is expected, and takes no longer than half a minute, on a machine with other work.
+in_time() {
+    local begun=$SECONDS
     run "${@:2}" --book "$book" </dev/null
     expect "$1" 0 "$scratch/expected"
+    if ((SECONDS - begun <= 30)); then pass "$1: in time"; else fail "$1: in time" "$((SECONDS - begun)) seconds"; fi
 }
 {
     awk '{
@@ -383,12 +385,12 @@ reports() {
     }' "$scratch/sold"
     echo "total gain 1378615.00 USD"
 } >"$scratch/expected"
-reports "the gains of 100,000 entries" gains
+in_time "the gains of 100,000 entries" gains
 {
     awk '{ printf "Assets:Broker 1 %s {100.25 USD, 2020-02-01, \"%s\"} value 150.00 USD\n", $1, $2 }' "$scratch/left"
     printf '%s\n' "Assets:Cash 889595.50 USD" "Income:Gains -1378615.00 USD" "total cost 489019.50 USD" "total value 731700.00 USD"
 } >"$scratch/expected"
-reports "the holdings of 100,000 entries" holdings --day 2020-12-31
+in_time "the holdings of 100,000 entries" holdings --day 2020-12-31
 awk '/^2/ { printf "; entry %d key post:a %d\n", ++n, n } { print }' "$scratch/many" >"$scratch/expected"
-reports "the journal of 100,000 entries" journal
+in_time "the journal of 100,000 entries" journal
 finish
