@@ -16,7 +16,7 @@ use Rattle.std.proofs.lemmas.Cmp.{nat_list_cmp_total}
 use Rattle.std.proofs.lemmas.Map.Lookups.{exact_bytes}
 use Rattle.std.proofs.lemmas.Map.Made.{keys_of-map_values, lookup-map_values}
 use Rattle.lot_inv.specs.declared.inventory.Holding.{Holding}
-use Rattle.lot_inv.specs.declared.inventory.OpenLot.{OpenLot}
+use Rattle.lot_inv.specs.declared.lots.OpenLot.{OpenLot}
 use Rattle.lot_cost.specs.declared.lot_key.LotKey.{LotKey}
 use Rattle.lot_inv.specs.Holding.{AreHoldings, IsHolding, held_at, found, kept, kept_at, opening_of, openings_in, plain_rows, lot_rows, rows, units_in, units_of}
 use Rattle.lot_inv.specs.Inventory.{Held, NumbersLots, Opened, Position, Stock, position_cmp, non_zero, lots_in, lots_of, opened_at}
@@ -63,8 +63,8 @@ pub below_rows : (position : Position) (holdings : List (List ℕ × Holding))
     → AllByRecursion (λ (other : List ℕ). text_cmp position.0 other ≡ Less) (keys_of holdings) → IsBelow position (rows holdings)
 below_rows position [] h = tt
 below_rows position (entry ∷ holdings) h =
-    below_plain position entry.0 entry.1.plain (lot_rows entry.0 entry.1.lots.entries ++ rows holdings) h.0
-    (other_below_lots position entry.0 entry.1.lots.entries (rows holdings) h.0 (below_rows position holdings h.1))
+    below_plain position entry.0 entry.1.plain (lot_rows entry.0 entry.1.lots ++ rows holdings) h.0
+    (other_below_lots position entry.0 entry.1.lots (rows holdings) h.0 (below_rows position holdings h.1))
 
 sorted_lots : (commodity : List ℕ) (lots : List (LotKey × OpenLot)) (rest : List (Position × OpenLot))
     → IsStrictlySortedBy lot_cmp (keys_of lots) → IsStrictlySortedBy position_cmp (keys_of rest)
@@ -86,16 +86,16 @@ sorted_plain commodity units rest k above =
 
 -- every holding of a list has its lots in order
 abbrev pub LotsSorted : List (List ℕ × Holding) → Type 0
-LotsSorted holdings = AllByRecursion (λ (entry : List ℕ × Holding). IsStrictlySortedBy lot_cmp (keys_of entry.1.lots.entries)) holdings
+LotsSorted holdings = AllByRecursion (λ (entry : List ℕ × Holding). IsStrictlySortedBy lot_cmp (keys_of entry.1.lots)) holdings
 
 pub sorted_rows : (holdings : List (List ℕ × Holding)) → IsStrictlySortedBy text_cmp (keys_of holdings) → LotsSorted holdings
     → IsStrictlySortedBy position_cmp (keys_of (rows holdings))
 unfolding IsStrictlySortedBy
 sorted_rows [] h k = tt
 sorted_rows (entry ∷ holdings) h k =
-    sorted_plain entry.0 entry.1.plain (lot_rows entry.0 entry.1.lots.entries ++ rows holdings)
-    (sorted_lots entry.0 entry.1.lots.entries (rows holdings) k.0 (sorted_rows holdings h.1 k.1) (λ key. below_rows (entry.0, Some key) holdings h.0))
-    (plain_below_lots entry.0 entry.1.lots.entries (rows holdings) (below_rows (entry.0, None) holdings h.0))
+    sorted_plain entry.0 entry.1.plain (lot_rows entry.0 entry.1.lots ++ rows holdings)
+    (sorted_lots entry.0 entry.1.lots (rows holdings) k.0 (sorted_rows holdings h.1 k.1) (λ key. below_rows (entry.0, Some key) holdings h.0))
+    (plain_below_lots entry.0 entry.1.lots (rows holdings) (below_rows (entry.0, None) holdings h.0))
 
 -- ---- what is found in the rows
 
@@ -169,9 +169,9 @@ found_in-plain commodity other (Some key) units rest =
     ]
 
 held-parts : (holding : Holding) (key : Option LotKey)
-    → option_or (in_plain key holding.plain) (option_or (in_lots key holding.lots.entries) None) ≡ held_at holding key
+    → option_or (in_plain key holding.plain) (option_or (in_lots key holding.lots) None) ≡ held_at holding key
 held-parts holding None = elim (kept holding.plain 0) as (λ o. option_or o None ≡ o) [ None ↦ refl | Some v ↦ refl ]
-held-parts holding (Some key) = elim (lookup (is_at (lot_cmp key)) holding.lots.entries) as (λ o. option_or o None ≡ o) [ None ↦ refl | Some v ↦ refl ]
+held-parts holding (Some key) = elim (lookup (is_at (lot_cmp key)) holding.lots) as (λ o. option_or o None ≡ o) [ None ↦ refl | Some v ↦ refl ]
 
 none_in_below : (position : Position) (rest : List (Position × OpenLot)) → IsBelow position rest → found_in position rest ≡ None
 none_in_below position [] h = refl
@@ -184,16 +184,16 @@ found_in-rows [] position h = refl
 found_in-rows (entry ∷ holdings) position h =
     let o = text_cmp position.0 entry.0 in
     let left = found_in position (rows holdings) in
-    let rest = lot_rows entry.0 entry.1.lots.entries ++ rows holdings in
+    let rest = lot_rows entry.0 entry.1.lots ++ rows holdings in
     found_in-plain position.0 entry.0 position.1 entry.1.plain rest
-    ∙ ap (λ x. cond (is_eq o) (option_or (in_plain position.1 entry.1.plain) x) x) (found_in-lots position.0 entry.0 position.1 entry.1.lots.entries (rows holdings))
+    ∙ ap (λ x. cond (is_eq o) (option_or (in_plain position.1 entry.1.plain) x) x) (found_in-lots position.0 entry.0 position.1 entry.1.lots (rows holdings))
     ∙ elim (is_eq o) as (λ b. is_eq o ≡ b
-    → cond b (option_or (in_plain position.1 entry.1.plain) (cond b (option_or (in_lots position.1 entry.1.lots.entries) left) left)) (cond b (option_or (in_lots position.1 entry.1.lots.entries) left) left)
+    → cond b (option_or (in_plain position.1 entry.1.plain) (cond b (option_or (in_lots position.1 entry.1.lots) left) left)) (cond b (option_or (in_lots position.1 entry.1.lots) left) left)
     ≡ option_and_then (λ (holding : Holding). held_at holding position.1) (cond b (Some entry.1) (lookup (is_at (text_cmp position.0)) holdings))) [
       | true ↦ λ e.
           let same : position.0 ≡ entry.0 = exact_bytes position.0 entry.0 (is_equal o e) in
           let none : left ≡ None = none_in_below position (rows holdings) (below_rows position holdings (subst (λ c. AllByRecursion (λ (other : List ℕ). text_cmp c other ≡ Less) (keys_of holdings)) (sym same) h.0)) in
-          ap (λ x. option_or (in_plain position.1 entry.1.plain) (option_or (in_lots position.1 entry.1.lots.entries) x)) none ∙ held-parts entry.1 position.1
+          ap (λ x. option_or (in_plain position.1 entry.1.plain) (option_or (in_lots position.1 entry.1.lots) x)) none ∙ held-parts entry.1 position.1
       | false ↦ λ e. found_in-rows holdings position h.1
     ] refl
 
@@ -202,7 +202,7 @@ found_in-rows (entry ∷ holdings) position h =
 -- the lots of a holding, of none where there is none
 abbrev pub lots_at : Option Holding → List (LotKey × OpenLot)
 lots_at None = []
-lots_at (Some holding) = holding.lots.entries
+lots_at (Some holding) = holding.lots
 
 lots_in-lots : (commodity other : List ℕ) (lots : List (LotKey × OpenLot)) (rest : List (Position × OpenLot))
     → lots_in commodity (units_in (lot_rows other lots ++ rest))
@@ -229,9 +229,9 @@ no_lots : (commodity : List ℕ) (holdings : List (List ℕ × Holding))
 no_lots commodity [] h = refl
 no_lots commodity (entry ∷ holdings) h =
     let left = lots_in commodity (units_in (rows holdings)) in
-    lots_in-plain commodity entry.0 entry.1.plain (lot_rows entry.0 entry.1.lots.entries ++ rows holdings)
-    ∙ lots_in-lots commodity entry.0 entry.1.lots.entries (rows holdings)
-    ∙ ap (λ b. cond b (units_in entry.1.lots.entries ++ left) left) (less_is_not (text_cmp commodity entry.0) h.0)
+    lots_in-plain commodity entry.0 entry.1.plain (lot_rows entry.0 entry.1.lots ++ rows holdings)
+    ∙ lots_in-lots commodity entry.0 entry.1.lots (rows holdings)
+    ∙ ap (λ b. cond b (units_in entry.1.lots ++ left) left) (less_is_not (text_cmp commodity entry.0) h.0)
     ∙ no_lots commodity holdings h.1
 
 lots_in-rows : (holdings : List (List ℕ × Holding)) (commodity : List ℕ) → IsStrictlySortedBy text_cmp (keys_of holdings)
@@ -241,14 +241,14 @@ lots_in-rows [] commodity h = refl
 lots_in-rows (entry ∷ holdings) commodity h =
     let o = text_cmp commodity entry.0 in
     let left = lots_in commodity (units_in (rows holdings)) in
-    lots_in-plain commodity entry.0 entry.1.plain (lot_rows entry.0 entry.1.lots.entries ++ rows holdings)
-    ∙ lots_in-lots commodity entry.0 entry.1.lots.entries (rows holdings)
-    ∙ elim (is_eq o) as (λ b. is_eq o ≡ b → cond b (units_in entry.1.lots.entries ++ left) left
+    lots_in-plain commodity entry.0 entry.1.plain (lot_rows entry.0 entry.1.lots ++ rows holdings)
+    ∙ lots_in-lots commodity entry.0 entry.1.lots (rows holdings)
+    ∙ elim (is_eq o) as (λ b. is_eq o ≡ b → cond b (units_in entry.1.lots ++ left) left
     ≡ units_in (lots_at (cond b (Some entry.1) (lookup (is_at (text_cmp commodity)) holdings)))) [
       | true ↦ λ e.
           let same : commodity ≡ entry.0 = exact_bytes commodity entry.0 (is_equal o e) in
           let none : left ≡ [] = no_lots commodity holdings (subst (λ c. AllByRecursion (λ (other : List ℕ). text_cmp c other ≡ Less) (keys_of holdings)) (sym same) h.0) in
-          ap (λ ls. units_in entry.1.lots.entries ++ ls) none ∙ append-nil (units_in entry.1.lots.entries)
+          ap (λ ls. units_in entry.1.lots ++ ls) none ∙ append-nil (units_in entry.1.lots)
       | false ↦ λ e. lots_in-rows holdings commodity h.1
     ] refl
 

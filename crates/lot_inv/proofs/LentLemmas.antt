@@ -21,7 +21,7 @@ use Rattle.lot_cost.specs.LotKey.{lot_cmp}
 use Rattle.lot_cost.proofs.ListLemmas.{all_weaker}
 use Rattle.lot_inv.specs.declared.days.Days.{Days}
 use Rattle.lot_inv.specs.declared.days.Days.TheVariants.{All, First, Last}
-use Rattle.lot_inv.specs.declared.inventory.OpenLot.{OpenLot}
+use Rattle.lot_inv.specs.declared.lots.OpenLot.{OpenLot}
 use Rattle.lot_inv.specs.declared.lot.Lot.{Lot}
 use Rattle.lot_inv.specs.Days.{AreLentOf, gone_through, is_later, is_past, numbered}
 use Rattle.lot_inv.specs.Holding.{listed, takeable_lots}

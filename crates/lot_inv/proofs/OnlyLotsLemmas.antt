@@ -15,7 +15,7 @@ use Rattle.std.proofs.lemmas.Map.Made.{lookup-map_values}
 use Rattle.lot_base.proofs.MapLemmas.{none_below}
 use Rattle.lot_base.specs.Text.{text_cmp}
 use Rattle.lot_cost.specs.declared.lot_key.LotKey.{LotKey}
-use Rattle.lot_inv.specs.declared.inventory.OpenLot.{OpenLot}
+use Rattle.lot_inv.specs.declared.lots.OpenLot.{OpenLot}
 use Rattle.lot_inv.specs.Holding.{kept, lot_rows, opening_of, units_in, units_of, with_lots}
 use Rattle.lot_inv.specs.Inventory.{Held, Position, Stock, position_cmp, is_lot_of, lots_of, non_zero, nothing, only_lots, opened_at, with_lot}
 use Rattle.lot_cost.specs.LotKey.{lot_cmp}

@@ -3,7 +3,7 @@ use Rattle.std.specs.Prelude.{◌≡◌, ◌≢◌, ℕ, suc, ◌≤◌, length,
 use Rattle.std.proofs.Common.{refl, sym, ap, subst, ◌∙◌, append_assoc, arith}
 use Rattle.std.proofs.lemmas.List.{map-append}
 use Rattle.lot_inv.specs.declared.inventory.Holding.{Holding}
-use Rattle.lot_inv.specs.declared.inventory.OpenLot.{OpenLot}
+use Rattle.lot_inv.specs.declared.lots.OpenLot.{OpenLot}
 use Rattle.lot_cost.specs.declared.lot_key.LotKey.{LotKey}
 use Rattle.lot_inv.specs.Holding.{lot_row, lot_rows, plain_rows, rows, rows_of, units_in}
 use Rattle.lot_inv.specs.Inventory.{Position}
@@ -27,7 +27,7 @@ pub units_in-rows : (entry : List ℕ × Holding) (rest : List (List ℕ × Hold
     → units_in (rows_of entry.0 entry.1) ++ units_in (rows rest) ≡ units_in (rows (entry ∷ rest))
 units_in-rows entry rest =
     sym (map-append (λ (row : Position × OpenLot). (row.0, row.1.units)) (rows_of entry.0 entry.1) (rows rest))
-    ∙ ap (λ (es : List (Position × OpenLot)). units_in es) (append_assoc (plain_rows entry.0 entry.1.plain) (lot_rows entry.0 entry.1.lots.entries) (rows rest))
+    ∙ ap (λ (es : List (Position × OpenLot)). units_in es) (append_assoc (plain_rows entry.0 entry.1.plain) (lot_rows entry.0 entry.1.lots) (rows rest))
 
 -- a holding that has a row is left
 pub some_left : (before all : List (Position × ℤ)) (entry : List ℕ × Holding) (rest holdings : List (List ℕ × Holding))

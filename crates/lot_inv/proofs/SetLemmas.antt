@@ -12,7 +12,7 @@ use Rattle.std.proofs.Common.{refl, sym, ap, subst, ◌∙◌}
 use Rattle.std.proofs.lemmas.Map.Lookups.{exact_bytes}
 use Rattle.lot_base.specs.Text.{text_cmp}
 use Rattle.lot_inv.specs.declared.inventory.Holding.{Holding}
-use Rattle.lot_inv.specs.declared.inventory.OpenLot.{OpenLot}
+use Rattle.lot_inv.specs.declared.lots.OpenLot.{OpenLot}
 use Rattle.lot_cost.specs.declared.lot_key.LotKey.{LotKey}
 use Rattle.lot_inv.specs.Holding.{AreAlike, AreHoldings, HoldsSomething, IsHolding, ChangesPosition, NeedsPosition, NoneIsEmpty, NoOtherIsEmpty, held_at, found, kept, kept_at, opening_of, units_of}
 use Rattle.lot_inv.specs.Inventory.{Position, Stock, StoresMore, position_cmp, non_zero, with_lot, with_opening, with_units}
@@ -282,7 +282,7 @@ something_set holding key units opening before sets e = (
     something_kept (Some key) = ap (λ b. is_some {T = OpenLot} (cond b None (Some (record { units = units; opening = opening })))) e
 
 -- so is a lot
-pub lot_something : (holding : Holding) (lots : List (LotKey × OpenLot)) → lots ≡ holding.lots.entries → length lots ≢ 0 → HoldsSomething holding
+pub lot_something : (holding : Holding) (lots : List (LotKey × OpenLot)) → lots ≡ holding.lots → length lots ≢ 0 → HoldsSomething holding
 lot_something holding [] same some = absurd (some refl)
 lot_something holding (lot ∷ lots) same some = (
   Some lot.0,

@@ -1,19 +1,20 @@
 -- How an inventory is kept: what is held of each commodity, its plain units and its lots with their opening numbers.
 use Rattle.std.specs.Prelude.{◌≡◌, ℕ, false, if◌then◌else◌, List, [], ◌∷◌, ◌++◌, filter, map, Option, None, Some, ℤ, pos, IsSome, IfSome, option_and_then}
-use Rattle.std.specs.BTreeMap.{get, is_at}
+use Rattle.std.specs.BTreeMap.{is_at}
 use Rattle.std.specs.List.Sorted.{IsStrictlySortedBy}
 use Rattle.std.specs.Map.{keys_of, lookup}
 use Rattle.std.specs.Option.{option_map, unwrap_or}
 use Rattle.std.specs.Ordering.{int_eq, is_eq}
 use Rattle.lot_base.specs.Text.{text_cmp}
 use Rattle.lot_inv.specs.declared.inventory.Holding.{Holding}
-use Rattle.lot_inv.specs.declared.inventory.OpenLot.{OpenLot}
+use Rattle.lot_inv.specs.declared.lots.OpenLot.{OpenLot}
 use Rattle.lot_inv.specs.declared.lot.Lot.{Lot}
 use Rattle.lot_cost.specs.declared.cost_spec.CostSpec.{CostSpec}
 use Rattle.lot_cost.specs.declared.lot_key.LotKey.{LotKey}
 use Rattle.lot_cost.specs.CostSpec.{fits}
 use Rattle.lot_inv.specs.Inventory.{Position, Stock, position_cmp, non_zero, other_sign, with_lot}
 use Rattle.lot_cost.specs.LotKey.{lot_cmp}
+use Rattle.lot_inv.specs.Lots.{lot_at}
 
 -- ---- units and opening numbers
 
@@ -53,7 +54,7 @@ listed lots = map (λ (lot : LotKey × OpenLot). record { key = lot.0; units = l
 -- what a holding has in the lot of that key, or plain
 abbrev pub held_at : Holding → Option LotKey → Option OpenLot
 held_at holding None = kept holding.plain 0
-held_at holding (Some key) = get lot_cmp holding.lots key
+held_at holding (Some key) = lot_at holding.lots key
 
 -- what the holdings have at a position
 abbrev pub found : List (List ℕ × Holding) → Position → Option OpenLot
@@ -75,12 +76,12 @@ lot_rows commodity (lot ∷ lots) = lot_row commodity lot ∷ lot_rows commodity
 
 -- the rows of one holding: that of its plain units, then those of its lots
 abbrev pub rows_of : List ℕ → Holding → List (Position × OpenLot)
-rows_of commodity holding = plain_rows commodity holding.plain ++ lot_rows commodity holding.lots.entries
+rows_of commodity holding = plain_rows commodity holding.plain ++ lot_rows commodity holding.lots
 
 -- the rows of all holdings, in the order of their positions
 abbrev pub rows : List (List ℕ × Holding) → List (Position × OpenLot)
 rows [] = []
-rows (entry ∷ entries) = plain_rows entry.0 entry.1.plain ++ (lot_rows entry.0 entry.1.lots.entries ++ rows entries)
+rows (entry ∷ entries) = plain_rows entry.0 entry.1.plain ++ (lot_rows entry.0 entry.1.lots ++ rows entries)
 
 -- an inventory in which these lots of a commodity are set, one after another
 abbrev pub with_lots : Stock → List ℕ → List (LotKey × OpenLot) → Stock
@@ -101,7 +102,7 @@ takeable_lots units spec lots =
 -- setting units at a key stores a new lot
 abbrev pub NeedsLot : Holding → Option LotKey → Type 0
 NeedsLot holding None = ⊥
-NeedsLot holding (Some key) = get lot_cmp holding.lots key ≡ None
+NeedsLot holding (Some key) = lot_at holding.lots key ≡ None
 
 -- setting units at a position stores a new lot, or a new commodity
 abbrev pub NeedsPosition : List (List ℕ × Holding) → Position → Type 0
@@ -110,9 +111,9 @@ NeedsPosition holdings (commodity, Some key) = found holdings (commodity, Some k
 
 -- a holding has its lots in order, none of them with zero units
 pub record IsHolding (holding : Holding) : Type 0 where
-  pub sorted : IsStrictlySortedBy lot_cmp (keys_of holding.lots.entries)
+  pub sorted : IsStrictlySortedBy lot_cmp (keys_of holding.lots)
   pub nonzero : (key : LotKey)
-      → units_of (get lot_cmp holding.lots key) ≡ non_zero (unwrap_or (units_of (get lot_cmp holding.lots key)) (pos 0))
+      → units_of (lot_at holding.lots key) ≡ non_zero (unwrap_or (units_of (lot_at holding.lots key)) (pos 0))
 
 -- something is held in a holding
 abbrev pub HoldsSomething : Holding → Type 0

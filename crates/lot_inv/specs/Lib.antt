@@ -2,4 +2,5 @@ pub mod Days
 pub mod Holding
 pub mod Inventory
 pub mod Lot
+pub mod Lots
 pub mod Zeros

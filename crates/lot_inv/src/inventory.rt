@@ -1,26 +1,23 @@
-ghost use Rattle.std.specs.Prelude.{◌≡◌, ◌≢◌, ◌⊎◌, ℕ, List, [], ◌∷◌, ◌++◌, map, ℤ, pos, ◌+ℤ◌, ◌*ℤ◌, ◌+◌, ◌*◌, ◌^◌, ◌≤◌, length, option_copied, unsigned_abs, SomeIff, IfSome, IfNone, Option, None, cond, filter, ◌↔◌, IsTrue, IsFalse, IsOk, IsErrOf, IfOk, OnOk, OnErr};
+ghost use Rattle.std.specs.Prelude.{◌≡◌, ◌≢◌, ◌⊎◌, [], ◌∷◌, ◌++◌, map, ℤ, pos, ◌+ℤ◌, ◌*ℤ◌, length, option_copied, unsigned_abs, SomeIff, IfSome, IfNone, Option, None, cond, ◌↔◌, IsTrue, IsFalse, IsOk, IsErrOf, IfOk, OnOk, OnErr};
 ghost use Rattle.std.specs.FinMap as finite;
-ghost use Rattle.std.specs.List.{list_any};
 ghost use Rattle.std.specs.List.Sorted.{IsStrictlySortedBy};
-ghost use Rattle.std.specs.Map.{keys_of, values_of};
-ghost use Rattle.std.specs.BTreeMap.{IsOrdered, get};
+ghost use Rattle.std.specs.Map.{keys_of};
 ghost use Rattle.std.specs.Option.{option_cmp, unwrap_or};
 ghost use Rattle.std.specs.Ordering.{is_eq};
-ghost use Rattle.lot_num.specs.Amount.{IsUnits, IsWide, one, units_limit};
-ghost use Rattle.lot_num.specs.Sum.{sum_of};
+ghost use Rattle.lot_num.specs.Amount.{IsUnits, IsWide, one};
 ghost use Rattle.lot_inv.specs.Inventory.{NumbersLots, StoresMore, added_lot, as_entries, fitting, lots_of, matching, non_zero, nothing, only_lots, opened_at, opening_at, other_sign, reduces, sum, units_at, with_lot, with_number};
 ghost use Rattle.lot_inv.specs.Days.{AreLentOf, Counts, gone_through, numbered};
 ghost use Rattle.lot_inv.specs.Lot.{AreNumberedBy, key_and_units};
-ghost use Rattle.lot_cost.specs.CostSpec.{fits};
 ghost use Rattle.lot_inv.specs.Zeros.{HasNoZeros};
 ghost use Rattle.lot_cost.specs.LotKey.{lot_cmp};
-ghost use Rattle.lot_inv.specs.Holding.{AreAlike, AreHoldings, ChangesPosition, NeedsPosition, NoneIsEmpty, NoOtherIsEmpty, kept, kept_at, lot_rows, plain_rows, rows_of, takeable, takeable_lots, units_in, with_lots};
+ghost use Rattle.lot_inv.specs.Holding.{AreAlike, AreHoldings, ChangesPosition, NeedsPosition, NoneIsEmpty, NoOtherIsEmpty, kept_at, plain_rows, rows_of, takeable_lots, units_in, with_lots};
 ghost use Rattle.lot_cost.specs.declared.lot_key.LotKey.{LotKey};
 ghost use Rattle.lot_inv.specs.declared.fault.InventoryFault.TheVariants.{Memory, Range};
 
 use crate::days::Days;
 use crate::fault::InventoryFault;
 use crate::lot::{LentLot, Lot};
+use crate::lots::{Available, Lots, OpenLot, fits_at};
 use lot_base::Commodity;
 use lot_cost::{CostSpec, LotKey};
 use lot_num::{Rate, Units, Wide};
@@ -43,23 +40,7 @@ pub struct Inventory {
 #[derive(Drop)]
 struct Holding {
     plain: Units,
-    lots: BTreeMap<LotKey, OpenLot>,
-}
-
-/// What is kept of a lot under its key.
-#[derive(Clone, Copy)]
-struct OpenLot {
-    units: Units,
-    opening: u64,
-}
-
-/// Lots that units may take: all of them, or several that hold more than the units.
-#[derive(Clone, Copy, Debug)]
-pub struct Available {
-    /// How many they are.
-    pub lots: u64,
-    /// What they hold together: the sum of the mantissas of their units, sign aside.
-    pub held: u128,
+    lots: Lots,
 }
 
 impl Model for Inventory {
@@ -136,7 +117,7 @@ impl Inventory {
         ensures { result ≡ reduces self.now.held commodity.now units }
     {
         match self.held.get(commodity) {
-            Some(holding) => holding.has_other_sign(units),
+            Some(holding) => holding.lots.has_other_sign(units),
             None => false,
         }
     }
@@ -153,7 +134,7 @@ impl Inventory {
         ensures { result ≡ sum self.now.held commodity.now }
     {
         match self.held.get(commodity) {
-            Some(holding) => holding.total(),
+            Some(holding) => holding.lots.total(),
             None => 0,
         }
     }
@@ -167,7 +148,7 @@ impl Inventory {
         ensures memory { OnErr result (matching self.now.held commodity.now spec.now ≢ []) }
     {
         match self.held.get(commodity) {
-            Some(holding) => holding.matching(self.alloc, spec),
+            Some(holding) => holding.lots.matching(self.alloc, spec),
             None => Ok(Vec::new(self.alloc)),
         }
     }
@@ -189,7 +170,7 @@ impl Inventory {
             (fitting self.now.held commodity.now units (with_number number.now spec.now)) }
     {
         match self.held.get(commodity) {
-            Some(holding) => holding.available(units, number, spec),
+            Some(holding) => holding.lots.available(units, number, spec),
             None => Available { lots: 0, held: 0 },
         }
     }
@@ -298,6 +279,7 @@ impl Inventory {
 
 impl Holding {
     ghost use Rattle.lot_inv.specs.Holding.{HoldsSomething, IsHolding, NeedsLot, held_at, listed, opening_of, units_of};
+    ghost use Rattle.lot_inv.specs.Lots.{lot_at};
     ghost use Rattle.lot_inv.specs.declared.lot.Lot.{Lot};
 
     /// Returns the units in the lot of that key, or the plain ones. They are zero where none are held.
@@ -312,21 +294,9 @@ impl Holding {
 
     /// Returns the opening number of the lot of that key, or `None` where it isn't held.
     fn opening(&self, key: &LotKey) -> Option<u64>
-        ensures { result ≡ opening_of (get lot_cmp self.now.lots key.now) }
+        ensures { result ≡ opening_of (lot_at self.now.lots key.now) }
     {
         self.lots.get(key).map(|lot| lot.opening)
-    }
-
-    /// Returns whether some lot has the other sign than the units.
-    fn has_other_sign(&self, units: Units) -> bool
-        ensures { result ≡ list_any (λ held. other_sign held units) (values_of (units_in self.now.lots.entries)) }
-    {
-        for lot in self.lots.values() {
-            if is_other_sign(lot.units, units) {
-                return true;
-            }
-        }
-        false
     }
 
     /// Returns a holding that holds nothing.
@@ -336,7 +306,7 @@ impl Holding {
     {
         Holding {
             plain: Units::ZERO,
-            lots: BTreeMap::new(alloc),
+            lots: Lots::new(alloc),
         }
     }
 
@@ -345,7 +315,7 @@ impl Holding {
         ensures nothing { IsTrue result → (key : Option LotKey) → held_at self.now key ≡ None }
         ensures something { IsFalse result → HoldsSomething self.now }
     {
-        self.plain == Units::ZERO && self.lots.is_empty()
+        self.plain == Units::ZERO && self.lots.len() == 0
     }
 
     /// Sets the units in the lot of that key and its opening number, or the plain units. A lot of zero units is held no more.
@@ -361,50 +331,10 @@ impl Holding {
         ensures some { OnErr result (units ≢ pos 0) }
     {
         match key {
-            Some(key) => set_lot(&mut self.lots, key, units, opening)?,
+            Some(key) => self.lots.set(key, units, opening)?,
             None => self.plain = units,
         }
         Ok(())
-    }
-
-    /// Returns the lots that a specification fits, in the order of their keys.
-    fn matching(&self, alloc: Global, spec: &CostSpec) -> Result<Vec<Lot>, AllocError>
-        ensures all { IfOk result (λ lots. lots.items
-            ≡ filter (λ (lot : Lot). fits spec.now lot.key) (listed self.now.lots.entries)) }
-        ensures memory { OnErr result (filter (λ (lot : Lot). fits spec.now lot.key) (listed self.now.lots.entries) ≢ []) }
-    {
-        let mut fitting = Vec::new(alloc);
-        for (key, lot) in &self.lots {
-            if spec.fits(key) {
-                fitting.push(Lot {
-                    key: key.copy()?,
-                    units: lot.units,
-                    opening: lot.opening,
-                })?;
-            }
-        }
-        Ok(fitting)
-    }
-
-    /// Returns how many of the lots units may take at a number, and what these hold: all of them, or several that hold more
-    /// than the units.
-    fn available(&self, units: Units, number: &Option<Rate>, spec: &CostSpec) -> Available
-        requires { (spec.now.number ≡ None) ⊎ (spec.now.number ≡ number.now) }
-        ensures { Counts (unsigned_abs units) result.lots result.held
-            (takeable units (with_number number.now spec.now) (units_in self.now.lots.entries)) }
-    {
-        let wanted = u128::from(units.mantissa().unsigned_abs());
-        let mut available = Available { lots: 0, held: 0 };
-        for (key, lot) in &self.lots {
-            if 1 < available.lots && wanted < available.held {
-                return available;
-            }
-            if is_other_sign(lot.units, units) && fits_at(number, spec, key) {
-                available.lots += 1;
-                available.held += u128::from(lot.units.mantissa().unsigned_abs());
-            }
-        }
-        available
     }
 
     /// Returns the lots of these days that units may take at a number, day by day until they hold the units.
@@ -419,7 +349,7 @@ impl Holding {
         requires number { (spec.now.number ≡ None) ⊎ (spec.now.number ≡ number.now) }
         requires holding { IsHolding self.now }
         ensures { IfOk result (λ lots. AreLentOf days (unsigned_abs units)
-            (takeable_lots units (with_number number.now spec.now) (listed self.now.lots.entries))
+            (takeable_lots units (with_number number.now spec.now) (listed self.now.lots))
             lots.items) }
     {
         let mut left = units.mantissa().unsigned_abs();
@@ -444,11 +374,11 @@ impl Holding {
 
     /// Returns an inventory of these lots, as lots of the commodity.
     fn only_lots(&self, alloc: Global, commodity: &Commodity) -> Result<Inventory, AllocError>
-        ensures lots { IfOk result (λ inventory. inventory ≡ with_lots nothing commodity.now self.now.lots.entries) }
-        ensures memory { OnErr result (self.now.lots.entries ≢ []) }
+        ensures lots { IfOk result (λ inventory. inventory ≡ with_lots nothing commodity.now self.now.lots) }
+        ensures memory { OnErr result (self.now.lots ≢ []) }
     {
         let mut lots = Inventory::new(alloc);
-        for (key, lot) in &self.lots {
+        for (key, lot) in self.lots.iter() {
             lots.set(commodity, Some(key), lot.units, lot.opening)?;
         }
         Ok(lots)
@@ -464,18 +394,7 @@ impl Holding {
         ensures memory { OnErr result (rows_of commodity.now self.now ≢ []) }
     {
         list_plain(self.plain, commodity, rows)?;
-        list_lots(&self.lots, commodity, rows)
-    }
-
-    /// Returns the sum of the mantissas of all lots, at scale 8.
-    fn total(&self) -> i128
-        ensures { result ≡ sum_of (values_of (units_in self.now.lots.entries)) }
-    {
-        let mut total = 0;
-        for lot in self.lots.values() {
-            total = plus(total, lot.units);
-        }
-        total
+        self.lots.list(commodity, rows)
     }
 }
 
@@ -491,18 +410,6 @@ fn next<'a>(days: Days, lots: &mut Iter<'a, LotKey, OpenLot>) -> Option<(&'a Lot
     }
 }
 
-/// Returns whether a specification fits a key, and the key has that number where one is given. The specification has that
-/// number itself, or none.
-fn fits_at(number: &Option<Rate>, spec: &CostSpec, key: &LotKey) -> bool
-    requires { (spec.now.number ≡ None) ⊎ (spec.now.number ≡ number.now) }
-    ensures { result ≡ fits (with_number number.now spec.now) key.now }
-{
-    match number {
-        Some(number) => key.number == *number && spec.fits(key),
-        None => spec.fits(key),
-    }
-}
-
 /// Lists the plain units of a commodity behind other rows, unless they are zero.
 fn list_plain(
     units: Units,
@@ -514,21 +421,6 @@ fn list_plain(
 {
     if units.mantissa() != 0 {
         rows.push((commodity.copy()?, None, units))?;
-    }
-    Ok(())
-}
-
-/// Lists the lots of a commodity behind other rows, in the order of their keys.
-fn list_lots(
-    lots: &BTreeMap<LotKey, OpenLot>,
-    commodity: &Commodity,
-    rows: &mut Vec<(Commodity, Option<LotKey>, Units)>,
-) -> Result<(), AllocError>
-    ensures all { OnOk result (as_entries rows.new.items ≡ as_entries rows.old.items ++ units_in (lot_rows commodity.now lots.now.entries)) }
-    ensures memory { OnErr result (lot_rows commodity.now lots.now.entries ≢ []) }
-{
-    for (key, lot) in lots {
-        rows.push((commodity.copy()?, Some(key.copy()?), lot.units))?;
     }
     Ok(())
 }
@@ -585,50 +477,11 @@ fn forget_if_empty(held: &mut BTreeMap<Commodity, Holding>, commodity: &Commodit
     }
 }
 
-/// Sets the units of a lot and its opening number. At zero units the lot is no longer held. A lot that is held already changes
-/// in place.
-fn set_lot(
-    lots: &mut BTreeMap<LotKey, OpenLot>,
-    key: &LotKey,
-    units: Units,
-    opening: u64,
-) -> Result<(), AllocError>
-    requires { IsOrdered lot_cmp lots.old }
-    ensures ordered { IsOrdered lot_cmp lots.new }
-    ensures each { OnOk result ((other : LotKey) → get lot_cmp lots.new other
-        ≡ cond (is_eq (lot_cmp key.now other)) (kept units opening) (get lot_cmp lots.old other)) }
-    ensures err { OnErr result (lots.new.entries ≡ lots.old.entries) }
-    ensures memory { OnErr result (get lot_cmp lots.old key.now ≡ None) }
-    ensures some { OnErr result (units ≢ pos 0) }
-{
-    if units.mantissa() == 0 {
-        lots.remove(key);
-        return Ok(());
-    }
-    let lot = OpenLot { units, opening };
-    match lots.get_mut(key) {
-        Some(held) => *held = lot,
-        None => {
-            lots.insert(key.copy()?, lot)?;
-        }
-    }
-    Ok(())
-}
-
 /// Returns the units of a mantissa at scale 16, or `None` where they are out of range.
 fn wide(mantissa: i128) -> Option<Wide>
     ensures { SomeIff result (IsWide (mantissa *ℤ pos one)) (mantissa *ℤ pos one) }
 {
     Wide::from_mantissa(mantissa.checked_mul(100_000_000)?)
-}
-
-/// Returns a sum of mantissas and the mantissa of further units. The sum is that of at most 2^63 units.
-fn plus(total: i128, units: Units) -> i128
-    requires { unsigned_abs total ≤ 2 ^ 63 * units_limit }
-    ensures value { result ≡ total +ℤ units }
-    ensures bound { unsigned_abs result ≤ unsigned_abs total + units_limit }
-{
-    total + i128::from(units.mantissa())
 }
 
 /// Returns whether one of the two is below zero and the other above it.

@@ -2,9 +2,10 @@
 //!
 //! Lot keys and cost specifications are those of `lot_cost`.
 //!
-//! - `inventory`: `Inventory`, the units of each position of an account, and `Available`, the lots that units may take.
+//! - `inventory`: `Inventory`, the units of each position of an account.
 //! - `days`: `Days`, of which days lots are lent.
 //! - `lot`: `Lot`, a lot that is held, and `LentLot`, one whose key is lent.
+//! - `lots`: `Lots`, the lots of one commodity, under their keys, and `Available`, those that units may take.
 //! - `fault`: `InventoryFault`, why units aren't added.
 //! - `laws`: what holds of the definitions that the contracts cite.
 #![tactic(auto)]
@@ -14,9 +15,11 @@ mod fault;
 mod inventory;
 pub mod laws;
 mod lot;
+mod lots;
 
 pub use days::Days;
 pub use fault::InventoryFault;
-pub use inventory::{Available, Inventory, is_other_sign};
+pub use inventory::{Inventory, is_other_sign};
 pub use lot::{LentLot, Lot};
 pub use lot_cost::{CostSpec, LotKey};
+pub use lots::Available;

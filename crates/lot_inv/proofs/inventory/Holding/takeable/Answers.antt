@@ -21,7 +21,7 @@ loop-key-init c =
           ∙ ap (λ es. takeable_lots c.args.units spec (listed (gone_through days es))) rest;
       by_day = subst (λ (ls : List Lot). AreByDay days (ls ++ behind)) (sym none)
           (subst (λ es. AreByDay days (listed (gone_through days es))) (sym rest)
-          (by_day-from_sorted days c.args.self.now.lots.entries c.requires.holding.sorted));
+          (by_day-from_sorted days c.args.self.now.lots c.requires.holding.sorted));
       held = search rules;
     }
 
@@ -56,7 +56,7 @@ returns-then-is_past c =
     let none = c.if-left-eq0.true in
     let held = so_far.held in
     let enough : unsigned_abs units ≤ held_in (map key_and_units lots) = omega (arith, none, held) in
-    lent_before units spec c.args.days (unsigned_abs units) c.args.self.now.lots.entries lots lot rest
+    lent_before units spec c.args.days (unsigned_abs units) c.args.self.now.lots lots lot rest
     (ap (λ ls. lots ++ takeable_lots units spec ls) (sym steps) ∙ so_far.all)
     (subst (λ ls. AreByDay c.args.days (lots ++ ls)) steps so_far.by_day)
     (ap (λ (ls : List Lot). is_past c.args.days ls lot.key) (sym c.deref.ensures.value) ∙ sym c.is_past.ensures ∙ c.if-is_past.true)
@@ -67,5 +67,5 @@ returns c =
     let spec = with_number c.args.number.now c.args.spec.now in
     let units = c.args.units in
     let lots = c.loop-key.lots.items in
-    lent_all units spec c.args.days (unsigned_abs units) c.args.self.now.lots.entries lots
+    lent_all units spec c.args.days (unsigned_abs units) c.args.self.now.lots lots
     (ap (λ es. lots ++ takeable_lots units spec (listed es)) (sym c.in_default.ensures.none) ∙ c.loop-key.invariant.all)

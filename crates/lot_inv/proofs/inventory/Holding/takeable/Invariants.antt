@@ -14,7 +14,7 @@ invariant-loop-key l =
     let behind = listed (gone_through l.days l.entries) in
     record {
       all : l.lots.items ++ takeable_lots l.units (with_number l.number l.spec) behind
-          ≡ takeable_lots l.units (with_number l.number l.spec) (listed (gone_through l.days l.self.lots.entries));
+          ≡ takeable_lots l.units (with_number l.number l.spec) (listed (gone_through l.days l.self.lots));
       by_day : AreByDay l.days (l.lots.items ++ behind);
       held : unsigned_abs l.units ≤ l.left + held_in (map key_and_units l.lots.items);
     }

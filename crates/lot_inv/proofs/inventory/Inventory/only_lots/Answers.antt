@@ -17,7 +17,7 @@ returns-in-Some-clause-lots c =
     let lots = lots_seen c.self.inside.held.entries c.args.self.now c.args.commodity.now (option_copied c.get.result) c.self.invariant.0 c.self.view_is c.get.ensures.value in
     let is = holding_seen c.self.inside.held.entries c.args.commodity.now c.in-Some.holding.now c.self.invariant.0 (ap option_copied (sym c.in-Some.is) ∙ c.get.ensures.value) in
     IfOk-weaker c.only_lots.result _ _ (λ inventory e. ap (λ (stock : Stock). stock.held) e
-    ∙ only-with_lots c.args.self.now.held c.args.commodity.now c.in-Some.holding.now.lots.entries
+    ∙ only-with_lots c.args.self.now.held c.args.commodity.now c.in-Some.holding.now.lots
     (lots ∙ ap (λ o. units_in (lots_at (option_copied o))) c.in-Some.is) is.sorted is.nonzero)
     c.only_lots.ensures.lots
 
@@ -25,7 +25,7 @@ pub returns-in-Some-clause-openings : goal.returns-in-Some-clause-openings
 returns-in-Some-clause-openings c =
     let is = holding_seen c.self.inside.held.entries c.args.commodity.now c.in-Some.holding.now c.self.invariant.0 (ap option_copied (sym c.in-Some.is) ∙ c.get.ensures.value) in
     IfOk-weaker c.only_lots.result _ _ (λ inventory e lot. ap (λ (stock : Stock). opened_at stock c.args.commodity.now lot) e
-    ∙ numbers-with_lots c.args.commodity.now c.in-Some.holding.now.lots.entries is.sorted is.nonzero lot
+    ∙ numbers-with_lots c.args.commodity.now c.in-Some.holding.now.lots is.sorted is.nonzero lot
     ∙ sym (opening_seen c.self.inside.held.entries c.args.self.now c.args.commodity.now lot (option_copied c.get.result) c.self.invariant.0 c.self.view_is c.get.ensures.value
     ∙ ap (λ o. opening_of (option_and_then (λ (holding : Holding). held_at holding (Some lot)) (option_copied o))) c.in-Some.is))
     c.only_lots.ensures.lots
@@ -34,7 +34,7 @@ pub returns-in-Some-clause-memory : goal.returns-in-Some-clause-memory
 returns-in-Some-clause-memory c =
     let lots = lots_seen c.self.inside.held.entries c.args.self.now c.args.commodity.now (option_copied c.get.result) c.self.invariant.0 c.self.view_is c.get.ensures.value in
     on_err-then c.only_lots.result
-    (λ some none. some (none_in_units c.in-Some.holding.now.lots.entries (sym (lots ∙ ap (λ o. units_in (lots_at (option_copied o))) c.in-Some.is) ∙ none)))
+    (λ some none. some (none_in_units c.in-Some.holding.now.lots (sym (lots ∙ ap (λ o. units_in (lots_at (option_copied o))) c.in-Some.is) ∙ none)))
     c.only_lots.ensures.memory
 
 pub returns-in-None-clause-lots : goal.returns-in-None-clause-lots

@@ -1,6 +1,5 @@
 -- The lots of a commodity are those of its holding.
 use Rattle.std.proofs.Common.{◌≡◌, [], Some, List, option_copied, sym, ap, ◌∙◌, filter, map, subst, unsigned_abs}
-use Rattle.std.specs.BTreeMap.{get}
 use Rattle.std.specs.Option.{unwrap_or}
 use Rattle.std.specs.Prelude.{option_and_then}
 use Rattle.std.proofs.lemmas.List.Elements.{All-filter, All-from_recursion, recursion_from_All}
@@ -8,13 +7,13 @@ use Rattle.std.proofs.lemmas.List.Sorted.{IsPermutation-refl}
 use Rattle.std.proofs.lemmas.Result.{IfOk-weaker}
 use Rattle.lot_cost.specs.CostSpec.{fits}
 use Rattle.lot_cost.specs.declared.lot_key.LotKey.{LotKey}
-use Rattle.lot_cost.specs.LotKey.{lot_cmp}
 use Rattle.lot_inv.specs.Days.{AreLentOf, numbered}
 use Rattle.lot_inv.specs.declared.inventory.Holding.{Holding}
-use Rattle.lot_inv.specs.declared.inventory.OpenLot.{OpenLot}
+use Rattle.lot_inv.specs.declared.lots.OpenLot.{OpenLot}
 use Rattle.lot_inv.specs.declared.lot.Lot.{Lot}
 use Rattle.lot_inv.specs.Holding.{held_at, listed, opening_of, takeable, takeable_lots, units_in}
 use Rattle.lot_inv.specs.Inventory.{fitting, opening_at, other_sign, with_number}
+use Rattle.lot_inv.specs.Lots.{lot_at}
 use Rattle.lot_inv.specs.Lot.{key_and_units}
 use Rattle.lot_inv.proofs.InventoryLemmas.{holding_seen, lots_at, lots_seen, opening_seen}
 use Rattle.lot_inv.proofs.LentLemmas.{are_numbered}
@@ -31,11 +30,11 @@ returns-in-Some c =
     let spec = with_number c.args.number.now c.args.spec.now in
     let stock = c.args.self.now in
     let opening = opening_at stock commodity in
-    let entries = c.in-Some.holding.now.lots.entries in
+    let entries = c.in-Some.holding.now.lots in
     let lots = lots_seen c.self.inside.held.entries stock commodity (option_copied c.get.result) c.self.invariant.0 c.self.view_is c.get.ensures.value in
     let is = holding_seen c.self.inside.held.entries commodity c.in-Some.holding.now c.self.invariant.0 (ap option_copied (sym c.in-Some.is) ∙ c.get.ensures.value) in
     let IsNumbered : Lot → Type 0 = λ lot. lot.opening ≡ opening lot.key in
-    let number = λ (key : LotKey) (lot : OpenLot) (e : get lot_cmp c.in-Some.holding.now.lots key ≡ Some lot).
+    let number = λ (key : LotKey) (lot : OpenLot) (e : lot_at c.in-Some.holding.now.lots key ≡ Some lot).
     sym (ap (λ o. unwrap_or o 0) (opening_seen c.self.inside.held.entries stock commodity key (option_copied c.get.result) c.self.invariant.0 c.self.view_is c.get.ensures.value
     ∙ ap (λ o. opening_of (option_and_then (λ (holding : Holding). held_at holding (Some key)) (option_copied o))) c.in-Some.is
     ∙ ap opening_of e)) in

@@ -5,8 +5,8 @@ use Rattle.lot_cost.specs.declared.lot_key.LotKey.{LotKey}
 use Rattle.lot_inv.specs.Holding.{takeable, units_in}
 use Rattle.lot_inv.specs.Inventory.{held_in, with_number}
 use Rattle.lot_inv.proofs.AvailableLemmas.{has_same_sign, held_in-cons, misfits, takes_lot}
-use Rattle.lot_inv.proofs.inventory.Holding.available.Goals.{else-is_other_sign-via-then-is_other_sign+else-fits_at, else-is_other_sign-via-else-is_other_sign}
-use Rattle.lot_inv.proofs.inventory.Holding.available.Goals as goal
+use Rattle.lot_inv.proofs.lots.Lots.available.Goals.{else-is_other_sign-via-then-is_other_sign+else-fits_at, else-is_other_sign-via-else-is_other_sign}
+use Rattle.lot_inv.proofs.lots.Lots.available.Goals as goal
 
 pub loop-key-preserved-then-fits_at : goal.loop-key-preserved-then-fits_at
 loop-key-preserved-then-fits_at c =

@@ -1,0 +1,262 @@
+ghost use Rattle.std.specs.Prelude.{◌≡◌, ◌≢◌, ◌⊎◌, ℤ, Bool, [], ◌++◌, pos, ◌+ℤ◌, ◌+◌, ◌*◌, ◌^◌, ◌<◌, ◌≤◌, length, option_copied, unsigned_abs, IfOk, OnOk, OnErr, None, cond, filter};
+ghost use Rattle.std.specs.List.{list_any};
+ghost use Rattle.std.specs.List.Sorted.{IsStrictlySortedBy};
+ghost use Rattle.std.specs.Map.{keys_of, values_of};
+ghost use Rattle.std.specs.BTreeMap.{IsOrdered, get};
+ghost use Rattle.std.specs.Ordering.{is_eq};
+ghost use Rattle.lot_num.specs.Amount.{units_limit};
+ghost use Rattle.lot_num.specs.Sum.{sum_of};
+ghost use Rattle.lot_cost.specs.CostSpec.{fits};
+ghost use Rattle.lot_cost.specs.LotKey.{lot_cmp};
+ghost use Rattle.lot_cost.specs.declared.lot_key.LotKey.{LotKey};
+ghost use Rattle.lot_inv.specs.declared.lot.Lot.{Lot};
+ghost use Rattle.lot_inv.specs.Days.{Counts};
+ghost use Rattle.lot_inv.specs.Inventory.{as_entries, other_sign, with_number};
+ghost use Rattle.lot_inv.specs.Holding.{kept, listed, lot_rows, takeable, units_in};
+ghost use Rattle.lot_inv.specs.Lots.{count_of, counted_in, is_below, lot_at};
+
+use crate::inventory::is_other_sign;
+use crate::lot::Lot;
+use lot_base::Commodity;
+use lot_cost::{CostSpec, LotKey};
+use lot_num::{Rate, Units};
+use std::alloc::{AllocError, Global};
+use std::collections::BTreeMap;
+use std::collections::btree_map::Iter;
+use std::marker::Model;
+use std::mem;
+
+/// What is kept of a lot under its key.
+#[derive(Clone, Copy)]
+pub(crate) struct OpenLot {
+    pub(crate) units: Units,
+    pub(crate) opening: u64,
+}
+
+/// The lots of one commodity, each under its key. None of them has zero units.
+///
+/// A contract sees them as a list, in the order of their keys.
+#[derive(Drop)]
+pub(crate) struct Lots {
+    by_key: BTreeMap<LotKey, OpenLot>,
+    /// How many of them are below zero. The others are above it.
+    below: u64,
+}
+
+/// Lots that units may take: all of them, or several that hold more than the units.
+#[derive(Clone, Copy, Debug)]
+pub struct Available {
+    /// How many they are.
+    pub lots: u64,
+    /// What they hold together: the sum of the mantissas of their units, sign aside.
+    pub held: u128,
+}
+
+impl Model for Lots {
+    ghost use Rattle.std.specs.Prelude.{List};
+    ghost use Rattle.lot_cost.specs.declared.lot_key.LotKey.{LotKey};
+    ghost use Rattle.lot_inv.specs.declared.lots.OpenLot.{OpenLot};
+    ghost use Rattle.lot_inv.specs.Lots.{AreCounted};
+
+    ghost Value = { List (LotKey × OpenLot) };
+
+    ghost view = { λ l. l.by_key.entries };
+
+    ghost invariant = { λ l. AreCounted l.below l.by_key.entries };
+}
+
+impl Lots {
+    /// Returns no lots.
+    pub(crate) fn new(alloc: Global) -> Lots
+        ensures { result ≡ [] }
+    {
+        Lots {
+            by_key: BTreeMap::new(alloc),
+            below: 0,
+        }
+    }
+
+    /// Returns the lot of that key, or `None` where it isn't held.
+    pub(crate) fn get(&self, key: &LotKey) -> Option<&OpenLot>
+        ensures { option_copied result ≡ lot_at self.now key.now }
+    {
+        self.by_key.get(key)
+    }
+
+    /// Returns how many lots there are.
+    pub(crate) fn len(&self) -> usize
+        ensures { result ≡ length self.now }
+    {
+        self.by_key.len()
+    }
+
+    /// Returns an iterator over the lots, in the order of their keys.
+    pub(crate) fn iter(&self) -> Iter<'_, LotKey, OpenLot>
+        ensures rest { result ≡ self.now }
+        ensures fits { length self.now < 2 ^ 63 }
+    {
+        self.by_key.iter()
+    }
+
+    /// Returns whether some lot has the other sign than the units.
+    pub(crate) fn has_other_sign(&self, units: Units) -> bool
+        ensures { result ≡ list_any (λ held. other_sign held units)
+            (values_of (units_in self.now)) }
+    {
+        let units = units.mantissa();
+        if units < 0 {
+            return self.below < self.by_key.len() as u64;
+        }
+        0 < units && 0 < self.below
+    }
+
+    /// Returns the sum of the mantissas of all lots, at scale 8.
+    pub(crate) fn total(&self) -> i128
+        ensures { result ≡ sum_of (values_of (units_in self.now)) }
+    {
+        let mut total = 0;
+        for (_, lot) in self.iter() {
+            total = plus(total, lot.units);
+        }
+        total
+    }
+
+    /// Returns the lots that a specification fits, in the order of their keys.
+    pub(crate) fn matching(&self, alloc: Global, spec: &CostSpec) -> Result<Vec<Lot>, AllocError>
+        ensures all { IfOk result (λ lots. lots.items
+            ≡ filter (λ (lot : Lot). fits spec.now lot.key) (listed self.now)) }
+        ensures memory { OnErr result
+            (filter (λ (lot : Lot). fits spec.now lot.key) (listed self.now) ≢ []) }
+    {
+        let mut fitting = Vec::new(alloc);
+        for (key, lot) in self.iter() {
+            if spec.fits(key) {
+                fitting.push(Lot {
+                    key: key.copy()?,
+                    units: lot.units,
+                    opening: lot.opening,
+                })?;
+            }
+        }
+        Ok(fitting)
+    }
+
+    /// Returns how many of the lots units may take at a number, and what these hold: all of them, or several that hold more
+    /// than the units.
+    pub(crate) fn available(
+        &self,
+        units: Units,
+        number: &Option<Rate>,
+        spec: &CostSpec,
+    ) -> Available
+        requires { (spec.now.number ≡ None) ⊎ (spec.now.number ≡ number.now) }
+        ensures { Counts (unsigned_abs units) result.lots result.held
+            (takeable units (with_number number.now spec.now) (units_in self.now)) }
+    {
+        let wanted = u128::from(units.mantissa().unsigned_abs());
+        let mut available = Available { lots: 0, held: 0 };
+        for (key, lot) in self.iter() {
+            if 1 < available.lots && wanted < available.held {
+                return available;
+            }
+            if is_other_sign(lot.units, units) && fits_at(number, spec, key) {
+                available.lots += 1;
+                available.held += u128::from(lot.units.mantissa().unsigned_abs());
+            }
+        }
+        available
+    }
+
+    /// Lists the lots of a commodity behind other rows, in the order of their keys.
+    pub(crate) fn list(
+        &self,
+        commodity: &Commodity,
+        rows: &mut Vec<(Commodity, Option<LotKey>, Units)>,
+    ) -> Result<(), AllocError>
+        ensures all { OnOk result (as_entries rows.new.items
+            ≡ as_entries rows.old.items ++ units_in (lot_rows commodity.now self.now)) }
+        ensures memory { OnErr result (lot_rows commodity.now self.now ≢ []) }
+    {
+        for (key, lot) in self.iter() {
+            rows.push((commodity.copy()?, Some(key.copy()?), lot.units))?;
+        }
+        Ok(())
+    }
+
+    /// Sets the units of a lot and its opening number. At zero units the lot is no longer held. A lot that is held already
+    /// changes in place.
+    pub(crate) fn set(&mut self, key: &LotKey, units: Units, opening: u64) -> Result<(), AllocError>
+        ensures ordered { IsStrictlySortedBy lot_cmp (keys_of self.new) }
+        ensures each { OnOk result ((other : LotKey) → lot_at self.new other
+            ≡ cond (is_eq (lot_cmp key.now other)) (kept units opening) (lot_at self.old other)) }
+        ensures err { OnErr result (self.new ≡ self.old) }
+        ensures memory { OnErr result (lot_at self.old key.now ≡ None) }
+        ensures some { OnErr result (units ≢ pos 0) }
+    {
+        let before = put(&mut self.by_key, key, units, opening)?;
+        // There are fewer than 2^63 lots, so their count is in range.
+        let _ = self.by_key.len();
+        self.below += one_if_below(units);
+        self.below -= before.map_or(0, |lot| one_if_below(lot.units));
+        Ok(())
+    }
+}
+
+/// Sets the units of a lot and its opening number. At zero units the lot is no longer held. A lot that is held already changes
+/// in place. Returns what was kept of the lot before.
+fn put(
+    lots: &mut BTreeMap<LotKey, OpenLot>,
+    key: &LotKey,
+    units: Units,
+    opening: u64,
+) -> Result<Option<OpenLot>, AllocError>
+    ensures ordered { IsOrdered lot_cmp lots.new }
+    ensures each { OnOk result ((other : LotKey) → get lot_cmp lots.new other
+        ≡ cond (is_eq (lot_cmp key.now other)) (kept units opening) (get lot_cmp lots.old other)) }
+    ensures counts { IfOk result (λ before. (test : ℤ → Bool)
+        → count_of test lots.new.entries + counted_in test before
+        ≡ count_of test lots.old.entries + counted_in test (kept units opening)) }
+    ensures err { OnErr result (lots.new.entries ≡ lots.old.entries) }
+    ensures memory { OnErr result (get lot_cmp lots.old key.now ≡ None) }
+    ensures some { OnErr result (units ≢ pos 0) }
+{
+    if units.mantissa() == 0 {
+        return Ok(lots.remove(key));
+    }
+    let lot = OpenLot { units, opening };
+    match lots.get_mut(key) {
+        Some(held) => Ok(Some(mem::replace(held, lot))),
+        None => {
+            lots.insert(key.copy()?, lot)?;
+            Ok(None)
+        }
+    }
+}
+
+/// Returns 1 for units below zero, else 0.
+fn one_if_below(units: Units) -> u64
+    ensures { result ≡ cond (is_below units) 1 0 }
+{
+    u64::from(units.mantissa() < 0)
+}
+
+/// Returns whether a specification fits a key, and the key has that number where one is given. The specification has that
+/// number itself, or none.
+pub(crate) fn fits_at(number: &Option<Rate>, spec: &CostSpec, key: &LotKey) -> bool
+    requires { (spec.now.number ≡ None) ⊎ (spec.now.number ≡ number.now) }
+    ensures { result ≡ fits (with_number number.now spec.now) key.now }
+{
+    match number {
+        Some(number) => key.number == *number && spec.fits(key),
+        None => spec.fits(key),
+    }
+}
+
+/// Returns a sum of mantissas and the mantissa of further units. The sum is that of at most 2^63 units.
+fn plus(total: i128, units: Units) -> i128
+    requires { unsigned_abs total ≤ 2 ^ 63 * units_limit }
+    ensures value { result ≡ total +ℤ units }
+    ensures bound { unsigned_abs result ≤ unsigned_abs total + units_limit }
+{
+    total + i128::from(units.mantissa())
+}
