@@ -180,6 +180,13 @@ below_kept units opening =
     not_below : int_eq units (pos 0) ≡ true → is_below units ≡ false
     not_below zero = grind (arith, ints)
 
+zero_kept : (units : ℤ) (opening : ℕ) → counted_in is_zero (kept units opening) ≡ 0
+zero_kept units opening =
+    elim (int_eq units (pos 0)) as (λ b. int_eq units (pos 0) ≡ b → counted_in is_zero (cond b None (Some (record { units = units; opening = opening }))) ≡ 0) [
+      | true ↦ λ zero. refl
+      | false ↦ λ some. ap (λ b. cond b 1 0) some
+    ] refl
+
 module _ (key : LotKey) (units : ℤ) (opening : ℕ) (old new : List Entry) (before : Option OpenLot) (below : ℕ)
     (counted : AreCounted below old) (go : Counts_go key units opening old new before) where
   -- the count with the lot as it is now, still with the lot as it was
@@ -196,3 +203,17 @@ module _ (key : LotKey) (units : ℤ) (opening : ℕ) (old new : List Entry) (be
       one_at_most : (lot : Option OpenLot) → counted_in is_below lot ≤ 1
       one_at_most None = omega arith
       one_at_most (Some lot) = elim (is_below lot.units) as (λ b. cond b 1 0 ≤ 1) [ true ↦ omega arith | false ↦ omega arith ]
+
+  pub counted_still : (n : ℕ) → n + counted_in is_below before ≡ below + cond (is_below units) 1 0 → AreCounted n new
+  counted_still n is =
+      let same = count-with in
+      let zeros = go is_zero in
+      let were = counted.none_zero in
+      let now = zero_kept units opening in
+      record {
+        counted = omega (arith, is, same);
+        none_zero = omega (arith, zeros, were, now);
+      }
+
+  pub count-at_least : counted_in is_below before ≤ below + cond (is_below units) 1 0
+  count-at_least = let same = count-with in omega (arith, same)

@@ -1,4 +1,5 @@
 pub mod AvailableLemmas
+pub mod ByNumberLemmas
 pub mod CountLemmas
 pub mod InventoryLemmas
 pub mod LawLemmas
@@ -9,4 +10,5 @@ pub mod OnlyLotsLemmas
 pub mod OpeningLemmas
 pub mod OrderLemmas
 pub mod RowLemmas
+pub mod SameLemmas
 pub mod SetLemmas

@@ -159,6 +159,9 @@ pub nothing_kept : (key : Option LotKey) (units : ℤ) (opening : ℕ) → int_e
 nothing_kept None units opening zero = ap (λ b. cond b None (Some (record { units = units; opening = 0 }))) zero
 nothing_kept (Some key) units opening zero = ap (λ b. cond b None (Some (record { units = units; opening = opening }))) zero
 
+pub something_kept : (units : ℤ) (opening : ℕ) → int_eq units (pos 0) ≡ false → kept units opening ≡ Some (record { units = units; opening = opening })
+something_kept units opening some = ap (λ b. cond b None (Some (record { units = units; opening = opening }))) some
+
 -- ---- the two maps
 
 -- holdings of which the same is found make the same opening numbers

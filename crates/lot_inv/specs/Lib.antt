@@ -1,4 +1,5 @@
 pub mod Days
+pub mod ByNumber
 pub mod Holding
 pub mod Inventory
 pub mod Lot

@@ -10,6 +10,7 @@
 //! - `laws`: what holds of the definitions that the contracts cite.
 #![tactic(auto)]
 
+mod by_number;
 mod days;
 mod fault;
 mod inventory;

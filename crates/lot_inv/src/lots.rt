@@ -15,6 +15,7 @@ ghost use Rattle.lot_inv.specs.Inventory.{as_entries, other_sign, with_number};
 ghost use Rattle.lot_inv.specs.Holding.{kept, listed, lot_rows, takeable, units_in};
 ghost use Rattle.lot_inv.specs.Lots.{count_of, counted_in, is_below, lot_at};
 
+use crate::by_number::{ByNumber, by_number, with_lot};
 use crate::inventory::is_other_sign;
 use crate::lot::Lot;
 use lot_base::Commodity;
@@ -25,6 +26,9 @@ use std::collections::BTreeMap;
 use std::collections::btree_map::Iter;
 use std::marker::Model;
 use std::mem;
+
+/// With more lots than these they are kept by their numbers too.
+const MANY: usize = 64;
 
 /// What is kept of a lot under its key.
 #[derive(Clone, Copy)]
@@ -38,7 +42,10 @@ pub(crate) struct OpenLot {
 /// A contract sees them as a list, in the order of their keys.
 #[derive(Drop)]
 pub(crate) struct Lots {
+    alloc: Global,
     by_key: BTreeMap<LotKey, OpenLot>,
+    /// The same lots by their numbers, once they were many. It is left out where memory lacks for it.
+    by_number: Option<ByNumber>,
     /// How many of them are below zero. The others are above it.
     below: u64,
 }
@@ -53,16 +60,20 @@ pub struct Available {
 }
 
 impl Model for Lots {
-    ghost use Rattle.std.specs.Prelude.{List};
+    ghost use Rattle.std.specs.Prelude.{IfSome, List};
     ghost use Rattle.lot_cost.specs.declared.lot_key.LotKey.{LotKey};
     ghost use Rattle.lot_inv.specs.declared.lots.OpenLot.{OpenLot};
+    ghost use Rattle.lot_inv.specs.ByNumber.{IsByNumber};
     ghost use Rattle.lot_inv.specs.Lots.{AreCounted};
 
     ghost Value = { List (LotKey × OpenLot) };
 
     ghost view = { λ l. l.by_key.entries };
 
-    ghost invariant = { λ l. AreCounted l.below l.by_key.entries };
+    ghost invariant = { λ l. record {
+      counted : AreCounted l.below l.by_key.entries;
+      indexed : IfSome l.by_number (λ index. IsByNumber index.entries l.by_key.entries);
+    } };
 }
 
 impl Lots {
@@ -71,7 +82,9 @@ impl Lots {
         ensures { result ≡ [] }
     {
         Lots {
+            alloc,
             by_key: BTreeMap::new(alloc),
+            by_number: None,
             below: 0,
         }
     }
@@ -194,10 +207,15 @@ impl Lots {
         ensures some { OnErr result (units ≢ pos 0) }
     {
         let before = put(&mut self.by_key, key, units, opening)?;
-        // There are fewer than 2^63 lots, so their count is in range.
-        let _ = self.by_key.len();
-        self.below += one_if_below(units);
-        self.below -= before.map_or(0, |lot| one_if_below(lot.units));
+        let lots = self.by_key.len();
+        self.below += one_if_below(Some(OpenLot { units, opening }));
+        self.below -= one_if_below(before);
+        let index = match self.by_number.take() {
+            Some(index) => with_lot(index, key, units, opening),
+            None if MANY < lots => by_number(self.alloc, &self.by_key),
+            None => None,
+        };
+        self.by_number = index;
         Ok(())
     }
 }
@@ -233,11 +251,14 @@ fn put(
     }
 }
 
-/// Returns 1 for units below zero, else 0.
-fn one_if_below(units: Units) -> u64
-    ensures { result ≡ cond (is_below units) 1 0 }
+/// Returns 1 for a lot below zero, 0 for another, and for none.
+fn one_if_below(lot: Option<OpenLot>) -> u64
+    ensures { result ≡ counted_in is_below lot }
 {
-    u64::from(units.mantissa() < 0)
+    match lot {
+        Some(lot) => u64::from(lot.units.mantissa() < 0),
+        None => 0,
+    }
 }
 
 /// Returns whether a specification fits a key, and the key has that number where one is given. The specification has that

@@ -9,14 +9,14 @@ pub returns-then-units-lt0 : goal.returns-then-units-lt0
 returns-then-units-lt0 c =
     let units = c.args.units in
     let sold : int_lt units (pos 0) ≡ true = search rules in
-    (λ i. ltb (c.self.invariant.counted i) (c.len.ensures.len i))
-    ∙ sym (sold_off units c.self.inside.by_key.entries sold c.self.invariant.none_zero) ∙ ap (reduces_some units) c.self.view_is
+    (λ i. ltb (c.self.invariant.counted.counted i) (c.len.ensures.len i))
+    ∙ sym (sold_off units c.self.inside.by_key.entries sold c.self.invariant.counted.none_zero) ∙ ap (reduces_some units) c.self.view_is
 
 pub returns-then-units-gt0 : goal.returns-then-units-gt0
 returns-then-units-gt0 c =
     let units = c.args.units in
     let bought : int_lt (pos 0) units ≡ true = search rules in
-    ap (ltb 0) c.self.invariant.counted
+    ap (ltb 0) c.self.invariant.counted.counted
     ∙ sym (bought_back units c.self.inside.by_key.entries bought) ∙ ap (reduces_some units) c.self.view_is
 
 pub returns-else-units-gt0 : goal.returns-else-units-gt0
