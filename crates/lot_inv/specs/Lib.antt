@@ -1,4 +1,4 @@
-pub mod Days
+pub mod Foremost
 pub mod Holding
 pub mod Inventory
 pub mod Lot

@@ -3,20 +3,20 @@
 //! Lot keys and cost specifications are those of `lot_cost`.
 //!
 //! - `inventory`: `Inventory`, the units of each position of an account, and `Available`, the lots that units may take.
-//! - `days`: `Days`, of which days lots are lent.
+//! - `foremost`: `Foremost`, which lots are lent before the others.
 //! - `lot`: `Lot`, a lot that is held, and `LentLot`, one whose key is lent.
 //! - `fault`: `InventoryFault`, why units aren't added.
 //! - `laws`: what holds of the definitions that the contracts cite.
 #![tactic(auto)]
 
-mod days;
 mod fault;
+mod foremost;
 mod inventory;
 pub mod laws;
 mod lot;
 
-pub use days::Days;
 pub use fault::InventoryFault;
+pub use foremost::Foremost;
 pub use inventory::{Available, Inventory, is_other_sign};
 pub use lot::{LentLot, Lot};
 pub use lot_cost::{CostSpec, LotKey};
