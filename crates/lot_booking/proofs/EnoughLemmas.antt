@@ -7,7 +7,7 @@ use Rattle.lot_cost.specs.declared.cost_spec.CostSpec.{CostSpec}
 use Rattle.lot_cost.specs.declared.lot_key.LotKey.{LotKey}
 use Rattle.lot_cost.specs.declared.method.Method.{Method}
 use Rattle.lot_cost.specs.declared.method.Method.TheVariants.{Strict, Fifo, Lifo, Hifo, Unmatched}
-use Rattle.lot_inv.specs.Days.{Counts, CountsSeveral}
+use Rattle.lot_inv.specs.Foremost.{Counts, CountsSeveral}
 use Rattle.lot_inv.specs.Inventory.{fitting, held_in, with_number}
 use Rattle.lot_inv.proofs.LawLemmas.{sorted_matching}
 use Rattle.lot_booking.specs.declared.fault.BookingFault.{BookingFault}

@@ -2,7 +2,7 @@ pub mod BookLemmas
 pub mod BookingLaws
 pub mod ChoiceLaws
 pub mod ChoiceLemmas
-pub mod DaysLemmas
+pub mod ForemostLemmas
 pub mod EnoughLemmas
 pub mod ListLemmas
 pub mod TakeLemmas

@@ -8,7 +8,7 @@ ghost use Rattle.lot_cost.specs.declared.cost.Cost.{Cost};
 ghost use Rattle.lot_booking.specs.Booking.{ComesTo, IsOneLeg, Legs, Stops, posting_on};
 ghost use Rattle.lot_booking.specs.Choice.{HaveDistinctKeys};
 ghost use Rattle.lot_booking.specs.Method.{may_reduce};
-ghost use Rattle.lot_booking.specs.Way.{FallShort, StopsOpening, Suffice, TakesLent, days_of};
+ghost use Rattle.lot_booking.specs.Way.{FallShort, StopsOpening, Suffice, TakesLent, foremost_of};
 
 use crate::cost::{given, number};
 use crate::edition::Edition;
@@ -18,7 +18,7 @@ use crate::order::{Highest, HighestOpened, Newest, NewestOpened, Oldest, OldestO
 use crate::selection::Selection;
 use lot_base::{Commodity, Day};
 use lot_cost::{Cost, CostSpec, LotKey, Method};
-use lot_inv::{Available, Days, Inventory, LentLot, Lot, is_other_sign};
+use lot_inv::{Available, Foremost, Inventory, LentLot, Lot, is_other_sign};
 use lot_num::{Rate, Units};
 use std::alloc::{AllocError, Global};
 
@@ -73,8 +73,8 @@ pub fn book(
     }
     let available = inventory.available(commodity, units, &number, spec);
     ensure_enough(selection.method, &available, units)?;
-    let days = days_of(selection.method);
-    let lots = inventory.takeable(commodity, days, units, &number, spec)?;
+    let foremost = foremost_of(selection.method);
+    let lots = inventory.takeable(commodity, foremost, units, &number, spec)?;
     let legs = take_by(alloc, selection, lots, units)?;
     Ok(Booked { reduces, legs })
 }
@@ -149,14 +149,14 @@ pub fn fitting(
     Ok(lots)
 }
 
-/// Returns the days of the lots that a method takes first.
-fn days_of(method: Method) -> Days
-    ensures { result ≡ days_of method }
+/// Returns which lots a method takes first.
+fn foremost_of(method: Method) -> Foremost
+    ensures { result ≡ foremost_of method }
 {
     match method {
-        Method::Strict | Method::Fifo => Days::First,
-        Method::Lifo => Days::Last,
-        Method::Hifo | Method::Unmatched => Days::All,
+        Method::Strict | Method::Fifo | Method::Unmatched => Foremost::Oldest,
+        Method::Lifo => Foremost::Newest,
+        Method::Hifo => Foremost::Highest,
     }
 }
 

@@ -1,5 +1,5 @@
--- The lots that are lent: gone through day by day, none of those that are left is of an earlier day.
-use Rattle.std.specs.Prelude.{◌≡◌, ℕ, ◌-◌, ◌≤◌, suc, length, slice_get, int_lt, true, false, cond, Some, List, [], ◌∷◌, ◌++◌, filter, map, reverse, ℤ, unsigned_abs, IsPermutation, ⊤}
+-- The lots that are lent: none of those that are left comes before one of them.
+use Rattle.std.specs.Prelude.{◌≡◌, ◌≢◌, ℕ, ◌-◌, ◌≤◌, suc, length, slice_get, int_lt, true, false, cond, Some, List, [], ◌∷◌, ◌++◌, filter, map, reverse, ℤ, unsigned_abs, IsPermutation, ⊤}
 use Rattle.std.specs.declared.cmp.Ordering.{Ordering}
 use Rattle.std.specs.declared.cmp.Ordering.TheVariants.{Less, Equal, Greater}
 use Rattle.std.specs.List.{AllByRecursion}
@@ -8,6 +8,7 @@ use Rattle.std.specs.Map.{keys_of}
 use Rattle.std.specs.Option.{option_cmp, unwrap_or}
 use Rattle.std.specs.Ordering.{int_cmp, nat_cmp, ordering_then}
 use Rattle.std.proofs.Common.{append-nil, arith, refl, sym, ap, subst, ◌∙◌}
+use Rattle.std.proofs.lemmas.Bool.Decides.{nat_tests}
 use Rattle.std.proofs.lemmas.Int.{ints}
 use Rattle.std.proofs.lemmas.List.{map-append}
 use mathlib.Core.List.{reverse-cons}
@@ -19,49 +20,51 @@ use Rattle.lot_cost.specs.declared.lot_key.LotKey.{LotKey}
 use Rattle.lot_cost.specs.CostSpec.{fits}
 use Rattle.lot_cost.specs.LotKey.{lot_cmp}
 use Rattle.lot_cost.proofs.ListLemmas.{all_weaker}
-use Rattle.lot_inv.specs.declared.days.Days.{Days}
-use Rattle.lot_inv.specs.declared.days.Days.TheVariants.{All, First, Last}
+use Rattle.lot_inv.specs.declared.foremost.Foremost.{Foremost}
+use Rattle.lot_inv.specs.declared.foremost.Foremost.TheVariants.{Oldest, Newest, Highest}
 use Rattle.lot_inv.specs.declared.lots.OpenLot.{OpenLot}
 use Rattle.lot_inv.specs.declared.lot.Lot.{Lot}
-use Rattle.lot_inv.specs.Days.{AreLentOf, gone_through, is_later, is_past, numbered}
+use Rattle.lot_inv.specs.Foremost.{AreLentOf, gone_through, is_later, is_past, numbered}
 use Rattle.lot_inv.specs.Holding.{listed, takeable_lots}
 use Rattle.lot_inv.specs.Inventory.{held_in, other_sign}
 use Rattle.lot_inv.specs.Lot.{AreNumberedBy, key_and_units}
 
--- ---- days
+-- ---- which comes later
 
--- what isn't before a key of a later day is of a later day
-later_on : (days : Days) (key next other : LotKey) → is_later days next key ≡ true → is_later days next other ≡ false → is_later days other key ≡ true
-later_on All key next other later follows = later
-later_on First key next other later follows = grind (arith, ints)
-later_on Last key next other later follows = grind (arith, ints)
+-- what isn't before a key that comes later comes later
+later_on : (foremost : Foremost) (key next other : LotKey) → is_later foremost next key ≡ true → is_later foremost next other ≡ false
+    → is_later foremost other key ≡ true
+later_on Oldest key next other later follows = grind (arith, ints)
+later_on Newest key next other later follows = grind (arith, ints)
+later_on Highest key next other later follows = grind (arith, nat_tests)
 
--- what is of a later day than a key is so than one that the key isn't before
-later_back : (days : Days) (key next other : LotKey) → is_later days key next ≡ false → is_later days other next ≡ true → is_later days other key ≡ true
-later_back All key next other follows later = later
-later_back First key next other follows later = grind (arith, ints)
-later_back Last key next other follows later = grind (arith, ints)
+-- what comes later than a key does so than one that the key isn't before
+later_back : (foremost : Foremost) (key next other : LotKey) → is_later foremost key next ≡ false → is_later foremost other next ≡ true
+    → is_later foremost other key ≡ true
+later_back Oldest key next other follows later = grind (arith, ints)
+later_back Newest key next other follows later = grind (arith, ints)
+later_back Highest key next other follows later = grind (arith, nat_tests)
 
 -- the last of lots
-pub past_last : (days : Days) (lots : List Lot) (last : Lot) (key : LotKey) → slice_get lots (length lots - 1) ≡ Some last
-    → is_past days lots key ≡ is_later days key last.key
-past_last days [] last key is = cc
-past_last days (lot ∷ []) last key is = ap (λ found. is_later days key (unwrap_or found lot).key) is
-past_last days (lot ∷ next ∷ lots) last key is =
+pub past_last : (foremost : Foremost) (lots : List Lot) (last : Lot) (key : LotKey) → slice_get lots (length lots - 1) ≡ Some last
+    → is_past foremost lots key ≡ is_later foremost key last.key
+past_last foremost [] last key is = cc
+past_last foremost (lot ∷ []) last key is = ap (λ found. is_later foremost key (unwrap_or found lot).key) is
+past_last foremost (lot ∷ next ∷ lots) last key is =
     let shorter : length (lot ∷ next ∷ lots) - 1 ≡ suc (length (next ∷ lots) - 1) = omega arith in
-    past_last days (next ∷ lots) last key (sym (ap (slice_get (lot ∷ next ∷ lots)) shorter) ∙ is)
+    past_last foremost (next ∷ lots) last key (sym (ap (slice_get (lot ∷ next ∷ lots)) shorter) ∙ is)
 
-module _ (days : Days) where
+module _ (foremost : Foremost) where
   abbrev pub Follow : Lot → List Lot → Type 0
-  Follow lot lots = AllByRecursion (λ (next : Lot). is_later days lot.key next.key ≡ false) lots
+  Follow lot lots = AllByRecursion (λ (next : Lot). is_later foremost lot.key next.key ≡ false) lots
 
-  -- none is of a later day than one that comes after it
+  -- none comes later than one that stands behind it
   abbrev pub AreByDay : List Lot → Type 0
   AreByDay [] = ⊤
   AreByDay (lot ∷ lots) = Follow lot lots × AreByDay lots
 
   abbrev pub AreLater : List Lot → Lot → Type 0
-  AreLater others lot = AllByRecursion (λ (other : Lot). is_later days other.key lot.key ≡ true) others
+  AreLater others lot = AllByRecursion (λ (other : Lot). is_later foremost other.key lot.key ≡ true) others
 
   all_but : (P : Lot → Type 0) (lots rest : List Lot) (lot : Lot) → AllByRecursion P (lots ++ lot ∷ rest) → AllByRecursion P (lots ++ rest)
   all_but P [] rest lot all = all.1
@@ -71,35 +74,35 @@ module _ (days : Days) where
   pub by_day_but : (lots rest : List Lot) (lot : Lot) → AreByDay (lots ++ lot ∷ rest) → AreByDay (lots ++ rest)
   by_day_but [] rest lot all = all.1
   by_day_but (first ∷ lots) rest lot all = (
-    all_but (λ (next : Lot). is_later days first.key next.key ≡ false) lots rest lot all.0,
+    all_but (λ (next : Lot). is_later foremost first.key next.key ≡ false) lots rest lot all.0,
     by_day_but lots rest lot all.1,
   )
 
-  -- where the next lot is of a later day than the last of lots, so are it and those behind it than each of them
-  pub apart : (lots rest : List Lot) (next : Lot) → AreByDay (lots ++ next ∷ rest) → is_past days lots next.key ≡ true
+  -- where the next lot comes later than the last of lots, so do it and those behind it than each of them
+  pub apart : (lots rest : List Lot) (next : Lot) → AreByDay (lots ++ next ∷ rest) → is_past foremost lots next.key ≡ true
       → AllByRecursion (AreLater (next ∷ rest)) lots
   apart [] rest next by_day past = tt
   apart (lot ∷ []) rest next by_day past = (
     (
       past,
-      all_weaker (λ (other : Lot). is_later days next.key other.key ≡ false) (λ (other : Lot). is_later days other.key lot.key ≡ true)
-          (λ other follows. later_on days lot.key next.key other.key past follows) rest by_day.1.0,
+      all_weaker (λ (other : Lot). is_later foremost next.key other.key ≡ false) (λ (other : Lot). is_later foremost other.key lot.key ≡ true)
+          (λ other follows. later_on foremost lot.key next.key other.key past follows) rest by_day.1.0,
     ),
     tt,
   )
   apart (lot ∷ second ∷ lots) rest next by_day past =
       let others = apart (second ∷ lots) rest next by_day.1 past in (
-        all_weaker (λ (other : Lot). is_later days other.key second.key ≡ true) (λ (other : Lot). is_later days other.key lot.key ≡ true)
-            (λ other later. later_back days lot.key second.key other.key by_day.0.0 later) (next ∷ rest) others.0,
+        all_weaker (λ (other : Lot). is_later foremost other.key second.key ≡ true) (λ (other : Lot). is_later foremost other.key lot.key ≡ true)
+            (λ other later. later_back foremost lot.key second.key other.key by_day.0.0 later) (next ∷ rest) others.0,
         others,
       )
 
-  follows_more : (lots : List Lot) (lot : Lot) → AreByDay lots → AllByRecursion (λ (first : Lot). is_later days first.key lot.key ≡ false) lots
+  pub follows_more : (lots : List Lot) (lot : Lot) → AreByDay lots → AllByRecursion (λ (first : Lot). is_later foremost first.key lot.key ≡ false) lots
       → AreByDay (lots ++ lot ∷ [])
   follows_more [] lot by_day all = (tt, tt)
   follows_more (first ∷ lots) lot by_day all = (behind first lots by_day.0 all.0, follows_more lots lot by_day.1 all.1)
     where
-      behind : (first : Lot) (lots : List Lot) → Follow first lots → is_later days first.key lot.key ≡ false → Follow first (lots ++ lot ∷ [])
+      behind : (first : Lot) (lots : List Lot) → Follow first lots → is_later foremost first.key lot.key ≡ false → Follow first (lots ++ lot ∷ [])
       behind first [] follow last = (last, tt)
       behind first (next ∷ lots) follow last = (follow.0, behind first lots follow.1 last)
 
@@ -118,44 +121,40 @@ not_below a b rest less =
       | false ↦ λ below e. elim (int_lt b a) as (λ x. ordering_then (cond x Greater Equal) rest ≡ Less → x ≡ false) [ true ↦ λ f. cc | false ↦ λ f. refl ] e
     ] refl less
 
-none_later : (key other : LotKey) → lot_cmp key other ≡ Less → is_later First key other ≡ false
+none_later : (key other : LotKey) → lot_cmp key other ≡ Less → is_later Oldest key other ≡ false
 none_later key other less =
     not_below key.day other.day
     (ordering_then (text_cmp key.currency other.currency) (ordering_then (nat_cmp key.number other.number) (option_cmp text_cmp key.label other.label))) less
 
-none_earlier : (key other : LotKey) → lot_cmp key other ≡ Less → is_later Last other key ≡ false
+none_earlier : (key other : LotKey) → lot_cmp key other ≡ Less → is_later Newest other key ≡ false
 none_earlier key other less = none_later key other less
 
 all_listed : (P : LotKey → Type 0) (entries : List Entry) → AllByRecursion P (keys_of entries) → AllByRecursion (λ (lot : Lot). P lot.key) (listed entries)
 all_listed P [] all = tt
 all_listed P (entry ∷ entries) all = (all.0, all_listed P entries all.1)
 
-each_false : (lots : List Lot) → AllByRecursion (λ (next : Lot). false ≡ false) lots
-each_false [] = tt
-each_false (lot ∷ lots) = (refl, each_false lots)
-
-pub by_day-from_sorted : (days : Days) (entries : List Entry) → IsStrictlySortedBy lot_cmp (keys_of entries) → AreByDay days (listed (gone_through days entries))
+pub by_day-from_sorted : (foremost : Foremost) (entries : List Entry) → foremost ≢ Highest → IsStrictlySortedBy lot_cmp (keys_of entries)
+    → AreByDay foremost (listed (gone_through foremost entries))
 unfolding IsStrictlySortedBy
-by_day-from_sorted All [] sorted = tt
-by_day-from_sorted All (entry ∷ entries) sorted = (each_false (listed entries), by_day-from_sorted All entries sorted.1)
-by_day-from_sorted First [] sorted = tt
-by_day-from_sorted First (entry ∷ entries) sorted = (
-  all_listed (λ (key : LotKey). is_later First entry.0 key ≡ false) entries
-      (all_weaker (λ (key : LotKey). lot_cmp entry.0 key ≡ Less) (λ (key : LotKey). is_later First entry.0 key ≡ false)
+by_day-from_sorted Highest entries days sorted = absurd (days refl)
+by_day-from_sorted Oldest [] days sorted = tt
+by_day-from_sorted Oldest (entry ∷ entries) days sorted = (
+  all_listed (λ (key : LotKey). is_later Oldest entry.0 key ≡ false) entries
+      (all_weaker (λ (key : LotKey). lot_cmp entry.0 key ≡ Less) (λ (key : LotKey). is_later Oldest entry.0 key ≡ false)
       (none_later entry.0) (keys_of entries) sorted.0),
-  by_day-from_sorted First entries sorted.1,
+  by_day-from_sorted Oldest entries days sorted.1,
 )
-by_day-from_sorted Last [] sorted = tt
-by_day-from_sorted Last (entry ∷ entries) sorted =
-    let Before = λ (lot : Lot). is_later Last lot.key entry.0 ≡ false in
-    let ahead = all_listed (λ (key : LotKey). is_later Last key entry.0 ≡ false) entries
-    (all_weaker (λ (key : LotKey). lot_cmp entry.0 key ≡ Less) (λ (key : LotKey). is_later Last key entry.0 ≡ false)
+by_day-from_sorted Newest [] days sorted = tt
+by_day-from_sorted Newest (entry ∷ entries) days sorted =
+    let Before = λ (lot : Lot). is_later Newest lot.key entry.0 ≡ false in
+    let ahead = all_listed (λ (key : LotKey). is_later Newest key entry.0 ≡ false) entries
+    (all_weaker (λ (key : LotKey). lot_cmp entry.0 key ≡ Less) (λ (key : LotKey). is_later Newest key entry.0 ≡ false)
     (none_earlier entry.0) (keys_of entries) sorted.0) in
     let moved = IsPermutation-map as_lot entries (reverse entries) (IsPermutation-reverse entries) in
     let all = recursion_from_All Before (listed (reverse entries))
     (All-permutation Before (listed entries) (listed (reverse entries)) moved (All-from_recursion Before (listed entries) ahead)) in
-    subst (AreByDay Last) (sym (ap listed (reverse-cons entry entries) ∙ map-append as_lot (reverse entries) (entry ∷ [])))
-    (follows_more Last (listed (reverse entries)) (as_lot entry) (by_day-from_sorted Last entries sorted.1) all)
+    subst (AreByDay Newest) (sym (ap listed (reverse-cons entry entries) ∙ map-append as_lot (reverse entries) (entry ∷ [])))
+    (follows_more Newest (listed (reverse entries)) (as_lot entry) (by_day-from_sorted Newest entries days sorted.1) all)
 
 -- ---- the lots that units may take
 
@@ -163,7 +162,7 @@ module _ (units : ℤ) (spec : CostSpec) where
   abbrev Taken : List Lot → List Lot
   Taken lots = takeable_lots units spec lots
 
-  taken-append : (lots others : List Lot) → Taken (lots ++ others) ≡ Taken lots ++ Taken others
+  pub taken-append : (lots others : List Lot) → Taken (lots ++ others) ≡ Taken lots ++ Taken others
   taken-append lots others =
       let fit = λ (lot : Lot). fits spec lot.key in
       let test = λ (lot : Lot). other_sign lot.units units in
@@ -181,11 +180,11 @@ module _ (units : ℤ) (spec : CostSpec) where
       ]
 
   -- they are the same from either end
-  pub taken-turned : (days : Days) (entries : List Entry) → IsPermutation (Taken (listed entries)) (Taken (listed (gone_through days entries)))
-  taken-turned All entries = IsPermutation-refl _
-  taken-turned First entries = IsPermutation-refl _
-  taken-turned Last [] = IsPermutation-refl _
-  taken-turned Last (entry ∷ entries) =
+  pub taken-turned : (foremost : Foremost) (entries : List Entry) → IsPermutation (Taken (listed entries)) (Taken (listed (gone_through foremost entries)))
+  taken-turned Highest entries = IsPermutation-refl _
+  taken-turned Oldest entries = IsPermutation-refl _
+  taken-turned Newest [] = IsPermutation-refl _
+  taken-turned Newest (entry ∷ entries) =
       let one = as_lot entry ∷ [] in
       let ahead = Taken (listed entries) in
       let behind = Taken (listed (reverse entries)) in
@@ -195,7 +194,7 @@ module _ (units : ℤ) (spec : CostSpec) where
       subst (IsPermutation (Taken (listed (entry ∷ entries)))) (sym turned)
       (subst (λ ls. IsPermutation ls (behind ++ Taken one)) (sym (taken-append one (listed entries)))
       (IsPermutation-trans (Taken one ++ ahead) (ahead ++ Taken one) (behind ++ Taken one) (IsPermutation-append_comm (Taken one) ahead)
-      (IsPermutation-append_left (Taken one) ahead behind (taken-turned Last entries))))
+      (IsPermutation-append_left (Taken one) ahead behind (taken-turned Newest entries))))
 
   all_taken : (P : Lot → Type 0) (lots : List Lot) → AllByRecursion P lots → AllByRecursion P (Taken lots)
   all_taken P lots all =
@@ -203,14 +202,14 @@ module _ (units : ℤ) (spec : CostSpec) where
       (All-filter (λ (lot : Lot). other_sign lot.units units) P (filter (λ (lot : Lot). fits spec lot.key) lots)
       (All-filter (λ (lot : Lot). fits spec lot.key) P lots (All-from_recursion P lots all)))
 
-  module _ (days : Days) (amount : ℕ) (entries : List Entry) (lots : List Lot) where
+  module _ (foremost : Foremost) (amount : ℕ) (entries : List Entry) (lots : List Lot) where
     abbrev All_lots : List Lot
     All_lots = Taken (listed entries)
 
     -- once all are gone through
-    pub lent_all : lots ++ [] ≡ Taken (listed (gone_through days entries)) → AreLentOf days amount All_lots lots
+    pub lent_all : lots ++ [] ≡ Taken (listed (gone_through foremost entries)) → AreLentOf foremost amount All_lots lots
     lent_all is =
-        let moved = subst (IsPermutation All_lots) (sym is) (taken-turned days entries) in
+        let moved = subst (IsPermutation All_lots) (sym is) (taken-turned foremost entries) in
         let same = subst (IsPermutation All_lots) (append-nil lots) moved in
         record {
           others = [];
@@ -221,22 +220,34 @@ module _ (units : ℤ) (spec : CostSpec) where
               (IsPermutation-map key_and_units All_lots lots same))) enough;
         }
       where
-        none_left : (lots : List Lot) → AllByRecursion (AreLater days []) lots
+        none_left : (lots : List Lot) → AllByRecursion (AreLater foremost []) lots
         none_left [] = tt
         none_left (lot ∷ lots) = (tt, none_left lots)
 
     -- once a day is past, and they hold enough
-    pub lent_before : (next : Lot) (rest : List Lot) → lots ++ Taken (next ∷ rest) ≡ Taken (listed (gone_through days entries))
-        → AreByDay days (lots ++ next ∷ rest) → is_past days lots next.key ≡ true → amount ≤ held_in (map key_and_units lots)
-        → AreLentOf days amount All_lots lots
+    pub lent_before : (next : Lot) (rest : List Lot) → lots ++ Taken (next ∷ rest) ≡ Taken (listed (gone_through foremost entries))
+        → AreByDay foremost (lots ++ next ∷ rest) → is_past foremost lots next.key ≡ true → amount ≤ held_in (map key_and_units lots)
+        → AreLentOf foremost amount All_lots lots
     lent_before next rest is by_day past enough = record {
       others = Taken (next ∷ rest);
-      same = subst (IsPermutation All_lots) (sym is) (taken-turned days entries);
-      later = all_weaker (AreLater days (next ∷ rest)) (AreLater days (Taken (next ∷ rest)))
-          (λ lot. all_taken (λ (other : Lot). is_later days other.key lot.key ≡ true) (next ∷ rest)) lots
-          (apart days lots rest next by_day past);
+      same = subst (IsPermutation All_lots) (sym is) (taken-turned foremost entries);
+      later = all_weaker (AreLater foremost (next ∷ rest)) (AreLater foremost (Taken (next ∷ rest)))
+          (λ lot. all_taken (λ (other : Lot). is_later foremost other.key lot.key ≡ true) (next ∷ rest)) lots
+          (apart foremost lots rest next by_day past);
       enough = λ all. enough;
     }
+
+-- lots that are lent of some are lent of the same in another order
+pub lent_of_same : (foremost : Foremost) (amount : ℕ) (all same lots : List Lot) → IsPermutation all same
+    → AreLentOf foremost amount same lots → AreLentOf foremost amount all lots
+lent_of_same foremost amount all same lots moved lent = record {
+  others = lent.others;
+  same = IsPermutation-trans all same (lots ++ lent.others) moved lent.same;
+  later = lent.later;
+  enough = λ enough. lent.enough (subst (λ n. amount ≤ n)
+      (sym (sum_by-IsPermutation (λ (lot : LotKey × ℤ). unsigned_abs lot.1) (map key_and_units all) (map key_and_units same)
+      (IsPermutation-map key_and_units all same moved))) enough);
+}
 
 -- ---- opening numbers
 

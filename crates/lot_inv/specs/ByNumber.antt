@@ -1,5 +1,5 @@
 -- Lots by their numbers: an index beside the list in the order of their keys.
-use Rattle.std.specs.Prelude.{◌≡◌, ℕ, ◌==◌, if◌then◌else◌, List, Option, None}
+use Rattle.std.specs.Prelude.{◌≡◌, ℕ, ◌==◌, if◌then◌else◌, List, map, reverse, Option, None}
 use Rattle.std.specs.declared.cmp.Ordering.{Ordering}
 use Rattle.std.specs.BTreeMap.{is_at}
 use Rattle.std.specs.Map.{lookup}
@@ -28,3 +28,7 @@ lot_of_place lots at = if at.0 == at.1.number then lot_at lots at.1 else None
 -- an index has each of some lots at its place, and nothing else
 abbrev pub IsByNumber : List (Place × OpenLot) → List (LotKey × OpenLot) → Type 0
 IsByNumber index lots = (at : Place) → lookup (is_at (place_cmp at)) index ≡ lot_of_place lots at
+
+-- the lots of an index, the highest number first
+abbrev pub from_highest : List (Place × OpenLot) → List (LotKey × OpenLot)
+from_highest index = reverse (map (λ (entry : Place × OpenLot). (entry.0.1, entry.1)) index)

@@ -1,5 +1,5 @@
-pub mod Days
 pub mod ByNumber
+pub mod Foremost
 pub mod Holding
 pub mod Inventory
 pub mod Lot

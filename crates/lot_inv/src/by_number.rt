@@ -1,7 +1,7 @@
-ghost use Rattle.std.specs.Prelude.{◌≡◌, IfSome, cond};
+ghost use Rattle.std.specs.Prelude.{◌≡◌, [], ◌∷◌, IfNone, IfSome, cond};
 ghost use Rattle.std.specs.BTreeMap.{get};
 ghost use Rattle.std.specs.Ordering.{is_eq};
-ghost use Rattle.lot_inv.specs.ByNumber.{IsByNumber, Place, place, place_cmp};
+ghost use Rattle.lot_inv.specs.ByNumber.{IsByNumber, Place, from_highest, place, place_cmp};
 ghost use Rattle.lot_inv.specs.Holding.{kept};
 
 use crate::lots::OpenLot;
@@ -9,6 +9,7 @@ use lot_cost::LotKey;
 use lot_num::{Rate, Units};
 use std::alloc::Global;
 use std::collections::BTreeMap;
+use std::collections::btree_map::Iter;
 
 /// The lots of one commodity, each under its number and its key.
 pub(crate) type ByNumber = BTreeMap<(Rate, LotKey), OpenLot>;
@@ -41,4 +42,16 @@ pub(crate) fn with_lot(
     }
     index.insert(at, OpenLot { units, opening }).ok()?;
     Some(index)
+}
+
+/// Returns the lot that comes next, the highest number first.
+pub(crate) fn next_highest<'a>(
+    lots: &mut Iter<'a, (Rate, LotKey), OpenLot>,
+) -> Option<(&'a LotKey, &'a OpenLot)>
+    ensures none { IfNone result (from_highest lots.old ≡ []) }
+    ensures some { IfSome result (λ lot. from_highest lots.old
+        ≡ (lot.0.now, lot.1.now) ∷ from_highest lots.new) }
+{
+    let (place, lot) = lots.next_back()?;
+    Some((&place.1, lot))
 }

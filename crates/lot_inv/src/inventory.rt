@@ -6,16 +6,17 @@ ghost use Rattle.std.specs.Option.{option_cmp, unwrap_or};
 ghost use Rattle.std.specs.Ordering.{is_eq};
 ghost use Rattle.lot_num.specs.Amount.{IsUnits, IsWide, one};
 ghost use Rattle.lot_inv.specs.Inventory.{NumbersLots, StoresMore, added_lot, as_entries, fitting, lots_of, matching, non_zero, nothing, only_lots, opened_at, opening_at, other_sign, reduces, sum, units_at, with_lot, with_number};
-ghost use Rattle.lot_inv.specs.Days.{AreLentOf, Counts, gone_through, numbered};
+ghost use Rattle.lot_inv.specs.Foremost.{AreLentOf, Counts, HoldsAtHighest, gone_through, numbered};
 ghost use Rattle.lot_inv.specs.Lot.{AreNumberedBy, key_and_units};
 ghost use Rattle.lot_inv.specs.Zeros.{HasNoZeros};
 ghost use Rattle.lot_cost.specs.LotKey.{lot_cmp};
 ghost use Rattle.lot_inv.specs.Holding.{AreAlike, AreHoldings, ChangesPosition, NeedsPosition, NoneIsEmpty, NoOtherIsEmpty, kept_at, plain_rows, rows_of, takeable_lots, units_in, with_lots};
 ghost use Rattle.lot_cost.specs.declared.lot_key.LotKey.{LotKey};
+ghost use Rattle.lot_inv.specs.declared.foremost.Foremost.TheVariants.{Highest};
 ghost use Rattle.lot_inv.specs.declared.fault.InventoryFault.TheVariants.{Memory, Range};
 
-use crate::days::Days;
 use crate::fault::InventoryFault;
+use crate::foremost::Foremost;
 use crate::lot::{LentLot, Lot};
 use crate::lots::{Available, Lots, OpenLot, fits_at};
 use lot_base::Commodity;
@@ -175,14 +176,14 @@ impl Inventory {
         }
     }
 
-    /// Returns the lots that units may take at a number, of these days: day by day, each day whole, until they hold the units.
-    /// Their keys are lent, not copied. The only error is out of memory.
+    /// Returns the lots that units may take at a number, the foremost ones: those of a day or of a number together, until they
+    /// hold the units. Their keys are lent, not copied. The only error is out of memory.
     ///
     /// The specification has that number itself, or none.
     pub fn takeable(
         &self,
         commodity: &Commodity,
-        days: Days,
+        foremost: Foremost,
         units: Units,
         number: &Option<Rate>,
         spec: &CostSpec,
@@ -190,11 +191,11 @@ impl Inventory {
         requires { (spec.now.number ≡ None) ⊎ (spec.now.number ≡ number.now) }
         ensures { let all = fitting self.now.held commodity.now units
             (with_number number.now spec.now)
-            in IfOk result (λ lots. AreLentOf days (unsigned_abs units)
+            in IfOk result (λ lots. AreLentOf foremost (unsigned_abs units)
             (numbered (opening_at self.now commodity.now) all) lots.items) }
     {
         match self.held.get(commodity) {
-            Some(holding) => holding.takeable(self.alloc, days, units, number, spec),
+            Some(holding) => holding.takeable(self.alloc, foremost, units, number, spec),
             None => Ok(Vec::new(self.alloc)),
         }
     }
@@ -337,36 +338,109 @@ impl Holding {
         Ok(())
     }
 
-    /// Returns the lots of these days that units may take at a number, day by day until they hold the units.
+    /// Returns the lots that units may take at a number, the foremost ones.
     fn takeable(
         &self,
         alloc: Global,
-        days: Days,
+        foremost: Foremost,
         units: Units,
         number: &Option<Rate>,
         spec: &CostSpec,
     ) -> Result<Vec<LentLot<'_>>, AllocError>
         requires number { (spec.now.number ≡ None) ⊎ (spec.now.number ≡ number.now) }
         requires holding { IsHolding self.now }
-        ensures { IfOk result (λ lots. AreLentOf days (unsigned_abs units)
+        ensures { IfOk result (λ lots. AreLentOf foremost (unsigned_abs units)
+            (takeable_lots units (with_number number.now spec.now) (listed self.now.lots))
+            lots.items) }
+    {
+        match (foremost, number) {
+            (Foremost::Highest, None) => {
+                if let Some(lots) = self.lots.highest_first(alloc, units, number, spec)? {
+                    return Ok(lots);
+                }
+                let highest = self.highest(units, spec);
+                self.takeable_at(alloc, units, &highest, spec)
+            }
+            (Foremost::Highest, Some(_)) => self.takeable_at(alloc, units, number, spec),
+            (Foremost::Oldest | Foremost::Newest, _) => {
+                self.by_day(alloc, foremost, units, number, spec)
+            }
+        }
+    }
+
+    /// Returns the lots of the first or the last days that units may take at a number, day by day until they hold the units.
+    fn by_day(
+        &self,
+        alloc: Global,
+        foremost: Foremost,
+        units: Units,
+        number: &Option<Rate>,
+        spec: &CostSpec,
+    ) -> Result<Vec<LentLot<'_>>, AllocError>
+        requires days { foremost ≢ Highest }
+        requires number { (spec.now.number ≡ None) ⊎ (spec.now.number ≡ number.now) }
+        requires holding { IsHolding self.now }
+        ensures { IfOk result (λ lots. AreLentOf foremost (unsigned_abs units)
             (takeable_lots units (with_number number.now spec.now) (listed self.now.lots))
             lots.items) }
     {
         let mut left = units.mantissa().unsigned_abs();
         let mut lots = Vec::new(alloc);
         let mut entries = self.lots.iter();
-        while let Some((key, lot)) = next(days, &mut entries) {
-            if left == 0 && days.is_past(&lots, key) {
+        while let Some((key, lot)) = next(foremost, &mut entries) {
+            if left == 0 && foremost.is_past(&lots, key) {
                 return Ok(lots);
             }
             if is_other_sign(lot.units, units) && fits_at(number, spec, key) {
-                let OpenLot { units, opening } = *lot;
-                lots.push(LentLot {
-                    key,
-                    units,
-                    opening,
-                })?;
-                left = left.saturating_sub(units.mantissa().unsigned_abs());
+                lots.push(lot.lend(key))?;
+                left = left.saturating_sub(lot.units.mantissa().unsigned_abs());
+            }
+        }
+        Ok(lots)
+    }
+
+    /// Returns the highest number of the lots that units may take, where the lots of that number hold the units.
+    fn highest(&self, units: Units, spec: &CostSpec) -> Option<Rate>
+        requires { spec.now.number ≡ None }
+        ensures { IfSome result (λ number. HoldsAtHighest (unsigned_abs units) number
+            (takeable_lots units spec.now (listed self.now.lots))) }
+    {
+        let wanted = units.mantissa().unsigned_abs();
+        let mut highest = 0;
+        let mut left = wanted;
+        for (key, lot) in self.lots.iter() {
+            let number = key.number.mantissa();
+            if highest <= number && is_other_sign(lot.units, units) && spec.fits(key) {
+                if highest < number {
+                    highest = number;
+                    left = wanted;
+                }
+                left = left.saturating_sub(lot.units.mantissa().unsigned_abs());
+            }
+        }
+        if left == 0 {
+            Rate::from_mantissa(highest)
+        } else {
+            None
+        }
+    }
+
+    /// Returns the lots that units may take at a number, in the order of their keys.
+    fn takeable_at(
+        &self,
+        alloc: Global,
+        units: Units,
+        number: &Option<Rate>,
+        spec: &CostSpec,
+    ) -> Result<Vec<LentLot<'_>>, AllocError>
+        requires { (spec.now.number ≡ None) ⊎ (spec.now.number ≡ number.now) }
+        ensures { IfOk result (λ lots. lots.items
+            ≡ takeable_lots units (with_number number.now spec.now) (listed self.now.lots)) }
+    {
+        let mut lots = Vec::new(alloc);
+        for (key, lot) in self.lots.iter() {
+            if fits_at(number, spec, key) && is_other_sign(lot.units, units) {
+                lots.push(lot.lend(key))?;
             }
         }
         Ok(lots)
@@ -398,15 +472,18 @@ impl Holding {
     }
 }
 
-/// Returns the lot that comes next as these days are gone through.
-fn next<'a>(days: Days, lots: &mut Iter<'a, LotKey, OpenLot>) -> Option<(&'a LotKey, &'a OpenLot)>
-    ensures none { IfNone result (gone_through days lots.old ≡ []) }
-    ensures some { IfSome result (λ lot. gone_through days lots.old
-        ≡ (lot.0.now, lot.1.now) ∷ gone_through days lots.new) }
+/// Returns the lot that comes next as lots are gone through, by which of them are foremost.
+fn next<'a>(
+    foremost: Foremost,
+    lots: &mut Iter<'a, LotKey, OpenLot>,
+) -> Option<(&'a LotKey, &'a OpenLot)>
+    ensures none { IfNone result (gone_through foremost lots.old ≡ []) }
+    ensures some { IfSome result (λ lot. gone_through foremost lots.old
+        ≡ (lot.0.now, lot.1.now) ∷ gone_through foremost lots.new) }
 {
-    match days {
-        Days::All | Days::First => lots.next(),
-        Days::Last => lots.next_back(),
+    match foremost {
+        Foremost::Oldest | Foremost::Highest => lots.next(),
+        Foremost::Newest => lots.next_back(),
     }
 }
 

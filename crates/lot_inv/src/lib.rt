@@ -3,7 +3,7 @@
 //! Lot keys and cost specifications are those of `lot_cost`.
 //!
 //! - `inventory`: `Inventory`, the units of each position of an account.
-//! - `days`: `Days`, of which days lots are lent.
+//! - `foremost`: `Foremost`, which lots are lent before the others.
 //! - `lot`: `Lot`, a lot that is held, and `LentLot`, one whose key is lent.
 //! - `lots`: `Lots`, the lots of one commodity, under their keys, and `Available`, those that units may take.
 //! - `fault`: `InventoryFault`, why units aren't added.
@@ -11,15 +11,15 @@
 #![tactic(auto)]
 
 mod by_number;
-mod days;
 mod fault;
+mod foremost;
 mod inventory;
 pub mod laws;
 mod lot;
 mod lots;
 
-pub use days::Days;
 pub use fault::InventoryFault;
+pub use foremost::Foremost;
 pub use inventory::{Inventory, is_other_sign};
 pub use lot::{LentLot, Lot};
 pub use lot_cost::{CostSpec, LotKey};

@@ -1,4 +1,4 @@
-ghost use Rattle.std.specs.Prelude.{◌≡◌, ◌≢◌, ◌⊎◌, ℤ, Bool, [], ◌++◌, pos, ◌+ℤ◌, ◌+◌, ◌*◌, ◌^◌, ◌<◌, ◌≤◌, length, option_copied, unsigned_abs, IfOk, OnOk, OnErr, None, cond, filter};
+ghost use Rattle.std.specs.Prelude.{◌≡◌, ◌≢◌, ◌⊎◌, ℤ, Bool, [], ◌++◌, pos, ◌+ℤ◌, ◌+◌, ◌*◌, ◌^◌, ◌<◌, ◌≤◌, length, option_copied, unsigned_abs, IfOk, IfSome, OnOk, OnErr, None, cond, filter};
 ghost use Rattle.std.specs.List.{list_any};
 ghost use Rattle.std.specs.List.Sorted.{IsStrictlySortedBy};
 ghost use Rattle.std.specs.Map.{keys_of, values_of};
@@ -9,15 +9,17 @@ ghost use Rattle.lot_num.specs.Sum.{sum_of};
 ghost use Rattle.lot_cost.specs.CostSpec.{fits};
 ghost use Rattle.lot_cost.specs.LotKey.{lot_cmp};
 ghost use Rattle.lot_cost.specs.declared.lot_key.LotKey.{LotKey};
+ghost use Rattle.lot_inv.specs.declared.foremost.Foremost.TheVariants.{Highest};
 ghost use Rattle.lot_inv.specs.declared.lot.Lot.{Lot};
-ghost use Rattle.lot_inv.specs.Days.{Counts};
+ghost use Rattle.lot_inv.specs.Foremost.{AreLentOf, Counts};
 ghost use Rattle.lot_inv.specs.Inventory.{as_entries, other_sign, with_number};
-ghost use Rattle.lot_inv.specs.Holding.{kept, listed, lot_rows, takeable, units_in};
+ghost use Rattle.lot_inv.specs.Holding.{kept, listed, lot_rows, takeable, takeable_lots, units_in};
 ghost use Rattle.lot_inv.specs.Lots.{count_of, counted_in, is_below, lot_at};
 
-use crate::by_number::{ByNumber, by_number, with_lot};
+use crate::by_number::{ByNumber, by_number, next_highest, with_lot};
+use crate::foremost::Foremost;
 use crate::inventory::is_other_sign;
-use crate::lot::Lot;
+use crate::lot::{LentLot, Lot};
 use lot_base::Commodity;
 use lot_cost::{CostSpec, LotKey};
 use lot_num::{Rate, Units};
@@ -48,6 +50,21 @@ pub(crate) struct Lots {
     by_number: Option<ByNumber>,
     /// How many of them are below zero. The others are above it.
     below: u64,
+}
+
+impl OpenLot {
+    ghost use Rattle.lot_inv.specs.declared.lot.Lot.{Lot};
+
+    /// Returns the lot under a key, which is lent.
+    pub(crate) fn lend(self, key: &LotKey) -> LentLot<'_>
+        ensures { result ≡ record { key = key.now; units = self.units; opening = self.opening } }
+    {
+        LentLot {
+            key,
+            units: self.units,
+            opening: self.opening,
+        }
+    }
 }
 
 /// Lots that units may take: all of them, or several that hold more than the units.
@@ -178,6 +195,39 @@ impl Lots {
             }
         }
         available
+    }
+
+    /// Returns the lots of the highest numbers that units may take at a number, number by number until they hold the units.
+    /// It is `None` where lots aren't kept by their numbers.
+    pub(crate) fn highest_first(
+        &self,
+        alloc: Global,
+        units: Units,
+        number: &Option<Rate>,
+        spec: &CostSpec,
+    ) -> Result<Option<Vec<LentLot<'_>>>, AllocError>
+        requires number { (spec.now.number ≡ None) ⊎ (spec.now.number ≡ number.now) }
+        requires sorted { IsStrictlySortedBy lot_cmp (keys_of self.now) }
+        ensures { IfOk result (λ found. IfSome found (λ lots. AreLentOf Highest (unsigned_abs units)
+            (takeable_lots units (with_number number.now spec.now) (listed self.now))
+            lots.items)) }
+    {
+        let Some(index) = &self.by_number else {
+            return Ok(None);
+        };
+        let mut left = units.mantissa().unsigned_abs();
+        let mut lots = Vec::new(alloc);
+        let mut entries = index.iter();
+        while let Some((key, lot)) = next_highest(&mut entries) {
+            if left == 0 && Foremost::Highest.is_past(&lots, key) {
+                return Ok(Some(lots));
+            }
+            if is_other_sign(lot.units, units) && fits_at(number, spec, key) {
+                lots.push(lot.lend(key))?;
+                left = left.saturating_sub(lot.units.mantissa().unsigned_abs());
+            }
+        }
+        Ok(Some(lots))
     }
 
     /// Lists the lots of a commodity behind other rows, in the order of their keys.

@@ -2,8 +2,8 @@
 use Rattle.std.proofs.Common.{◌≡◌, Bool, true, List, ℤ, rules, refl, subst, sym, unsigned_abs}
 use Rattle.std.proofs.lemmas.Result.{err_from_is_err_and}
 use Rattle.lot_cost.specs.declared.lot_key.LotKey.{LotKey}
-use Rattle.lot_inv.specs.Days.{AreLentOf, Counts, numbered}
-use Rattle.lot_inv.specs.declared.days.Days.{Days}
+use Rattle.lot_inv.specs.Foremost.{AreLentOf, Counts, numbered}
+use Rattle.lot_inv.specs.declared.foremost.Foremost.{Foremost}
 use Rattle.lot_inv.specs.Inventory.{fitting, opening_at, with_number}
 use Rattle.lot_inv.proofs.LawLemmas.{sorted_matching}
 use Rattle.lot_booking.specs.Booking.{ComesTo, Legs, candidates, posting_on}
@@ -65,8 +65,8 @@ returns-clause-booked c =
     lots_for posting c.in_ok-number.number c.given-spec.result.now c.in_ok-number.ensures.number c.given-spec.ensures.value in
     let counted = subst (Counts amount available.lots available.held) all c.available-available.ensures in
     let suffice = suffice_all c.args.selection.method amount available.lots available.held (candidates posting) counted (c.in_ok-ensure_enough.ensures.suffice refl) in
-    let lent = subst (λ (days : Days). AreLentOf days amount (numbered opening (candidates posting)) lots) c.days_of-days.ensures
-    (subst (λ (ls : List (LotKey × ℤ)). AreLentOf c.days_of-days.result amount (numbered opening ls) lots) all c.in_ok-lots.ensures) in
+    let lent = subst (λ (foremost : Foremost). AreLentOf foremost amount (numbered opening (candidates posting)) lots) c.foremost_of-foremost.ensures
+    (subst (λ (ls : List (LotKey × ℤ)). AreLentOf c.foremost_of-foremost.result amount (numbered opening ls) lots) all c.in_ok-lots.ensures) in
     let taken = c.in_ok-legs-2.ensures opening (candidates posting) (candidates_distinct sorted_matching posting) suffice lent in
     let reducing : c.if-ne.reduces ≡ true = search rules in
     subst (λ (b : Bool). ComesTo posting (Legs b legs)) (sym reducing) ((search rules, search rules, search rules), taken)

@@ -1,71 +1,33 @@
--- Lots are lent until a day is past, or none is left.
-use Rattle.std.proofs.Common.{◌≡◌, ◌≤◌, ◌∷◌, ◌++◌, List, map, unsigned_abs, sym, ap, subst, ◌∙◌, arith, rules}
-use Rattle.lot_inv.specs.declared.lot.Lot.{Lot}
-use Rattle.lot_inv.specs.Days.{gone_through, is_past}
+-- Where a number is given all lots are lent; else those of the highest number, where they hold the units.
+use Rattle.std.proofs.Common.{◌≡◌, None, Option, ℕ, inl, inr, sym, subst, ◌∙◌, unsigned_abs, rules}
+use Rattle.std.proofs.lemmas.Result.{IfOk-weaker}
+use Rattle.lot_inv.specs.declared.foremost.Foremost.{Foremost}
+use Rattle.lot_inv.specs.declared.foremost.Foremost.TheVariants.{Highest}
+use Rattle.lot_inv.specs.Foremost.{AreLentOf}
 use Rattle.lot_inv.specs.Holding.{listed, takeable_lots}
-use Rattle.lot_inv.specs.Inventory.{held_in, with_number}
-use Rattle.lot_inv.specs.Lot.{key_and_units}
-use Rattle.lot_inv.proofs.LentLemmas.{AreByDay, by_day-from_sorted, by_day_but, lent_all, lent_before, misfits_lent, same_sign_lent}
-use Rattle.lot_inv.proofs.inventory.Holding.takeable.Goals.{else-is_other_sign-via-then-is_other_sign+else-fits_at, else-is_other_sign-via-else-is_other_sign}
+use Rattle.lot_inv.specs.Inventory.{with_number}
+use Rattle.lot_inv.proofs.HighestLemmas.{lent_found, lent_whole}
 use Rattle.lot_inv.proofs.inventory.Holding.takeable.Goals as goal
 
-pub loop-key-init : goal.loop-key-init
-loop-key-init c =
-    let spec = with_number c.args.number.now c.args.spec.now in
-    let days = c.args.days in
-    let rest = c.iter-entries.ensures.rest in
-    let none = c.new-lots.ensures.items in
-    let behind = listed (gone_through days c.iter-entries.result) in
-    record {
-      all = ap (λ (ls : List Lot). ls ++ takeable_lots c.args.units spec behind) none
-          ∙ ap (λ es. takeable_lots c.args.units spec (listed (gone_through days es))) rest;
-      by_day = subst (λ (ls : List Lot). AreByDay days (ls ++ behind)) (sym none)
-          (subst (λ es. AreByDay days (listed (gone_through days es))) (sym rest)
-          (by_day-from_sorted days c.args.self.now.lots c.requires.holding.sorted));
-      held = search rules;
-    }
-
-pub loop-key-preserved : goal.loop-key-preserved
-loop-key-preserved c =
-    let spec = with_number c.args.number.now c.args.spec.now in
+pub returns-in_default : goal.returns-in_default
+returns-in_default c =
     let units = c.args.units in
-    let lots = c.loop-key.lots.items in
-    let lot : Lot = record { key = c.in-Some.key.now; units = c.in-Some.lot.now.units; opening = c.in-Some.lot.now.opening } in
-    let rest = listed (gone_through c.args.days c.next.new.lots) in
-    let steps : listed (gone_through c.args.days c.loop-key.entries) ≡ lot ∷ rest = ap listed c.in-Some.ensures.some in
-    let passed : takeable_lots units spec (lot ∷ rest) ≡ takeable_lots units spec rest = elim c.else-is_other_sign.branch [
-      | else-is_other_sign-via-then-is_other_sign+else-fits_at w ↦ misfits_lent units spec lot rest (sym w.fits_at.ensures ∙ w.if-fits_at.false)
-      | else-is_other_sign-via-else-is_other_sign w ↦ same_sign_lent units spec lot rest (sym c.is_other_sign.ensures ∙ w.if-is_other_sign.false)
-    ] in
-    let so_far = c.loop-key.invariant in
-    record {
-      all = ap (λ ls. lots ++ ls) (sym (ap (takeable_lots units spec) steps ∙ passed)) ∙ so_far.all;
-      by_day = by_day_but c.args.days lots rest lot (subst (λ ls. AreByDay c.args.days (lots ++ ls)) steps so_far.by_day);
-      held = so_far.held;
-    }
+    let spec = c.args.spec.now in
+    let amount = unsigned_abs units in
+    let entries = listed c.args.self.now.lots in
+    let number : c.args.number.now ≡ None = search rules in
+    let foremost : c.args.foremost ≡ Highest = search rules in
+    let free : spec.number ≡ None = elim c.requires.number [ inl none ↦ none | inr same ↦ same ∙ number ] in
+    let lent = lent_found units spec amount entries c.highest-highest.result free c.highest-highest.ensures in
+    IfOk-weaker c.takeable_at.result _ _
+    (λ lots is.
+    subst (λ (x : Foremost). AreLentOf x amount (takeable_lots units (with_number c.args.number.now spec) entries) lots.items) (sym foremost)
+    (subst (λ (n : Option ℕ). AreLentOf Highest amount (takeable_lots units (with_number n spec) entries) lots.items) (sym number)
+    (subst (AreLentOf Highest amount (takeable_lots units (with_number None spec) entries)) (sym is) lent))) c.takeable_at.ensures
 
-pub returns-then-is_past : goal.returns-then-is_past
-returns-then-is_past c =
-    let spec = with_number c.args.number.now c.args.spec.now in
-    let units = c.args.units in
-    let lots = c.loop-key.lots.items in
-    let lot : Lot = record { key = c.in-Some.key.now; units = c.in-Some.lot.now.units; opening = c.in-Some.lot.now.opening } in
-    let rest = listed (gone_through c.args.days c.next.new.lots) in
-    let steps : listed (gone_through c.args.days c.loop-key.entries) ≡ lot ∷ rest = ap listed c.in-Some.ensures.some in
-    let so_far = c.loop-key.invariant in
-    let none = c.if-left-eq0.true in
-    let held = so_far.held in
-    let enough : unsigned_abs units ≤ held_in (map key_and_units lots) = omega (arith, none, held) in
-    lent_before units spec c.args.days (unsigned_abs units) c.args.self.now.lots lots lot rest
-    (ap (λ ls. lots ++ takeable_lots units spec ls) (sym steps) ∙ so_far.all)
-    (subst (λ ls. AreByDay c.args.days (lots ++ ls)) steps so_far.by_day)
-    (ap (λ (ls : List Lot). is_past c.args.days ls lot.key) (sym c.deref.ensures.value) ∙ sym c.is_past.ensures ∙ c.if-is_past.true)
-    enough
-
-pub returns : goal.returns
-returns c =
-    let spec = with_number c.args.number.now c.args.spec.now in
-    let units = c.args.units in
-    let lots = c.loop-key.lots.items in
-    lent_all units spec c.args.days (unsigned_abs units) c.args.self.now.lots lots
-    (ap (λ es. lots ++ takeable_lots units spec (listed es)) (sym c.in_default.ensures.none) ∙ c.loop-key.invariant.all)
+pub returns-in-Highest-Some : goal.returns-in-Highest-Some
+returns-in-Highest-Some c =
+    let all = takeable_lots c.args.units (with_number c.args.number.now c.args.spec.now) (listed c.args.self.now.lots) in
+    let amount = unsigned_abs c.args.units in
+    IfOk-weaker c.takeable_at-in-Highest-Some.result _ _
+    (λ lots is. subst (AreLentOf c.args.foremost amount all) (sym is) (lent_whole c.args.foremost amount all)) c.takeable_at-in-Highest-Some.ensures

@@ -1,6 +1,6 @@
 -- The lots of a commodity are those of its holding.
 use Rattle.std.proofs.Common.{length, option_copied, inl, sym, ap, subst, ◌∙◌, unsigned_abs}
-use Rattle.lot_inv.specs.Days.{Counts}
+use Rattle.lot_inv.specs.Foremost.{Counts}
 use Rattle.lot_inv.specs.Holding.{takeable, units_in}
 use Rattle.lot_inv.specs.Inventory.{held_in, with_number}
 use Rattle.lot_inv.proofs.InventoryLemmas.{lots_seen, lots_at}

@@ -7,7 +7,8 @@ use Rattle.std.proofs.lemmas.List.Sorted.{IsPermutation-refl}
 use Rattle.std.proofs.lemmas.Result.{IfOk-weaker}
 use Rattle.lot_cost.specs.CostSpec.{fits}
 use Rattle.lot_cost.specs.declared.lot_key.LotKey.{LotKey}
-use Rattle.lot_inv.specs.Days.{AreLentOf, numbered}
+use Rattle.lot_cost.specs.LotKey.{lot_cmp}
+use Rattle.lot_inv.specs.Foremost.{AreLentOf, numbered}
 use Rattle.lot_inv.specs.declared.inventory.Holding.{Holding}
 use Rattle.lot_inv.specs.declared.lots.OpenLot.{OpenLot}
 use Rattle.lot_inv.specs.declared.lot.Lot.{Lot}
@@ -48,7 +49,7 @@ returns-in-Some c =
     ∙ ap (takeable c.args.units spec) (sym (lots ∙ ap (λ o. units_in (lots_at (option_copied o))) c.in-Some.is)) in
     let same = are_numbered opening all each ∙ ap (numbered opening) seen in
     IfOk-weaker c.takeable.result _ _
-    (λ found lent. subst (λ (ls : List Lot). AreLentOf c.args.days (unsigned_abs c.args.units) ls found.items) same lent) c.takeable.ensures
+    (λ found lent. subst (λ (ls : List Lot). AreLentOf c.args.foremost (unsigned_abs c.args.units) ls found.items) same lent) c.takeable.ensures
 
 pub returns-in-None : goal.returns-in-None
 returns-in-None c =
@@ -57,6 +58,6 @@ returns-in-None c =
     let lots = lots_seen c.self.inside.held.entries c.args.self.now c.args.commodity.now (option_copied c.get.result) c.self.invariant.0 c.self.view_is c.get.ensures.value in
     let none : [] ≡ numbered opening (fitting c.args.self.now.held c.args.commodity.now c.args.units spec) =
     ap (λ ls. numbered opening (takeable c.args.units spec ls)) (sym (lots ∙ ap (λ o. units_in (lots_at (option_copied o))) c.in-None.is)) in
-    subst (λ (ls : List Lot). AreLentOf c.args.days (unsigned_abs c.args.units) ls c.new.result.items) none
-    (subst (AreLentOf c.args.days (unsigned_abs c.args.units) []) (sym c.new.ensures.items)
+    subst (λ (ls : List Lot). AreLentOf c.args.foremost (unsigned_abs c.args.units) ls c.new.result.items) none
+    (subst (AreLentOf c.args.foremost (unsigned_abs c.args.units) []) (sym c.new.ensures.items)
     (record { others = []; same = IsPermutation-refl []; later = tt; enough = λ enough. enough }))

@@ -1,9 +1,9 @@
 -- The last of the lots decides.
 use Rattle.std.proofs.Common.{option_copied, sym, ap, ◌∙◌}
 use Rattle.lot_inv.specs.declared.lot.Lot.{Lot}
-use Rattle.lot_inv.specs.Days.{is_later}
+use Rattle.lot_inv.specs.Foremost.{is_later}
 use Rattle.lot_inv.proofs.LentLemmas.{past_last}
-use Rattle.lot_inv.proofs.days.Days.is_past.Goals as goal
+use Rattle.lot_inv.proofs.foremost.Foremost.is_past.Goals as goal
 
 pub returns-in-Some : goal.returns-in-Some
 returns-in-Some c =
