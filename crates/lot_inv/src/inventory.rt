@@ -1,4 +1,4 @@
-ghost use Rattle.std.specs.Prelude.{◌≡◌, ◌≢◌, ◌⊎◌, [], ◌∷◌, ◌++◌, map, ℤ, pos, ◌+ℤ◌, ◌*ℤ◌, length, option_copied, unsigned_abs, SomeIff, IfSome, IfNone, Option, None, cond, ◌↔◌, IsTrue, IsFalse, IsOk, IsErrOf, IfOk, OnOk, OnErr};
+ghost use Rattle.std.specs.Prelude.{◌≡◌, ◌≢◌, ◌⊎◌, [], ◌++◌, map, ℤ, pos, ◌+ℤ◌, ◌*ℤ◌, length, option_copied, unsigned_abs, SomeIff, Option, None, cond, ◌↔◌, IsTrue, IsFalse, IsOk, IsErrOf, IfOk, OnOk, OnErr};
 ghost use Rattle.std.specs.FinMap as finite;
 ghost use Rattle.std.specs.List.Sorted.{IsStrictlySortedBy};
 ghost use Rattle.std.specs.Map.{keys_of};
@@ -6,25 +6,23 @@ ghost use Rattle.std.specs.Option.{option_cmp, unwrap_or};
 ghost use Rattle.std.specs.Ordering.{is_eq};
 ghost use Rattle.lot_num.specs.Amount.{IsUnits, IsWide, one};
 ghost use Rattle.lot_inv.specs.Inventory.{NumbersLots, StoresMore, added_lot, as_entries, fitting, lots_of, matching, non_zero, nothing, only_lots, opened_at, opening_at, other_sign, reduces, sum, units_at, with_lot, with_number};
-ghost use Rattle.lot_inv.specs.Foremost.{AreLentOf, Counts, HoldsAtHighest, gone_through, numbered};
+ghost use Rattle.lot_inv.specs.Foremost.{AreLentOf, Counts, numbered};
 ghost use Rattle.lot_inv.specs.Lot.{AreNumberedBy, key_and_units};
 ghost use Rattle.lot_inv.specs.Zeros.{HasNoZeros};
 ghost use Rattle.lot_cost.specs.LotKey.{lot_cmp};
-ghost use Rattle.lot_inv.specs.Holding.{AreAlike, AreHoldings, ChangesPosition, NeedsPosition, NoneIsEmpty, NoOtherIsEmpty, kept_at, plain_rows, rows_of, takeable_lots, units_in, with_lots};
+ghost use Rattle.lot_inv.specs.Holding.{AreAlike, AreHoldings, ChangesPosition, NeedsPosition, NoneIsEmpty, NoOtherIsEmpty, kept_at, plain_rows, rows_of, units_in, with_lots};
 ghost use Rattle.lot_cost.specs.declared.lot_key.LotKey.{LotKey};
-ghost use Rattle.lot_inv.specs.declared.foremost.Foremost.TheVariants.{Highest};
 ghost use Rattle.lot_inv.specs.declared.fault.InventoryFault.TheVariants.{Memory, Range};
 
 use crate::fault::InventoryFault;
 use crate::foremost::Foremost;
 use crate::lot::{LentLot, Lot};
-use crate::lots::{Available, Lots, OpenLot, fits_at};
+use crate::lots::{Available, Lots};
 use lot_base::Commodity;
 use lot_cost::{CostSpec, LotKey};
 use lot_num::{Rate, Units, Wide};
 use std::alloc::{AllocError, Global};
 use std::collections::BTreeMap;
-use std::collections::btree_map::Iter;
 use std::marker::Model;
 
 /// What is held of each commodity, plain and lot by lot, and the opening number of each lot.
@@ -195,7 +193,9 @@ impl Inventory {
             (numbered (opening_at self.now commodity.now) all) lots.items) }
     {
         match self.held.get(commodity) {
-            Some(holding) => holding.takeable(self.alloc, foremost, units, number, spec),
+            Some(holding) => holding
+                .lots
+                .takeable(self.alloc, foremost, units, number, spec),
             None => Ok(Vec::new(self.alloc)),
         }
     }
@@ -338,114 +338,6 @@ impl Holding {
         Ok(())
     }
 
-    /// Returns the lots that units may take at a number, the foremost ones.
-    fn takeable(
-        &self,
-        alloc: Global,
-        foremost: Foremost,
-        units: Units,
-        number: &Option<Rate>,
-        spec: &CostSpec,
-    ) -> Result<Vec<LentLot<'_>>, AllocError>
-        requires number { (spec.now.number ≡ None) ⊎ (spec.now.number ≡ number.now) }
-        requires holding { IsHolding self.now }
-        ensures { IfOk result (λ lots. AreLentOf foremost (unsigned_abs units)
-            (takeable_lots units (with_number number.now spec.now) (listed self.now.lots))
-            lots.items) }
-    {
-        match (foremost, number) {
-            (Foremost::Highest, None) => {
-                if let Some(lots) = self.lots.highest_first(alloc, units, number, spec)? {
-                    return Ok(lots);
-                }
-                let highest = self.highest(units, spec);
-                self.takeable_at(alloc, units, &highest, spec)
-            }
-            (Foremost::Highest, Some(_)) => self.takeable_at(alloc, units, number, spec),
-            (Foremost::Oldest | Foremost::Newest, _) => {
-                self.by_day(alloc, foremost, units, number, spec)
-            }
-        }
-    }
-
-    /// Returns the lots of the first or the last days that units may take at a number, day by day until they hold the units.
-    fn by_day(
-        &self,
-        alloc: Global,
-        foremost: Foremost,
-        units: Units,
-        number: &Option<Rate>,
-        spec: &CostSpec,
-    ) -> Result<Vec<LentLot<'_>>, AllocError>
-        requires days { foremost ≢ Highest }
-        requires number { (spec.now.number ≡ None) ⊎ (spec.now.number ≡ number.now) }
-        requires holding { IsHolding self.now }
-        ensures { IfOk result (λ lots. AreLentOf foremost (unsigned_abs units)
-            (takeable_lots units (with_number number.now spec.now) (listed self.now.lots))
-            lots.items) }
-    {
-        let mut left = units.mantissa().unsigned_abs();
-        let mut lots = Vec::new(alloc);
-        let mut entries = self.lots.iter();
-        while let Some((key, lot)) = next(foremost, &mut entries) {
-            if left == 0 && foremost.is_past(&lots, key) {
-                return Ok(lots);
-            }
-            if is_other_sign(lot.units, units) && fits_at(number, spec, key) {
-                lots.push(lot.lend(key))?;
-                left = left.saturating_sub(lot.units.mantissa().unsigned_abs());
-            }
-        }
-        Ok(lots)
-    }
-
-    /// Returns the highest number of the lots that units may take, where the lots of that number hold the units.
-    fn highest(&self, units: Units, spec: &CostSpec) -> Option<Rate>
-        requires { spec.now.number ≡ None }
-        ensures { IfSome result (λ number. HoldsAtHighest (unsigned_abs units) number
-            (takeable_lots units spec.now (listed self.now.lots))) }
-    {
-        let wanted = units.mantissa().unsigned_abs();
-        let mut highest = 0;
-        let mut left = wanted;
-        for (key, lot) in self.lots.iter() {
-            let number = key.number.mantissa();
-            if highest <= number && is_other_sign(lot.units, units) && spec.fits(key) {
-                if highest < number {
-                    highest = number;
-                    left = wanted;
-                }
-                left = left.saturating_sub(lot.units.mantissa().unsigned_abs());
-            }
-        }
-        if left == 0 {
-            Rate::from_mantissa(highest)
-        } else {
-            None
-        }
-    }
-
-    /// Returns the lots that units may take at a number, in the order of their keys.
-    fn takeable_at(
-        &self,
-        alloc: Global,
-        units: Units,
-        number: &Option<Rate>,
-        spec: &CostSpec,
-    ) -> Result<Vec<LentLot<'_>>, AllocError>
-        requires { (spec.now.number ≡ None) ⊎ (spec.now.number ≡ number.now) }
-        ensures { IfOk result (λ lots. lots.items
-            ≡ takeable_lots units (with_number number.now spec.now) (listed self.now.lots)) }
-    {
-        let mut lots = Vec::new(alloc);
-        for (key, lot) in self.lots.iter() {
-            if fits_at(number, spec, key) && is_other_sign(lot.units, units) {
-                lots.push(lot.lend(key))?;
-            }
-        }
-        Ok(lots)
-    }
-
     /// Returns an inventory of these lots, as lots of the commodity.
     fn only_lots(&self, alloc: Global, commodity: &Commodity) -> Result<Inventory, AllocError>
         ensures lots { IfOk result (λ inventory. inventory ≡ with_lots nothing commodity.now self.now.lots) }
@@ -469,21 +361,6 @@ impl Holding {
     {
         list_plain(self.plain, commodity, rows)?;
         self.lots.list(commodity, rows)
-    }
-}
-
-/// Returns the lot that comes next as lots are gone through, by which of them are foremost.
-fn next<'a>(
-    foremost: Foremost,
-    lots: &mut Iter<'a, LotKey, OpenLot>,
-) -> Option<(&'a LotKey, &'a OpenLot)>
-    ensures none { IfNone result (gone_through foremost lots.old ≡ []) }
-    ensures some { IfSome result (λ lot. gone_through foremost lots.old
-        ≡ (lot.0.now, lot.1.now) ∷ gone_through foremost lots.new) }
-{
-    match foremost {
-        Foremost::Oldest | Foremost::Highest => lots.next(),
-        Foremost::Newest => lots.next_back(),
     }
 }
 

@@ -1,4 +1,4 @@
-ghost use Rattle.std.specs.Prelude.{◌≡◌, ◌≢◌, ◌⊎◌, ℤ, Bool, [], ◌++◌, pos, ◌+ℤ◌, ◌+◌, ◌*◌, ◌^◌, ◌<◌, ◌≤◌, length, option_copied, unsigned_abs, IfOk, IfSome, OnOk, OnErr, None, cond, filter};
+ghost use Rattle.std.specs.Prelude.{◌≡◌, ◌≢◌, ◌⊎◌, ◌∷◌, IfNone, ℤ, Bool, [], ◌++◌, pos, ◌+ℤ◌, ◌+◌, ◌*◌, ◌^◌, ◌<◌, ◌≤◌, length, option_copied, unsigned_abs, IfOk, IfSome, OnOk, OnErr, None, cond, filter};
 ghost use Rattle.std.specs.List.{list_any};
 ghost use Rattle.std.specs.List.Sorted.{IsStrictlySortedBy};
 ghost use Rattle.std.specs.Map.{keys_of, values_of};
@@ -11,7 +11,7 @@ ghost use Rattle.lot_cost.specs.LotKey.{lot_cmp};
 ghost use Rattle.lot_cost.specs.declared.lot_key.LotKey.{LotKey};
 ghost use Rattle.lot_inv.specs.declared.foremost.Foremost.TheVariants.{Highest};
 ghost use Rattle.lot_inv.specs.declared.lot.Lot.{Lot};
-ghost use Rattle.lot_inv.specs.Foremost.{AreLentOf, Counts};
+ghost use Rattle.lot_inv.specs.Foremost.{AreLentOf, Counts, HoldsAtHighest, gone_through};
 ghost use Rattle.lot_inv.specs.Inventory.{as_entries, other_sign, with_number};
 ghost use Rattle.lot_inv.specs.Holding.{kept, listed, lot_rows, takeable, takeable_lots, units_in};
 ghost use Rattle.lot_inv.specs.Lots.{count_of, counted_in, is_below, lot_at};
@@ -197,9 +197,117 @@ impl Lots {
         available
     }
 
+    /// Returns the lots that units may take at a number, the foremost ones.
+    pub(crate) fn takeable(
+        &self,
+        alloc: Global,
+        foremost: Foremost,
+        units: Units,
+        number: &Option<Rate>,
+        spec: &CostSpec,
+    ) -> Result<Vec<LentLot<'_>>, AllocError>
+        requires number { (spec.now.number ≡ None) ⊎ (spec.now.number ≡ number.now) }
+        requires sorted { IsStrictlySortedBy lot_cmp (keys_of self.now) }
+        ensures { IfOk result (λ lots. AreLentOf foremost (unsigned_abs units)
+            (takeable_lots units (with_number number.now spec.now) (listed self.now))
+            lots.items) }
+    {
+        match (foremost, number) {
+            (Foremost::Highest, None) => {
+                if let Some(lots) = self.highest_first(alloc, units, number, spec)? {
+                    return Ok(lots);
+                }
+                let highest = self.highest(units, spec);
+                self.takeable_at(alloc, units, &highest, spec)
+            }
+            (Foremost::Highest, Some(_)) => self.takeable_at(alloc, units, number, spec),
+            (Foremost::Oldest | Foremost::Newest, _) => {
+                self.by_day(alloc, foremost, units, number, spec)
+            }
+        }
+    }
+
+    /// Returns the lots of the first or the last days that units may take at a number, day by day until they hold the units.
+    fn by_day(
+        &self,
+        alloc: Global,
+        foremost: Foremost,
+        units: Units,
+        number: &Option<Rate>,
+        spec: &CostSpec,
+    ) -> Result<Vec<LentLot<'_>>, AllocError>
+        requires days { foremost ≢ Highest }
+        requires number { (spec.now.number ≡ None) ⊎ (spec.now.number ≡ number.now) }
+        requires sorted { IsStrictlySortedBy lot_cmp (keys_of self.now) }
+        ensures { IfOk result (λ lots. AreLentOf foremost (unsigned_abs units)
+            (takeable_lots units (with_number number.now spec.now) (listed self.now))
+            lots.items) }
+    {
+        let mut left = units.mantissa().unsigned_abs();
+        let mut lots = Vec::new(alloc);
+        let mut entries = self.iter();
+        while let Some((key, lot)) = next(foremost, &mut entries) {
+            if left == 0 && foremost.is_past(&lots, key) {
+                return Ok(lots);
+            }
+            if is_other_sign(lot.units, units) && fits_at(number, spec, key) {
+                lots.push(lot.lend(key))?;
+                left = left.saturating_sub(lot.units.mantissa().unsigned_abs());
+            }
+        }
+        Ok(lots)
+    }
+
+    /// Returns the highest number of the lots that units may take, where the lots of that number hold the units.
+    fn highest(&self, units: Units, spec: &CostSpec) -> Option<Rate>
+        requires { spec.now.number ≡ None }
+        ensures { IfSome result (λ number. HoldsAtHighest (unsigned_abs units) number
+            (takeable_lots units spec.now (listed self.now))) }
+    {
+        let wanted = units.mantissa().unsigned_abs();
+        let mut highest = 0;
+        let mut left = wanted;
+        for (key, lot) in self.iter() {
+            let number = key.number.mantissa();
+            if highest <= number && is_other_sign(lot.units, units) && spec.fits(key) {
+                if highest < number {
+                    highest = number;
+                    left = wanted;
+                }
+                left = left.saturating_sub(lot.units.mantissa().unsigned_abs());
+            }
+        }
+        if left == 0 {
+            Rate::from_mantissa(highest)
+        } else {
+            None
+        }
+    }
+
+    /// Returns the lots that units may take at a number, in the order of their keys.
+    fn takeable_at(
+        &self,
+        alloc: Global,
+        units: Units,
+        number: &Option<Rate>,
+        spec: &CostSpec,
+    ) -> Result<Vec<LentLot<'_>>, AllocError>
+        requires { (spec.now.number ≡ None) ⊎ (spec.now.number ≡ number.now) }
+        ensures { IfOk result (λ lots. lots.items
+            ≡ takeable_lots units (with_number number.now spec.now) (listed self.now)) }
+    {
+        let mut lots = Vec::new(alloc);
+        for (key, lot) in self.iter() {
+            if fits_at(number, spec, key) && is_other_sign(lot.units, units) {
+                lots.push(lot.lend(key))?;
+            }
+        }
+        Ok(lots)
+    }
+
     /// Returns the lots of the highest numbers that units may take at a number, number by number until they hold the units.
     /// It is `None` where lots aren't kept by their numbers.
-    pub(crate) fn highest_first(
+    fn highest_first(
         &self,
         alloc: Global,
         units: Units,
@@ -311,9 +419,24 @@ fn one_if_below(lot: Option<OpenLot>) -> u64
     }
 }
 
+/// Returns the lot that comes next as lots are gone through, by which of them are foremost.
+fn next<'a>(
+    foremost: Foremost,
+    lots: &mut Iter<'a, LotKey, OpenLot>,
+) -> Option<(&'a LotKey, &'a OpenLot)>
+    ensures none { IfNone result (gone_through foremost lots.old ≡ []) }
+    ensures some { IfSome result (λ lot. gone_through foremost lots.old
+        ≡ (lot.0.now, lot.1.now) ∷ gone_through foremost lots.new) }
+{
+    match foremost {
+        Foremost::Oldest | Foremost::Highest => lots.next(),
+        Foremost::Newest => lots.next_back(),
+    }
+}
+
 /// Returns whether a specification fits a key, and the key has that number where one is given. The specification has that
 /// number itself, or none.
-pub(crate) fn fits_at(number: &Option<Rate>, spec: &CostSpec, key: &LotKey) -> bool
+fn fits_at(number: &Option<Rate>, spec: &CostSpec, key: &LotKey) -> bool
     requires { (spec.now.number ≡ None) ⊎ (spec.now.number ≡ number.now) }
     ensures { result ≡ fits (with_number number.now spec.now) key.now }
 {

@@ -21,9 +21,9 @@ use Rattle.lot_inv.proofs.LentLemmas.{are_numbered}
 use Rattle.lot_inv.proofs.ListedLemmas.{numbers-listed, takeable-listed}
 use Rattle.lot_inv.proofs.inventory.Inventory.takeable.Goals as goal
 
-pub takeable-requires-clause-holding : goal.takeable-requires-clause-holding
-takeable-requires-clause-holding c =
-    holding_seen c.self.inside.held.entries c.args.commodity.now c.in-Some.holding.now c.self.invariant.0 (ap option_copied (sym c.in-Some.is) ∙ c.get.ensures.value)
+pub takeable-requires-clause-sorted : goal.takeable-requires-clause-sorted
+takeable-requires-clause-sorted c =
+    (holding_seen c.self.inside.held.entries c.args.commodity.now c.in-Some.holding.now c.self.invariant.0 (ap option_copied (sym c.in-Some.is) ∙ c.get.ensures.value)).sorted
 
 pub returns-in-Some : goal.returns-in-Some
 returns-in-Some c =

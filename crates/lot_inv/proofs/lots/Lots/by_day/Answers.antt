@@ -6,8 +6,8 @@ use Rattle.lot_inv.specs.Holding.{listed, takeable_lots}
 use Rattle.lot_inv.specs.Inventory.{held_in, with_number}
 use Rattle.lot_inv.specs.Lot.{key_and_units}
 use Rattle.lot_inv.proofs.LentLemmas.{AreByDay, by_day-from_sorted, by_day_but, lent_all, lent_before, misfits_lent, same_sign_lent}
-use Rattle.lot_inv.proofs.inventory.Holding.by_day.Goals.{else-is_other_sign-via-then-is_other_sign+else-fits_at, else-is_other_sign-via-else-is_other_sign}
-use Rattle.lot_inv.proofs.inventory.Holding.by_day.Goals as goal
+use Rattle.lot_inv.proofs.lots.Lots.by_day.Goals.{else-is_other_sign-via-then-is_other_sign+else-fits_at, else-is_other_sign-via-else-is_other_sign}
+use Rattle.lot_inv.proofs.lots.Lots.by_day.Goals as goal
 
 pub loop-key-init : goal.loop-key-init
 loop-key-init c =
@@ -21,7 +21,7 @@ loop-key-init c =
           ∙ ap (λ es. takeable_lots c.args.units spec (listed (gone_through foremost es))) rest;
       by_day = subst (λ (ls : List Lot). AreByDay foremost (ls ++ behind)) (sym none)
           (subst (λ es. AreByDay foremost (listed (gone_through foremost es))) (sym rest)
-          (by_day-from_sorted foremost c.args.self.now.lots c.requires.days c.requires.holding.sorted));
+          (by_day-from_sorted foremost c.args.self.now c.requires.days c.requires.sorted));
       held = search rules;
     }
 
@@ -56,7 +56,7 @@ returns-then-is_past c =
     let none = c.if-left-eq0.true in
     let held = so_far.held in
     let enough : unsigned_abs units ≤ held_in (map key_and_units lots) = omega (arith, none, held) in
-    lent_before units spec c.args.foremost (unsigned_abs units) c.args.self.now.lots lots lot rest
+    lent_before units spec c.args.foremost (unsigned_abs units) c.args.self.now lots lot rest
     (ap (λ ls. lots ++ takeable_lots units spec ls) (sym steps) ∙ so_far.all)
     (subst (λ ls. AreByDay c.args.foremost (lots ++ ls)) steps so_far.by_day)
     (ap (λ (ls : List Lot). is_past c.args.foremost ls lot.key) (sym c.deref.ensures.value) ∙ sym c.is_past.ensures ∙ c.if-is_past.true)
@@ -67,5 +67,5 @@ returns c =
     let spec = with_number c.args.number.now c.args.spec.now in
     let units = c.args.units in
     let lots = c.loop-key.lots.items in
-    lent_all units spec c.args.foremost (unsigned_abs units) c.args.self.now.lots lots
+    lent_all units spec c.args.foremost (unsigned_abs units) c.args.self.now lots
     (ap (λ es. lots ++ takeable_lots units spec (listed es)) (sym c.in_default.ensures.none) ∙ c.loop-key.invariant.all)

@@ -4,15 +4,15 @@ use Rattle.lot_inv.specs.declared.lot.Lot.{Lot}
 use Rattle.lot_inv.specs.Holding.{listed}
 use Rattle.lot_inv.proofs.HighestLemmas.{Passed, passed_lower, passed_one, passed_over, passed_up}
 use Rattle.lot_inv.proofs.LentLemmas.{misfits_lent, same_sign_lent}
-use Rattle.lot_inv.proofs.inventory.Holding.highest.Goals.{then-highest-number-2, else-highest-number-2, else-highest-number-via-then-highest-number+then-is_other_sign+else-fits, else-highest-number-via-then-highest-number+else-is_other_sign, else-highest-number-via-else-highest-number}
-use Rattle.lot_inv.proofs.inventory.Holding.highest.Goals as goal
+use Rattle.lot_inv.proofs.lots.Lots.highest.Goals.{then-highest-number-2, else-highest-number-2, else-highest-number-via-then-highest-number+then-is_other_sign+else-fits, else-highest-number-via-then-highest-number+else-is_other_sign, else-highest-number-via-else-highest-number}
+use Rattle.lot_inv.proofs.lots.Lots.highest.Goals as goal
 
 pub loop-key-preserved-then-fits : goal.loop-key-preserved-then-fits
 loop-key-preserved-then-fits c =
     let units = c.args.units in
     let spec = c.args.spec.now in
     let amount = unsigned_abs units in
-    let all = listed c.args.self.now.lots in
+    let all = listed c.args.self.now in
     let lot : Lot = record { key = c.in-Some.key.now; units = c.in-Some.lot.now.units; opening = c.in-Some.lot.now.opening } in
     let rest = listed c.next.new.self in
     let left = c.if-highest-number-2.left in
@@ -43,7 +43,7 @@ loop-key-preserved c =
     let units = c.args.units in
     let spec = c.args.spec.now in
     let amount = unsigned_abs units in
-    let all = listed c.args.self.now.lots in
+    let all = listed c.args.self.now in
     let lot : Lot = record { key = c.in-Some.key.now; units = c.in-Some.lot.now.units; opening = c.in-Some.lot.now.opening } in
     let rest = listed c.next.new.self in
     let passed = subst (Passed units spec amount c.loop-key.highest c.loop-key.left all) (ap listed c.in-Some.ensures.steps) c.loop-key.invariant in

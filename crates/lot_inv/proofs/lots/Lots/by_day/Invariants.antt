@@ -5,7 +5,7 @@ use Rattle.lot_inv.specs.Holding.{listed, takeable_lots}
 use Rattle.lot_inv.specs.Inventory.{held_in, with_number}
 use Rattle.lot_inv.specs.Lot.{key_and_units}
 use Rattle.lot_inv.proofs.LentLemmas.{AreByDay}
-use Rattle.lot_inv.proofs.inventory.Holding.by_day.Given as goal
+use Rattle.lot_inv.proofs.lots.Lots.by_day.Given as goal
 
 -- the lots so far and those of what is left are all that are gone through, day by day, and they hold what is wanted but for
 -- what is left of it
@@ -14,7 +14,7 @@ invariant-loop-key l =
     let behind = listed (gone_through l.foremost l.entries) in
     record {
       all : l.lots.items ++ takeable_lots l.units (with_number l.number l.spec) behind
-          ≡ takeable_lots l.units (with_number l.number l.spec) (listed (gone_through l.foremost l.self.lots));
+          ≡ takeable_lots l.units (with_number l.number l.spec) (listed (gone_through l.foremost l.self));
       by_day : AreByDay l.foremost (l.lots.items ++ behind);
       held : unsigned_abs l.units ≤ l.left + held_in (map key_and_units l.lots.items);
     }
