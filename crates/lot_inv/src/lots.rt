@@ -39,19 +39,6 @@ pub(crate) struct OpenLot {
     pub(crate) opening: u64,
 }
 
-/// The lots of one commodity, each under its key. None of them has zero units.
-///
-/// A contract sees them as a list, in the order of their keys.
-#[derive(Drop)]
-pub(crate) struct Lots {
-    alloc: Global,
-    by_key: BTreeMap<LotKey, OpenLot>,
-    /// The same lots by their numbers, once they were many. It is left out where memory lacks for it.
-    by_number: Option<ByNumber>,
-    /// How many of them are below zero. The others are above it.
-    below: u64,
-}
-
 impl OpenLot {
     ghost use Rattle.lot_inv.specs.declared.lot.Lot.{Lot};
 
@@ -74,6 +61,19 @@ pub struct Available {
     pub lots: u64,
     /// What they hold together: the sum of the mantissas of their units, sign aside.
     pub held: u128,
+}
+
+/// The lots of one commodity, each under its key. None of them has zero units.
+///
+/// A contract sees them as a list, in the order of their keys.
+#[derive(Drop)]
+pub(crate) struct Lots {
+    alloc: Global,
+    by_key: BTreeMap<LotKey, OpenLot>,
+    /// The same lots by their numbers, once they were many. It is left out where memory lacks for it.
+    by_number: Option<ByNumber>,
+    /// How many of them are below zero. The others are above it.
+    below: u64,
 }
 
 impl Model for Lots {

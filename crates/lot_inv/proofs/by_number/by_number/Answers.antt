@@ -8,7 +8,7 @@ use Rattle.std.specs.Prelude.{cond}
 use Rattle.std.specs.Option.{option_or}
 use Rattle.lot_cost.specs.declared.lot_key.LotKey.{LotKey}
 use Rattle.lot_cost.specs.LotKey.{lot_cmp}
-use Rattle.lot_inv.specs.ByNumber.{Place, lot_of_place, place_cmp}
+use Rattle.lot_inv.specs.ByNumber.{lot_of_place, place_cmp}
 use Rattle.lot_inv.proofs.ByNumberLemmas.{Entry, behind_sorted, ok_is, ok_on, one_made}
 use Rattle.lot_inv.proofs.by_number.by_number.Goals as goal
 

@@ -1,11 +1,10 @@
 -- The lot's own place changes.
-use Rattle.std.proofs.Common.{◌≡◌, Some, None, Result, ap, sym, ◌∙◌, rules}
+use Rattle.std.proofs.Common.{◌≡◌, Some, sym, ◌∙◌, rules}
 use Rattle.std.specs.BTreeMap.{get}
 use Rattle.std.specs.Ordering.{is_eq}
 use Rattle.std.specs.Prelude.{cond}
 use Rattle.lot_cost.specs.declared.lot_key.LotKey.{LotKey}
 use Rattle.lot_inv.specs.ByNumber.{place_cmp}
-use Rattle.lot_inv.specs.Holding.{kept}
 use Rattle.lot_inv.proofs.ByNumberLemmas.{ok_is, ok_on}
 use Rattle.lot_inv.proofs.SetLemmas.{nothing_kept, something_kept}
 use Rattle.lot_inv.proofs.by_number.with_lot.Goals as goal

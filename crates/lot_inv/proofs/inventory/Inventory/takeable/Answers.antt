@@ -7,7 +7,6 @@ use Rattle.std.proofs.lemmas.List.Sorted.{IsPermutation-refl}
 use Rattle.std.proofs.lemmas.Result.{IfOk-weaker}
 use Rattle.lot_cost.specs.CostSpec.{fits}
 use Rattle.lot_cost.specs.declared.lot_key.LotKey.{LotKey}
-use Rattle.lot_cost.specs.LotKey.{lot_cmp}
 use Rattle.lot_inv.specs.Foremost.{AreLentOf, numbered}
 use Rattle.lot_inv.specs.declared.inventory.Holding.{Holding}
 use Rattle.lot_inv.specs.declared.lots.OpenLot.{OpenLot}

@@ -6,7 +6,7 @@ use Rattle.lot_inv.specs.declared.foremost.Foremost.TheVariants.{Highest}
 use Rattle.lot_inv.specs.declared.lot.Lot.{Lot}
 use Rattle.lot_inv.specs.declared.lots.OpenLot.{OpenLot}
 use Rattle.lot_inv.specs.ByNumber.{IsByNumber, Place, from_highest}
-use Rattle.lot_inv.specs.Foremost.{AreLentOf, is_past}
+use Rattle.lot_inv.specs.Foremost.{is_past}
 use Rattle.lot_inv.specs.Holding.{listed, takeable_lots}
 use Rattle.lot_inv.specs.Inventory.{held_in, with_number}
 use Rattle.lot_inv.specs.Lot.{key_and_units}
