@@ -1,4 +1,5 @@
 pub mod AvailableLemmas
+pub mod FittingLemmas
 pub mod HighestLemmas
 pub mod InventoryLemmas
 pub mod LawLemmas

@@ -9,7 +9,7 @@ ghost use Rattle.std.specs.Ordering.{is_eq};
 ghost use Rattle.lot_num.specs.Amount.{IsUnits, IsWide, one, units_limit};
 ghost use Rattle.lot_num.specs.Sum.{sum_of};
 ghost use Rattle.lot_inv.specs.Inventory.{NumbersLots, StoresMore, added_lot, as_entries, fitting, lots_of, matching, non_zero, nothing, only_lots, opened_at, opening_at, other_sign, reduces, sum, units_at, with_lot, with_number};
-ghost use Rattle.lot_inv.specs.Foremost.{AreLentOf, Counts, HoldsAtHighest, gone_through, numbered};
+ghost use Rattle.lot_inv.specs.Foremost.{AreLentOf, Counts, HoldsAtHighest, gone_through, numbered, only_of};
 ghost use Rattle.lot_inv.specs.Lot.{AreNumberedBy, key_and_units};
 ghost use Rattle.lot_cost.specs.CostSpec.{fits};
 ghost use Rattle.lot_inv.specs.Zeros.{HasNoZeros};
@@ -70,12 +70,14 @@ impl OpenLot {
 }
 
 /// Lots that units may take: all of them, or several that hold more than the units.
-#[derive(Clone, Copy, Debug)]
-pub struct Available {
+#[derive(Drop)]
+pub struct Available<'a> {
     /// How many they are.
     pub lots: u64,
     /// What they hold together: the sum of the mantissas of their units, sign aside.
     pub held: u128,
+    /// The lot, where it is the only one.
+    pub only: Option<LentLot<'a>>,
 }
 
 impl Model for Inventory {
@@ -188,9 +190,9 @@ impl Inventory {
         }
     }
 
-    /// Returns how many lots of a commodity units may take at a number, and what these lots hold. They are the lots of the
-    /// other sign that the specification fits. Where a number is given they have that number. All of them are counted, or only
-    /// the first ones, where these are two or more and hold more than the units. It takes no memory.
+    /// Returns how many lots of a commodity units may take at a number, what these lots hold, and the lot where it is the only
+    /// one. They are the lots of the other sign that the specification fits. Where a number is given they have that number. All
+    /// of them are counted, or only the first ones, where these are two or more and hold more than the units. It takes no memory.
     ///
     /// The specification has that number itself, or none.
     pub fn available(
@@ -199,14 +201,21 @@ impl Inventory {
         units: Units,
         number: &Option<Rate>,
         spec: &CostSpec,
-    ) -> Available
+    ) -> Available<'_>
         requires { (spec.now.number ≡ None) ⊎ (spec.now.number ≡ number.now) }
-        ensures { Counts (unsigned_abs units) result.lots result.held
+        ensures counted { Counts (unsigned_abs units) result.lots result.held
             (fitting self.now.held commodity.now units (with_number number.now spec.now)) }
+        ensures only { let all = fitting self.now.held commodity.now units
+            (with_number number.now spec.now)
+            in result.only ≡ only_of (numbered (opening_at self.now commodity.now) all) }
     {
         match self.held.get(commodity) {
             Some(holding) => holding.available(units, number, spec),
-            None => Available { lots: 0, held: 0 },
+            None => Available {
+                lots: 0,
+                held: 0,
+                only: None,
+            },
         }
     }
 
@@ -402,20 +411,31 @@ impl Holding {
         Ok(fitting)
     }
 
-    /// Returns how many of the lots units may take at a number, and what these hold: all of them, or several that hold more
-    /// than the units.
-    fn available(&self, units: Units, number: &Option<Rate>, spec: &CostSpec) -> Available
+    /// Returns how many of the lots units may take at a number, what these hold, and the lot where it is the only one. All of
+    /// them are counted, or several that hold more than the units.
+    fn available(&self, units: Units, number: &Option<Rate>, spec: &CostSpec) -> Available<'_>
         requires { (spec.now.number ≡ None) ⊎ (spec.now.number ≡ number.now) }
-        ensures { Counts (unsigned_abs units) result.lots result.held
+        ensures counted { Counts (unsigned_abs units) result.lots result.held
             (takeable units (with_number number.now spec.now) (units_in self.now.lots.entries)) }
+        ensures only { result.only ≡ only_of (takeable_lots units (with_number number.now spec.now)
+            (listed self.now.lots.entries)) }
     {
         let wanted = u128::from(units.mantissa().unsigned_abs());
-        let mut available = Available { lots: 0, held: 0 };
+        let mut available = Available {
+            lots: 0,
+            held: 0,
+            only: None,
+        };
         for (key, lot) in &self.lots {
             if 1 < available.lots && wanted < available.held {
                 return available;
             }
             if is_other_sign(lot.units, units) && fits_at(number, spec, key) {
+                available.only = if available.lots == 0 {
+                    Some(lot.lend(key))
+                } else {
+                    None
+                };
                 available.lots += 1;
                 available.held += u128::from(lot.units.mantissa().unsigned_abs());
             }
