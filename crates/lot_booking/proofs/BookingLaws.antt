@@ -39,7 +39,7 @@ no_amount units = elim (int_lt units (pos 0)) as (λ b. pos 0 ≡ cond b (neg_�
 pub size_of-sign : (units : ℤ) (amount : ℕ) → unsigned_abs (with_sign_of units amount) ≡ amount
 size_of-sign units amount = grind (arith, ints)
 
-whole_amount : (units : ℤ) → with_sign_of units (unsigned_abs units) ≡ units
+pub whole_amount : (units : ℤ) → with_sign_of units (unsigned_abs units) ≡ units
 whole_amount units = grind (arith, ints)
 
 sign-add : (units : ℤ) (a b : ℕ) → with_sign_of units a +ℤ with_sign_of units b ≡ with_sign_of units (a + b)

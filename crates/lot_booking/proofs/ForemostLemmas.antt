@@ -1,5 +1,5 @@
 -- Lots that are lent come first of all, in an order that puts none first that comes later.
-use Rattle.std.specs.Prelude.{◌≡◌, ℕ, ◌≤◌, ◌==◌, Bool, true, false, cond, List, [], ◌∷◌, map, nat_lt, ℤ, int_lt, unsigned_abs}
+use Rattle.std.specs.Prelude.{◌≡◌, ℕ, ◌==◌, Bool, true, false, cond, List, [], ◌∷◌, map, nat_lt, ℤ, int_lt, unsigned_abs}
 use Rattle.std.specs.declared.cmp.Ordering.{Ordering}
 use Rattle.std.specs.declared.cmp.Ordering.TheVariants.{Less, Equal, Greater}
 use Rattle.std.specs.List.{AllByRecursion}
@@ -15,7 +15,6 @@ use Rattle.lot_inv.specs.declared.foremost.Foremost.{Foremost}
 use Rattle.lot_inv.specs.declared.foremost.Foremost.TheVariants.{Oldest, Newest, Highest}
 use Rattle.lot_inv.specs.declared.lot.Lot.{Lot}
 use Rattle.lot_inv.specs.Foremost.{AreLentOf, is_later, numbered}
-use Rattle.lot_inv.specs.Inventory.{held_in}
 use Rattle.lot_inv.specs.Lot.{AreNumberedBy, key_and_units}
 use Rattle.lot_booking.specs.Choice.{HaveDistinctKeys, InTurn, Takes}
 use Rattle.lot_booking.specs.Front.{ComeFirstOf, is_earlier}

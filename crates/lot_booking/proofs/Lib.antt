@@ -5,6 +5,7 @@ pub mod ChoiceLemmas
 pub mod ForemostLemmas
 pub mod EnoughLemmas
 pub mod ListLemmas
+pub mod OnlyLemmas
 pub mod TakeLemmas
 pub mod OpeningOrders
 pub mod SameTies

@@ -1,4 +1,4 @@
-ghost use Rattle.std.specs.Prelude.{◌≡◌, ◌≢◌, ◌≤◌, map, IfOk, IfErr, IsOk, OnErr, ℕ, ℤ, [], true, unsigned_abs};
+ghost use Rattle.std.specs.Prelude.{◌≡◌, ◌≢◌, ◌≤◌, map, IfOk, IfErr, IsOk, OnErr, ℕ, ℤ, [], ◌∷◌, true, unsigned_abs};
 ghost use Rattle.std.specs.List.{AllByRecursion};
 ghost use Rattle.lot_cost.specs.declared.lot_key.LotKey.{LotKey};
 ghost use Rattle.lot_inv.specs.Inventory.{fitting, held_in, matching, opening_at, other_sign, with_number};
@@ -73,6 +73,10 @@ pub fn book(
     }
     let available = inventory.available(commodity, units, &number, spec);
     ensure_enough(selection.method, &available, units)?;
+    if let Some(lot) = available.only {
+        let legs = take_one(alloc, lot, units)?;
+        return Ok(Booked { reduces, legs });
+    }
     let foremost = foremost_of(selection.method);
     let lots = inventory.takeable(commodity, foremost, units, &number, spec)?;
     let legs = take_by(alloc, selection, lots, units)?;
@@ -107,8 +111,23 @@ fn open(
     Ok(vec![in alloc; (key, units)]?)
 }
 
+/// Returns the one leg of units of which a lot holds as many. The only error is out of memory.
+fn take_one(
+    alloc: Global,
+    lot: LentLot<'_>,
+    units: Units,
+) -> Result<Vec<(LotKey, Units)>, AllocError>
+    ensures { IfOk result (λ legs. legs.items ≡ (lot.entry.key, units) ∷ []) }
+{
+    Ok(vec![in alloc; (lot.key.copy()?, units)]?)
+}
+
 /// Returns why units take none of the lots that there are for them, where these don't suffice. It takes no memory.
-fn ensure_enough(method: Method, available: &Available, units: Units) -> Result<(), BookingFault>
+fn ensure_enough(
+    method: Method,
+    available: &Available<'_>,
+    units: Units,
+) -> Result<(), BookingFault>
     ensures suffice { IsOk result
         → Suffice method available.now.lots available.now.held (unsigned_abs units) }
     ensures short { IfErr result (λ fault.

@@ -1,6 +1,7 @@
 pub mod AvailableLemmas
 pub mod ByNumberLemmas
 pub mod CountLemmas
+pub mod FittingLemmas
 pub mod HighestLemmas
 pub mod InventoryLemmas
 pub mod LawLemmas

@@ -1,5 +1,5 @@
 -- Which lots are counted and lent of those that units may take.
-use Rattle.std.specs.Prelude.{◌≡◌, ◌⊎◌, ℕ, ◌≤◌, ◌<◌, Bool, true, false, nat_lt, List, [], ◌∷◌, ◌++◌, ◌==◌, filter, length, map, reverse, ℤ, int_lt, IsPermutation}
+use Rattle.std.specs.Prelude.{◌≡◌, ◌⊎◌, ℕ, ◌≤◌, ◌<◌, Bool, true, false, nat_lt, List, [], ◌∷◌, ◌++◌, ◌==◌, filter, length, map, reverse, Option, None, Some, ℤ, int_lt, IsPermutation}
 use Rattle.std.specs.List.{AllByRecursion}
 use Rattle.lot_cost.specs.declared.lot_key.LotKey.{LotKey}
 use Rattle.lot_inv.specs.declared.foremost.Foremost.{Foremost}
@@ -25,6 +25,12 @@ pub record CountsSeveral (amount lots held : ℕ) (all : List (LotKey × ℤ)) :
 -- all are counted, or several that hold more than an amount
 abbrev pub Counts : ℕ → ℕ → ℕ → List (LotKey × ℤ) → Type 0
 Counts amount lots held all = CountsAll lots held all ⊎ CountsSeveral amount lots held all
+
+-- the lot, where it is the only one
+abbrev pub only_of : List Lot → Option Lot
+only_of [] = None
+only_of (lot ∷ []) = Some lot
+only_of (lot ∷ next ∷ lots) = None
 
 -- ---- lots that are lent
 

@@ -6,7 +6,7 @@ ghost use Rattle.std.specs.Option.{option_cmp, unwrap_or};
 ghost use Rattle.std.specs.Ordering.{is_eq};
 ghost use Rattle.lot_num.specs.Amount.{IsUnits, IsWide, one};
 ghost use Rattle.lot_inv.specs.Inventory.{NumbersLots, StoresMore, added_lot, as_entries, fitting, lots_of, matching, non_zero, nothing, only_lots, opened_at, opening_at, other_sign, reduces, sum, units_at, with_lot, with_number};
-ghost use Rattle.lot_inv.specs.Foremost.{AreLentOf, Counts, numbered};
+ghost use Rattle.lot_inv.specs.Foremost.{AreLentOf, Counts, numbered, only_of};
 ghost use Rattle.lot_inv.specs.Lot.{AreNumberedBy, key_and_units};
 ghost use Rattle.lot_inv.specs.Zeros.{HasNoZeros};
 ghost use Rattle.lot_cost.specs.LotKey.{lot_cmp};
@@ -152,9 +152,9 @@ impl Inventory {
         }
     }
 
-    /// Returns how many lots of a commodity units may take at a number, and what these lots hold. They are the lots of the
-    /// other sign that the specification fits. Where a number is given they have that number. All of them are counted, or only
-    /// the first ones, where these are two or more and hold more than the units. It takes no memory.
+    /// Returns how many lots of a commodity units may take at a number, what these lots hold, and the lot where it is the only
+    /// one. They are the lots of the other sign that the specification fits. Where a number is given they have that number. All
+    /// of them are counted, or only the first ones, where these are two or more and hold more than the units. It takes no memory.
     ///
     /// The specification has that number itself, or none.
     pub fn available(
@@ -163,14 +163,21 @@ impl Inventory {
         units: Units,
         number: &Option<Rate>,
         spec: &CostSpec,
-    ) -> Available
+    ) -> Available<'_>
         requires { (spec.now.number ≡ None) ⊎ (spec.now.number ≡ number.now) }
-        ensures { Counts (unsigned_abs units) result.lots result.held
+        ensures counted { Counts (unsigned_abs units) result.lots result.held
             (fitting self.now.held commodity.now units (with_number number.now spec.now)) }
+        ensures only { let all = fitting self.now.held commodity.now units
+            (with_number number.now spec.now)
+            in result.only ≡ only_of (numbered (opening_at self.now commodity.now) all) }
     {
         match self.held.get(commodity) {
             Some(holding) => holding.lots.available(units, number, spec),
-            None => Available { lots: 0, held: 0 },
+            None => Available {
+                lots: 0,
+                held: 0,
+                only: None,
+            },
         }
     }
 

@@ -11,7 +11,7 @@ ghost use Rattle.lot_cost.specs.LotKey.{lot_cmp};
 ghost use Rattle.lot_cost.specs.declared.lot_key.LotKey.{LotKey};
 ghost use Rattle.lot_inv.specs.declared.foremost.Foremost.TheVariants.{Highest};
 ghost use Rattle.lot_inv.specs.declared.lot.Lot.{Lot};
-ghost use Rattle.lot_inv.specs.Foremost.{AreLentOf, Counts, HoldsAtHighest, gone_through};
+ghost use Rattle.lot_inv.specs.Foremost.{AreLentOf, Counts, HoldsAtHighest, gone_through, only_of};
 ghost use Rattle.lot_inv.specs.Inventory.{as_entries, other_sign, with_number};
 ghost use Rattle.lot_inv.specs.Holding.{kept, listed, lot_rows, takeable, takeable_lots, units_in};
 ghost use Rattle.lot_inv.specs.Lots.{count_of, counted_in, is_below, lot_at};
@@ -55,12 +55,14 @@ impl OpenLot {
 }
 
 /// Lots that units may take: all of them, or several that hold more than the units.
-#[derive(Clone, Copy, Debug)]
-pub struct Available {
+#[derive(Drop)]
+pub struct Available<'a> {
     /// How many they are.
     pub lots: u64,
     /// What they hold together: the sum of the mantissas of their units, sign aside.
     pub held: u128,
+    /// The lot, where it is the only one.
+    pub only: Option<LentLot<'a>>,
 }
 
 /// The lots of one commodity, each under its key. None of them has zero units.
@@ -171,25 +173,36 @@ impl Lots {
         Ok(fitting)
     }
 
-    /// Returns how many of the lots units may take at a number, and what these hold: all of them, or several that hold more
-    /// than the units.
+    /// Returns how many of the lots units may take at a number, what these hold, and the lot where it is the only one. All of
+    /// them are counted, or several that hold more than the units.
     pub(crate) fn available(
         &self,
         units: Units,
         number: &Option<Rate>,
         spec: &CostSpec,
-    ) -> Available
+    ) -> Available<'_>
         requires { (spec.now.number ≡ None) ⊎ (spec.now.number ≡ number.now) }
-        ensures { Counts (unsigned_abs units) result.lots result.held
+        ensures counted { Counts (unsigned_abs units) result.lots result.held
             (takeable units (with_number number.now spec.now) (units_in self.now)) }
+        ensures only { result.only ≡ only_of (takeable_lots units (with_number number.now spec.now)
+            (listed self.now)) }
     {
         let wanted = u128::from(units.mantissa().unsigned_abs());
-        let mut available = Available { lots: 0, held: 0 };
+        let mut available = Available {
+            lots: 0,
+            held: 0,
+            only: None,
+        };
         for (key, lot) in self.iter() {
             if 1 < available.lots && wanted < available.held {
                 return available;
             }
             if is_other_sign(lot.units, units) && fits_at(number, spec, key) {
+                available.only = if available.lots == 0 {
+                    Some(lot.lend(key))
+                } else {
+                    None
+                };
                 available.lots += 1;
                 available.held += u128::from(lot.units.mantissa().unsigned_abs());
             }
