@@ -1,6 +1,9 @@
 use std::alloc::{AllocFailed, Global};
 use std::marker::Model;
 
+/// For how many items the first one makes room. A transaction mostly has two or three postings.
+const FIRST_ROOM: usize = 3;
+
 /// Items in their order. A contract sees them as a list.
 #[derive(Drop)]
 pub struct Items<T> {
@@ -33,7 +36,17 @@ impl<T: Drop> Items<T> {
         ensures err { OnErr result (self.new ≡ self.old) }
         ensures back { IfErr result (λ failed. failed.value ≡ item) }
     {
+        if self.items.is_empty() && self.items.reserve_exact(FIRST_ROOM).is_err() {
+            return Err(AllocFailed { value: item });
+        }
         self.items.push(item)
+    }
+
+    /// Gives back memory that the items don't take.
+    pub fn shrink_to_fit(&mut self)
+        ensures { self.new ≡ self.old }
+    {
+        self.items.shrink_to_fit();
     }
 
     /// Returns all items.

@@ -8,7 +8,7 @@ use Rattle.lot_token.specs.Token.{Lexeme, word, number, date, text, mark}
 use Rattle.lot_token.proofs.OptionLemmas.{guarded}
 use Rattle.lot_form.specs.Form.{CostPart, parts_tokens, has_number, WrittenCost, each, whole, FitsCost, cost_tokens, WrittenPrice, each_unit, all_units, price_tokens, WrittenAmount, amount_tokens, WrittenPosting, perhaps, FitsPerhaps, IsPosting}
 use Rattle.lot_form.specs.declared.form.PostingForm.{PostingForm}
-use Rattle.lot_form.specs.Shape.{posting_seen, ◌>>=◌, is_empty, as_word, as_number, after_close, after_close_close, distinct_at, each_at, whole_at, cost_at, money_of, price_of, amount_of, posting_by, posting_of}
+use Rattle.lot_form.specs.Shape.{posting_seen, ◌>>=◌, is_empty, as_word, as_number, after_close, after_close_close, part_at, parts_at, distinct_at, each_at, whole_at, cost_at, money_of, price_of, amount_of, posting_by, posting_of}
 use Rattle.lot_form.proofs.PartLemmas.{bound, nothing, then_is, word_is, number_is, distinct_are, distinct_found}
 
 -- ---- Closing braces.
@@ -46,6 +46,11 @@ close_close_is (mark Marks.Close ∷ more) rest e = cc
 close_close_is (mark Marks.CloseClose ∷ more) rest e = ap (λ x. mark Marks.CloseClose ∷ x) (same_Some more rest e)
 
 -- ---- Costs.
+
+-- braces that close at once
+pub nothing_between : (tokens rest : List Lexeme) → after_close tokens ≡ Some rest → each_at tokens ≡ Some (Some (each []), rest)
+unfolding part_at parts_at distinct_at
+nothing_between tokens rest e = ap each_at (close_is tokens rest e)
 
 -- a cost, or none, and what is behind it
 abbrev HasCost : List Lexeme → Option WrittenCost × List Lexeme → Type 0

@@ -1,4 +1,4 @@
-ghost use Rattle.std.specs.Prelude.{◌≡◌};
+ghost use Rattle.std.specs.Prelude.{◌≡◌, None};
 ghost use Rattle.std.specs.List.{list_any};
 ghost use Rattle.lot_form.specs.Form.{has_number, is_day, is_label, is_money};
 ghost use Rattle.lot_form.specs.Shape.{are_distinct, clash_listed, listed, part_seen, parts_seen};
@@ -60,6 +60,17 @@ pub struct Parts<'a> {
 }
 
 impl<'a> Parts<'a> {
+    /// Returns no parts.
+    pub(crate) fn none() -> Parts<'a>
+        ensures { result ≡ record { first = None; second = None; third = None } }
+    {
+        Parts {
+            first: None,
+            second: None,
+            third: None,
+        }
+    }
+
     /// Returns whether the parts can stand in one cost. At most one part may give a number or a currency, one a day, and one a
     /// label.
     pub(crate) fn are_distinct(&self) -> bool

@@ -91,10 +91,14 @@ fn cost<'t, 'a>(tokens: Tokens<'t, 'a>) -> Option<(Option<CostForm<'a>>, Tokens<
     }
 }
 
-/// Returns the cost of each unit, behind its opening brace.
+/// Returns the cost of each unit, behind its opening brace. Mostly nothing stands between the braces of a sale.
+#[tactic(auto, using(crate::proofs::PostingLemmas::nothing_between))]
 fn each<'t, 'a>(tokens: Tokens<'t, 'a>) -> Option<(Option<CostForm<'a>>, Tokens<'t, 'a>)>
     ensures { MatchOption result (each_at tokens.entry ≡ None) (λ found. each_at tokens.entry ≡ Some (option_map cost_seen found.0, found.1)) }
 {
+    if let Some(rest) = close(&tokens) {
+        return Some((Some(CostForm::Each(Parts::none())), rest));
+    }
     let (parts, rest) = distinct_parts(tokens)?;
     let rest = close(&rest)?;
     Some((Some(CostForm::Each(parts)), rest))
@@ -130,11 +134,7 @@ fn distinct_parts<'t, 'a>(tokens: Tokens<'t, 'a>) -> Option<(Parts<'a>, Tokens<'
 fn parts<'t, 'a>(tokens: Tokens<'t, 'a>) -> Option<(Parts<'a>, Tokens<'t, 'a>)>
     ensures { MatchOption result (parts_at tokens.entry ≡ None) (λ found. parts_at tokens.entry ≡ Some (parts_seen found.0, found.1)) }
 {
-    let mut parts = Parts {
-        first: None,
-        second: None,
-        third: None,
-    };
+    let mut parts = Parts::none();
     let Some((first, rest)) = part(&tokens) else {
         return Some((parts, tokens));
     };

@@ -71,7 +71,8 @@ impl<'a, N: CostNumber> Given<'a, N> {
     pub(crate) fn new(names: &KnownNames, parts: &Parts<'a>) -> Result<Given<'a, N>, ValueFault>
         ensures means { IfOk result (λ given. MeansGiven N.Means (parts_seen parts.now) given) }
         ensures inside { OnOk result (AreInside (flat_map (part_items N.item) (parts_seen parts.now))) }
-        ensures outside { IfErr result (λ fault. FirstOutside (flat_map (part_items N.item) (parts_seen parts.now)) fault) }
+        ensures outside { IfErr result (λ fault.
+            FirstOutside (flat_map (part_items N.item) (parts_seen parts.now)) fault) }
     {
         match (&parts.second, &parts.third) {
             (None, None) => Given::by(names, &parts.first),
@@ -84,7 +85,8 @@ impl<'a, N: CostNumber> Given<'a, N> {
     fn by_all(names: &KnownNames, parts: &Parts<'a>) -> Result<Given<'a, N>, ValueFault>
         ensures means { IfOk result (λ given. MeansGiven N.Means (parts_seen parts.now) given) }
         ensures inside { OnOk result (AreInside (flat_map (part_items N.item) (parts_seen parts.now))) }
-        ensures outside { IfErr result (λ fault. FirstOutside (flat_map (part_items N.item) (parts_seen parts.now)) fault) }
+        ensures outside { IfErr result (λ fault.
+            FirstOutside (flat_map (part_items N.item) (parts_seen parts.now)) fault) }
     {
         let first = Given::by(names, &parts.first)?;
         let second = Given::by(names, &parts.second)?;
@@ -97,7 +99,8 @@ impl<'a, N: CostNumber> Given<'a, N> {
     fn by(names: &KnownNames, part: &Option<Part<'a>>) -> Result<Given<'a, N>, ValueFault>
         ensures means { IfOk result (λ given. MeansGiven N.Means (listed part.now) given) }
         ensures inside { OnOk result (AreInside (flat_map (part_items N.item) (listed part.now))) }
-        ensures outside { IfErr result (λ fault. FirstOutside (flat_map (part_items N.item) (listed part.now)) fault) }
+        ensures outside { IfErr result (λ fault.
+            FirstOutside (flat_map (part_items N.item) (listed part.now)) fault) }
     {
         let nothing = Given {
             number: None,

@@ -151,7 +151,7 @@ fn transaction(
     ensures refused { IfErr result (λ fault. IsRefusal (directive_items (transaction flag (option_map notes_seen notes.now))) fault) }
 {
     let narration = match notes {
-        Some(notes) => Some(NotesPart::new(notes)?.keep(names.alloc)?),
+        Some(notes) => Some(NotesPart::new(notes)?.keep(names)?),
         None => None,
     };
     Ok(Command::Transaction(Transaction {

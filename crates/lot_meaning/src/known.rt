@@ -1,12 +1,24 @@
-//! Names that were kept before, of which a further one shares the text.
+//! Names and notes that were kept before, of which a further one shares the text.
 ghost use Rattle.std.specs.Prelude.{◌≡◌, ◌<◌, IfOk, IfSome, IsTrue};
 
 use crate::name::out_of_memory;
-use lot_base::{AccountGrammar, CommodityGrammar, Grammar, LabelGrammar, Name};
+use lot_base::{AccountGrammar, CommodityGrammar, Grammar, LabelGrammar, Name, Note};
 use std::alloc::{AllocError, Global};
 
 /// How many names of one grammar are known at most.
 const PLACES: usize = 32;
+
+/// The grammar of which a kind of names is.
+pub(crate) trait NameOf {
+    type Grammar: Grammar;
+}
+
+impl<G: Grammar> NameOf for Name<G> {
+    type Grammar = G;
+}
+
+/// The grammar of notes.
+type NoteGrammar = <Note as NameOf>::Grammar;
 
 /// Names that were kept before, and the memory for further ones. A name that is known takes none.
 #[derive(Drop)]
@@ -15,6 +27,7 @@ pub struct KnownNames {
     pub(crate) accounts: Known<AccountGrammar>,
     pub(crate) commodities: Known<CommodityGrammar>,
     pub(crate) labels: Known<LabelGrammar>,
+    pub(crate) notes: Known<NoteGrammar>,
 }
 
 impl KnownNames {
@@ -25,6 +38,7 @@ impl KnownNames {
             accounts: Known::new(alloc),
             commodities: Known::new(alloc),
             labels: Known::new(alloc),
+            notes: Known::new(alloc),
         }
     }
 }

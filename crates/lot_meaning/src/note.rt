@@ -10,12 +10,12 @@ ghost use Rattle.lot_meaning.specs.Checked.{is_plain, text_of};
 ghost use Rattle.lot_meaning.specs.Outside.{IsOutside};
 
 use crate::fault::ValueFault;
-use crate::name::out_of_memory;
+use crate::known::KnownNames;
 use arrayvec::ArrayString;
 use lot_base::Note;
 use lot_command::Narration;
 use lot_form::NotesForm;
-use std::alloc::{AllocError, Global};
+use std::alloc::AllocError;
 use std::marker::Model;
 use std::str::Chars;
 
@@ -59,22 +59,22 @@ impl<'a> NotePart<'a> {
     }
 
     /// Returns the note, which is kept. The only error is out of memory.
-    pub(crate) fn keep(&self, alloc: Global) -> Result<Note, AllocError>
+    pub(crate) fn keep(&self, names: &mut KnownNames) -> Result<Note, AllocError>
         ensures { IfOk result (λ note. note ≡ self.now) }
     {
         if is_plain(self.part) {
-            return kept(alloc, self.part);
+            return names.notes.keep(self.part);
         }
-        self.keep_unescaped(alloc)
+        self.keep_unescaped(names)
     }
 
     /// Returns the same by the text of which the part is the escape. A plain part needs no room for that text.
     #[inline(never)]
-    fn keep_unescaped(&self, alloc: Global) -> Result<Note, AllocError>
+    fn keep_unescaped(&self, names: &mut KnownNames) -> Result<Note, AllocError>
         ensures { IfOk result (λ note. note ≡ self.now) }
     {
         match unescaped(self.part) {
-            Some(text) => kept(alloc, text.as_str()),
+            Some(text) => names.notes.keep(text.as_str()),
             // The part is the escape of a note.
             None => unreachable!(),
         }
@@ -106,27 +106,19 @@ impl<'a> NotesPart<'a> {
     }
 
     /// Returns the notes, which are kept. The only error is out of memory.
-    pub(crate) fn keep(&self, alloc: Global) -> Result<Narration, AllocError>
+    pub(crate) fn keep(&self, names: &mut KnownNames) -> Result<Narration, AllocError>
         ensures payee { IfOk result (λ narration. narration.payee ≡ self.now.payee) }
         ensures text { IfOk result (λ narration. narration.text ≡ self.now.narration) }
     {
         let payee = match &self.payee {
-            Some(payee) => Some(payee.keep(alloc)?),
+            Some(payee) => Some(payee.keep(names)?),
             None => None,
         };
         Ok(Narration {
             payee,
-            text: self.narration.keep(alloc)?,
+            text: self.narration.keep(names)?,
         })
     }
-}
-
-/// Returns the note with that text, which is one. The only error is out of memory.
-fn kept(alloc: Global, text: &str) -> Result<Note, AllocError>
-    requires { IsTrue (is_note text.now) }
-    ensures { IfOk result (λ note. note ≡ text.now) }
-{
-    Note::new(alloc, text).map_err(out_of_memory)
 }
 
 /// Returns whether a part is the escape of a note.

@@ -141,7 +141,8 @@ impl<'a> LineTokens<'a> {
 
 /// Cuts the first tokens of a line, as many as there is memory for, and returns what stands behind them.
 fn cut_first<'a>(first: &mut Vec<Token<'a>>, line: &'a str) -> Result<&'a str, Uncut>
-    ensures tokens { IfOk result (λ rest. cut_behind first.new.items rest.now ≡ given (cut_of line.now)) }
+    ensures tokens { IfOk result (λ rest.
+        cut_behind first.new.items rest.now ≡ given (cut_of line.now)) }
     ensures rest { IfOk result (λ rest. IsTrue (is_some (cut_of rest.now))) }
     ensures cut { IfOk result (λ _. IsTrue (is_some (cut_of line.now))) }
     ensures uncut { OnErr result (is_some (cut_of line.now) ≡ false) }

@@ -1,14 +1,14 @@
 -- The text of which the part is the escape.
-use Rattle.std.proofs.Common.{ℕ, List, ◌≡◌, sym, ap, subst, ◌∙◌}
+use Rattle.std.proofs.Common.{lit<, ℕ, List, ◌≡◌, sym, ap, subst, ◌∙◌}
 use Rattle.std.specs.Prelude.{IfOk}
 use Rattle.lot_base.specs.Name.{is_note}
 use Rattle.lot_meaning.proofs.EscapeLemmas.{text_is, note_length}
 use Rattle.lot_meaning.proofs.note.NotePart.keep_unescaped.Goals as goal
 
-pub kept-requires : goal.kept-requires
-kept-requires c =
+pub keep-requires : goal.keep-requires
+keep-requires c =
     let same = text_is c.self.inside.part.now c.in-Some.text.bytes c.in-Some.ensures in
-    ap is_note (c.as_str.ensures.value ∙ sym same) ∙ c.self.invariant.good
+    (lit< tt, ap is_note (c.as_str.ensures.value ∙ sym same) ∙ c.self.invariant.good)
 
 pub unreachable-requires : goal.unreachable-requires
 unreachable-requires c =
@@ -17,5 +17,5 @@ unreachable-requires c =
 pub returns : goal.returns
 returns c =
     let same = text_is c.self.inside.part.now c.in-Some.text.bytes c.in-Some.ensures in
-    subst (λ (text : List ℕ). IfOk c.kept.result (λ note. note ≡ text)) (c.as_str.ensures.value ∙ sym same ∙ c.self.view_is)
-    c.kept.ensures
+    subst (λ (text : List ℕ). IfOk c.keep.result (λ note. note ≡ text)) (c.as_str.ensures.value ∙ sym same ∙ c.self.view_is)
+    c.keep.ensures
