@@ -1,4 +1,4 @@
-ghost use Rattle.std.specs.Prelude.{◌≡◌, ◌≢◌, [], ◌∷◌, ◌++◌, ◌+ℤ◌, IfErr, IfOk, IsErrOf, OnOk, Some, IsFalse, IsTrue, true, false, length, ℕ, List};
+ghost use Rattle.std.specs.Prelude.{◌≡◌, ◌≢◌, ◌≤◌, [], ◌∷◌, ◌++◌, ◌+ℤ◌, IfErr, IfOk, IsErrOf, OnOk, Some, IsFalse, IsTrue, true, false, length, ℕ, List};
 ghost use Rattle.std.specs.List.{list_any};
 ghost use Rattle.lot_book.specs.declared.refusal.Stop.TheVariants.{Memory};
 ghost use Rattle.lot_cost.specs.declared.lot_key.LotKey.{LotKey};
@@ -260,6 +260,19 @@ impl Tally {
             (None, Some(lot)) => lots.opening(&position.commodity, lot).unwrap_or(0),
             (None, None) => 0,
         }
+    }
+
+    /// Returns a number that the lots of a commodity in an account don't exceed after the legs so far: those before them, and
+    /// one for each position that they touch. It looks at none of these.
+    pub fn bound_lots(&self, view: &View, account: &Account, commodity: &Commodity) -> u128
+        requires { ListsTally (known_with_openings view.now) self.now }
+        ensures { length (lots_of (with_legs account.now ((known view.now).held account.now) self.now.legs) commodity.now) ≤ result }
+    {
+        let before = match view.held(account) {
+            Some(held) => u128::from(held.lots(commodity)),
+            None => 0,
+        };
+        before + self.positions.len() as u128
     }
 
     /// Returns how many lots of a commodity an account holds after the legs so far.
