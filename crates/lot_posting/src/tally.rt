@@ -89,14 +89,26 @@ impl Tally {
             → IsUnits (units_after (known view.now) self.old.legs leg.position +ℤ leg.units) }
     {
         let before = self.units(view, &leg.position);
-        let Some(units) = before.checked_add(leg.units) else {
+        let Some(after) = before.checked_add(leg.units) else {
             let posting = leg.posting;
             return Err(Refusal::Range { posting }.into());
         };
+        self.put(leg, before, after)?;
+        Ok(())
+    }
+
+    /// Adds one more leg, whose position holds so many units before it and so many after it. The error is out of memory.
+    pub(crate) fn put(&mut self, leg: Leg, before: Units, after: Units) -> Result<(), AllocError>
+        requires { HasNumber leg.entry leg.posting }
+        ensures legs { OnOk result (self.new.legs ≡ self.old.legs ++ leg ∷ []) }
+        ensures lists { OnOk result ((known : FactsWithOpenings) → ListsTally known self.old
+            → before ≡ units_after known.facts self.old.legs leg.position
+            → after ≡ before +ℤ leg.units → ListsTally known self.new) }
+    {
         if before == Units::ZERO && leg.position.lot.is_some() {
             self.openings.insert(leg.position.copy()?, leg.number())?;
         }
-        self.positions.insert(leg.position.copy()?, units)?;
+        self.positions.insert(leg.position.copy()?, after)?;
         self.add_to_kept(&leg);
         self.legs.push(leg)?;
         Ok(())

@@ -1,5 +1,5 @@
 -- The entry takes the sum in place, or goes last.
-use Rattle.std.proofs.Common.{◌≡◌, Some, None, ◌+ℤ◌, sym, ap, ◌∙◌}
+use Rattle.std.proofs.Common.{◌≡◌, Some, None, ◌+ℤ◌, sym, ◌∙◌}
 use Rattle.std.specs.Map.{lookup}
 use Rattle.indexmap.specs.IndexMap.{insert_entry}
 use Rattle.lot_base.specs.Text.{same_text}
