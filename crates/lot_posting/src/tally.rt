@@ -278,7 +278,9 @@ impl Tally {
     /// one for each position that they touch. It looks at none of these.
     pub fn bound_lots(&self, view: &View, account: &Account, commodity: &Commodity) -> u128
         requires { ListsTally (known_with_openings view.now) self.now }
-        ensures { length (lots_of (with_legs account.now ((known view.now).held account.now) self.now.legs) commodity.now) ≤ result }
+        ensures { length (lots_of
+            (with_legs account.now ((known view.now).held account.now) self.now.legs)
+            commodity.now) ≤ result }
     {
         let before = match view.held(account) {
             Some(held) => u128::from(held.lots(commodity)),
