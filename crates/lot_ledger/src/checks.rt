@@ -257,10 +257,10 @@ fn holds_too_many(view: &View, draft: &Draft, posting: &Posting) -> bool
 {
     match &posting.amount {
         Some(amount) if amount.cost.is_some() => {
-            MOST_LOTS
-                < draft
-                    .tally
-                    .count_lots(view, &posting.account, &amount.commodity)
+            let tally = &draft.tally;
+            let (account, commodity) = (&posting.account, &amount.commodity);
+            MOST_LOTS < tally.bound_lots(view, account, commodity)
+                && MOST_LOTS < tally.count_lots(view, account, commodity)
         }
         _ => false,
     }

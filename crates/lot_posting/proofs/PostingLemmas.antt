@@ -1,8 +1,7 @@
 -- The legs of one posting: whose they are, how much they move, and what a draft has once they are added.
-use Rattle.std.proofs.Common.{◌≡◌, ◌≢◌, ◌≤◌, ◌+◌, ℕ, suc, Bool, true, false, cond, nat_eq, inl, inr, arith, List, [], ◌∷◌, ◌++◌, Option, Some, None, Result, Ok, Err, refl, sym, ap, subst, ◌∙◌, ℤ, pos, ◌+ℤ◌, unsigned_abs}
+use Rattle.std.proofs.Common.{◌≡◌, ◌≢◌, ◌≤◌, ◌+◌, ℕ, suc, Bool, true, false, cond, nat_eq, inl, inr, arith, List, [], ◌∷◌, ◌++◌, Option, Some, None, refl, sym, ap, subst, ◌∙◌, ℤ, pos, ◌+ℤ◌, unsigned_abs}
 use Rattle.std.specs.List.{list_all}
 use Rattle.std.specs.Prelude.{◌&&◌}
-use Rattle.std.specs.Result.{IfErr, OnOk}
 use Rattle.std.proofs.lemmas.Bool.{cases_Bool, eqb-false, eqb-true}
 use Rattle.std.proofs.lemmas.Int.{ints}
 use Rattle.std.proofs.lemmas.List.{append-nil}
@@ -28,9 +27,9 @@ use Rattle.lot_book.specs.Facts.{Facts}
 use Rattle.lot_book.specs.Leg.{leave_range, leg_at, legs_at_lots, units_moved, with_legs}
 use Rattle.lot_book.specs.OpeningNumber.{HasNumber}
 use Rattle.lot_book.specs.Sale.{lots_in_legs, sales_of, AreLegsOf, SaleParts, same_sign}
-use Rattle.lot_book.proofs.LegLemmas.{leave_range-passes, leave_range-stops}
+use Rattle.lot_book.proofs.LegLemmas.{leave_range-stops}
 use Rattle.lot_num.specs.Amount.{IsUnits}
-use Rattle.lot_posting.specs.Posting.{Books, MayLackMemory, StopsPosting, StoresFor}
+use Rattle.lot_posting.specs.Posting.{Books, StopsPosting}
 use Rattle.lot_posting.specs.Tally.{AreOf, HaveNumbers, StopsAt, plain}
 
 -- ---- legs at lots
@@ -152,20 +151,6 @@ adds_after facts amount added old tally new same adds = record {
       (adds.in_range account posting of);
 }
 
--- the same, of what an addition ensures, which leaves the sales
-pub adds_at : {T E : Type 0} (facts : Facts) (amount : Amount) (added : List Leg) (old new : Draft) (r : Result T E)
-    → OnOk r (new.tally.legs ≡ old.tally.legs ++ added)
-    → OnOk r ((weights : List (List ℕ × ℤ)) → old.residuals ≡ residuals weights
-    → new.residuals ≡ residuals (weights ++ weights_by amount.cost amount added))
-    → OnOk r ((count : ℕ) → AreWithin count old.residuals → AreWithin (suc count) new.residuals)
-    → OnOk r ((account : List ℕ) (posting : ℕ) → AreOf account posting added
-    → leave_range (with_legs account (facts.held account) old.tally.legs) added ≡ false)
-    → OnOk r (new.sales ≡ old.sales)
-    → OnOk r (Adds facts amount added old new × (new.sales ≡ old.sales))
-adds_at facts amount added old new (Ok x) legs sum within in_range sales =
-    (record { legs = legs; sum = sum; within = within; in_range = in_range }, sales)
-adds_at facts amount added old new (Err e) legs sum within in_range sales = tt
-
 -- ---- sales
 
 -- the sale that takes these lots
@@ -239,16 +224,6 @@ stops_with ties facts day before place account amount reduces legs stop has stop
     let line = line_under ties facts day before place account amount in
     stops_at_legs line reduces legs stop has (stops account place (AreOf-legs line amount.cost reduces legs has))
 
-pub stops_of : {T : Type 0} (ties : TieRule) (facts : Facts) (day : ℤ) (before : List Leg) (place : ℕ) (account : List ℕ) (amount : Amount)
-    (reduces : Bool) (legs : List Leg) (r : Result T Stop)
-    → HasLegs (line_under ties facts day before place account amount) amount.cost reduces legs
-    → IfErr r (λ stop. (other : List ℕ) (posting : ℕ) → AreOf other posting legs
-    → StopsAt (with_legs other (facts.held other) before) posting legs stop)
-    → IfErr r (λ stop. StopsPosting (line_under ties facts day before place account amount) stop)
-stops_of ties facts day before place account amount reduces legs (Ok x) has stops = tt
-stops_of ties facts day before place account amount reduces legs (Err stop) has stops =
-    stops_with ties facts day before place account amount reduces legs stop has stops
-
 -- ---- a posting without braces
 
 -- what its account holds after it, lots aside
@@ -270,10 +245,3 @@ plain_out ties facts day before place account amount is out =
       leave = leave_range-stops line.held leg [] out;
       refusal = refl;
     })
-
--- else its leg is stored
-pub plain_in : (ties : TieRule) (facts : Facts) (day : ℤ) (before : List Leg) (place : ℕ) (account : List ℕ) (amount : Amount) → amount.cost ≡ None
-    → IsUnits (plain_after facts before account amount) → MayLackMemory before (line_under ties facts day before place account amount)
-plain_in ties facts day before place account amount is within =
-    let line = line_under ties facts day before place account amount in
-    inl (subst (StoresFor line) (sym is) (leave_range-passes line.held (plain_leg line) [] within))

@@ -176,3 +176,18 @@ lots_after facts legs rows account commodity kept lists sorted before had listed
     (all_seen had (lots_had account commodity held left) (lots_had account commodity held rows) had_is (ap (lots_had account commodity held) none))
     (all_seen listed (lots_listed account commodity left) (lots_listed account commodity rows) listed_is (ap (lots_listed account commodity) none))
     are
+
+at_most : (after had before listed rows : ℕ) → after + had ≡ before + listed → listed ≤ rows → after ≤ before + rows
+at_most after had before listed rows sum few = omega arith
+
+-- and no more than those before and the rows
+pub lots_at_most : (facts : Facts) (legs : List Leg) (rows : List (Position × ℤ)) (account commodity : List ℕ) → HasNoZeros (facts.held account) → ListsSums facts legs rows
+    → IsStrictlySortedBy position_cmp (keys_of rows)
+    → length (lots_of (with_legs account (facts.held account) legs) commodity) ≤ length (lots_of (facts.held account) commodity) + length rows
+lots_at_most facts legs rows account commodity kept lists sorted =
+    let held = facts.held account in
+    at_most (length (lots_of (with_legs account held legs) commodity)) (lots_had account commodity held rows) (length (lots_of held commodity))
+    (lots_listed account commodity rows) (length rows)
+    (ap (λ lots. length lots + lots_had account commodity held rows) (sym (lots-set_rows facts legs rows account commodity kept lists sorted))
+    ∙ counted account commodity held rows kept sorted)
+    (listed-few account commodity rows)

@@ -1,8 +1,8 @@
-ghost use Rattle.std.specs.Prelude.{◌≡◌, ◌≢◌, ◌≤◌, ◌*◌, ◌-◌, ◌++◌, ◌+ℤ◌, ℕ, suc, ℤ, List, [], None, Some, not, map, unsigned_abs, IfOk, IfErr, OnErr, OnOk};
+ghost use Rattle.std.specs.Prelude.{◌≡◌, ◌≢◌, ◌≤◌, ◌*◌, ◌-◌, ◌++◌, ◌+ℤ◌, ◌&&◌, ℕ, suc, ℤ, List, [], ◌∷◌, None, false, true, Some, not, map, unsigned_abs, IfOk, IfErr, OnErr, OnOk};
 ghost use Rattle.std.specs.Option.{is_none, option_map};
 ghost use Rattle.lot_num.specs.Amount.{IsWide, rate_limit, units_limit};
 ghost use Rattle.lot_book.specs.declared.refusal.Refusal.TheVariants.{FillNotAllowed, InexactFill};
-ghost use Rattle.lot_book.specs.Balance.{AreWithin, add_weight, fits_units, left_over, opposite, residual_in, residuals, weight_at_price, weight_of, weights_by, with_sign};
+ghost use Rattle.lot_book.specs.Balance.{AreWithin, add_weight, fits_units, is_zero, left_over, opposite, residual_in, residuals, weight_at_price, weight_of, weights_by, with_sign};
 ghost use Rattle.lot_book.specs.Leg.{units_moved};
 ghost use Rattle.lot_book.specs.Refusals.{bars, first_currency, most_postings, not_balanced};
 
@@ -18,15 +18,21 @@ use std::marker::Model;
 /// they first appear. A contract sees the currencies, each beside its residual.
 #[derive(Drop)]
 pub struct Residuals {
-    sums: IndexMap<Commodity, Wide>,
+    /// The currency that appears first, and its residual. Most transactions have no other.
+    first: Option<(Commodity, Wide)>,
+    /// The other currencies.
+    others: IndexMap<Commodity, Wide>,
 }
 
 impl Model for Residuals {
-    ghost use Rattle.std.specs.Prelude.{ℕ, ℤ, List};
+    ghost use Rattle.std.specs.Prelude.{◌≡◌, ℕ, ℤ, List, [], None};
+    ghost use Rattle.std.specs.List.{cons_option};
 
     ghost Value = { List (List ℕ × ℤ) };
 
-    ghost view = { λ r. r.sums.entries };
+    ghost view = { λ r. cons_option r.first r.others.entries };
+
+    ghost invariant = { λ r. r.first ≡ None → r.others.entries ≡ [] };
 }
 
 impl Residuals {
@@ -35,7 +41,8 @@ impl Residuals {
         ensures { result ≡ [] }
     {
         Residuals {
-            sums: IndexMap::new(alloc),
+            first: None,
+            others: IndexMap::new(alloc),
         }
     }
 
@@ -77,15 +84,17 @@ impl Residuals {
         requires { IsWide (residual_in currency.now self.old +ℤ weight) }
         ensures { OnOk result (self.new ≡ add_weight self.old (currency.now, weight)) }
     {
-        let sum = match self.sums.get(currency) {
-            Some(sum) => match sum.checked_add(weight) {
-                Some(sum) => sum,
-                None => unreachable!(),
-            },
-            None => weight,
-        };
-        self.sums.insert(currency.copy()?, sum)?;
-        Ok(())
+        match &mut self.first {
+            None => {
+                self.first = Some((currency.copy()?, weight));
+                Ok(())
+            }
+            Some((first, sum)) if *first == *currency => {
+                *sum = sum_of(*sum, weight);
+                Ok(())
+            }
+            Some(_) => add_to(&mut self.others, currency, weight),
+        }
     }
 
     /// Returns `NotBalanced` with the first currency whose residual isn't zero, if there is one. The refusal takes over that
@@ -94,7 +103,13 @@ impl Residuals {
         ensures ok { OnOk result (not_balanced [] self ≡ None) }
         ensures refused { IfErr result (λ refusal. not_balanced [] self ≡ Some refusal) }
     {
-        for (currency, sum) in self.sums {
+        let Residuals { first, others } = self;
+        if let Some((currency, sum)) = first {
+            if sum.mantissa() != 0 {
+                return Err(Refusal::NotBalanced { currency });
+            }
+        }
+        for (currency, sum) in others {
             if sum.mantissa() != 0 {
                 return Err(Refusal::NotBalanced { currency });
             }
@@ -106,11 +121,15 @@ impl Residuals {
     pub fn are_units(&self) -> bool
         ensures { result ≡ is_none (first_currency (λ r. not (fits_units r.1)) self.now) }
     {
-        for (_, sum) in &self.sums {
-            let Some(units) = sum.to_units() else {
+        if let Some((_, sum)) = &self.first {
+            if !is_units(*sum) {
                 return false;
-            };
-            let _in_range = units.mantissa(); // says to the prover that they are below the limit of units
+            }
+        }
+        for (_, sum) in &self.others {
+            if !is_units(*sum) {
+                return false;
+            }
         }
         true
     }
@@ -122,11 +141,16 @@ impl Residuals {
         ensures refused { IfErr result (λ refusal.
             option_map InexactFill (first_currency (λ r. not (fits_units r.1)) self) ≡ Some refusal) }
     {
-        for (currency, sum) in self.sums {
-            let Some(units) = sum.to_units() else {
+        let Residuals { first, others } = self;
+        if let Some((currency, sum)) = first {
+            if !is_units(sum) {
                 return Err(Refusal::InexactFill { currency });
-            };
-            let _in_range = units.mantissa(); // says to the prover that they are below the limit of units
+            }
+        }
+        for (currency, sum) in others {
+            if !is_units(sum) {
+                return Err(Refusal::InexactFill { currency });
+            }
         }
         Ok(())
     }
@@ -136,8 +160,13 @@ impl Residuals {
         ensures { result
             ≡ is_none (first_currency (λ r. bars (Some standing.now) r.0) (left_over self.now)) }
     {
-        for (currency, sum) in &self.sums {
-            if sum.mantissa() != 0 && !standing.allowed.allows(currency) {
+        if let Some((currency, sum)) = &self.first {
+            if is_barred(standing, currency, *sum) {
+                return false;
+            }
+        }
+        for (currency, sum) in &self.others {
+            if is_barred(standing, currency, *sum) {
                 return false;
             }
         }
@@ -152,8 +181,14 @@ impl Residuals {
         ensures refused { IfErr result (λ refusal. option_map FillNotAllowed
             (first_currency (λ r. bars (Some standing.now) r.0) (left_over self)) ≡ Some refusal) }
     {
-        for (currency, sum) in self.sums {
-            if sum.mantissa() != 0 && !standing.allowed.allows(&currency) {
+        let Residuals { first, others } = self;
+        if let Some((currency, sum)) = first {
+            if is_barred(standing, &currency, sum) {
+                return Err(Refusal::FillNotAllowed { currency });
+            }
+        }
+        for (currency, sum) in others {
+            if is_barred(standing, &currency, sum) {
                 return Err(Refusal::FillNotAllowed { currency });
             }
         }
@@ -168,12 +203,11 @@ impl Residuals {
         ensures memory { OnErr result (left_over self.now ≢ []) }
     {
         let mut fills = Vec::new(alloc);
-        for (currency, sum) in &self.sums {
-            match sum.to_units() {
-                Some(units) if units.mantissa() == 0 => {}
-                Some(units) => fills.push((currency.copy()?, units.negated()))?,
-                None => unreachable!(),
-            }
+        if let Some((currency, sum)) = &self.first {
+            add_fill(&mut fills, currency, *sum)?;
+        }
+        for (currency, sum) in &self.others {
+            add_fill(&mut fills, currency, *sum)?;
         }
         Ok(fills)
     }
@@ -205,4 +239,73 @@ fn with_sign(units: Units, total: Units) -> Wide
     } else {
         total.wide()
     }
+}
+
+/// Returns a residual with one more weight.
+fn sum_of(sum: Wide, weight: Wide) -> Wide
+    requires { IsWide (sum +ℤ weight) }
+    ensures { result ≡ sum +ℤ weight }
+{
+    match sum.checked_add(weight) {
+        Some(sum) => sum,
+        None => unreachable!(),
+    }
+}
+
+/// Adds one more weight to the residual of its currency, among residuals. The error is out of memory.
+fn add_to(
+    residuals: &mut IndexMap<Commodity, Wide>,
+    currency: &Commodity,
+    weight: Wide,
+) -> Result<(), AllocError>
+    requires { IsWide (residual_in currency.now residuals.old.entries +ℤ weight) }
+    ensures { OnOk result
+        (residuals.new.entries ≡ add_weight residuals.old.entries (currency.now, weight)) }
+{
+    let sum = match residuals.get(currency) {
+        Some(sum) => sum_of(*sum, weight),
+        None => weight,
+    };
+    residuals.insert(currency.copy()?, sum)?;
+    Ok(())
+}
+
+/// Returns whether a residual is that of units.
+fn is_units(sum: Wide) -> bool
+    ensures { result ≡ fits_units sum }
+{
+    match sum.to_units() {
+        Some(units) => {
+            let _in_range = units.mantissa(); // says to the prover that they are below the limit of units
+            true
+        }
+        None => false,
+    }
+}
+
+/// Returns whether a residual isn't zero, in a currency that the state of an account doesn't allow.
+fn is_barred(standing: &Standing, currency: &Commodity, sum: Wide) -> bool
+    ensures { result ≡ (not (is_zero sum) && bars (Some standing.now) currency.now) }
+{
+    sum.mantissa() != 0 && !standing.allowed.allows(currency)
+}
+
+/// Adds what takes up a residual, unless that is zero. The residual is that of units. The only error is out of memory. It comes
+/// only where the residual isn't zero.
+fn add_fill(
+    fills: &mut Vec<(Commodity, Units)>,
+    currency: &Commodity,
+    sum: Wide,
+) -> Result<(), AllocError>
+    requires { fits_units sum ≡ true }
+    ensures fills { OnOk result (fills.new.items
+        ≡ fills.old.items ++ map (λ r. (r.0, opposite r.1)) (left_over ((currency.now, sum) ∷ []))) }
+    ensures memory { OnErr result (is_zero sum ≡ false) }
+{
+    match sum.to_units() {
+        Some(units) if units.mantissa() == 0 => {}
+        Some(units) => fills.push((currency.copy()?, units.negated()))?,
+        None => unreachable!(),
+    }
+    Ok(())
 }

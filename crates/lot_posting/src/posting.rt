@@ -62,12 +62,12 @@ pub fn book_posting(
 {
     match &site.amount.cost {
         Some(cost) => book_at_cost(alloc, view, site, cost, draft),
-        None => book_plain(alloc, view, site, draft),
+        None => book_plain(view, site, draft),
     }
 }
 
 /// Books a posting without braces. Its refusal needs no memory.
-fn book_plain(alloc: Global, view: &View, site: &Site<'_>, draft: &mut Draft) -> Result<(), Stop>
+fn book_plain(view: &View, site: &Site<'_>, draft: &mut Draft) -> Result<(), Stop>
     requires plain { site.now.amount.now.cost ≡ None }
     requires entry { site.now.entry ≡ suc (known view.now).entries }
     requires number { HasNumber site.now.entry site.now.posting }
@@ -84,12 +84,14 @@ fn book_plain(alloc: Global, view: &View, site: &Site<'_>, draft: &mut Draft) ->
     let held = draft
         .tally
         .plain_units(view, site.account, &amount.commodity);
-    let Some(_after) = held.checked_add(amount.units) else {
+    let Some(after) = held.checked_add(amount.units) else {
         let posting = site.posting;
         return Err(Refusal::Range { posting }.into());
     };
     let leg = leg_of(site, 0, None, amount.units)?;
-    draft.add(view, amount, vec![in alloc; leg]?)
+    draft.tally.put(leg, held, after)?;
+    draft.residuals.weigh(amount, &[])?;
+    Ok(())
 }
 
 /// Books a posting with braces.

@@ -1,4 +1,4 @@
-ghost use Rattle.std.specs.Prelude.{◌≡◌, ◌≢◌, [], ◌∷◌, ◌++◌, ◌+ℤ◌, IfErr, IfOk, IsErrOf, OnOk, Some, IsFalse, IsTrue, true, false, length, ℕ, List};
+ghost use Rattle.std.specs.Prelude.{◌≡◌, ◌≢◌, ◌≤◌, [], ◌∷◌, ◌++◌, ◌+ℤ◌, IfErr, IfOk, IsErrOf, OnOk, Some, IsFalse, IsTrue, true, false, length, ℕ, List};
 ghost use Rattle.std.specs.List.{list_any};
 ghost use Rattle.lot_book.specs.declared.refusal.Stop.TheVariants.{Memory};
 ghost use Rattle.lot_cost.specs.declared.lot_key.LotKey.{LotKey};
@@ -89,14 +89,26 @@ impl Tally {
             → IsUnits (units_after (known view.now) self.old.legs leg.position +ℤ leg.units) }
     {
         let before = self.units(view, &leg.position);
-        let Some(units) = before.checked_add(leg.units) else {
+        let Some(after) = before.checked_add(leg.units) else {
             let posting = leg.posting;
             return Err(Refusal::Range { posting }.into());
         };
+        self.put(leg, before, after)?;
+        Ok(())
+    }
+
+    /// Adds one more leg, whose position holds so many units before it and so many after it. The error is out of memory.
+    pub(crate) fn put(&mut self, leg: Leg, before: Units, after: Units) -> Result<(), AllocError>
+        requires { HasNumber leg.entry leg.posting }
+        ensures legs { OnOk result (self.new.legs ≡ self.old.legs ++ leg ∷ []) }
+        ensures lists { OnOk result ((known : FactsWithOpenings) → ListsTally known self.old
+            → before ≡ units_after known.facts self.old.legs leg.position
+            → after ≡ before +ℤ leg.units → ListsTally known self.new) }
+    {
         if before == Units::ZERO && leg.position.lot.is_some() {
             self.openings.insert(leg.position.copy()?, leg.number())?;
         }
-        self.positions.insert(leg.position.copy()?, units)?;
+        self.positions.insert(leg.position.copy()?, after)?;
         self.add_to_kept(&leg);
         self.legs.push(leg)?;
         Ok(())
@@ -260,6 +272,21 @@ impl Tally {
             (None, Some(lot)) => lots.opening(&position.commodity, lot).unwrap_or(0),
             (None, None) => 0,
         }
+    }
+
+    /// Returns a number that the lots of a commodity in an account don't exceed after the legs so far: those before them, and
+    /// one for each position that they touch. It looks at none of these.
+    pub fn bound_lots(&self, view: &View, account: &Account, commodity: &Commodity) -> u128
+        requires { ListsTally (known_with_openings view.now) self.now }
+        ensures { length (lots_of
+            (with_legs account.now ((known view.now).held account.now) self.now.legs)
+            commodity.now) ≤ result }
+    {
+        let before = match view.held(account) {
+            Some(held) => u128::from(held.lots(commodity)),
+            None => 0,
+        };
+        before + self.positions.len() as u128
     }
 
     /// Returns how many lots of a commodity an account holds after the legs so far.

@@ -1,7 +1,7 @@
 -- Opening numbers as lots are set one after another.
 use Rattle.std.specs.Prelude.{◌≡◌, ◌≢◌, ℕ, Bool, true, false, cond, ◌&&◌, List, ◌∷◌, Option, None, Some, is_some, ℤ, pos, option_and_then}
 use Rattle.std.specs.declared.cmp.Ordering.TheVariants.{Greater}
-use Rattle.std.specs.BTreeMap.{BTreeMap}
+use Rattle.std.specs.BTreeMap.{BTreeMap, get as lookup_by}
 use Rattle.std.specs.Cmp.Lexicographic.{texts_ties}
 use Rattle.std.specs.FinMap.{get, get-empty, get-insert, get-remove, insert, remove}
 use Rattle.std.specs.List.Sorted.{IsStrictlySortedBy}
@@ -22,7 +22,7 @@ use Rattle.lot_inv.proofs.LotLemmas.{same_held}
 use Rattle.lot_inv.proofs.OrderLemmas.{positions_total}
 use Rattle.lot_book.specs.declared.leg.Position.{Position}
 use Rattle.lot_book.specs.Leg.{position_cmp, same_position}
-use Rattle.lot_book.specs.Openings.{HaveSameOpenings}
+use Rattle.lot_book.specs.Openings.{HaveSameOpenings, with_listed}
 use Rattle.lot_book.specs.Recorded.{with_row, with_rows}
 use Rattle.lot_book.proofs.HeldLemmas.{at, get-with_row, get-with_rows, settled}
 use Rattle.lot_book.proofs.OrderLemmas.{one_position}
@@ -188,23 +188,32 @@ openings-added old new account place units opening number is numbers no_zeros se
 
 -- ---- units that are listed
 
--- a lot that a row sets keeps its number, and so does every other
-pub openings-row : (first old new : BTreeMap (List ℕ) Stock) (k : Position) (units : ℤ) (number : ℕ)
-    (listed rows : List (Position × ℤ))
+-- what is listed of a lot counts twice as it counts once
+listed_again : (listed : Option ℕ) (own : ℕ) → unwrap_or listed own ≡ unwrap_or listed (unwrap_or listed own)
+listed_again None own = refl
+listed_again (Some number) own = refl
+
+-- a lot that a row sets has the number that is listed or keeps its own, and so does every other
+pub openings-row : (openings : BTreeMap Position ℕ) (first old new : BTreeMap (List ℕ) Stock) (k : Position) (units : ℤ)
+    (number : ℕ) (listed rows : List (Position × ℤ))
     → IsStrictlySortedBy position_cmp (k ∷ keys_of rows)
-    → number ≡ number_or old k 0
+    → ((lot : LotKey) → k.lot ≡ Some lot → number ≡ with_listed openings (openings_in old) k.account k.commodity lot)
     → SetsLot old new k.account (k.commodity, k.lot) units number
     → (account commodity : List ℕ)
     → with_rows account (held_in new account) rows ≡ with_rows account (held_in first account) listed
     → HaveSameOpenings commodity (with_rows account (held_in first account) listed)
-    (openings_in first account commodity) (openings_in old account commodity)
+    (with_listed openings (openings_in first) account commodity) (with_listed openings (openings_in old) account commodity)
     → HaveSameOpenings commodity (with_rows account (held_in first account) listed)
-    (openings_in first account commodity) (openings_in new account commodity)
-openings-row first old new k units number listed rows sorted is sets account commodity turn had lot some =
+    (with_listed openings (openings_in first) account commodity) (with_listed openings (openings_in new) account commodity)
+openings-row openings first old new k units number listed rows sorted is sets account commodity turn had lot some =
     had lot some ∙ by (same_position (at account (commodity, Some lot)) k) refl
   where
+    listed_here : Option ℕ
+    listed_here = lookup_by position_cmp openings (at account (commodity, Some lot))
+
     by : (b : Bool) → same_position (at account (commodity, Some lot)) k ≡ b
-        → openings_in old account commodity lot ≡ openings_in new account commodity lot
+        → with_listed openings (openings_in old) account commodity lot
+        ≡ with_listed openings (openings_in new) account commodity lot
     by true e =
         let same : at account (commodity, Some lot) ≡ k = one_position (at account (commodity, Some lot)) k e in
         let gone : lookup (same_position (at account (commodity, Some lot))) rows ≡ None =
@@ -215,11 +224,16 @@ openings-row first old new k units number listed rows sorted is sets account com
         ap (λ (held : Held). units_at held (commodity, Some lot)) (sym turn)
         ∙ ap (λ o. unwrap_or o (pos 0)) (get-with_rows account (held_in new account) rows (commodity, Some lot)
         ∙ ap (λ later. settled later (get (held_in new account) (commodity, Some lot))) gone) in
-        ap (λ p. number_or old p 0) same
-        ∙ sym is
-        ∙ sym (opening-here old new k.account (k.commodity, k.lot) units number sets account commodity lot e
-        (λ none. some (left ∙ none)))
-    by false e = sym (opening-apart old new k.account (k.commodity, k.lot) units number sets account commodity lot e)
+        let now : openings_in new account commodity lot ≡ with_listed openings (openings_in old) account commodity lot =
+        opening-here old new k.account (k.commodity, k.lot) units number sets account commodity lot e
+        (λ none. some (left ∙ none))
+        ∙ is lot (sym (ap (λ (p : Position). p.lot) same))
+        ∙ sym (ap (λ (p : Position). with_listed openings (openings_in old) p.account p.commodity lot) same) in
+        listed_again listed_here (openings_in old account commodity lot)
+        ∙ sym (ap (unwrap_or listed_here) now)
+    by false e =
+        ap (unwrap_or listed_here)
+        (sym (opening-apart old new k.account (k.commodity, k.lot) units number sets account commodity lot e))
 
 -- ---- opening numbers that are listed
 
@@ -264,3 +278,28 @@ openings-turn old new k units number rows sorted sets account commodity lot some
     by false e =
         ap (unwrap_or (lookup (same_position (at account (commodity, Some lot))) rows))
         (opening-apart old new k.account (k.commodity, k.lot) units number sets account commodity lot e)
+
+-- a lot that has its number already keeps it, and the others are still to be given theirs
+pub openings-stay : (held : BTreeMap (List ℕ) Stock) (k : Position) (number : ℕ) (rows : List (Position × ℕ))
+    → IsStrictlySortedBy position_cmp (k ∷ keys_of rows)
+    → option_and_then (opened_at (stock_in held k.account) k.commodity) k.lot ≡ Some number
+    → (account commodity : List ℕ) (lot : LotKey)
+    → unwrap_or (lookup (same_position (at account (commodity, Some lot))) rows) (openings_in held account commodity lot)
+    ≡ unwrap_or (lookup (same_position (at account (commodity, Some lot))) ((k, number) ∷ rows))
+    (openings_in held account commodity lot)
+openings-stay held k number rows sorted has account commodity lot =
+    by (same_position (at account (commodity, Some lot)) k) refl
+  where
+    by : (b : Bool) → same_position (at account (commodity, Some lot)) k ≡ b
+        → unwrap_or (lookup (same_position (at account (commodity, Some lot))) rows) (openings_in held account commodity lot)
+        ≡ unwrap_or (cond b (Some number) (lookup (same_position (at account (commodity, Some lot))) rows))
+        (openings_in held account commodity lot)
+    by true e =
+        let same : at account (commodity, Some lot) ≡ k = one_position (at account (commodity, Some lot)) k e in
+        let gone : lookup (same_position (at account (commodity, Some lot))) rows ≡ None =
+        ap (λ q. lookup (same_position q) rows) same
+        ∙ none_below position_cmp k rows (sorted_head position_cmp k (keys_of rows) sorted) in
+        ap (λ (o : Option ℕ). unwrap_or o (openings_in held account commodity lot)) gone
+        ∙ ap (λ (p : Position). number_or held p 0) same
+        ∙ ap (λ (o : Option ℕ). unwrap_or o 0) has
+    by false e = refl

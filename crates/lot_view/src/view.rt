@@ -6,6 +6,7 @@ ghost use Rattle.std.specs.Option.{option_map, option_or};
 ghost use Rattle.std.specs.String.{string_bytes};
 ghost use Rattle.lot_num.specs.Amount.{IsUnits};
 ghost use Rattle.lot_base.specs.Text.{same_text, text_cmp};
+ghost use Rattle.lot_cost.specs.declared.lot_key.LotKey.{LotKey};
 ghost use Rattle.lot_inv.specs.Inventory.{NumbersLots, non_zero, opened_at, opening_at, units_at, with_lot};
 ghost use Rattle.lot_inv.specs.Zeros.{HasNoZeros};
 ghost use Rattle.lot_inv.specs.declared.fault.InventoryFault.TheVariants.{Range};
@@ -169,7 +170,12 @@ impl View {
         keep_standing(&mut self.standings, self.alloc, command)?;
         keep_declared(&mut self.declared, command)?;
         keep_heads(&mut self.heads, self.alloc, &change.heads)?;
-        keep_held(&mut self.held, self.alloc, &change.positions)?;
+        keep_held(
+            &mut self.held,
+            self.alloc,
+            &change.positions,
+            &change.openings,
+        )?;
         keep_openings(&mut self.held, self.alloc, &change.openings)?;
         self.entries += 1;
         Ok(View { text: None, ..self })
@@ -321,33 +327,53 @@ fn keep_heads(
     Ok(())
 }
 
-/// Keeps the units that are listed; a lot keeps its opening number. The error is out of memory.
+/// Keeps the units that are listed. A lot has the opening number that is listed for it then, or else keeps its own. The error
+/// is out of memory.
 fn keep_held(
     held: &mut BTreeMap<Account, Inventory>,
     alloc: Global,
     listed: &BTreeMap<Position, Units>,
+    openings: &BTreeMap<Position, u64>,
 ) -> Result<(), AllocError>
     ensures units { OnOk result ((account : List ℕ) → held_in held.new account
         ≡ with_rows account (held_in held.old account) listed.now.entries) }
     ensures openings { OnOk result ((account commodity : List ℕ)
         → HaveSameOpenings commodity (held_in held.new account)
-        (openings_in held.old account commodity) (openings_in held.new account commodity)) }
+        (with_listed openings.now (openings_in held.old) account commodity)
+        (with_listed openings.now (openings_in held.new) account commodity)) }
 {
     for (position, units) in listed {
-        let lot = position.lot.as_ref();
-        // the number of a lot that the change opens is among its opening numbers
-        let opening = opening_of(held, &position.account, &position.commodity, lot).unwrap_or(0);
+        let opening = number_of(held, openings, position);
         set_units(
             held,
             alloc,
             &position.account,
             &position.commodity,
-            lot,
+            position.lot.as_ref(),
             *units,
             opening,
         )?;
     }
     Ok(())
+}
+
+/// Returns the opening number that a lot is to have: the one that is listed for it, or else its own. It is 0 where the lot holds
+/// nothing.
+fn number_of(
+    held: &BTreeMap<Account, Inventory>,
+    openings: &BTreeMap<Position, u64>,
+    position: &Position,
+) -> u64
+    ensures { (lot : LotKey) → position.now.lot ≡ Some lot → result
+        ≡ with_listed openings.now (openings_in held.now) position.now.account position.now.commodity lot }
+{
+    let Some(lot) = &position.lot else {
+        return 0;
+    };
+    match openings.get(position) {
+        Some(number) => *number,
+        None => opening_of(held, &position.account, &position.commodity, Some(lot)).unwrap_or(0),
+    }
 }
 
 /// Keeps the opening numbers that are listed, of the lots that hold something. The error is out of memory.
@@ -364,6 +390,9 @@ fn keep_openings(
 {
     for (position, opening) in listed {
         let lot = position.lot.as_ref();
+        if opening_of(held, &position.account, &position.commodity, lot) == Some(*opening) {
+            continue;
+        }
         let units = units_of(held, &position.account, &position.commodity, lot);
         set_units(
             held,

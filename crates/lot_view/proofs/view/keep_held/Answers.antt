@@ -5,12 +5,12 @@ use Rattle.std.specs.Map.{keys_of}
 use Rattle.std.proofs.lemmas.Map.Keys.{sorted_tail}
 use Rattle.lot_book.specs.declared.leg.Position.{Position}
 use Rattle.lot_book.specs.Leg.{position_cmp}
-use Rattle.lot_book.specs.Openings.{HaveSameOpenings}
+use Rattle.lot_book.specs.Openings.{HaveSameOpenings, with_listed}
 use Rattle.lot_book.specs.Recorded.{with_rows}
 use Rattle.lot_view.specs.View.{held_in, openings_in}
 use Rattle.lot_view.proofs.ViewHeld.{rows-turn}
 use Rattle.lot_view.proofs.ViewLemmas.{SetsLot}
-use Rattle.lot_view.proofs.ViewOpenings.{held-row, number_or, openings-row}
+use Rattle.lot_view.proofs.ViewOpenings.{held-row, openings-row}
 use Rattle.lot_view.proofs.view.keep_held.Goals as goal
 
 pub returns-clause-openings : goal.returns-clause-openings
@@ -23,7 +23,8 @@ returns-clause-openings c =
     sym (c.loop-position.invariant.all account)
     ∙ ap (λ (rows : List (Position × ℤ)). with_rows account (held_in now account) rows) none in
     λ account commodity.
-    subst (λ held. HaveSameOpenings commodity held (openings_in start account commodity) (openings_in now account commodity))
+    subst (λ held. HaveSameOpenings commodity held (with_listed c.args.openings.now (openings_in start) account commodity)
+    (with_listed c.args.openings.now (openings_in now) account commodity))
     (all account) (c.loop-position.invariant.openings account commodity)
 
 pub loop-position-preserved : goal.loop-position-preserved
@@ -32,15 +33,14 @@ loop-position-preserved c =
     let rest = c.next.new.self in
     let k = c.in-Some.position.now in
     let units = c.in-Some.units.now in
-    let number = c.unwrap_or-opening.result in
+    let number = c.number_of-opening.result in
     let start = c.args.held.now in
     let had = c.loop-position.held in
     let now = c.set_units.new.held in
     let first : left ≡ (k, units) ∷ rest = c.in-Some.ensures.steps in
     let sorted : IsStrictlySortedBy position_cmp (k ∷ keys_of rest) = rw first at c.loop-position.invariant.left in
-    let lot : option_copied c.as_ref-lot.result ≡ k.lot = search rules in
+    let lot : option_copied c.as_ref.result ≡ k.lot = search rules in
     let sets : SetsLot had now k.account (k.commodity, k.lot) units number = rw lot at c.in_ok-set_units.ensures.ok in
-    let is : number ≡ number_or had k 0 = search rules in
     let all : (account : List ℕ) → with_rows account (held_in now account) rest
     ≡ with_rows account (held_in start account) c.args.listed.now.entries =
     λ account.
@@ -51,7 +51,8 @@ loop-position-preserved c =
     record {
       all = all;
       openings = λ account commodity.
-          openings-row start had now k units number c.args.listed.now.entries rest sorted is sets account commodity (all account)
+          openings-row c.args.openings.now start had now k units number c.args.listed.now.entries rest sorted
+          c.number_of-opening.ensures sets account commodity (all account)
           (c.loop-position.invariant.openings account commodity);
       left = sorted_tail position_cmp k (keys_of rest) sorted;
     }
