@@ -2,10 +2,8 @@
 
 ghost use Rattle.std.specs.Prelude.{◌≡◌, None, false};
 
-use crate::call::Call;
-use crate::notes::withdraw;
-use crate::words::UNUSABLE;
-use crate::{STOPPED, out_of_memory};
+use crate::answer::{answer, do_quietly, speak};
+use lot_call::{Call, DONE, REFUSED, STOPPED, UNUSABLE, out_of_memory, say_why, withdraw};
 use lot_cli::{Action, Effect, Served};
 use lot_files::{
     Access, Cause, Opened, ensure_openable, is_missing, library_path, open, open_book, open_copy,
@@ -13,28 +11,6 @@ use lot_files::{
 use lot_output::{Keeper, Kept, Witness};
 use sqlite::{Alter, Connection, File, FileStore};
 use std::io::{self, Read, Write};
-
-/// The status of an action that ran to its end, where none of its commands was refused.
-const DONE: u8 = 0;
-
-/// The status of one where some were. That of a fault is greater.
-const REFUSED: u8 = 1;
-
-/// Returns the path of the book that an action names, or nothing.
-pub fn path_of(action: &Action) -> &str {
-    match action {
-        Action::Check => "",
-        Action::Init { book }
-        | Action::Migrate { book }
-        | Action::Post { book, .. }
-        | Action::PostRow { book, .. }
-        | Action::Import { book, .. }
-        | Action::Holdings { book, .. }
-        | Action::Gains { book, .. }
-        | Action::Journal { book }
-        | Action::Verify { book } => book.as_str(),
-    }
-}
 
 /// Does what a call is for, and returns the status of the program. Where the book can't be opened, a
 /// line on standard output says so, and one on standard error why.
@@ -58,21 +34,10 @@ pub fn act(call: &Call<'_>) -> u8 {
         Err(Cause::Memory) => out_of_memory(rt),
         Err(cause) => {
             let _ = println!(rt; "fault open");
-            if !call.is_quiet() {
-                say_why(rt, path, cause);
-            }
+            say_why(call, path, cause);
             STOPPED
         }
     }
-}
-
-/// Says on standard error why the book of that path can't be opened.
-fn say_why(rt: &HostRuntime, path: &str, cause: Cause) {
-    let _ = if path.is_empty() {
-        eprintln!(rt; "lotbook: the path of the book is empty")
-    } else {
-        eprintln!(rt; "lotbook: {path}: {cause}")
-    };
 }
 
 /// Does what a call is for on an empty database in memory.
@@ -118,7 +83,7 @@ fn on_file<R: Read + Drop>(call: &Call<'_>, input: R, file: Connection<FileStore
         status,
         halt: _,
         conn,
-    } = call.answer(input, file);
+    } = answer(call, input, file);
     if status <= REFUSED {
         // Commits are safe in the log beside the file, also where it can't be copied into the file.
         let _ = conn.close();
@@ -135,7 +100,7 @@ fn on_copy<S: Alter + Drop>(call: &Call<'_>, copy: Connection<S>) -> u8
         status,
         halt: _,
         conn: _,
-    } = call.answer(call.rt.reader(), copy);
+    } = answer(call, call.rt.reader(), copy);
     status
 }
 
@@ -155,7 +120,7 @@ fn all_or_none(call: &Call<'_>, path: &str) -> Result<u8, Cause> {
         status,
         halt,
         mut conn,
-    } = call.serve(&mut reader, &mut writer, copy);
+    } = do_quietly(call, &mut reader, &mut writer, copy);
     let (Some(input), Some(replies)) = (&reader.kept.bytes, &writer.writer.bytes) else {
         return Err(Cause::Memory);
     };
@@ -163,7 +128,7 @@ fn all_or_none(call: &Call<'_>, path: &str) -> Result<u8, Cause> {
         return Ok(on_file(call, input.as_slice(), file));
     }
     let is_written = io::writer(rt).write_all(replies).is_ok();
-    call.speak(&reader.kept, &writer.heard, halt, &mut conn);
+    speak(call, &reader.kept, &writer.heard, halt, &mut conn);
     if halt.is_none() {
         withdraw(call);
     }

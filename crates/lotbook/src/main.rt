@@ -1,29 +1,17 @@
 //! The program `lotbook`: it does what its arguments ask for.
 //!
-//! - `words`: what they ask for.
-//! - `call`: a call of the program, and what is said of it; `book`: the book that it is on.
-//! - `notes`: what is said of a call on standard error; `told`: why commands were refused, and what
-//!   the codes mean; `facts`: what the book says of it; `damage`: where a book is damaged.
+//! - `book`: the book that a call is on.
+//! - `answer`: what the call is for is done there, and standard error says what there is to say.
 #![tactic(auto)]
 
+mod answer;
 mod book;
-mod call;
-mod damage;
-mod facts;
-mod notes;
-mod told;
-mod words;
 
-use crate::book::{act, path_of};
-use crate::call::Call;
-use crate::told::tell;
-use crate::words::understand;
+use crate::book::act;
+use lot_call::{Call, path_of, tell, understand};
 use lot_cli::Request;
 use std::process::ExitCode;
 use std::time::Instant;
-
-/// The status where memory ends, a file can't be opened or the output can't be written.
-const STOPPED: u8 = 4;
 
 fn main(rt: HostRuntime) -> ExitCode {
     let begun = Instant::now(&rt).ok();
@@ -45,10 +33,4 @@ fn main(rt: HostRuntime) -> ExitCode {
         Ok(Request::Explain { code }) => tell(&rt, code.as_deref()),
         Err(status) => status,
     })
-}
-
-/// Reports that memory ended, and returns the status.
-fn out_of_memory(rt: &HostRuntime) -> u8 {
-    let _ = println!(rt; "fault Memory");
-    STOPPED
 }

@@ -1,16 +1,12 @@
 //! What the codes mean, and why the commands of a call were refused.
 
-use crate::STOPPED;
 use crate::call::Call;
 use crate::facts::Facts;
-use crate::words::UNUSABLE;
-use lot_cli::Action;
+use crate::status::{DONE, STOPPED, UNUSABLE};
+use lot_args::Action;
 use lot_explain::{Source, list, nearest_code, notes};
 use lot_output::{Heard, Kept, Output};
 use sqlite::{Alter, Connection};
-
-/// The status where what was asked for was written.
-const TOLD: u8 = 0;
 
 /// Tells what a code means, or what all do, and returns the status.
 pub fn tell(rt: &HostRuntime, code: Option<&str>) -> u8 {
@@ -21,7 +17,7 @@ pub fn tell(rt: &HostRuntime, code: Option<&str>) -> u8 {
     };
     output.end();
     match told {
-        Ok(is_told) if is_told => TOLD,
+        Ok(is_told) if is_told => DONE,
         Ok(_) => unknown(rt, code.unwrap_or("")),
         Err(_) => STOPPED,
     }

@@ -1,19 +1,13 @@
 //! The arguments of the program.
 
-use crate::{STOPPED, out_of_memory};
+use crate::status::{DONE, STOPPED, UNUSABLE, out_of_memory};
 use clap::error::ErrorKind as UsageKind;
-use lot_cli::{BadOption, Request, WordsFault, parse_words};
+use lot_args::{BadOption, Request, WordsFault, parse_words};
 use std::env;
 use std::io::{self, ErrorKind};
 
-/// The status where help or the version was shown.
-const SHOWN: u8 = 0;
-
 /// The longest value of an option that is shown where it is bad, in bytes.
 const LONGEST_SHOWN: usize = 80;
-
-/// The status of arguments that can't be used.
-pub const UNUSABLE: u8 = 2;
 
 /// Returns what the arguments ask for. Else help or the version was shown, or arguments that can't be used were reported, and
 /// it returns the status of the program.
@@ -46,7 +40,7 @@ fn answer(rt: &HostRuntime, words: &[String], fault: &WordsFault) -> u8 {
                 }
                 UNUSABLE
             }
-            Ok(()) => SHOWN,
+            Ok(()) => DONE,
             Err(_) => STOPPED,
         },
         WordsFault::BadValue(option) => {

@@ -1,7 +1,5 @@
-//! Where a book that isn't verified is damaged.
-
-use crate::call::Call;
-use lot_cli::{Spot, Table, VerifyFault, Watch, judge_book};
+use lot_audit::{Spot, Table, Watch, judge_book};
+use lot_table::Fault;
 use sqlite::types::ValueRef;
 use sqlite::{Alter, Connection};
 
@@ -24,20 +22,16 @@ impl Watch for Place {
     }
 }
 
-/// Says on standard error where the damage is: the book is judged once more, and what is looked at
-/// then is followed.
-pub fn say_where<S: Alter>(call: &Call<'_>, conn: &mut Connection<S>) {
-    let (rt, path) = (call.rt, call.path);
+/// Says on standard error where the book of that path is damaged, with a connection to it. The book
+/// is judged once more, and what is looked at then is followed.
+pub fn say_where<S: Alter>(rt: &HostRuntime, path: &str, conn: &mut Connection<S>) {
     let mut place = Place {
         spot: None,
         rows: 0,
     };
-    let Err(fault) = judge_book(rt.alloc(), conn, &mut place) else {
+    let Err(Fault::Damaged) = judge_book(rt.alloc(), conn, &mut place) else {
         return;
     };
-    if VerifyFault::from(fault) != VerifyFault::Damaged {
-        return;
-    }
     let Some(spot) = place.spot else {
         return;
     };

@@ -1,0 +1,60 @@
+//! What the program is called for.
+
+use lot_args::{Action, Effect, Notes};
+use std::time::Instant;
+
+/// How many refusals are explained where not all are.
+const TEN: u64 = 10;
+
+/// What the program is called for.
+#[derive(Drop)]
+pub struct Call<'a> {
+    pub rt: &'a HostRuntime,
+    pub action: &'a Action,
+    /// That of the book which the action names, if it does.
+    pub path: &'a str,
+    pub effect: Effect,
+    pub notes: Notes,
+    /// When it began, where the clock could be read.
+    pub begun: Option<Instant>,
+}
+
+impl Call<'_> {
+    /// Returns whether standard error is to stay empty.
+    pub fn is_quiet(&self) -> bool {
+        matches!(self.notes, Notes::Quiet)
+    }
+
+    /// Returns what the call runs on a book one after another, in the plural, where it does so.
+    pub fn runs(&self) -> Option<&'static str> {
+        match self.action {
+            Action::Post { .. } | Action::PostRow { .. } => Some("commands"),
+            Action::Import { .. } => Some("rows"),
+            _ => None,
+        }
+    }
+
+    /// Returns how many refusals are explained.
+    pub fn most(&self) -> u64 {
+        match self.notes {
+            Notes::All => u64::MAX,
+            Notes::Ten | Notes::Quiet => TEN,
+        }
+    }
+}
+
+/// Returns the path of the book that an action names, or nothing.
+pub fn path_of(action: &Action) -> &str {
+    match action {
+        Action::Check => "",
+        Action::Init { book }
+        | Action::Migrate { book }
+        | Action::Post { book, .. }
+        | Action::PostRow { book, .. }
+        | Action::Import { book, .. }
+        | Action::Holdings { book, .. }
+        | Action::Gains { book, .. }
+        | Action::Journal { book }
+        | Action::Verify { book } => book.as_str(),
+    }
+}

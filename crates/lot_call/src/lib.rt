@@ -1,0 +1,23 @@
+//! A call of the program: what its arguments ask for, the status with which it ends, and what it says on standard error beside
+//! its answer.
+//!
+//! - `arguments`: what they ask for, and what is said of those that can't be used.
+//! - `call`: what the program is called for; `status`: how a call ends.
+//! - `told`: why commands were refused, and what the codes mean; `facts`: what the book says of it.
+//! - `notes`: what else is said of a call; `standing`: what stands in the place of its book.
+#![tactic(auto)]
+
+mod arguments;
+mod call;
+mod facts;
+mod notes;
+mod standing;
+mod status;
+mod told;
+
+pub use arguments::understand;
+pub use call::{Call, path_of};
+pub use notes::{say_why, sum_up, withdraw};
+pub use standing::Standing;
+pub use status::{DONE, REFUSED, STOPPED, UNUSABLE, out_of_memory};
+pub use told::{explain, tell};

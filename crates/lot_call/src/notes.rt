@@ -1,0 +1,53 @@
+//! What is said of a call on standard error, beside why commands were refused.
+
+use crate::call::Call;
+use lot_args::Effect;
+use lot_files::Cause;
+use lot_output::Heard;
+use std::io::IsTerminal;
+
+/// Says why the book of that path can't be opened.
+pub fn say_why(call: &Call<'_>, path: &str, cause: Cause) {
+    if call.is_quiet() {
+        return;
+    }
+    let _ = if path.is_empty() {
+        eprintln!(call.rt; "lotbook: the path of the book is empty")
+    } else {
+        eprintln!(call.rt; "lotbook: {path}: {cause}")
+    };
+}
+
+/// Says, on a terminal, how many of the commands of a run were accepted, stood already and were
+/// refused, and how long the call took.
+pub fn sum_up(call: &Call<'_>, heard: &Heard) {
+    let rt = call.rt;
+    if call.runs().is_none() || !rt.stderr().is_terminal() {
+        return;
+    }
+    let Heard {
+        accepted,
+        repeated,
+        refused,
+        ..
+    } = heard;
+    let _ = eprint!(rt; "{accepted} accepted, {repeated} repeated, {refused} refused");
+    if let Some(begun) = call.begun
+        && let Ok(took) = begun.elapsed(rt)
+    {
+        let (seconds, tenths) = (took.as_secs(), took.subsec_millis() / 100);
+        let _ = eprint!(rt; " in {seconds}.{tenths} s");
+    }
+    let _ = match call.effect {
+        Effect::DryRun => eprintln!(rt; ": a dry run, of which nothing is kept"),
+        Effect::Keep | Effect::AllOrNone => eprintln!(rt; ""),
+    };
+}
+
+/// Says that nothing is kept of a call that keeps all or nothing.
+pub fn withdraw(call: &Call<'_>) {
+    let path = call.path;
+    if !call.is_quiet() {
+        let _ = eprintln!(call.rt; "lotbook: {path}: nothing is kept, since not all was accepted");
+    }
+}

@@ -1,0 +1,71 @@
+//! What stands in the place of the book that a call is on.
+
+use lot_files::is_missing;
+use sqlite::{Alter, Connection, Error};
+
+/// What stands in the place of the book that a call is on, where its action can't begin with it.
+#[derive(Clone, Copy)]
+pub enum Standing {
+    Nothing,
+    EmptyFile,
+    Book,
+    OlderBook,
+    OtherDatabase,
+}
+
+impl Standing {
+    /// Returns what stands at a path where no book does, with a connection to it. It is `None` where
+    /// the database can't be read.
+    pub fn of_no_book<S: Alter>(
+        rt: &HostRuntime,
+        path: &str,
+        conn: &mut Connection<S>,
+    ) -> Option<Standing> {
+        if is_missing(rt, path) {
+            return Some(Standing::Nothing);
+        }
+        Some(if finds(conn, "SELECT name FROM sqlite_schema LIMIT 1")? {
+            Standing::OtherDatabase
+        } else {
+            Standing::EmptyFile
+        })
+    }
+
+    /// Returns what a database is that isn't empty. It is `None` where it can't be read.
+    pub fn of_database<S: Alter>(conn: &mut Connection<S>) -> Option<Standing> {
+        let query = "SELECT edition FROM book WHERE mark = 'lot-book'";
+        Some(if finds(conn, query)? {
+            Standing::Book
+        } else {
+            Standing::OtherDatabase
+        })
+    }
+
+    /// Says on standard error what stands at a path, and what helps.
+    pub fn say(self, rt: &HostRuntime, path: &str) {
+        let _ = match self {
+            Standing::Nothing => eprintln!(rt;
+                "lotbook: {path}: there is no such file: `lotbook init --book {path}` makes a book"
+            ),
+            Standing::EmptyFile => eprintln!(rt;
+                "lotbook: {path} is empty: `lotbook init --book {path}` makes a book of it"
+            ),
+            Standing::Book => eprintln!(rt; "lotbook: {path} is a book already"),
+            Standing::OlderBook => eprintln!(rt;
+                "lotbook: {path} is a book of edition 1: `lotbook migrate --book {path}` takes it over"
+            ),
+            Standing::OtherDatabase => eprintln!(rt;
+                "lotbook: {path} is a database of another program: its tables aren't those of a book"
+            ),
+        };
+    }
+}
+
+/// Returns whether a query finds a row, where the database can be read.
+fn finds<S: Alter>(conn: &mut Connection<S>, query: &str) -> Option<bool> {
+    match conn.query_row(query, &[]) {
+        Ok(_) => Some(true),
+        Err(Error::SqliteFailure(_)) => None,
+        Err(_) => Some(false),
+    }
+}

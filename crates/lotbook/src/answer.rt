@@ -1,0 +1,113 @@
+//! A call of the program answered: its action is served, and standard error says what there is to say of it.
+
+ghost use Rattle.std.specs.Prelude.{◌≡◌, None, false};
+
+use lot_call::{Call, Standing, explain, sum_up};
+use lot_cli::{
+    AdoptFault, Counted, CountedWriter, CreateFault, Halt, MigrateFault, Progress, Served,
+    VerifyFault, serve,
+};
+use lot_damage::say_where;
+use lot_output::{Heard, Keeper, Kept, Meter, Output, Witness};
+use sqlite::{Alter, Connection};
+use std::io::{Read, Write};
+
+/// Does what a call is for on the book that the connection leads to, with that input, and says on
+/// standard error what there is to say of it.
+pub fn answer<R: Read + Drop, S: Alter>(
+    call: &Call<'_>,
+    reader: R,
+    conn: Connection<S>,
+) -> Served<S>
+    requires outside { conn.in_transaction ≡ false }
+    requires unlimited { conn.step_limit ≡ None }
+{
+    let alloc = call.rt.alloc();
+    let kept = if call.is_quiet() {
+        Kept { bytes: None }
+    } else {
+        Kept::new(alloc)
+    };
+    let mut reader = Keeper { reader, kept };
+    let mut writer = Witness::new(alloc, Output::new(call.rt, call.runs()), call.most());
+    let mut served = do_quietly(call, &mut reader, &mut writer, conn);
+    writer.writer.end();
+    speak(
+        call,
+        &reader.kept,
+        &writer.heard,
+        served.halt,
+        &mut served.conn,
+    );
+    served
+}
+
+/// Does what a call is for, and says nothing of it. All that `serve` says is left out here, so that
+/// its callers are proved without it.
+pub fn do_quietly<R: Read, W: Write, S: Alter>(
+    call: &Call<'_>,
+    reader: &mut Keeper<R>,
+    writer: &mut Witness<W>,
+    conn: Connection<S>,
+) -> Served<S>
+    requires outside { conn.in_transaction ≡ false }
+    requires unlimited { conn.step_limit ≡ None }
+{
+    let mut input = Counted::new(reader);
+    let mut output = CountedWriter::new(writer);
+    let mut legs = Legs(Meter::of_legs(call.rt));
+    let alloc = call.rt.alloc();
+    serve(alloc, call.action, &mut input, &mut output, &mut legs, conn)
+}
+
+/// Says on standard error what there is to say of what was read and written.
+pub fn speak<S: Alter>(
+    call: &Call<'_>,
+    read: &Kept,
+    heard: &Heard,
+    halt: Option<Halt>,
+    conn: &mut Connection<S>,
+) {
+    if call.is_quiet() {
+        return;
+    }
+    explain(call, read, heard, conn);
+    match halt {
+        Some(halt) => advise(call, halt, conn),
+        None => sum_up(call, heard),
+    }
+}
+
+/// Says what helps where an action ended before its first command, since the file holds no book, or
+/// holds one already, or a damaged one.
+fn advise<S: Alter>(call: &Call<'_>, halt: Halt, conn: &mut Connection<S>) {
+    let (rt, path) = (call.rt, call.path);
+    let standing = match halt {
+        Halt::Adopt(AdoptFault::OlderEdition) | Halt::Verify(VerifyFault::OlderEdition) => {
+            Some(Standing::OlderBook)
+        }
+        Halt::Adopt(AdoptFault::NotABook)
+        | Halt::Migrate(MigrateFault::NotABook)
+        | Halt::Verify(VerifyFault::NotABook) => Standing::of_no_book(rt, path, conn),
+        Halt::Create(CreateFault::NotABook) => Standing::of_database(conn),
+        Halt::Verify(VerifyFault::Damaged) => return say_where(rt, path, conn),
+        _ => None,
+    };
+    if let Some(standing) = standing {
+        standing.say(rt, path);
+    }
+}
+
+/// How far a migration is, on standard error.
+#[derive(Drop)]
+struct Legs<'a>(Meter<'a>);
+
+impl Progress for Legs<'_> {
+    fn legs_read(&mut self, legs: usize) {
+        self.0.add(legs as u64);
+    }
+
+    fn end(&mut self) {
+        self.0.end();
+    }
+}
