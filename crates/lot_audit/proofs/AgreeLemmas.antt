@@ -1,11 +1,10 @@
 -- Tables agree on a book row by row exactly where they stand for it: what rows there are under the keys of the book.
-use Rattle.std.specs.Prelude.{◌≡◌, ◌≢◌, ◌⊎◌, ◌≤◌, ◌<◌, ◌==◌, ◌&&◌, ℕ, ℤ, pos, zero, suc, Bool, true, false, List, [], ◌∷◌, filter, length, map, option_map, Option, None, Some}
+use Rattle.std.specs.Prelude.{◌≡◌, ◌≢◌, ◌⊎◌, ◌≤◌, ◌<◌, ◌==◌, ◌&&◌, ℕ, ℤ, pos, zero, suc, Bool, true, false, List, [], ◌∷◌, length, map, Option, None, Some}
 use Rattle.std.specs.List.{AllByRecursion}
 use Rattle.std.specs.Ordering.{int_eq}
 use Rattle.std.proofs.Common.{refl, sym, ap, subst, ◌∙◌, arith, inl, inr}
 use Rattle.std.proofs.lemmas.Bool.{and_parts, cases_lt}
 use Rattle.std.proofs.lemmas.Bool.Decides.{Decides-eqb, Decides-int_eq}
-use Rattle.std.proofs.lemmas.List.Elements.{recursion_from_All}
 use Rattle.sqlite.specs.Order.{Row}
 use Rattle.sqlite.specs.declared.types.Value.TheVariants.{Int, Text}
 use Rattle.sqlite_keyed.proofs.ListLemmas.{filter_none}
@@ -40,7 +39,7 @@ use Rattle.lot_stored.specs.Rows.{allowed_rows, leg_row, lot_key, name_key, pair
 use Rattle.lot_stored.proofs.KeyLemmas.{at_lot, has_lot, has_name, has_pair, has_posting, has_price}
 use Rattle.lot_stored.proofs.LegLemmas.{its_parts}
 use Rattle.lot_stored.proofs.LookupLemmas.{has_own_key, row-only, row-there}
-use Rattle.lot_stored.proofs.NumberLemmas.{AreOfEntries, numbered_legs}
+use Rattle.lot_stored.proofs.NumberLemmas.{numbered_legs}
 use Rattle.lot_stored.proofs.OrderLemmas.{IsRising}
 use Rattle.lot_audit.specs.Agree.{Agrees, AllowedAgree, LegsAgree}
 

@@ -1,13 +1,12 @@
 -- In tables that stand for a book each of its entries has the rows of its command.
-use Rattle.std.specs.Prelude.{◌≡◌, ◌≢◌, ◌&&◌, ℕ, ℤ, Bool, true, false, cond, is_some, List, [], ◌∷◌, ◌++◌, option_map, Option, None, Some}
-use Rattle.std.specs.List.{AllByRecursion}
+use Rattle.std.specs.Prelude.{◌≡◌, ◌≢◌, ◌&&◌, ℕ, ℤ, Bool, true, false, cond, List, [], ◌∷◌, ◌++◌, option_map, Option, None, Some}
 use Rattle.std.specs.Option.{option_or}
 use Rattle.std.specs.Ordering.{int_eq}
 use Rattle.std.proofs.Common.{refl, sym, ap, subst, ◌∙◌}
 use Rattle.std.proofs.lemmas.Bool.Decides.{Decides-int_eq}
-use Rattle.std.proofs.lemmas.List.{append-nil, append_assoc}
+use Rattle.std.proofs.lemmas.List.{append_assoc}
 use Rattle.lot_base.specs.Text.{same_text}
-use Rattle.lot_base.proofs.OptionLemmas.{none_there, not_mapped, or_none, or_or}
+use Rattle.lot_base.proofs.OptionLemmas.{not_mapped, or_or}
 use Rattle.lot_base.proofs.TextLemmas.{same_text-itself}
 use Rattle.lot_command.specs.declared.command.Command.{Command}
 use Rattle.lot_command.specs.declared.command.Command.TheVariants.{Opening, Closing, Declaring, Quoting, Transaction}
@@ -15,9 +14,9 @@ use Rattle.lot_command.specs.declared.command.Declaring.{Declaring as DeclaringO
 use Rattle.lot_command.specs.declared.command.Opening.{Opening as OpeningOf}
 use Rattle.lot_command.specs.declared.command.Quoting.{Quoting as QuotingOf}
 use Rattle.lot_command.specs.declared.transaction.Transaction.{Transaction as TransactionOf}
-use Rattle.lot_book.specs.Book.{ContinuesIn, IsBookIn}
+use Rattle.lot_book.specs.Book.{ContinuesIn}
 use Rattle.lot_book.specs.Edition.{After, edition_on, ties_in}
-use Rattle.lot_book.specs.Facts.{Entry, Facts, closing_of, day_at_cost, facts_of, is_declared, later, latest_at_cost, opening_by, opening_of, standing_by, standing_of}
+use Rattle.lot_book.specs.Facts.{Entry, closing_of, day_at_cost, facts_of, is_declared, later, latest_at_cost, opening_by, opening_of, standing_by, standing_of}
 use Rattle.lot_book.specs.Booking.{TieRule}
 use Rattle.lot_book.specs.Refusals.{book_full, holds_as}
 use Rattle.lot_book.specs.Step.{Accept, JudgesUnder, accept_unless, first_of}
@@ -26,9 +25,9 @@ use Rattle.lot_book.specs.declared.refusal.Refusal.{Refusal}
 use Rattle.lot_book.specs.declared.refusal.Refusal.TheVariants.{AlreadyDeclared}
 use Rattle.lot_laws.proofs.LawBooks.{accepted}
 use Rattle.lot_laws.proofs.RecordedBook.{opening_is_new}
-use Rattle.lot_rows.specs.Tables.{Tables, account_table, commodity_table, head_table, price_table}
+use Rattle.lot_rows.specs.Tables.{Tables}
 use Rattle.lot_stored.specs.Kept.{currencies_in, declared_on, declaring_by, rate_by, rate_on}
-use Rattle.lot_stored.specs.Rows.{account_row, allowed_rows, commodity_row, head_row, name_key, pair_key, price_key, price_row, row_at}
+use Rattle.lot_stored.specs.Rows.{account_row, allowed_rows, commodity_row, head_row, price_row}
 use Rattle.lot_stored.specs.StandFor.{StandFor}
 use Rattle.lot_stored.proofs.KeptLemmas.{declared_on-none}
 use Rattle.lot_audit.specs.Entries.{AllHave, HasRows}

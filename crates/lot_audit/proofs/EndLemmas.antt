@@ -1,19 +1,17 @@
 -- Tables that agree with what is known of their entries stand for a book, by their columns; and the tables of a book agree.
-use Rattle.std.specs.Prelude.{◌≡◌, ◌⊎◌, ◌≤◌, ◌<◌, ◌+◌, ℕ, suc, pos, All, IsTrue, List, [], ◌∷◌, ◌++◌, length, map, true}
+use Rattle.std.specs.Prelude.{◌≡◌, ◌⊎◌, ◌≤◌, ◌<◌, ◌+◌, ℕ, suc, pos, All, List, [], ◌∷◌, ◌++◌, length, map}
 use Rattle.std.specs.List.{AllByRecursion}
 use Rattle.std.specs.declared.cmp.Ordering.TheVariants.{Less}
 use Rattle.std.proofs.Common.{refl, sym, ap, subst, ◌∙◌, arith, inl, inr, append_assoc}
 use Rattle.std.proofs.lemmas.Bool.{cases_lt}
-use Rattle.std.proofs.lemmas.List.Elements.{All-from_recursion, recursion_from_All}
+use Rattle.std.proofs.lemmas.List.Elements.{All-from_recursion}
 use Rattle.sqlite.specs.Order.{Row}
 use Rattle.sqlite.specs.State.{State}
 use Rattle.sqlite.specs.Tree.{IsAscending, Trees}
 use Rattle.sqlite.specs.declared.types.Value.TheVariants.{Int}
-use Rattle.sqlite_keyed.proofs.ListLemmas.{all_weaker}
 use Rattle.lot_book.specs.Book.{IsBookIn}
 use Rattle.lot_book.specs.Edition.{After}
 use Rattle.lot_book.specs.Facts.{Entry, Facts, legs_of}
-use Rattle.lot_book.specs.Sale.{SaleParts}
 use Rattle.lot_command.specs.Sayable.{IsSayable}
 use Rattle.lot_table.specs.Book.{AreHeld, BookTable, Holds, Slot}
 use Rattle.lot_table.specs.Rows.{HasRows, has_key, key_order, with_key}
@@ -31,23 +29,21 @@ use Rattle.lot_rows.specs.Plain.{IsPlainRow, plain_cells}
 use Rattle.lot_rows.specs.Price.{IsPriceRow, price_cells}
 use Rattle.lot_rows.specs.Sale.{IsSaleRow, sale_cells}
 use Rattle.lot_rows.specs.Tables.{Has, Tables, account_table, allowed_table, book_table, commodity_table, entry_table, head_table, layout, leg_table, lot_table, migration_table, opening_table, plain_table, price_table, sale_table}
-use Rattle.lot_rows.specs.declared.entry.EntryRow.{EntryRow}
 use Rattle.lot_rows.specs.declared.leg.LegRow.{LegRow}
-use Rattle.lot_rows.specs.declared.sale.SaleRow.{SaleRow}
 use Rattle.lot_stored.specs.Kept.{legs_of_posting}
-use Rattle.lot_stored.specs.Rows.{entry_rows, leg_row, migration_row, posting_key, sale_row}
-use Rattle.lot_stored.specs.StandFor.{AreGood, AreOfBook, AreOrdered, IsOrdered, StandFor, Stands}
+use Rattle.lot_stored.specs.Rows.{entry_rows, leg_row, posting_key, sale_row}
+use Rattle.lot_stored.specs.StandFor.{AreOfBook, AreOrdered, StandFor}
 use Rattle.lot_stored.proofs.NumberLemmas.{one_longer}
 use Rattle.lot_view.specs.View.{known as facts_known}
 use Rattle.lot_walk.proofs.CursorLemmas.{unmapped_up}
 use Rattle.lot_audit.specs.Agree.{AllAgree, LegsAgree}
-use Rattle.lot_audit.specs.Legs.{AreAlike, rows_of}
-use Rattle.lot_audit.specs.Pass.{HasJudgedAll, HasLegs, HaveLegs, Judged}
-use Rattle.lot_audit.specs.Told.{HeldHasRows, IsOfEntries, RowsTold, TellsAccount, TellsAllowed, TellsCommodity, TellsHead, TellsLot, TellsOpening, TellsPlain, TellsPrice}
-use Rattle.lot_audit.specs.Judge.{Agree, AreOfThisEdition, StandByColumns}
+use Rattle.lot_audit.specs.Legs.{rows_of}
+use Rattle.lot_audit.specs.Pass.{HasJudgedAll, HasLegs, HaveLegs}
+use Rattle.lot_audit.specs.Told.{IsOfEntries, RowsTold, TellsAccount, TellsAllowed, TellsCommodity, TellsHead, TellsLot, TellsOpening, TellsPlain, TellsPrice}
+use Rattle.lot_audit.specs.Judge.{Agree, AreOfThisEdition}
 use Rattle.lot_audit.specs.declared.pass.Known.{Known}
 use Rattle.lot_audit.proofs.GoodLemmas.{one_account, one_allowed, one_commodity, one_head, one_leg, one_lot, one_opening, one_plain, one_price}
-use Rattle.lot_audit.proofs.NextLemmas.{is_whole, same_place}
+use Rattle.lot_audit.proofs.NextLemmas.{is_whole}
 use Rattle.lot_audit.proofs.PostingLemmas.{of_posting, own_postings}
 use Rattle.lot_audit.proofs.SeenLemmas.{good_filtered}
 use Rattle.lot_audit.proofs.StandLemmas.{agree as agree_where_stand, stands}

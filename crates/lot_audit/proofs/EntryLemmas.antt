@@ -1,23 +1,20 @@
 -- Each entry has the rows of its command: then what the entries say has rows, and in tables that stand for a book each has.
-use Rattle.std.specs.Prelude.{◌≡◌, ◌≢◌, ◌&&◌, ℕ, ℤ, Bool, true, false, cond, is_some, List, [], ◌∷◌, ◌++◌, option_map, Option, None, Some}
-use Rattle.std.specs.List.{AllByRecursion, list_any}
+use Rattle.std.specs.Prelude.{◌≡◌, ◌≢◌, ◌&&◌, ℕ, ℤ, Bool, true, false, cond, List, [], ◌∷◌, Option, None, Some}
+use Rattle.std.specs.List.{list_any}
 use Rattle.std.specs.Option.{option_or}
 use Rattle.std.specs.Ordering.{int_eq}
 use Rattle.std.proofs.Common.{refl, sym, ap, subst, ◌∙◌}
 use Rattle.std.proofs.lemmas.Bool.{and_parts}
 use Rattle.std.proofs.lemmas.Bool.Decides.{Decides-int_eq}
-use Rattle.std.proofs.lemmas.List.{append_assoc}
 use Rattle.lot_base.specs.Text.{same_text}
 use Rattle.lot_base.proofs.TextLemmas.{one_text}
 use Rattle.lot_command.specs.declared.command.Command.{Command}
 use Rattle.lot_command.specs.declared.command.Command.TheVariants.{Opening, Closing, Declaring, Quoting, Transaction}
 use Rattle.lot_command.specs.declared.command.Opening.{Opening as OpeningOf}
-use Rattle.lot_book.specs.Facts.{Entry, closing_of, day_at_cost, later, latest_at_cost, opening_by, opening_of, posts_at_cost, standing_by, standing_of}
-use Rattle.lot_table.specs.Rows.{with_key}
-use Rattle.lot_rows.specs.Allowed.{allowed_cells}
-use Rattle.lot_rows.specs.Tables.{Tables, account_table, commodity_table, head_table, price_table}
-use Rattle.lot_stored.specs.Kept.{currencies_in, currencies_of, declared_on, declaring_by, rate_by, rate_on}
-use Rattle.lot_stored.specs.Rows.{account_row, allowed_rows, commodity_row, name_key, pair_key, price_key, row_at}
+use Rattle.lot_book.specs.Facts.{Entry, day_at_cost, later, latest_at_cost, opening_by, opening_of, posts_at_cost}
+use Rattle.lot_rows.specs.Tables.{Tables, commodity_table, head_table, price_table}
+use Rattle.lot_stored.specs.Kept.{declared_on, declaring_by, rate_by, rate_on}
+use Rattle.lot_stored.specs.Rows.{commodity_row, name_key, pair_key, price_key, row_at}
 use Rattle.lot_audit.specs.Entries.{AllHave, HasRows, IsOpened}
 
 module _ (tables : Tables) where

@@ -8,7 +8,7 @@ use Rattle.lot_rows.specs.Commodity.{IsCommodityRow, commodity_cells}
 use Rattle.lot_rows.specs.Head.{IsHeadRow, head_cells}
 use Rattle.lot_rows.specs.Leg.{IsLegRow, leg_cells}
 use Rattle.lot_rows.specs.Lot.{IsLotRow, lot_cells}
-use Rattle.lot_rows.specs.LotKey.{IsLotKey, IsLotOrPlain, cost_currency, cost_day, cost_label, cost_number}
+use Rattle.lot_rows.specs.LotKey.{IsLotOrPlain, cost_currency, cost_day, cost_label, cost_number}
 use Rattle.lot_rows.specs.Opening.{IsOpeningRow, opening_cells}
 use Rattle.lot_rows.specs.Plain.{IsPlainRow, plain_cells}
 use Rattle.lot_rows.specs.Price.{IsPriceRow, price_cells}

@@ -1,5 +1,5 @@
 -- Whether rows are there, one after another.
-use Rattle.std.specs.Prelude.{◌≡◌, ◌≢◌, ◌↔◌, ◌==◌, ◌⊎◌, ◌||◌, ◌+◌, ◌<◌, ℕ, zero, suc, Bool, true, false, not, IsTrue, All, List, [], ◌∷◌, ◌++◌, drop, get_or, length, map, take, slice_get, Option, None, Some, Ok, Err, Result, Vec}
+use Rattle.std.specs.Prelude.{◌≡◌, ◌≢◌, ◌↔◌, ◌==◌, ◌⊎◌, ◌||◌, ◌+◌, ◌<◌, ℕ, suc, Bool, true, false, not, IsTrue, List, [], ◌∷◌, ◌++◌, drop, get_or, length, map, take, slice_get, None, Ok, Vec}
 use Rattle.std.specs.List.{list_any}
 use Rattle.std.specs.declared.alloc.Global.{Global}
 use Rattle.std.proofs.Common.{refl, sym, ap, ◌∙◌, arith, inl, inr}
@@ -10,7 +10,7 @@ use Rattle.sqlite.specs.Order.{Row}
 use Rattle.sqlite.specs.State.{State}
 use Rattle.lot_book.specs.Facts.{posts_at_cost}
 use Rattle.lot_command.specs.declared.transaction.Posting.{Posting}
-use Rattle.lot_rows.specs.Tables.{Has, Tables, head_table, layout}
+use Rattle.lot_rows.specs.Tables.{Tables, head_table, layout}
 use Rattle.lot_rows.specs.declared.allowed.AllowedRow.{AllowedRow}
 use Rattle.lot_table.specs.Call.{ListsColumns}
 use Rattle.lot_stored.specs.Rows.{allowed_rows, pair_key, row_at}

@@ -1,5 +1,5 @@
 -- The entry of a row that is read is judged: what follows, and why tables in which it isn't as it should be stand for no book.
-use Rattle.std.specs.Prelude.{◌≡◌, ◌≤◌, ◌+◌, ℕ, ℤ, suc, pos, true, All, List, [], ◌∷◌, ◌++◌, length, map, option_map, slice_get, Option, None, Some}
+use Rattle.std.specs.Prelude.{◌≡◌, ◌≤◌, ◌+◌, ℕ, ℤ, suc, pos, true, All, List, [], ◌∷◌, ◌++◌, length, map, option_map, slice_get, None}
 use Rattle.std.specs.List.{AllByRecursion}
 use Rattle.std.specs.Option.{option_or}
 use Rattle.std.proofs.Common.{refl, sym, ap, subst, ◌∙◌, arith, append_assoc}
@@ -10,8 +10,6 @@ use Rattle.lot_book.specs.Book.{entry_of}
 use Rattle.lot_book.specs.Edition.{After, edition_on}
 use Rattle.lot_book.specs.Facts.{Entry, Facts, legs_of, text_under}
 use Rattle.lot_book.specs.OpeningNumber.{IsNumbered}
-use Rattle.lot_book.specs.Recorded.{facts_in}
-use Rattle.lot_book.specs.Sale.{SaleParts}
 use Rattle.lot_book.specs.Step.{Accept, StepIn}
 use Rattle.lot_book.specs.declared.change.Change.{Change}
 use Rattle.lot_book.specs.declared.leg.Leg.{Leg}
@@ -40,10 +38,9 @@ use Rattle.lot_stored.proofs.KeptLemmas.{entry_rows-append, rate_on-append}
 use Rattle.lot_view.specs.View.{known as facts_known}
 use Rattle.lot_audit.specs.Entries.{AllHave, HasRows, IsEntryOf, IsFirstUnder}
 use Rattle.lot_audit.specs.Legs.{AreAlike}
-use Rattle.lot_audit.specs.Pass.{GoesOnBy, HasJudged, HasLegs, HasOthersNext, HasRead, HaveLegs, IsAmongSales, Judged}
+use Rattle.lot_audit.specs.Pass.{GoesOnBy, HasJudged, HasLegs, HasOthersNext, HasRead, HaveLegs, IsAmongSales}
 use Rattle.lot_audit.specs.Rates.{rate_in}
 use Rattle.lot_audit.specs.Replay.{Follows, Replays}
-use Rattle.lot_audit.specs.declared.pass.Known.{Known}
 use Rattle.lot_audit.specs.declared.pass.Pass.{Pass}
 use Rattle.lot_audit.specs.declared.rates.Rates.{Rates}
 use Rattle.lot_audit.specs.declared.replay.Replay.{Replay}

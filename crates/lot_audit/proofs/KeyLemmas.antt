@@ -1,5 +1,5 @@
 -- The first row under the key of an entry is its own exactly where no entry before it has the key.
-use Rattle.std.specs.Prelude.{◌≡◌, ◌+◌, ◌≤◌, ◌&&◌, ℕ, suc, Bool, true, false, cond, find, is_some, List, [], ◌∷◌, ◌++◌, length, slice_get, option_map, Option, None, Some, pos}
+use Rattle.std.specs.Prelude.{◌≡◌, ◌+◌, ◌≤◌, ◌&&◌, ℕ, suc, Bool, true, false, cond, find, is_some, List, [], ◌∷◌, ◌++◌, length, slice_get, option_map, Option, None, Some}
 use Rattle.std.specs.Ordering.{is_eq, ordering_then}
 use Rattle.std.specs.declared.cmp.Ordering.TheVariants.{Equal}
 use Rattle.std.proofs.Common.{refl, sym, ap, ◌∙◌, arith}

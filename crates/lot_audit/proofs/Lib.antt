@@ -2,6 +2,7 @@ pub mod ReplayLemmas
 pub mod AgreeLemmas
 pub mod StandLemmas
 pub mod RowLemmas
+pub mod WholeLemmas
 pub mod SeenLemmas
 pub mod EntryLemmas
 pub mod BookLemmas

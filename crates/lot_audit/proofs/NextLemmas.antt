@@ -1,11 +1,11 @@
 -- In tables that stand for a book the row behind those of judged entries is that of the next entry.
-use Rattle.std.specs.Prelude.{◌≡◌, ◌≤◌, ◌+◌, ℕ, suc, pos, true, All, IsTrue, List, [], ◌∷◌, ◌++◌, filter, length, map, option_map, slice_get, Option, None, Some}
+use Rattle.std.specs.Prelude.{◌≡◌, ℕ, suc, pos, All, List, [], ◌∷◌, ◌++◌, length, map, None}
 use Rattle.std.specs.List.{AllByRecursion}
 use Rattle.std.proofs.Common.{refl, sym, ap, subst, ◌∙◌, arith, append_assoc}
 use Rattle.std.proofs.lemmas.List.Elements.{recursion_from_All}
 use Rattle.std.proofs.lemmas.List.{append-nil, map-append}
 use Rattle.sqlite.specs.declared.types.Value.TheVariants.{Int}
-use Rattle.lot_book.specs.Book.{ContinuesIn, IsBookIn, entry_of}
+use Rattle.lot_book.specs.Book.{IsBookIn, entry_of}
 use Rattle.lot_book.specs.Edition.{After, edition_on, ties_in}
 use Rattle.lot_book.specs.Facts.{Entry, facts_of, legs_of, text_under}
 use Rattle.lot_book.specs.OpeningNumber.{IsNumbered}
@@ -19,27 +19,22 @@ use Rattle.lot_laws.specs.Collects.{Collects}
 use Rattle.lot_laws.proofs.CollectLemmas.{collected_next}
 use Rattle.lot_laws.proofs.LawBooks.{accepted, begun, continued}
 use Rattle.lot_laws.proofs.OpeningPostings.{all_numbered}
-use Rattle.lot_page.specs.Cursor.{IsBehind, Place}
-use Rattle.lot_page.proofs.BehindLemmas.{behind_rows}
-use Rattle.lot_rows.specs.Entry.{entry_cells, is_named, named}
 use Rattle.lot_rows.specs.Leg.{IsLegRow, leg_cells}
 use Rattle.lot_rows.specs.Tables.{Tables}
 use Rattle.lot_rows.specs.declared.entry.EntryRow.{EntryRow}
 use Rattle.lot_rows.specs.declared.leg.LegRow.{LegRow}
 use Rattle.lot_rows.specs.declared.migration.MigrationRow.{MigrationRow}
 use Rattle.lot_rows.specs.declared.sale.SaleRow.{SaleRow}
-use Rattle.lot_rows.proofs.EntryLemmas.{same_row}
 use Rattle.lot_table.specs.Rows.{has_key, with_key}
 use Rattle.lot_stored.specs.Kept.{AreSalesOfEntry, SalesOf, numbered}
-use Rattle.lot_stored.specs.Rows.{entry_row, entry_rows, leg_row, migration_row, posting_key, sale_row}
+use Rattle.lot_stored.specs.Rows.{entry_row, entry_rows, leg_row, migration_row, sale_row}
 use Rattle.lot_stored.specs.StandFor.{AreOfBook, StandFor}
 use Rattle.lot_walk.proofs.OneSalesLemmas.{one_sales_of_book}
-use Rattle.lot_audit.specs.Entries.{AllHave, HasRows, IsEntryOf, IsFirstUnder}
+use Rattle.lot_audit.specs.Entries.{AllHave, HasRows, IsEntryOf}
 use Rattle.lot_audit.specs.Legs.{AreAlike, rows_of}
-use Rattle.lot_audit.specs.Pass.{HasLegs, SaysPlace}
+use Rattle.lot_audit.specs.Pass.{SaysPlace}
 use Rattle.lot_audit.proofs.BookLemmas.{all_have}
 use Rattle.lot_audit.proofs.GoodLemmas.{one_leg}
-use Rattle.lot_audit.proofs.KeyLemmas.{first_where_new, new_where_first}
 use Rattle.lot_audit.proofs.PostingLemmas.{of_posting, own_postings}
 use Rattle.lot_audit.proofs.PrefixLemmas.{begins, one_entry}
 use Rattle.lot_audit.proofs.SeenLemmas.{good_filtered}

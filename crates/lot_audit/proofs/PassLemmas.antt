@@ -1,18 +1,15 @@
 -- The entries, one after another, and their end.
-use Rattle.std.specs.Prelude.{◌≡◌, ℕ, List, [], ◌∷◌, ◌++◌, map, Option, None, Some, Ok, Err, Result, IfSome}
+use Rattle.std.specs.Prelude.{◌≡◌, ℕ, List, [], ◌∷◌, ◌++◌, map, Option, None, Some, Ok, Err, Result}
 use Rattle.std.specs.Result.{IsErrAnd}
-use Rattle.std.specs.List.{AllByRecursion}
-use Rattle.std.proofs.Common.{refl, sym, ap, subst, ◌∙◌, append_assoc}
+use Rattle.std.proofs.Common.{sym, ap, subst, ◌∙◌, append_assoc}
 use Rattle.std.proofs.lemmas.List.{append-nil, append_cancel_left}
 use Rattle.sqlite.specs.State.{State}
 use Rattle.lot_book.specs.Edition.{After}
-use Rattle.lot_book.specs.Facts.{Entry}
-use Rattle.lot_book.specs.Sale.{SaleParts}
-use Rattle.lot_page.specs.Cursor.{Gives, IsBehind, Place, Steps}
+use Rattle.lot_page.specs.Cursor.{Place, Steps}
 use Rattle.lot_page.proofs.BehindLemmas.{all_rows, behind_rows}
 use Rattle.lot_rows.specs.Entry.{IsEntryRow, entry_cells}
 use Rattle.lot_rows.specs.Sale.{IsSaleRow, sale_cells}
-use Rattle.lot_rows.specs.Tables.{Has, Tables}
+use Rattle.lot_rows.specs.Tables.{Tables}
 use Rattle.lot_rows.specs.declared.entry.EntryRow.{EntryRow}
 use Rattle.lot_rows.specs.declared.sale.SaleRow.{SaleRow}
 use Rattle.lot_rows.proofs.EntryLemmas.{same_row}
@@ -24,7 +21,7 @@ use Rattle.lot_table.specs.declared.fault.Fault.TheVariants.{Damaged}
 use Rattle.lot_walk.proofs.OneSalesLemmas.{one_sales_of_book}
 use Rattle.lot_walk.proofs.SaleRowLemmas.{one_sale_row}
 use Rattle.lot_audit.specs.Checks.{ChecksWhere}
-use Rattle.lot_audit.specs.Pass.{HasJudged, HasJudgedAll, HasRead, HasReadAll, Judged, SaysPlace}
+use Rattle.lot_audit.specs.Pass.{HasJudged, HasJudgedAll, HasRead, HasReadAll, SaysPlace}
 use Rattle.lot_audit.specs.declared.pass.Known.{Known}
 use Rattle.lot_audit.specs.declared.pass.Pass.{Pass}
 use Rattle.lot_audit.proofs.NextLemmas.{is_whole}

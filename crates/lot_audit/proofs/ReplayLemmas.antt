@@ -1,7 +1,6 @@
 -- A view of a whole book judges as the book does, by either edition, and records what it judges.
 use Rattle.std.specs.Prelude.{◌≡◌, ◌≢◌, ℕ, List, [], ◌∷◌, ◌++◌, Option, None, Some, ℤ, pos}
 use Rattle.std.specs.FinMap.{get-empty}
-use Rattle.std.specs.List.{AllByRecursion}
 use Rattle.std.specs.Option.{unwrap_or}
 use Rattle.std.proofs.Common.{refl, sym, ap, subst, ◌∙◌}
 use Rattle.lot_inv.specs.Inventory.{position_cmp as place_cmp, units_at}
@@ -13,9 +12,8 @@ use Rattle.lot_book.specs.Book.{entry_of}
 use Rattle.lot_book.specs.Booking.{All}
 use Rattle.lot_book.specs.Change.{IsAcceptedUnder, IsChange}
 use Rattle.lot_book.specs.Edition.{After, Edition, edition_on, ties_in}
-use Rattle.lot_book.specs.Facts.{Entry, Facts, facts_of, legs_of, text_under}
-use Rattle.lot_book.specs.Leg.{inventory_of}
-use Rattle.lot_book.specs.Openings.{AgreesWithOpenings, AreOpeningsOf, FactsWithOpenings, HaveSameOpenings, facts_with_openings, ties_for, with_listed}
+use Rattle.lot_book.specs.Facts.{Entry, Facts, facts_of, text_under}
+use Rattle.lot_book.specs.Openings.{AgreesWithOpenings, FactsWithOpenings, HaveSameOpenings, facts_with_openings, ties_for, with_listed}
 use Rattle.lot_book.specs.Recorded.{facts_in, nothing_but, recorded}
 use Rattle.lot_book.specs.Sale.{AreSalesUnder, SaleParts}
 use Rattle.lot_book.specs.Step.{Accept, DecidesUnder, Outcome, StepIn}

@@ -1,8 +1,7 @@
 -- The rows of the sales of an entry, one after another.
-use Rattle.std.specs.Prelude.{◌≡◌, ◌≢◌, ℕ, List, [], ◌∷◌, ◌++◌, map, Option, None, Some, Ok, Err, Result, IfSome, IsTrue, Bool, true, false}
-use Rattle.std.specs.List.{AllByRecursion}
+use Rattle.std.specs.Prelude.{◌≡◌, ◌≢◌, List, [], ◌∷◌, ◌++◌, Option, None, Some, Ok, Err, Result, IsTrue, Bool, true, false}
 use Rattle.std.specs.Result.{IsErrAnd}
-use Rattle.std.proofs.Common.{refl, sym, ap, subst, ◌∙◌, append_assoc}
+use Rattle.std.proofs.Common.{sym, ap, subst, ◌∙◌, append_assoc}
 use Rattle.std.proofs.lemmas.Bool.{true≢false}
 use Rattle.std.proofs.lemmas.List.{append-nil, append_cancel_left}
 use Rattle.sqlite.specs.State.{State}
@@ -10,9 +9,8 @@ use Rattle.sqlite_keyed.proofs.ListLemmas.{all-append}
 use Rattle.lot_page.specs.Cursor.{Gives, IsBehind, Place, Steps}
 use Rattle.lot_page.proofs.BehindLemmas.{all_rows, behind_rows}
 use Rattle.lot_rows.specs.Sale.{IsSaleRow, sale_cells}
-use Rattle.lot_rows.specs.Tables.{Has, Tables}
+use Rattle.lot_rows.specs.Tables.{Tables}
 use Rattle.lot_rows.specs.declared.sale.SaleRow.{SaleRow}
-use Rattle.lot_stored.specs.StandFor.{AreOfBook}
 use Rattle.lot_table.specs.declared.fault.Fault.{Fault}
 use Rattle.lot_walk.proofs.SaleRowLemmas.{one_sale_row}
 use Rattle.lot_audit.specs.Checks.{ChecksWhere}

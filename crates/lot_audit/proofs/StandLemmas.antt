@@ -1,7 +1,7 @@
 -- Tables stand for a book exactly where they agree on it: all tables.
-use Rattle.std.specs.Prelude.{◌≡◌, ℕ, ℤ, pos, true, List, [], ◌∷◌, Option, Some, None, option_map}
+use Rattle.std.specs.Prelude.{◌≡◌, ℕ, pos, true, List, [], ◌∷◌, Option, option_map}
 use Rattle.std.specs.List.{AllByRecursion}
-use Rattle.std.proofs.Common.{refl, sym, ap, subst, ◌∙◌}
+use Rattle.std.proofs.Common.{refl}
 use Rattle.std.proofs.lemmas.List.Elements.{recursion_from_All}
 use Rattle.sqlite.specs.Order.{Row}
 use Rattle.sqlite.specs.Values.{or_null}
@@ -9,7 +9,6 @@ use Rattle.sqlite.specs.declared.types.Value.TheVariants.{Int, Text}
 use Rattle.sqlite_rules.specs.Lists.{Has}
 use Rattle.sqlite_rules.proofs.ListLemmas.{all_has}
 use Rattle.lot_cost.specs.Method.{word_of}
-use Rattle.lot_cost.specs.declared.lot_key.LotKey.{LotKey}
 use Rattle.lot_inv.specs.Inventory.{non_zero}
 use Rattle.lot_book.specs.Facts.{Entry, latest_at_cost, legs_of, standing_of}
 use Rattle.lot_book.specs.OpeningNumber.{opening_number}
@@ -19,7 +18,6 @@ use Rattle.lot_rows.specs.Commodity.{commodity_cells}
 use Rattle.lot_rows.specs.Head.{head_cells}
 use Rattle.lot_rows.specs.Leg.{IsLegRow}
 use Rattle.lot_rows.specs.Lot.{IsLotRow, lot_cells}
-use Rattle.lot_rows.specs.LotKey.{IsLotKey}
 use Rattle.lot_rows.specs.Opening.{IsOpeningRow, opening_cells}
 use Rattle.lot_rows.specs.Plain.{plain_cells}
 use Rattle.lot_rows.specs.Price.{price_cells}
@@ -32,7 +30,7 @@ use Rattle.lot_rows.specs.declared.opening.OpeningRow.{OpeningRow}
 use Rattle.lot_rows.specs.declared.plain.PlainRow.{PlainRow}
 use Rattle.lot_rows.specs.declared.price.PriceRow.{PriceRow}
 use Rattle.lot_stored.specs.Kept.{declared_on, rate_on}
-use Rattle.lot_stored.specs.Rows.{account_row, commodity_row, head_row, lot_key, lot_row, name_key, opening_row, pair_key, plain_row, price_key, price_row, row_at}
+use Rattle.lot_stored.specs.Rows.{account_row, commodity_row, head_row, lot_key, lot_row, name_key, opening_row, pair_key, plain_row, price_key, price_row}
 use Rattle.lot_stored.specs.StandFor.{StandFor, sum_in}
 use Rattle.lot_stored.proofs.LookupLemmas.{has_own_key}
 use Rattle.lot_audit.specs.Agree.{AllAgree, LotPlace, PairKey, PriceKey, any_key, is_lot_place, plain_of, position_of}

@@ -1,10 +1,10 @@
 -- The questions that judge the entry of a row, one after another.
-use Rattle.std.specs.Prelude.{◌≡◌, ◌↔◌, ℕ, ℤ, suc, pos, Bool, true, false, IsTrue, All, List, [], ◌∷◌, map, Option, None, Some, Ok, Err, Result, Vec}
+use Rattle.std.specs.Prelude.{◌≡◌, ◌↔◌, ℕ, ℤ, pos, Bool, false, IsTrue, All, List, [], ◌∷◌, None, Ok, Err, Result, Vec}
 use Rattle.std.specs.List.{AllByRecursion}
 use Rattle.std.specs.Option.{option_or}
 use Rattle.std.specs.Result.{IsErrAnd}
 use Rattle.std.specs.declared.alloc.Global.{Global}
-use Rattle.std.proofs.Common.{refl, sym, ap, subst, ◌∙◌}
+use Rattle.std.proofs.Common.{sym, subst, ◌∙◌}
 use Rattle.std.proofs.lemmas.Bool.{true≢false}
 use Rattle.sqlite.specs.State.{State}
 use Rattle.sqlite.specs.declared.types.Value.TheVariants.{Int}
@@ -18,7 +18,7 @@ use Rattle.lot_command.specs.declared.command.Command.{Command}
 use Rattle.lot_command.specs.declared.key.Key.{Key}
 use Rattle.lot_page.specs.Cursor.{Place}
 use Rattle.lot_rows.specs.Leg.{IsLegRow, leg_cells}
-use Rattle.lot_rows.specs.Tables.{Has, Tables, layout}
+use Rattle.lot_rows.specs.Tables.{Tables, layout}
 use Rattle.lot_rows.specs.declared.entry.EntryRow.{EntryRow}
 use Rattle.lot_rows.specs.declared.leg.LegRow.{LegRow}
 use Rattle.lot_rows.specs.declared.sale.SaleRow.{SaleRow}
@@ -27,7 +27,6 @@ use Rattle.lot_table.specs.Rows.{has_key, with_key}
 use Rattle.lot_table.specs.declared.fault.Fault.{Fault}
 use Rattle.lot_table.specs.declared.fault.Fault.TheVariants.{Damaged, Memory}
 use Rattle.lot_stored.specs.Kept.{rate_by}
-use Rattle.lot_stored.specs.StandFor.{AreOfBook}
 use Rattle.lot_view.specs.View.{known as facts_known}
 use Rattle.lot_audit.specs.Checks.{Checks, ChecksWhere, always}
 use Rattle.lot_audit.specs.Entries.{HasRows, IsEntryOf, IsFirstUnder}

@@ -8,8 +8,7 @@ use Rattle.std.proofs.lemmas.List.{take_all}
 use Rattle.std.proofs.lemmas.List.Elements.{All-from_recursion, recursion_from_All}
 use Rattle.sqlite.specs.Order.{Row}
 use Rattle.sqlite.specs.State.{State}
-use Rattle.lot_rows.specs.Tables.{Has, Tables, layout}
-use Rattle.lot_stored.specs.StandFor.{AreOfBook}
+use Rattle.lot_rows.specs.Tables.{Tables, layout}
 use Rattle.lot_table.specs.Call.{Lists, ListsColumns}
 use Rattle.lot_table.specs.declared.fault.Fault.{Fault}
 use Rattle.lot_audit.specs.Checks.{Checks}

@@ -12,9 +12,8 @@ use Rattle.sqlite_rules.proofs.ListLemmas.{all_from, all_has}
 use Rattle.lot_cost.specs.declared.lot_key.LotKey.{LotKey}
 use Rattle.lot_command.specs.declared.command.Opening.{Opening as OpeningOf}
 use Rattle.lot_inv.specs.Inventory.{non_zero, units_at}
-use Rattle.lot_book.specs.Facts.{Entry, Facts, closing_of, is_declared, latest_at_cost, legs_of, opening_of, standing_by, standing_of}
+use Rattle.lot_book.specs.Facts.{Entry, Facts, closing_of, latest_at_cost, legs_of, opening_of, standing_by, standing_of}
 use Rattle.lot_book.specs.Recorded.{facts_in}
-use Rattle.lot_book.specs.declared.standing.Standing.{Standing}
 use Rattle.lot_book.specs.OpeningNumber.{HasOpeningNumber, last_to_open, opening_number, posting_number}
 use Rattle.lot_book.specs.Openings.{AreOpeningsOf}
 use Rattle.lot_book.specs.declared.leg.Position.{Position}
@@ -26,7 +25,6 @@ use Rattle.lot_rows.specs.Plain.{plain_cells}
 use Rattle.lot_rows.specs.declared.opening.OpeningRow.{OpeningRow}
 use Rattle.lot_stored.proofs.HeldLemmas.{held_is_opened, lot_there, opening_there, plain_there}
 use Rattle.lot_rows.specs.Commodity.{commodity_cells}
-use Rattle.lot_rows.specs.LotKey.{IsLotKey}
 use Rattle.lot_rows.specs.Tables.{Tables, commodity_table, lot_table, opening_table, plain_table}
 use Rattle.lot_rows.specs.declared.account.AccountRow.{AccountRow}
 use Rattle.lot_rows.specs.declared.allowed.AllowedRow.{AllowedRow}
@@ -42,9 +40,9 @@ use Rattle.lot_stored.proofs.KeptLemmas.{declared_as}
 use Rattle.lot_stored.proofs.LookupLemmas.{has_own_key, row-only}
 use Rattle.lot_view.specs.View.{known, known_with_openings}
 use Rattle.lot_view.specs.declared.view.View.{View}
-use Rattle.lot_audit.specs.Agree.{AccountsAgree, AllowedAgree, CommoditiesAgree, HeadsAgree, LotPlace, LotsAgree, OpeningsAgree, PairKey, PlainAgree, PriceKey, PricesAgree, plain_of, position_of}
+use Rattle.lot_audit.specs.Agree.{AccountsAgree, AllowedAgree, CommoditiesAgree, HeadsAgree, LotsAgree, OpeningsAgree, PlainAgree, PricesAgree, plain_of, position_of}
 use Rattle.lot_audit.specs.Entries.{AllHave}
-use Rattle.lot_audit.specs.Rates.{KeepsRates, price_told, rate_in}
+use Rattle.lot_audit.specs.Rates.{KeepsRates, price_told}
 use Rattle.lot_audit.specs.Told.{HeldHasRows, RowsTold, TellsOpening, account_told, head_told, lot_told, opening_told, plain_told}
 use Rattle.lot_audit.specs.declared.rates.Rates.{Rates}
 use Rattle.lot_audit.proofs.EntryLemmas.{declared, opened, posted, quoted}

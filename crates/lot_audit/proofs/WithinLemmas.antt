@@ -8,12 +8,11 @@ use Rattle.std.proofs.lemmas.List.Elements.{All-from_recursion, recursion_from_A
 use Rattle.std.proofs.lemmas.List.{map-append}
 use Rattle.sqlite.specs.State.{State}
 use Rattle.sqlite_keyed.proofs.ListLemmas.{all-append}
-use Rattle.lot_page.specs.Cursor.{Gives, IsBehind, Place, Steps}
+use Rattle.lot_page.specs.Cursor.{IsBehind, Place, Steps}
 use Rattle.lot_page.proofs.BehindLemmas.{behind_splits}
 use Rattle.lot_rows.specs.Leg.{IsLegRow, leg_cells}
-use Rattle.lot_rows.specs.Tables.{Has, Tables}
+use Rattle.lot_rows.specs.Tables.{Tables}
 use Rattle.lot_rows.specs.declared.leg.LegRow.{LegRow}
-use Rattle.lot_stored.specs.StandFor.{AreOfBook}
 use Rattle.lot_table.specs.declared.fault.Fault.{Fault}
 use Rattle.lot_audit.specs.Checks.{Checks, always}
 use Rattle.lot_audit.specs.Told.{IsOfEntries, LegsWithin}

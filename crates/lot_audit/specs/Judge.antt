@@ -1,6 +1,5 @@
 -- What judging the tables of a book comes to.
-use Rattle.std.specs.Prelude.{◌≡◌, List, [], ◌∷◌}
-use Rattle.lot_book.specs.Facts.{Entry}
+use Rattle.std.specs.Prelude.{◌≡◌, [], ◌∷◌}
 use Rattle.lot_rows.specs.Tables.{Tables, layout}
 use Rattle.lot_stored.specs.Rows.{this_edition}
 use Rattle.lot_stored.specs.StandFor.{AreOfBook}

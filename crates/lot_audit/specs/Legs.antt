@@ -1,5 +1,5 @@
 -- The rows of the legs of an entry, posting by posting.
-use Rattle.std.specs.Prelude.{◌≡◌, ◌==◌, ◌≤◌, ℕ, Bool, List, filter, map}
+use Rattle.std.specs.Prelude.{◌≡◌, ◌==◌, ℕ, List, filter, map}
 use Rattle.lot_book.specs.declared.leg.Leg.{Leg}
 use Rattle.lot_rows.specs.declared.leg.LegRow.{LegRow}
 use Rattle.lot_stored.specs.Rows.{leg_row}

@@ -7,3 +7,4 @@ pub mod Rates
 pub mod Told
 pub mod Legs
 pub mod Judge
+pub mod Whole

@@ -3,7 +3,7 @@ use Rattle.std.specs.Prelude.{◌≡◌, [], ◌∷◌, ◌++◌, List}
 use Rattle.lot_command.specs.declared.command.Command.{Command}
 use Rattle.lot_command.specs.declared.key.Key.{Key}
 use Rattle.lot_book.specs.Book.{IsBookIn, entry_of}
-use Rattle.lot_book.specs.Edition.{After, Edition, edition_on, ties_in}
+use Rattle.lot_book.specs.Edition.{After, edition_on, ties_in}
 use Rattle.lot_book.specs.Facts.{Entry, facts_of}
 use Rattle.lot_book.specs.Openings.{AreOpeningsOf}
 use Rattle.lot_book.specs.Recorded.{facts_in}

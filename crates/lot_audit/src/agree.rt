@@ -1,6 +1,6 @@
-ghost use Rattle.std.specs.Prelude.{◌↔◌, IsTrue};
 ghost use Rattle.lot_audit.specs.Told.{TellsAccount, TellsAllowed, TellsCommodity, TellsHead, TellsLot, TellsOpening, TellsPlain};
 
+use crate::pass::Known;
 use lot_rows::account::AccountRow;
 use lot_rows::allowed::AllowedRow;
 use lot_rows::commodity::CommodityRow;
@@ -8,63 +8,110 @@ use lot_rows::head::HeadRow;
 use lot_rows::lot::LotRow;
 use lot_rows::opening::OpeningRow;
 use lot_rows::plain::PlainRow;
-use lot_view::View;
+use lot_table::TableRow;
 
-/// Returns whether the account stands as the row says.
-pub(crate) fn account_agrees(view: &View, row: &AccountRow) -> bool
-    ensures { IsTrue result ↔ TellsAccount view.now row.now }
-{
-    match view.standing(&row.name) {
-        Some(standing) => {
-            standing.opened == row.opened
-                && standing.closed == row.closed
-                && standing.method == row.method
+/// A row of a table that is compared with what is known of the entries.
+pub(crate) trait ToldRow: TableRow {
+    ghost use Rattle.std.specs.Prelude.{◌↔◌, IsTrue, List};
+    ghost use Rattle.lot_audit.specs.declared.pass.Known.{Known as KnownOf};
+    ghost use Rattle.lot_rows.specs.Tables.{Tables};
+
+    // The rows of the table, and what each of them has to say.
+    ghost rows: { Tables → List Self };
+
+    ghost Tells: { KnownOf → Self → Type 0 };
+
+    /// Returns whether the row says what is known.
+    fn agrees(self, known: &Known) -> bool
+        ensures { IsTrue result ↔ Tells known.now self };
+}
+
+/// The account stands as the row says.
+impl ToldRow for AccountRow {
+    ghost rows = { λ b. b.account };
+
+    ghost Tells = { λ known. TellsAccount known.replay.view };
+
+    fn agrees(self, known: &Known) -> bool {
+        match known.replay.view().standing(&self.name) {
+            Some(standing) => {
+                standing.opened == self.opened
+                    && standing.closed == self.closed
+                    && standing.method == self.method
+            }
+            None => false,
         }
-        None => false,
     }
 }
 
-/// Returns whether the account of the row was opened.
-pub(crate) fn allowed_agrees(view: &View, row: &AllowedRow) -> bool
-    ensures { IsTrue result ↔ TellsAllowed view.now row.now }
-{
-    view.standing(&row.account).is_some()
+/// The account of the row was opened.
+impl ToldRow for AllowedRow {
+    ghost rows = { λ b. b.allowed };
+
+    ghost Tells = { λ known. TellsAllowed known.replay.view };
+
+    fn agrees(self, known: &Known) -> bool {
+        known.replay.view().standing(&self.account).is_some()
+    }
 }
 
-/// Returns whether the commodity of the row was declared.
-pub(crate) fn commodity_agrees(view: &View, row: &CommodityRow) -> bool
-    ensures { IsTrue result ↔ TellsCommodity view.now row.now }
-{
-    view.is_declared(&row.name)
+/// The commodity of the row was declared.
+impl ToldRow for CommodityRow {
+    ghost rows = { λ b. b.commodity };
+
+    ghost Tells = { λ known. TellsCommodity known.replay.view };
+
+    fn agrees(self, known: &Known) -> bool {
+        known.replay.view().is_declared(&self.name)
+    }
 }
 
-/// Returns whether the latest day at cost is that of the row.
-pub(crate) fn head_agrees(view: &View, row: &HeadRow) -> bool
-    ensures { IsTrue result ↔ TellsHead view.now row.now }
-{
-    view.latest_at_cost(&row.account, &row.commodity) == Some(row.day)
+/// The latest day at cost is that of the row.
+impl ToldRow for HeadRow {
+    ghost rows = { λ b. b.head };
+
+    ghost Tells = { λ known. TellsHead known.replay.view };
+
+    fn agrees(self, known: &Known) -> bool {
+        let view = known.replay.view();
+        view.latest_at_cost(&self.account, &self.commodity) == Some(self.day)
+    }
 }
 
-/// Returns whether so many units are held in the lot as the row says.
-pub(crate) fn lot_agrees(view: &View, row: &LotRow) -> bool
-    ensures { IsTrue result ↔ TellsLot view.now row.now }
-{
-    view.units(&row.account, &row.commodity, Some(&row.lot)) == row.units.units()
+/// So many units are held in the lot as the row says.
+impl ToldRow for LotRow {
+    ghost rows = { λ b. b.lot };
+
+    ghost Tells = { λ known. TellsLot known.replay.view };
+
+    fn agrees(self, known: &Known) -> bool {
+        let view = known.replay.view();
+        view.units(&self.account, &self.commodity, Some(&self.lot)) == self.units.units()
+    }
 }
 
-/// Returns whether so many plain units are held as the row says.
-pub(crate) fn plain_agrees(view: &View, row: &PlainRow) -> bool
-    ensures { IsTrue result ↔ TellsPlain view.now row.now }
-{
-    view.units(&row.account, &row.commodity, None) == row.units.units()
+/// So many plain units are held as the row says.
+impl ToldRow for PlainRow {
+    ghost rows = { λ b. b.plain };
+
+    ghost Tells = { λ known. TellsPlain known.replay.view };
+
+    fn agrees(self, known: &Known) -> bool {
+        let view = known.replay.view();
+        view.units(&self.account, &self.commodity, None) == self.units.units()
+    }
 }
 
-/// Returns whether the lot is held, and its opening number is that of the row.
-pub(crate) fn opening_agrees(view: &View, row: &OpeningRow) -> bool
-    ensures { IsTrue result ↔ TellsOpening view.now row.now }
-{
-    let Some(held) = view.held(&row.account) else {
-        return false;
-    };
-    held.opening(&row.commodity, &row.lot) == Some(row.opening.number())
+/// The lot is held, and its opening number is that of the row.
+impl ToldRow for OpeningRow {
+    ghost rows = { λ b. b.opening };
+
+    ghost Tells = { λ known. TellsOpening known.replay.view };
+
+    fn agrees(self, known: &Known) -> bool {
+        let Some(held) = known.replay.view().held(&self.account) else {
+            return false;
+        };
+        held.opening(&self.commodity, &self.lot) == Some(self.opening.number())
+    }
 }

@@ -1,9 +1,10 @@
-ghost use Rattle.std.specs.Prelude.{◌≡◌, ◌↔◌, [], ℕ, ℤ, IsTrue, List, OnOk, Some};
+ghost use Rattle.std.specs.Prelude.{◌≡◌, [], ℕ, ℤ, List, OnOk};
 ghost use Rattle.std.specs.Option.{option_or};
 ghost use Rattle.lot_stored.specs.Kept.{rate_by};
 ghost use Rattle.lot_audit.specs.Rates.{KeepsRates, rate_in};
-ghost use Rattle.lot_audit.specs.Told.{TellsPrice};
 
+use crate::agree::ToldRow;
+use crate::pass::Known;
 use lot_base::{Commodity, Day};
 use lot_command::Command;
 use lot_num::Rate;
@@ -51,17 +52,24 @@ impl Rates {
         }
         Ok(())
     }
+}
 
-    /// Returns whether the last rate of the pair and the day of a row is the row's.
-    pub(crate) fn agree(&self, row: PriceRow) -> bool
-        ensures { IsTrue result ↔ TellsPrice self.now row }
-    {
+/// The last rate of the pair and the day is that of the row.
+impl ToldRow for PriceRow {
+    ghost use Rattle.lot_audit.specs.Told.{TellsPrice};
+
+    ghost rows = { λ b. b.price };
+
+    ghost Tells = { λ known. TellsPrice known.rates };
+
+    fn agrees(self, known: &Known) -> bool {
         let PriceRow {
             base,
             quote,
             day,
             rate,
-        } = row;
-        self.rates.get(&PriceKey { base, quote, day }).copied() == Some(rate)
+        } = self;
+        let key = PriceKey { base, quote, day };
+        known.rates.rates.get(&key).copied() == Some(rate)
     }
 }

@@ -1,8 +1,4 @@
 ghost use Rattle.std.specs.Prelude.{[], ◌∷◌, pos};
-ghost use Rattle.lot_rows.specs.Account.{IsAccountRow};
-ghost use Rattle.lot_rows.specs.Allowed.{IsAllowedRow};
-ghost use Rattle.lot_rows.specs.Commodity.{IsCommodityRow};
-ghost use Rattle.lot_rows.specs.Head.{IsHeadRow};
 ghost use Rattle.lot_rows.specs.Leg.{IsLegRow, leg_cells};
 ghost use Rattle.lot_rows.specs.Lot.{IsLotRow, lot_cells};
 ghost use Rattle.lot_rows.specs.LotKey.{lot_key};
@@ -17,10 +13,6 @@ ghost use Rattle.sqlite.specs.declared.types.Value.TheVariants.{Int, Text};
 
 use lot_base::{Account, Commodity, Day};
 use lot_cost::LotKey;
-use lot_rows::account::AccountRow;
-use lot_rows::allowed::AllowedRow;
-use lot_rows::commodity::CommodityRow;
-use lot_rows::head::HeadRow;
 use lot_rows::leg::LegRow;
 use lot_rows::lot::LotRow;
 use lot_rows::migration::MigrationRow;
@@ -29,115 +21,6 @@ use lot_rows::price::PriceRow;
 use lot_table::{Cell, Fault, Ordinal, find, select};
 use sqlite::{Alter, Connection};
 use std::alloc::Global;
-
-/// Returns all rows of the table `account`, by name.
-pub(crate) fn accounts<S: Alter>(
-    alloc: Global,
-    conn: &mut Connection<S>,
-) -> Result<Vec<AccountRow>, Fault>
-    ensures lists { Lists layout IsAccountRow (λ b. b.account)
-        (state S.Store conn.old) (state S.Store conn.new) result }
-{
-    select(
-        alloc,
-        conn,
-        "SELECT name, opened, closed, method FROM account ORDER BY name",
-        &[],
-    )
-}
-
-/// Returns all rows of the table `allowed`, by account and place.
-pub(crate) fn allowed<S: Alter>(
-    alloc: Global,
-    conn: &mut Connection<S>,
-) -> Result<Vec<AllowedRow>, Fault>
-    ensures lists { Lists layout IsAllowedRow (λ b. b.allowed)
-        (state S.Store conn.old) (state S.Store conn.new) result }
-{
-    select(
-        alloc,
-        conn,
-        "SELECT account, place, commodity FROM allowed ORDER BY account, place",
-        &[],
-    )
-}
-
-/// Returns all rows of the table `commodity`, by name.
-pub(crate) fn commodities<S: Alter>(
-    alloc: Global,
-    conn: &mut Connection<S>,
-) -> Result<Vec<CommodityRow>, Fault>
-    ensures lists { Lists layout IsCommodityRow (λ b. b.commodity)
-        (state S.Store conn.old) (state S.Store conn.new) result }
-{
-    select(
-        alloc,
-        conn,
-        "SELECT name, day FROM commodity ORDER BY name",
-        &[],
-    )
-}
-
-/// Returns all rows of the table `head`, by account and commodity.
-pub(crate) fn heads<S: Alter>(
-    alloc: Global,
-    conn: &mut Connection<S>,
-) -> Result<Vec<HeadRow>, Fault>
-    ensures lists { Lists layout IsHeadRow (λ b. b.head)
-        (state S.Store conn.old) (state S.Store conn.new) result }
-{
-    select(
-        alloc,
-        conn,
-        "SELECT account, commodity, day FROM head ORDER BY account, commodity",
-        &[],
-    )
-}
-
-/// Returns all rows of the table `opening`, by account, commodity and lot.
-pub(crate) fn openings<S: Alter>(
-    alloc: Global,
-    conn: &mut Connection<S>,
-) -> Result<Vec<OpeningRow>, Fault>
-    ensures lists { ListsColumns layout opening_cells IsOpeningRow (λ b. b.opening)
-        (state S.Store conn.old) (state S.Store conn.new) result }
-{
-    select(
-        alloc,
-        conn,
-        "SELECT account, commodity, cost_day, cost_currency, cost_number, cost_label, opening FROM opening ORDER BY account, commodity, cost_day, cost_currency, cost_number, cost_label",
-        &[],
-    )
-}
-
-/// Returns all rows of the table `lot`, by account, commodity and lot.
-pub(crate) fn lots<S: Alter>(alloc: Global, conn: &mut Connection<S>) -> Result<Vec<LotRow>, Fault>
-    ensures lists { ListsColumns layout lot_cells IsLotRow (λ b. b.lot)
-        (state S.Store conn.old) (state S.Store conn.new) result }
-{
-    select(
-        alloc,
-        conn,
-        "SELECT account, commodity, cost_day, cost_currency, cost_number, cost_label, units FROM lot ORDER BY account, commodity, cost_day, cost_currency, cost_number, cost_label",
-        &[],
-    )
-}
-
-/// Returns all rows of the table `price`, by base, quote and day.
-pub(crate) fn prices<S: Alter>(
-    alloc: Global,
-    conn: &mut Connection<S>,
-) -> Result<Vec<PriceRow>, Fault>
-    ensures lists { Lists layout IsPriceRow (λ b. b.price)
-        (state S.Store conn.old) (state S.Store conn.new) result }
-{
-    select(
-        alloc,
-        conn,
-        "SELECT base, quote, day, rate FROM price ORDER BY base, quote, day",
-        &[],
-    )
-}
 
 /// Returns all rows of the table `migration`, by their number.
 pub(crate) fn migrations<S: Alter>(

@@ -1,6 +1,5 @@
 -- All of them agree.
 use Rattle.sqlite.specs.Held.{state}
-use Rattle.lot_rows.specs.Tables.{Tables}
 use Rattle.lot_view.specs.View.{known as facts_known}
 use Rattle.lot_audit.specs.Checks.{always}
 use Rattle.lot_audit.specs.Told.{AmountsTold, HeldHasRows, LegsWithin, NamesTold}
@@ -18,8 +17,8 @@ returns-then-not-branch-2 g c =
     record {
       checks = chain_no _ (AmountsTold view known.rates) (Agree known) old one two
           (told_yes always always (NamesTold view) old old one (seen_none always old) c.in_ok-names_agree.field-0 c.if-not-branch.false
-          (rw c.view-view.ensures at c.in_ok-names_agree.ensures.checks))
-          c.in_ok-amounts_agree.field-0 c.if-not-branch-2.true (rw c.view-view.ensures at c.in_ok-amounts_agree.ensures.checks)
+          c.in_ok-names_agree.ensures.checks)
+          c.in_ok-amounts_agree.field-0 c.if-not-branch-2.true c.in_ok-amounts_agree.ensures.checks
           (λ tables whole. whole.amounts);
     }
 
@@ -33,10 +32,10 @@ returns g c =
     let three = state g.S.Store c.held_has_rows.new.conn in
     let seen_names =
     told_yes always always (NamesTold view) old old one (seen_none always old) c.in_ok-names_agree.field-0 c.if-not-branch.false
-    (rw c.view-view.ensures at c.in_ok-names_agree.ensures.checks) in
+    c.in_ok-names_agree.ensures.checks in
     let seen_amounts =
     told_yes always _ (AmountsTold view known.rates) old one two seen_names c.in_ok-amounts_agree.field-0 c.if-not-branch-2.false
-    (rw c.view-view.ensures at c.in_ok-amounts_agree.ensures.checks) in
+    c.in_ok-amounts_agree.ensures.checks in
     let seen_held =
     told_yes always _ (HeldHasRows view) old two three seen_amounts c.in_ok-held_has_rows.field-0 c.if-not-branch-3.false
     (rw c.view-view.ensures at c.in_ok-held_has_rows.ensures.checks) in

@@ -1,4 +1,3 @@
-use Rattle.std.proofs.Common.{IsTrue, ◌↔◌}
 use Rattle.std.specs.List.{AllByRecursion}
 use Rattle.sqlite.specs.Held.{state}
 use Rattle.lot_rows.specs.Tables.{Tables}

@@ -1,4 +1,4 @@
-use Rattle.std.proofs.Common.{arith, subst, sym, ◌≤◌, ℕ}
+use Rattle.std.proofs.Common.{arith}
 use Rattle.sqlite.specs.Held.{state}
 use Rattle.lot_audit.proofs.WithinLemmas.{within_all, within_next, within_not, within_unread}
 use Rattle.lot_audit.proofs.compare.legs_are_within.Goals as goal

@@ -1,1 +1,0 @@
-use Rattle.lot_audit.proofs.has.have_rows.Goals as goal

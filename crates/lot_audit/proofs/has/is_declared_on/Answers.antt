@@ -6,7 +6,7 @@ use Rattle.lot_rows.specs.Commodity.{IsCommodityRow, commodity_cells}
 use Rattle.lot_rows.specs.declared.commodity.CommodityRow.{CommodityRow}
 use Rattle.lot_stored.specs.Rows.{commodity_row, name_key}
 use Rattle.lot_table.specs.Rows.{has_key}
-use Rattle.lot_audit.proofs.SeenLemmas.{good_filtered, is_there, tells_not, tells_whether}
+use Rattle.lot_audit.proofs.SeenLemmas.{good_filtered, tells_not, tells_whether}
 use Rattle.lot_audit.proofs.has.is_declared_on.Goals as goal
 
 pub returns-in_err-found : goal.returns-in_err-found

@@ -4,7 +4,7 @@ use Rattle.std.specs.Prelude.{◌≡◌, IsTrue, ◌↔◌, Option, Some, option
 use Rattle.std.proofs.Common.{subst}
 use Rattle.lot_rows.specs.Entry.{IsEntryRow, entry_cells, is_named}
 use Rattle.lot_rows.specs.declared.entry.EntryRow.{EntryRow}
-use Rattle.lot_audit.proofs.SeenLemmas.{good_filtered, is_there, tells_not, tells_whether}
+use Rattle.lot_audit.proofs.SeenLemmas.{good_filtered, tells_not, tells_whether}
 use Rattle.lot_audit.proofs.has.is_first_under.Goals as goal
 
 pub returns-in_err-found : goal.returns-in_err-found

@@ -1,5 +1,5 @@
 -- Both are there.
-use Rattle.std.proofs.Common.{◌≢◌, None, ap, not, refl, sym, ◌∙◌}
+use Rattle.std.proofs.Common.{◌≢◌, None, ap, not, sym, ◌∙◌}
 use Rattle.sqlite.specs.Held.{state}
 use Rattle.lot_rows.specs.Lot.{IsLotRow, lot_cells}
 use Rattle.lot_rows.specs.LotKey.{lot_key}
@@ -9,7 +9,7 @@ use Rattle.lot_rows.specs.declared.lot.LotRow.{LotRow}
 use Rattle.lot_rows.specs.declared.opening.OpeningRow.{OpeningRow}
 use Rattle.lot_table.specs.Rows.{has_key, with_key}
 use Rattle.lot_stored.specs.Rows.{row_at}
-use Rattle.lot_audit.specs.Checks.{Checks, always}
+use Rattle.lot_audit.specs.Checks.{always}
 use Rattle.lot_audit.specs.Told.{LotHasRows}
 use Rattle.lot_audit.proofs.HasLemmas.{listed_there}
 use Rattle.lot_audit.proofs.SeenLemmas.{Tells, answers_check, chain_last, chain_no, good_filtered, not_told, seen_none, tells_not, told_yes}

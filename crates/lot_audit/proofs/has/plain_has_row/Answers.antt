@@ -3,7 +3,7 @@ use Rattle.lot_rows.specs.Plain.{IsPlainRow, plain_cells}
 use Rattle.lot_rows.specs.declared.plain.PlainRow.{PlainRow}
 use Rattle.lot_table.specs.Rows.{has_key}
 use Rattle.lot_stored.specs.Rows.{pair_key}
-use Rattle.lot_audit.proofs.SeenLemmas.{good_filtered, is_there, tells_not, tells_whether}
+use Rattle.lot_audit.proofs.SeenLemmas.{good_filtered, tells_not}
 use Rattle.lot_audit.proofs.has.plain_has_row.Goals as goal
 
 pub returns-in_err-found : goal.returns-in_err-found

@@ -1,5 +1,5 @@
 -- Each part behind the one before it.
-use Rattle.std.proofs.Common.{arith, ◌≤◌}
+use Rattle.std.proofs.Common.{arith}
 use Rattle.sqlite.specs.Held.{state}
 use Rattle.lot_audit.proofs.JudgeBookLemmas.{differs, not_compared, not_judged, place_behind, place_unread, seen_judged, seen_place, verified}
 use Rattle.lot_audit.proofs.judge.judge_book.Goals as goal

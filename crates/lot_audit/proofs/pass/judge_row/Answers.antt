@@ -1,5 +1,5 @@
 -- Each question behind the ones before it.
-use Rattle.std.proofs.Common.{Ok, refl, Option, Result, Some, ap, subst, sym, ◌∙◌, ◌≡◌}
+use Rattle.std.proofs.Common.{Ok, refl, ap}
 use Rattle.sqlite.specs.Held.{state}
 use Rattle.lot_audit.proofs.StepLemmas.{all_judged, legs_unread, no_memory, none_accepts, nothing_said, other_first, other_legs, other_sales, rows_gone, rows_unread, sales_unread, seen_alike, seen_first, seen_legs, seen_rows, seen_sales}
 use Rattle.lot_audit.proofs.pass.judge_row.Goals as goal

@@ -1,4 +1,4 @@
-use Rattle.std.proofs.Common.{Ok, Option, Some, ap, drop, map, subst, sym, take, ◌+◌, ◌++◌, ◌∷◌, [], ◌∙◌, ◌≡◌, List, ℕ}
+use Rattle.std.proofs.Common.{Ok, Option, ap, drop, map, subst, sym, take, ◌+◌, ◌++◌, ◌∷◌, [], ◌∙◌, ◌≡◌, List, ℕ}
 use Rattle.std.proofs.lemmas.Bool.{true≢false}
 use Rattle.std.proofs.lemmas.List.{map-append, take_all}
 use Rattle.sqlite.specs.Held.{state}

@@ -1,14 +1,13 @@
 -- What is decided on the view is what the step on the book comes to, by the edition of the entry.
-use Rattle.std.specs.Prelude.{◌≡◌, ℕ, List, length}
+use Rattle.std.specs.Prelude.{◌≡◌, List}
 use Rattle.std.proofs.Common.{ap, subst, ◌∙◌}
-use Rattle.lot_book.specs.Facts.{Entry, Facts}
+use Rattle.lot_book.specs.Facts.{Facts}
 use Rattle.lot_book.specs.Openings.{ties_for}
 use Rattle.lot_book.specs.Step.{Accept, Refuse, Repeat}
 use Rattle.lot_book.specs.declared.leg.Leg.{Leg}
 use Rattle.lot_laws.proofs.RecordedBook.{room_where_decided}
 use Rattle.lot_ledger.specs.Decide.{Comes, StopsStep}
 use Rattle.lot_view.specs.View.{known, known_with_openings}
-use Rattle.lot_audit.specs.Replay.{Replays}
 use Rattle.lot_audit.proofs.ReplayLemmas.{accepts_none, follows}
 use Rattle.lot_audit.proofs.replay.Replay.judge.Goals as goal
 

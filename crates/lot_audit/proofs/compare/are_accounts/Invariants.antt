@@ -1,7 +1,0 @@
-use Rattle.std.proofs.Common.{All, take}
-use Rattle.lot_audit.specs.Told.{TellsAccount}
-use Rattle.lot_audit.proofs.compare.are_accounts.Given as goal
-
--- the rows so far tell it
-abbrev pub invariant-rows : goal.invariant-rows
-invariant-rows g l = All (TellsAccount l.view) (take l.row-index l.row-items)
