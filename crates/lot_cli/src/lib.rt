@@ -31,4 +31,4 @@ pub use lot_migrate::{MigrateFault, Progress, Unwatched};
 pub use lot_report::{CountedWrite, CountedWriter};
 pub use lot_store::{AdoptFault, CreateFault};
 pub use lot_stream::{Counted, CountedRead, SlurpFault, slurp};
-pub use lot_verify::{Spot, Table, VerifyFault, Watch, judge_book};
+pub use lot_verify::VerifyFault;

@@ -1,7 +1,7 @@
 //! A database verified: whether it is a book of this edition, and whether its tables stand for one.
 //!
 //! - `verification`: `verify`, which takes a connection and gives it back. The tables are judged by
-//!   `judge_book` of `lot_audit`, which is passed on.
+//!   `judge_book` of `lot_audit`.
 //! - `fault`: `VerifyFault`, why a book isn't verified.
 #![tactic(auto)]
 
@@ -9,5 +9,4 @@ mod fault;
 mod verification;
 
 pub use fault::VerifyFault;
-pub use lot_audit::{Spot, Table, Unwatched, Watch, judge_book};
 pub use verification::verify;
