@@ -1,16 +1,14 @@
 -- The rows of a table, told by their columns, tell what is known of the book.
-use Rattle.std.specs.Prelude.{◌≡◌, ◌↔◌, ◌≤◌, ◌<◌, ℕ, Bool, true, false, IsTrue, All, List, [], ◌∷◌, ◌++◌, get_or, length, map, take, Ok, Err, Result, Vec}
+use Rattle.std.specs.Prelude.{◌≡◌, ◌↔◌, Bool, true, false, IsTrue, All, List, [], ◌∷◌, ◌++◌, map, Ok, Vec}
 use Rattle.std.specs.List.{AllByRecursion}
 use Rattle.std.specs.declared.alloc.Global.{Global}
-use Rattle.std.proofs.Common.{refl, sym, ap, ap₂, subst, ◌∙◌}
+use Rattle.std.proofs.Common.{refl, sym, ap₂, subst, ◌∙◌}
 use Rattle.std.proofs.lemmas.Bool.{true≢false}
-use Rattle.std.proofs.lemmas.List.{take_all}
 use Rattle.std.proofs.lemmas.List.Elements.{All-from_recursion, recursion_from_All}
 use Rattle.sqlite.specs.Order.{Row}
 use Rattle.sqlite.specs.State.{State}
 use Rattle.lot_rows.specs.Tables.{Tables, layout}
-use Rattle.lot_table.specs.Call.{Lists, ListsColumns}
-use Rattle.lot_table.specs.declared.fault.Fault.{Fault}
+use Rattle.lot_table.specs.Call.{ListsColumns}
 use Rattle.lot_audit.specs.Checks.{Checks}
 use Rattle.lot_audit.specs.Told.{AreTold}
 use Rattle.lot_audit.proofs.SeenLemmas.{Tells, tells_whether}
@@ -31,7 +29,7 @@ module _ {X : Type 0} (encode : X → Row) (IsGood : X → Type 0) (one : (x y :
 
   module _ (Told : X → Type 0) where
     -- rows that were found are told exactly where all of them tell it
-    pub told_found : (found rows : List X) (is : Bool) → All IsGood found → map encode found ≡ map encode rows
+    told_found : (found rows : List X) (is : Bool) → All IsGood found → map encode found ≡ map encode rows
         → IsTrue is ↔ All Told found → IsTrue is ↔ AreTold encode IsGood Told rows
     told_found found rows is good same tells = (
       (λ yes. record { good_rows = found; same = same; good = good; told = tells.0 yes }),
@@ -54,31 +52,14 @@ module _ {X : Type 0} (encode : X → Row) (IsGood : X → Type 0) (one : (x y :
     among (y ∷ done) rest x all = among done rest x all.1
 
     module _ (rows : Tables → List X) (old new : State) where
-      pub columns_tell : (found : Vec X Global) (is : Bool) → ListsColumns layout encode IsGood rows old new (Ok found)
+      columns_tell : (found : Vec X Global) (is : Bool) → ListsColumns layout encode IsGood rows old new (Ok found)
           → IsTrue is ↔ All Told found.items
           → Checks (Tells (λ tables. AreTold encode IsGood Told (rows tables))) old new (Ok is)
       columns_tell found is lists tells =
           tells_whether _ _ _ (λ tables. AreTold encode IsGood Told (rows tables)) old new found is lists
           (λ tables has good same. told_found found.items (rows tables) is good same tells)
 
-      -- each of the rows so far tells it, and no row is left
-      pub columns_yes : (found : Vec X Global) (n : ℕ) → ListsColumns layout encode IsGood rows old new (Ok found)
-          → All Told (take n found.items) → length found.items ≤ n
-          → Checks (Tells (λ tables. AreTold encode IsGood Told (rows tables))) old new (Ok true)
-      columns_yes found n lists told end =
-          columns_tell found true lists ((λ yes. subst (All Told) (take_all n found.items end) told), (λ all. refl))
-
-      -- one of them doesn't
-      pub columns_no : (found : Vec X Global) (n : ℕ) (x : X) (is : Bool) → ListsColumns layout encode IsGood rows old new (Ok found)
-          → n < length found.items → x ≡ get_or found.items n x → IsTrue is ↔ Told x → is ≡ false
-          → Checks (Tells (λ tables. AreTold encode IsGood Told (rows tables))) old new (Ok false)
-      columns_no found n x is lists within at tells out =
-          columns_tell found false lists (
-            (λ yes. absurd (true≢false (sym yes))),
-            (λ all. absurd (true≢false (sym (tells.1 (subst Told (sym at) (all n x within))) ∙ out))),
-          )
-
-      -- the same, told by parts of the list
+      -- each of the rows tells it
       pub columns_whole : (found : Vec X Global) (done : List X) → ListsColumns layout encode IsGood rows old new (Ok found)
           → done ≡ found.items → AllByRecursion Told done
           → Checks (Tells (λ tables. AreTold encode IsGood Told (rows tables))) old new (Ok true)
@@ -86,6 +67,7 @@ module _ {X : Type 0} (encode : X → Row) (IsGood : X → Type 0) (one : (x y :
           columns_tell found true lists
           ((λ yes. All-from_recursion Told found.items (subst (AllByRecursion Told) is told)), (λ all. refl))
 
+      -- one of them doesn't
       pub columns_among : (found : Vec X Global) (done rest : List X) (x : X) (is : Bool)
           → ListsColumns layout encode IsGood rows old new (Ok found) → done ++ x ∷ rest ≡ found.items → IsTrue is ↔ Told x → is ≡ false
           → Checks (Tells (λ tables. AreTold encode IsGood Told (rows tables))) old new (Ok false)
@@ -96,25 +78,3 @@ module _ {X : Type 0} (encode : X → Row) (IsGood : X → Type 0) (one : (x y :
                 absurd (true≢false
                 (sym (tells.1 (among done rest x (subst (AllByRecursion Told) (sym split) (recursion_from_All Told found.items all)))) ∙ out))),
           )
-
-    -- the same of rows that are told as they are
-    pub as_columns : (rows : Tables → List X) (old new : State) (result : Result (Vec X Global) Fault) → Lists layout IsGood rows old new result
-        → ListsColumns layout encode IsGood rows old new result
-    as_columns rows old new (Ok found) a = record {
-      says = λ clean tables has. ap (map encode) (a.says clean tables has);
-      good = a.good;
-      same = a.same;
-      damaged = λ clean is. absurd cc;
-      device = λ clean is. absurd cc;
-      undone = λ clean. tt;
-      crash = a.crash;
-    }
-    as_columns rows old new (Err fault) a = record {
-      says = λ clean. tt;
-      good = tt;
-      same = λ clean. tt;
-      damaged = a.damaged;
-      device = a.device;
-      undone = a.undone;
-      crash = a.crash;
-    }

@@ -6,10 +6,10 @@
 //! - `replay`: a command is judged again, on all that the entries before it say.
 //! - `entry`: what the row of an entry says; `text`: the command of a canonical text.
 //! - `legs`, `sales`: whether the rows of an entry are those of its legs, and of its sales.
-//! - `rows`: statements: all rows of a table, the legs of an entry, a price, a lot.
+//! - `rows`: statements: the row of the migration, the legs of an entry, a price, a lot.
 //! - `has`: whether the rows are there of an entry's command, and of what is held.
 //! - `rates`: the last rates that entries quoted.
-//! - `agree`: whether rows say what is known.
+//! - `agree`: `ToldRow`: whether a row says what is known, table by table.
 //! - `watch`: who is told what is looked at.
 #![tactic(auto)]
 

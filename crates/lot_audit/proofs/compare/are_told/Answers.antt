@@ -13,10 +13,14 @@ pub select-requires : goal.select-requires
 select-requires g c = c.requires.asks.is.selects
 
 pub returns-in_err-rows : goal.returns-in_err-rows
-returns-in_err-rows g c = record {
-  checks = tells_not _ _ _ _ (state g.S.Store c.args.conn.now) (state g.S.Store c.select.new.conn) c.in_err-rows.field-0.0
-      c.from_residual.result c.from_residual.ensures.1 (lists_all g.R.TableRow.encode g.R.TableRow.IsGood g.R.ToldRow.rows c.args.statement.now c.requires (state g.S.Store c.args.conn.now) (state g.S.Store c.select.new.conn) (Err c.in_err-rows.field-0.0) c.in_err-rows.ensures.selects) c.requires.sound;
-}
+returns-in_err-rows g c =
+    let asks = c.requires in
+    let old = state g.S.Store c.args.conn.now in
+    let new = state g.S.Store c.select.new.conn in
+    let fault = c.in_err-rows.field-0.0 in
+    let lists = lists_all g.R.TableRow.encode g.R.TableRow.IsGood g.R.ToldRow.rows c.args.statement.now asks old new
+    (Err fault) c.in_err-rows.ensures.selects in
+    record { checks = tells_not _ _ _ _ old new fault c.from_residual.result c.from_residual.ensures.1 lists asks.sound }
 
 pub returns-then-not-agrees : goal.returns-then-not-agrees
 returns-then-not-agrees g c =
@@ -28,9 +32,8 @@ returns-then-not-agrees g c =
     (Ok c.in_ok-rows.rows) c.in_ok-rows.ensures.selects in
     record {
       checks = columns_among g.R.TableRow.encode g.R.TableRow.IsGood asks.one (g.R.ToldRow.Tells c.args.known.now) g.R.ToldRow.rows
-          old new c.in_ok-rows.rows c.rows.yielded
-          c.next.new.self.rest.items c.in-Some.row c.agrees.result
-          lists
+          old new c.in_ok-rows.rows c.rows.yielded c.next.new.self.rest.items
+          c.in-Some.row c.agrees.result lists
           (ap (λ l. c.rows.yielded ++ l) (sym c.in-Some.ensures.steps.0) ∙ c.rows.invariant.0 ∙ gives) c.agrees.ensures c.if-not-agrees.true;
     }
 
@@ -53,7 +56,6 @@ returns g c =
     (Ok c.in_ok-rows.rows) c.in_ok-rows.ensures.selects in
     record {
       checks = columns_whole g.R.TableRow.encode g.R.TableRow.IsGood asks.one (g.R.ToldRow.Tells c.args.known.now) g.R.ToldRow.rows
-          old new c.in_ok-rows.rows c.rows.yielded
-          lists
+          old new c.in_ok-rows.rows c.rows.yielded lists
           (sym (append-nil c.rows.yielded) ∙ ap (λ l. c.rows.yielded ++ l) (sym none) ∙ c.rows.invariant.0 ∙ gives) c.rows.invariant.1;
     }
