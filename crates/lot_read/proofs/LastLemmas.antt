@@ -1,7 +1,7 @@
 -- The last of a list of commands.
 use Rattle.std.proofs.Common.{◌≡◌, ℕ, ◌+◌, ◌-◌, ◌<◌, true, false, List, [], ◌∷◌, ◌++◌, length, take, get_or, suc, refl, ap, ◌∙◌, sym, arith}
 use Rattle.std.proofs.Math.ListN.{set}
-use Rattle.std.proofs.lemmas.List.{drop_all, drop_more, set_split, take-append-drop}
+use Rattle.std.proofs.lemmas.List.{drop_all, drop_more, set_split, set-get_or, take-append-drop}
 use Rattle.lot_command.specs.declared.command.Command.{Command}
 use Rattle.lot_command.specs.declared.command.Command.TheVariants.{Transaction}
 use Rattle.lot_command.specs.declared.transaction.Posting.{Posting}
@@ -59,6 +59,14 @@ posted commands at last t posting postings h is more = record {
   new = set_last commands at last _ h
       ∙ ap (λ ps. take at commands ++ Transaction (record { day = t.day; flag = t.flag; narration = t.narration; postings = ps }) ∷ []) more;
 }
+
+-- the last transaction, with the same postings
+pub left_alone : (commands : List Command) (at : ℕ) (last : Command) (t : TransactionOf) (postings : List Posting)
+    → IsLast commands at last → last ≡ Transaction t → postings ≡ t.postings
+    → set commands at (Transaction (record { day = t.day; flag = t.flag; narration = t.narration; postings = postings })) ≡ commands
+left_alone commands at last t postings h is same =
+    ap (λ ps. set commands at (Transaction (record { day = t.day; flag = t.flag; narration = t.narration; postings = ps }))) same
+    ∙ ap (set commands at) (sym is ∙ h.is) ∙ set-get_or commands at last
 
 -- commands that a posting may follow end with a transaction
 pub record EndsWithTransaction (commands : List Command) : Type 0 where

@@ -48,7 +48,10 @@ fn take<'a>(
 {
     match statement(kept, line, place_behind(commands))? {
         None => Ok(()),
-        Some(Statement::Begins(command)) => Ok(commands.push(command)?),
+        Some(Statement::Begins(command)) => {
+            end_last(commands);
+            Ok(commands.push(command)?)
+        }
         Some(Statement::Posts(posting)) => Ok(post(commands, posting)?),
     }
 }
@@ -63,6 +66,18 @@ fn place_behind(commands: &[Command]) -> Place
     match last {
         Command::Transaction(_) => Place::InTransaction,
         _ => Place::Elsewhere,
+    }
+}
+
+/// Gives back memory that the last command doesn't take. No posting comes to it any more.
+fn end_last(commands: &mut Vec<Command>)
+    ensures { commands.new.items ≡ commands.old.items }
+{
+    let Some(last) = commands.last_mut() else {
+        return;
+    };
+    if let Command::Transaction(transaction) = last {
+        transaction.postings.shrink_to_fit();
     }
 }
 

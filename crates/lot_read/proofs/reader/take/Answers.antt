@@ -1,5 +1,5 @@
 -- What the line says is added, or nothing is.
-use Rattle.std.proofs.Common.{Some, ap, ◌∙◌}
+use Rattle.std.proofs.Common.{Some, [], ◌∷◌, ◌++◌, ap, ◌∙◌}
 use Rattle.std.proofs.lemmas.Result.{err_from_is_err_and}
 use Rattle.lot_read.specs.Text.{takes_posting}
 use Rattle.lot_read.specs.declared.statement.Statement.TheVariants.{Begins, Posts}
@@ -42,7 +42,7 @@ pub returns-in_ok-push-in-Some-Begins-clause-ok : goal.returns-in_ok-push-in-Som
 returns-in_ok-push-in-Some-Begins-clause-ok c =
     let says = rw (c.in-Some-Begins.is, c.in-Some-Begins.field-0-is) at c.in_ok-statement.ensures in
     continues_command c.args.line.now c.in-Some-Begins.command c.args.commands.now.items c.push.new.self.items says.0
-    c.in_ok-push-in-Some-Begins.ensures.items
+    (c.in_ok-push-in-Some-Begins.ensures.items ∙ ap (λ items. items ++ c.in-Some-Begins.command ∷ []) c.end_last.ensures)
 
 pub returns-in_ok-post-in-Some-Posts-clause-ok : goal.returns-in_ok-post-in-Some-Posts-clause-ok
 returns-in_ok-post-in-Some-Posts-clause-ok c =
