@@ -14,5 +14,5 @@ mod name;
 
 pub use day::{Day, DayFault};
 pub use fault::NameFault;
-pub use grammars::{AccountGrammar, CommodityGrammar, Grammar, LabelGrammar};
+pub use grammars::{AccountGrammar, CommodityGrammar, Grammar, LabelGrammar, NoteGrammar};
 pub use name::{Account, Commodity, Label, Name, Note};

@@ -2,23 +2,11 @@
 ghost use Rattle.std.specs.Prelude.{◌≡◌, ◌<◌, IfOk, IfSome, IsTrue};
 
 use crate::name::out_of_memory;
-use lot_base::{AccountGrammar, CommodityGrammar, Grammar, LabelGrammar, Name, Note};
+use lot_base::{AccountGrammar, CommodityGrammar, Grammar, LabelGrammar, Name, NoteGrammar};
 use std::alloc::{AllocError, Global};
 
 /// How many names of one grammar are known at most.
 const PLACES: usize = 32;
-
-/// The grammar of which a kind of names is.
-pub(crate) trait NameOf {
-    type Grammar: Grammar;
-}
-
-impl<G: Grammar> NameOf for Name<G> {
-    type Grammar = G;
-}
-
-/// The grammar of notes.
-type NoteGrammar = <Note as NameOf>::Grammar;
 
 /// Names that were kept before, and the memory for further ones. A name that is known takes none.
 #[derive(Drop)]
