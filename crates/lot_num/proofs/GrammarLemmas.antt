@@ -1,9 +1,12 @@
 -- The tests of number text, against its grammar.
-use Rattle.std.proofs.Common.{◌≡◌, inl, inr, ℕ, suc, ◌+◌, Bool, true, false, cond, ◌&&◌, ◌||◌, List, [], ◌∷◌, ◌++◌, length, refl, ap, ◌∙◌, sym, subst, arith, eqb}
-use Rattle.std.specs.Prelude.{⊤}
+use Rattle.std.proofs.Common.{◌≡◌, inl, inr, ℕ, suc, ◌+◌, ◌<◌, ◌≤◌, get_or, Bool, true, false, cond, not, ltb, Some, None, ◌&&◌, ◌||◌, List, [], ◌∷◌, ◌++◌, length, refl, ap, ◌∙◌, sym, subst, arith, eqb}
+use Rattle.std.specs.Prelude.{⊤, IsUtf8, unwrap_or}
 use Rattle.std.specs.Char.{is_ascii_digit}
-use Rattle.std.specs.List.{before_first, after_first, slice_split, onto_first, list_all, position_or_len}
+use Rattle.std.specs.Str.{IsCharBoundary}
+use Rattle.std.proofs.lemmas.Str.{IsCharBoundary-after_ascii, IsCharBoundary-before_ascii}
+use Rattle.std.specs.List.{before_first, after_first, slice_split, onto_first, list_all, position, position_or_len}
 use Rattle.std.proofs.lemmas.Bool.Decides.{nat_tests}
+use Rattle.std.proofs.lemmas.List.Sums.{prefix_len-le-length}
 use Rattle.std.proofs.lemmas.Bool.{and_from, and_parts, eqb-true}
 use Rattle.lot_num.specs.declared.number_text.Sign.{Sign}
 use Rattle.lot_num.specs.declared.number_text.Sign.TheVariants.{Plus, Minus}
@@ -59,6 +62,21 @@ grouped-comma d rest other = rw other (ap (λ t. t && is_grouped rest) (group-co
 
 grouped-last : (d : ℕ) → eqb d 44 ≡ false → is_grouped (d ∷ []) ≡ ((is_ascii_digit d && true) && true)
 grouped-last d other = rw other (ap (λ t. t && true) (group-cons d []))
+
+-- digits alone are one group
+digits_grouped : (d : ℕ) (rest : List ℕ) → is_digits (d ∷ rest) ≡ true → is_grouped (d ∷ rest) ≡ true
+digits_grouped d [] h =
+    let first = (and_parts _ _ h).0 in
+    grouped-last d (no_comma d (digit_from_test d first)) ∙ and_from _ _ (and_from _ _ first refl) refl
+digits_grouped d (c ∷ rest) h =
+    let (first, others) = and_parts (is_ascii_digit d) (is_digits (c ∷ rest)) h in
+    let second = (and_parts (is_ascii_digit c) (is_digits rest) others).0 in
+    grouped-digit d c rest (no_comma d (digit_from_test d first)) (no_comma c (digit_from_test c second))
+    ∙ and_from _ _ first (digits_grouped c rest others)
+
+pub group_is_grouped : (whole : List ℕ) → is_group whole ≡ true → is_grouped whole ≡ true
+group_is_grouped [] h = cc
+group_is_grouped (d ∷ rest) h = digits_grouped d rest (and_parts _ _ h).1
 
 starts_no_comma : (c : ℕ) (rest : List ℕ) → IsWhole (c ∷ rest) → eqb c 44 ≡ false
 starts_no_comma c [] h = no_comma c h
@@ -138,6 +156,43 @@ after-cons b rest other =
 
 before-point : (b : ℕ) (rest : List ℕ) → eqb b 46 ≡ true → (before_first is_point (b ∷ rest) ≡ []) × (after_first is_point (b ∷ rest) ≡ rest)
 before-point b rest point = (rw point refl, rw point refl)
+
+or_end_by : (text : List ℕ) (place : ℕ) (found : Bool) → ltb place (length text) ≡ found → place ≤ length text
+    → unwrap_or (cond found (Some place) None) (length text) ≡ place
+or_end_by text place true e within = refl
+or_end_by text place false e within = grind (arith, nat_tests)
+
+pub point_or_end : (text : List ℕ) → unwrap_or (position is_point text) (length text) ≡ position_or_len is_point text
+point_or_end text =
+    or_end_by text (position_or_len is_point text) (ltb (position_or_len is_point text) (length text)) refl
+    (prefix_len-le-length (λ b. not (is_point b)) text)
+
+point_by : (b : ℕ) (rest : List ℕ) (point : Bool) → eqb b 46 ≡ point → position_or_len is_point (b ∷ rest) < length (b ∷ rest)
+    → (position_or_len is_point rest < length rest → get_or rest (position_or_len is_point rest) 0 < 128)
+    → get_or (b ∷ rest) (position_or_len is_point (b ∷ rest)) 0 < 128
+point_by b rest true e less later =
+    let ascii : b < 128 = omega (arith, eqb-true b 46 e) in
+    rw e ascii
+point_by b rest false e less later =
+    let one_more : 1 + position_or_len is_point rest ≡ suc (position_or_len is_point rest) = omega arith in
+    let before : position_or_len is_point rest < length rest = omega (arith, rw e at less) in
+    rw (e, one_more) (later before)
+
+-- what stands at the first point is ASCII
+pub point_ascii : (text : List ℕ) → position_or_len is_point text < length text → get_or text (position_or_len is_point text) 0 < 128
+point_ascii [] less = absurd (omega (arith, less))
+point_ascii (b ∷ rest) less = point_by b rest (eqb b 46) refl less (point_ascii rest)
+
+-- so a text may be cut before it and behind it
+pub before_point : (text : List ℕ) (at : ℕ) → at ≡ position_or_len is_point text → at < length text → IsCharBoundary text at
+before_point text at place less =
+    subst (IsCharBoundary text) (sym place)
+    (IsCharBoundary-before_ascii text (position_or_len is_point text) (omega (arith, place, less)) (point_ascii text (omega (arith, place, less))))
+
+pub behind_point : (text : List ℕ) (at : ℕ) → IsUtf8 text → at ≡ position_or_len is_point text → at < length text → IsCharBoundary text (at + 1)
+behind_point text at utf8 place less =
+    subst (λ n. IsCharBoundary text (n + 1)) (sym place)
+    (IsCharBoundary-after_ascii text (position_or_len is_point text) utf8 (omega (arith, place, less)) (point_ascii text (omega (arith, place, less))))
 
 abbrev HasFraction : List ℕ → Type 0
 HasFraction body = (back : List ℕ) × IsFraction (after_first is_point body) back × (body ≡ before_first is_point body ++ back)

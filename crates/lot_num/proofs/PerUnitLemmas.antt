@@ -1,11 +1,11 @@
 -- A rate for each unit from a total for all: it is the quotient, where the division leaves no remainder.
-use Rattle.std.proofs.Common.{◌≡◌, ◌≢◌, ℕ, zero, suc, ◌*◌, ◌/◌, ◌%◌, ◌<◌, ◌≤◌, ℤ, pos, negsuc, ◌*ℤ◌, ◌<ℤ◌, Option, Some, None, refl, sym, ap, ◌∙◌, inl, inr, arith}
-use Rattle.std.specs.Prelude.{unsigned_abs, SomeIff, IfSome, nat_eq, nat_lt, not, int_le, ◌&&◌, Bool, true, false, cond, ◌≤ℤ◌}
+use Rattle.std.proofs.Common.{◌≡◌, ◌≢◌, ℕ, zero, suc, ◌*◌, ◌/◌, ◌%◌, ◌<◌, ℤ, pos, negsuc, ◌*ℤ◌, ◌<ℤ◌, Option, Some, None, refl, sym, ap, ◌∙◌, inl, inr, arith}
+use Rattle.std.specs.Prelude.{unsigned_abs, SomeIff, IfSome, nat_eq, nat_lt, not, ◌&&◌, cond}
 use Rattle.std.proofs.lemmas.Bool.{and_parts, cases_Bool}
 use Rattle.std.proofs.lemmas.Bool.Decides.{nat_tests}
 use Rattle.std.proofs.lemmas.Int.{ints}
 use Rattle.std.proofs.Math.Nat.{mul-div_cancel_left, mul-mod_right}
-use Rattle.lot_num.specs.Amount.{one, rate_limit, IsPerUnit, IsRate, divides, per_unit}
+use Rattle.lot_num.specs.Amount.{one, rate_limit, IsPerUnit, divides, per_unit}
 
 -- what the units come to at the rate, where the total isn't below zero
 pub comes_to : (units : ℤ) (total rate : ℕ) → IsPerUnit units (pos total) rate → unsigned_abs units * rate ≡ total * one

@@ -1,5 +1,5 @@
-ghost use Rattle.std.specs.Prelude.{◌≡◌, ◌==◌, ◌<◌, ◌^◌, ◌-◌, min, pos, neg_ℤ, IsTrue, IfOk};
-ghost use Rattle.std.specs.List.{before_first, after_first};
+ghost use Rattle.std.specs.Prelude.{◌≡◌, ◌==◌, ◌<◌, ◌≤◌, ◌^◌, ◌-◌, min, pos, neg_ℤ, length, IsTrue, IfOk};
+ghost use Rattle.std.specs.List.{before_first, after_first, position_or_len};
 ghost use Rattle.lot_num.specs.Amount.{one};
 ghost use Rattle.lot_num.specs.NumberText.{sign_of, unsigned, is_point, is_digits, is_group, is_grouped, whole_number, first_decimals, has_excess, read_below};
 
@@ -85,16 +85,31 @@ fn split_point(text: &str) -> (&str, &str)
     ensures before { result.0.now ≡ before_first is_point text.now }
     ensures behind { result.1.now ≡ after_first is_point text.now }
 {
-    match text.split_once('.') {
-        Some((whole, decimals)) => (whole, decimals),
-        None => (text, ""),
+    let point = point_or_end(text);
+    if point == text.len() {
+        return (text, "");
     }
+    let (whole, _) = text.split_at(point);
+    let (_, decimals) = text.split_at(point + 1);
+    (whole, decimals)
 }
 
-/// Returns whether a whole part is groups of digits between commas.
+/// Returns the place of the first point of a text, or of its end.
+fn point_or_end(text: &str) -> usize
+    ensures value { result ≡ position_or_len is_point text.now }
+    ensures bound { result ≤ length text.now }
+{
+    let bytes = text.as_bytes();
+    bytes.iter().position(|b| *b == b'.').unwrap_or(bytes.len())
+}
+
+/// Returns whether a whole part is groups of digits between commas. Mostly it is one group.
 fn is_grouped(whole: &str) -> bool
     ensures { result ≡ is_grouped whole.now }
 {
+    if is_group(whole) {
+        return true;
+    }
     whole.split(',').all(|group| is_group(group))
 }
 

@@ -1,5 +1,5 @@
 -- The rate is the quotient. Where there is none, the division leaves a remainder, or the quotient is too large.
-use Rattle.std.proofs.Common.{◌≡◌, ◌/◌, ◌*◌, ◌%◌, ◌<◌, ◌<ℤ◌, ℤ, pos, sym, ap, ◌∙◌, arith}
+use Rattle.std.proofs.Common.{◌≡◌, ◌/◌, ◌*◌, ◌%◌, ◌<◌, ◌<ℤ◌, pos, ◌∙◌, arith}
 use Rattle.std.specs.Prelude.{unsigned_abs, SomeIff}
 use Rattle.std.proofs.lemmas.Grind.{common_steps}
 use Rattle.lot_num.specs.Amount.{one, rate_limit, IsRate}
