@@ -362,17 +362,17 @@ fi
 # ---- progress
 
 makes "$scratch/watched.book"
-awk 'BEGIN { for (n = 0; n < 10000; n++) printf "2020-01-01 open Assets:A%d\n", n }' >"$scratch/more"
+awk 'BEGIN { for (n = 0; n < 4000; n++) printf "2020-01-01 open Assets:A%d\n", n }' >"$scratch/more"
 watched "progress on a terminal" "$scratch/out" "$scratch/more" $'^\r[0-9]+ commands, [0-9]+ a second' post --book "$scratch/watched.book" --batch a
 watched "no progress of a short run" "$scratch/out" "$scratch/good" $'^1 accepted, 0 repeated, 0 refused in [0-9]+\\.[0-9] s\r$' post --book "$scratch/watched.book" --batch b
 # The rows add up in one lot.
 makes "$scratch/broker.book"
 "$program" post --book "$scratch/broker.book" --batch accounts <"$examples/broker/accounts.ledger" >"$scratch/out"
-{ echo ref,date,action,symbol,units,price,currency,fee && seq -f 'R-%g,2024-01-15,BUY,HOOL,1,100,USD,' 10000; } >"$scratch/rows.csv"
+{ echo ref,date,action,symbol,units,price,currency,fee && seq -f 'R-%g,2024-01-15,BUY,HOOL,1,100,USD,' 4000; } >"$scratch/rows.csv"
 watched "progress of an import on a terminal" "$scratch/out" "$scratch/rows.csv" $'^\r[0-9]+ rows, [0-9]+ a second' \
     import --book "$scratch/broker.book" --batch deals --invest Assets:Broker --cash Assets:Cash --fees Expenses:Fees --gains Income:Gains
 
 # ---- stops
 
-run_python tests/book/stops.py "$program" "$scratch"
+run_python tests/book/stops.py "$program" "$scratch" --kills 30
 finish

@@ -283,5 +283,5 @@ if ((status == 4)); then pass "its status"; else fail "its status" "status $stat
 
 # ---- stops, and a disk without room
 
-run_python tests/migrate/stops.py "$program" "$scratch"
+run_python tests/migrate/stops.py "$program" "$scratch" --entries 2403 --kills 25 --step 3
 finish

@@ -90,7 +90,7 @@ for _ in {1..1200}; do # it has the file once nobody else can open it
     if [[ $(<"$scratch/out") == "fault open" ]]; then break; fi
     sleep 0.05
 done
-seq -f '2020-01-01 open Assets:B%g' 10000 >&8 && exec 8>&-
+seq -f '2020-01-01 open Assets:B%g' 3000 >&8 && exec 8>&-
 count=0
 while kill -0 "$writer" 2>/dev/null; do
     if ! "$program" journal --book "$book" </dev/null >"$scratch/journal.$count" 2>"$scratch/err"; then
@@ -106,7 +106,7 @@ for ((at = 0; at < count; at++)); do
     cmp -s -n "$(stat -c %s "$scratch/journal.$at")" "$scratch/journal.$at" "$scratch/last" || wrong=$((wrong + 1))
 done
 if ((count > 0 && wrong == 0)); then pass "journals while another program writes"; else fail "journals while another program writes" "$wrong of $count are wrong"; fi
-if [[ $(grep -c ' accepted$' "$scratch/posted") == 10000 ]]; then pass "that program isn't disturbed"; else fail "that program isn't disturbed" "$(tail -n 1 "$scratch/posted")"; fi
+if [[ $(grep -c ' accepted$' "$scratch/posted") == 3000 ]]; then pass "that program isn't disturbed"; else fail "that program isn't disturbed" "$(tail -n 1 "$scratch/posted")"; fi
 
 # ---- why a file can't be opened
 

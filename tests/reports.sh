@@ -1,8 +1,10 @@
 #!/usr/bin/env bash
 # The reports of books in files: every session under tests/reports/, the stored cases, ledgers drawn from seeds beside plain reports
 # in Python, words that can't be used, files that are no book, output that can't be written, totals that leave their range, and a
-# book of 100,000 entries.
-# The books lie in memory where the machine has room for files there: a commit for each of 200,000 commands would wait for the disk.
+# large book.
+# The books lie in memory where the machine has room for files there: a commit for each of 100,000 commands would wait for the disk.
+#
+#   tests/reports.sh [TRADES]    so many trades in the large book, a multiple of forty or two less; 14,600 where it is absent
 if [[ -d /dev/shm && -w /dev/shm ]]; then export TMPDIR=/dev/shm; fi
 source "$(dirname "$(readlink -f "${BASH_SOURCE[0]}")")/lib/cases.sh"
 need_program
@@ -10,11 +12,9 @@ need_program
 book=$scratch/family.book
 accepted() { seq -f '%g accepted' "$1" "$2"; }
 
-# fresh: a new book.
-fresh() {
-    rm -f "$book"*
-    "$program" init --book "$book" </dev/null >/dev/null || fail "a new book" "it can't be made"
-}
+# fresh: a new book, a copy of one.
+"$program" init --book "$scratch/new" </dev/null >/dev/null || fail "a new book" "it can't be made"
+fresh() { rm -f "$book"* && cp "$scratch/new" "$book"; }
 
 # ---- sessions
 #
@@ -54,11 +54,11 @@ done_with() {
     fi
 }
 
-# again NAME: the journal of the book is ledger text, which leaves the same holdings where it is read without words.
+# again NAME HELD: the journal of the book is ledger text, which leaves the same holdings, a file, where it is read without words.
 again() {
     run journal --book "$book" </dev/null
     mv "$scratch/out" "$scratch/journal"
-    { accepted 1 "$(grep -c '^; entry ' "$scratch/journal")" && "$program" holdings --book "$book"; } </dev/null >"$printed"
+    { accepted 1 "$(grep -c '^; entry ' "$scratch/journal")" && cat "$2"; } >"$printed"
     run <"$scratch/journal"
     expect "$1: its journal without words" 0 "$printed"
 }
@@ -98,7 +98,10 @@ for session in "$root"/tests/reports/*.session; do
     done <"$session"
     done_with "$name"
     if ((blocks == 0)); then fail "$name" "there is no call in it"; fi
-    if ((!damaged)); then again "$name" && elsewhere "$name"; fi
+    if ((!damaged)); then
+        "$program" holdings --book "$book" </dev/null >"$scratch/held"
+        again "$name" "$scratch/held" && elsewhere "$name"
+    fi
 done
 
 # ---- the stored cases: what a book in a file holds is what is printed without words
@@ -111,7 +114,7 @@ while IFS= read -r ledger; do
     "$program" post --book "$book" --batch a <"$ledger" >"$scratch/out" 2>"$scratch/err"
     run holdings --book "$book" </dev/null
     expect "$name: the holdings" 0 "$scratch/held"
-    again "$name"
+    again "$name" "$scratch/held"
 done < <(find "$root/tests/cases" "$examples" -name '*.ledger' | sort)
 
 # ---- ledgers that are drawn from seeds, beside plain reports
@@ -250,6 +253,8 @@ post_to_range() {
         fail "$1" "$(grep -m 1 -v accepted "$scratch/out")"
     fi
 }
+# more NAME: posts one command more, this call's standard input, to that book.
+more() { "$program" post --book "$book" --batch more >"$scratch/out" || fail "$1" "$(<"$scratch/out")"; }
 # ends_at NAME FILE WORDS..: the report is the file, and the fault behind it.
 ends_at() {
     { cat "$2" && echo "fault P1 Range"; } >"$scratch/expected"
@@ -272,16 +277,16 @@ cost_rows() {
     seq -f "Assets:Coins -$1 C%05g" "$3"
     seq -f "Assets:Lots $1 C%05g {$2 USD, 2020-01-01}" "$4"
 }
-costs 10001 "$most" "$dearest" | post_to_range "a cost too many"
+costs 10000 "$most" "$dearest" | post_to_range "the greatest total cost of such rows"
+{ cost_rows "$most" "$dearest" 10000 10000 && echo "total cost $total USD"; } >"$scratch/expected"
+run holdings --book "$book" </dev/null
+expect "a total cost that stays in its range" 0 "$scratch/expected"
+printf '2020-01-01 *\n  Assets:Lots %s C10001 {%s USD}\n  Assets:Coins -%s C10001 @ %s USD\n' "$most" "$dearest" "$most" "$dearest" | more "a cost too many"
 cost_rows "$most" "$dearest" 10001 10000 >"$scratch/rows"
 ends_at "a total cost that leaves its range in the last row" "$scratch/rows" holdings
 { accepted 1 315 && cat "$scratch/rows" && echo "fault P1 Range"; } >"$scratch/expected"
 costs 10001 "$most" "$dearest" | run
 expect "the same without words" 4 "$scratch/expected"
-costs 10000 "$most" "$dearest" | post_to_range "the greatest total cost of such rows"
-{ cost_rows "$most" "$dearest" 10000 10000 && echo "total cost $total USD"; } >"$scratch/expected"
-run holdings --book "$book" </dev/null
-expect "a total cost that stays in its range" 0 "$scratch/expected"
 
 # The greatest total itself, and the least cost more.
 costs 25000 8000000000 50000000 | post_to_range "the greatest total cost"
@@ -327,7 +332,11 @@ gain_rows() {
     yes "2020-01-01 Assets:Lots -$most HOOL proceeds $each cost 0.00 gain $each USD
   -$most HOOL {0 USD, 2020-01-01}" | head -n $((2 * $1))
 }
-gains 10001 | post_to_range "a gain too many"
+gains 10000 | post_to_range "the greatest total gain"
+{ gain_rows 10000 && echo "total gain $total USD"; } >"$scratch/expected"
+run gains --book "$book" </dev/null
+expect "a total gain that stays in its range" 0 "$scratch/expected"
+gains 1 | tail -n +2 | more "a gain too many"
 gain_rows 10000 >"$scratch/rows"
 ends_at "a total gain that leaves its range in the last sale" "$scratch/rows" gains
 printf '2020-01-02 *\n  Assets:Lots 2 HOOL {0 USD}\n  Assets:Lots -2 HOOL {} @ 1.5 USD\n' |
@@ -335,10 +344,6 @@ printf '2020-01-02 *\n  Assets:Lots 2 HOOL {0 USD}\n  Assets:Lots -2 HOOL {} @ 1
 prints "the gains of that day" 0 "2020-01-02 Assets:Lots -2 HOOL proceeds 3.00 cost 0.00 gain 3.00 USD
   -2 HOOL {0 USD, 2020-01-02}
 total gain 3.00 USD" gains --book "$book" --first 2020-01-02 </dev/null
-gains 10000 | post_to_range "the greatest total gain"
-{ gain_rows 10000 && echo "total gain $total USD"; } >"$scratch/expected"
-run gains --book "$book" </dev/null
-expect "a total gain that stays in its range" 0 "$scratch/expected"
 
 # ---- the longest line of a journal: far longer than a line of the other reports
 
@@ -358,18 +363,21 @@ prints "the holdings of long names" 0 "$account -1.00 $commodity
 $account 1 $commodity {1 $commodity, 2020-01-02, \"$label\"}
 total cost 1.00 $commodity" holdings --book "$book" </dev/null
 
-# ---- 100,000 entries: a few seconds for each report, of which the file's opening is most
+# ---- a large book: of 100,000 entries a report takes a few seconds, of which the file's opening is most
 
+count=${1:-14600} # of trades; three accounts are opened, and each forty trades have a commodity with a price
 fresh
-trades 97558 40 >"$scratch/many"
+trades "$count" 40 >"$scratch/many"
 "$program" post --book "$book" --batch a <"$scratch/many" >"$scratch/out" 2>"$scratch/err" && status=0 || status=$?
-accepted 1 100000 >"$scratch/expected"
-expect "100,000 entries are accepted" 0 "$scratch/expected"
+accepted 1 $((3 + count + (count + 39) / 40)) >"$scratch/expected"
+expect "the entries of a large book are accepted" 0 "$scratch/expected"
 
-# The commodities and labels of the 51,218 purchases in their order; of each commodity all but the last two, 46,340, are sold.
-awk 'BEGIN { for (n = 0; n < 97558; n++) if (n % 2 == 0 || n % 40 == 1) printf "C%04d %06d\n", n / 40, n }' >"$scratch/bought"
+# The commodities and labels of the purchases in their order; of each commodity all but the last two are sold.
+awk -v count="$count" 'BEGIN { for (n = 0; n < count; n++) if (n % 2 == 0 || n % 40 == 1) printf "C%04d %06d\n", n / 40, n }' >"$scratch/bought"
 tac "$scratch/bought" | awk '++of[$1] <= 2' | tac >"$scratch/left"
 tac "$scratch/bought" | awk '++of[$1] > 2' | tac >"$scratch/sold"
+held=$(wc -l <"$scratch/left") gone=$(wc -l <"$scratch/sold")
+product() { awk -v count="$1" -v each="$2" 'BEGIN { printf "%.2f USD", count * each }'; }
 
 # in_time NAME WORDS..: the report is what is expected, and takes no longer than half a minute, on a machine with other work.
 in_time() {
@@ -383,14 +391,15 @@ in_time() {
         printf "2020-02-01 Assets:Broker -1 %s proceeds 130.00 cost 100.25 gain 29.75 USD\n", $1
         printf "  -1 %s {100.25 USD, 2020-02-01, \"%s\"}\n", $1, $2
     }' "$scratch/sold"
-    echo "total gain 1378615.00 USD"
+    echo "total gain $(product "$gone" 29.75)"
 } >"$scratch/expected"
-in_time "the gains of 100,000 entries" gains
+in_time "the gains of a large book" gains
 {
     awk '{ printf "Assets:Broker 1 %s {100.25 USD, 2020-02-01, \"%s\"} value 150.00 USD\n", $1, $2 }' "$scratch/left"
-    printf '%s\n' "Assets:Cash 889595.50 USD" "Income:Gains -1378615.00 USD" "total cost 489019.50 USD" "total value 731700.00 USD"
+    awk -v held="$held" -v gone="$gone" 'BEGIN { printf "Assets:Cash %.2f USD\n", gone * 29.75 - held * 100.25 }'
+    printf '%s\n' "Income:Gains $(product "$gone" -29.75)" "total cost $(product "$held" 100.25)" "total value $(product "$held" 150)"
 } >"$scratch/expected"
-in_time "the holdings of 100,000 entries" holdings --day 2020-12-31
+in_time "the holdings of a large book" holdings --day 2020-12-31
 awk '/^2/ { printf "; entry %d key post:a %d\n", ++n, n } { print }' "$scratch/many" >"$scratch/expected"
-in_time "the journal of 100,000 entries" journal
+in_time "the journal of a large book" journal
 finish

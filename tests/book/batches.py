@@ -1,14 +1,16 @@
-"""Posts the stored cases to books in files, each in one batch and each command in a batch of its own.
+"""Posts the stored cases to books in files, each in one batch, and in several.
 
-    batches.py PROGRAM FOLDER SCRATCH
+    batches.py PROGRAM FOLDER SCRATCH [--whole]
 
-The replies are those of the stored answer, with the number 1 where a command is alone, and the tables hold what the stored
-answer prints, with the opening number that the legs give each lot, and no migrated entry. A faulty text has its fault, and changes
-nothing. It prints a line `ok NAME` or `FAILED NAME: ..` for each case.
+Several are up to four, or with --whole one for each command. The replies are those of the stored answer, with the numbers of their
+batch, and the tables hold what the stored answer prints, with the opening number that the legs give each lot, and no migrated entry.
+A faulty text, each third one or with --whole each, has its fault, and changes nothing. It prints a line `ok NAME` or `FAILED NAME: ..`
+for each case.
 """
 
 import concurrent.futures
 import os
+import shutil
 import subprocess
 import sys
 
@@ -17,7 +19,8 @@ sys.path.append(os.path.join(os.path.dirname(os.path.abspath(__file__)), "..", "
 import notes
 import tables
 
-WAYS = {"in one batch": lambda text: [text], "a batch for each command": lambda text: commands_of(text)}
+SEVERAL = 4
+THIRD = 3
 
 
 def commands_of(text):
@@ -29,6 +32,13 @@ def commands_of(text):
         elif line[:1] in (" ", "\t") and parts:
             parts[-1] += line + "\n"
     return parts
+
+
+def in_parts(text, most):
+    """The text in parts of some commands each, up to so many, or of one each."""
+    commands = commands_of(text)
+    each = max(1, -(-len(commands) // most)) if most else 1
+    return ["".join(commands[at : at + each]) for at in range(0, len(commands), each)]
 
 
 def call(program, words, text=b""):
@@ -46,13 +56,12 @@ def make(program, book):
     return "" if made == ("book ready\n", "", 0) else f"init: {made}"
 
 
-def fault_of(program, book, text, answer, batches):
-    """What is wrong with a case, or nothing."""
+def fault_of(program, empty, book, answer, batches):
+    """What is wrong with a case on a copy of an empty book, or nothing."""
     replies = [line for line in answer if line[:1].isdigit()]
-    if fault := make(program, book):
-        return fault
+    shutil.copyfile(empty, book)
     told = []
-    for number, batch in enumerate(batches(text), 1):
+    for number, batch in enumerate(batches, 1):
         output, errors, status = post(program, book, f"b{number}", batch.encode())
         lines = output.splitlines()
         wanted = int(any(" refused " in line for line in lines))
@@ -85,10 +94,9 @@ def cases(folder):
                 yield path, text, expected.read().splitlines()
 
 
-def faulty(program, book, texts):
-    """What is wrong with faulty texts that are posted to a book without entries, or nothing."""
-    if fault := make(program, book):
-        return fault
+def faulty(program, empty, book, texts):
+    """What is wrong with faulty texts that are posted to a copy of an empty book, or nothing."""
+    shutil.copyfile(empty, book)
     before = tables.contents(book)
     for path, text, answer in texts:
         told = post(program, book, "a", text)
@@ -98,18 +106,23 @@ def faulty(program, book, texts):
 
 
 def main():
-    program, folder, scratch = sys.argv[1:]
+    program, folder, scratch, *whole = sys.argv[1:]
+    empty = os.path.join(scratch, "empty.book")
+    if fault := make(program, empty):
+        sys.exit(f"no book could be made: {fault}")
     stored = list(cases(folder))
     texts = [case for case in stored if case[2][:1] and case[2][0].startswith("fault ")]
     judged = [case for case in stored if case not in texts]
+    if not whole:
+        texts = texts[::THIRD]
     with concurrent.futures.ThreadPoolExecutor(os.cpu_count()) as pool:
         jobs = []
         for path, text, answer in judged:
-            for way, batches in WAYS.items():
+            for way, batches in (("in one batch", [text.decode()]), ("in several", in_parts(text.decode(), None if whole else SEVERAL))):
                 case = f"{os.path.relpath(path, folder)[: -len('.ledger')]}, {way}"
                 book = os.path.join(scratch, f"case-{case.replace('/', '-').replace(' ', '-')}.book")
-                jobs.append((case, pool.submit(fault_of, program, book, text.decode(), answer, batches)))
-        jobs.append((f"{len(texts)} faulty texts", pool.submit(faulty, program, os.path.join(scratch, "faulty.book"), texts)))
+                jobs.append((case, pool.submit(fault_of, program, empty, book, answer, batches)))
+        jobs.append((f"{len(texts)} faulty texts", pool.submit(faulty, program, empty, os.path.join(scratch, "faulty.book"), texts)))
         for case, job in jobs:
             fault = job.result()
             print(f"FAILED {case}: {fault}" if fault else f"ok {case}")

@@ -162,7 +162,7 @@ def main():
     words = argparse.ArgumentParser()
     words.add_argument("program")
     words.add_argument("--first", type=int, default=1)
-    words.add_argument("--count", type=int, default=400)
+    words.add_argument("--count", type=int, default=200)
     words = words.parse_args()
     seeds = range(words.first, words.first + words.count)
     parts = [seeds[at : at + A_CASE] for at in range(0, len(seeds), A_CASE)]

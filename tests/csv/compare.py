@@ -160,7 +160,7 @@ def compare(program, scratch, seed):
     subprocess.run([program, "post", "--book", book, "--batch", "r"], input=text, capture_output=True, timeout=600)
     days, ranges = reports.asked(rng, drawing.book)
     asked = [(["holdings"], holdings(drawing.book, None, seen))]
-    asked += [(["holdings", "--day", day_text(day)], holdings(drawing.book, day, seen)) for day in days[:2]]
+    asked += [(["holdings", "--day", day_text(day)], holdings(drawing.book, day, seen)) for day in days]
     asked.append((["gains"], gains(drawing.book, reports.FIRST_DAY, reports.LAST_DAY, seen)))
     for first, last in ranges:
         asked.append((["gains", "--first", day_text(first), "--last", day_text(last)], gains(drawing.book, first, last, seen)))
@@ -188,7 +188,7 @@ def main():
     words.add_argument("program")
     words.add_argument("scratch")
     words.add_argument("--first", type=int, default=1)
-    words.add_argument("--count", type=int, default=200)
+    words.add_argument("--count", type=int, default=100)
     words = words.parse_args()
     census = collections.Counter()
     for start in range(words.first, words.first + words.count, A_CASE):

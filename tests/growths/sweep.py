@@ -48,7 +48,8 @@ ONE, ALL = range(2)
 REFUSED = ("this one", "this one and all that follow")
 WHOSE = ("of the program's own code", "of the C library", "before main, which aren't refused")
 
-STEP = 23
+STEP = 11
+LONGER_STEP = 47  # of the calls that do more
 MEMORY = "fault Memory"
 OF_A_COPY = ("fault S4 Device", "fault S5 InDoubt")  # to the database a copy for which memory ends is a disk that fails
 KEEPS_NOTHING = {"--dry-run", "--all-or-none"}  # the second where a command is refused
@@ -373,7 +374,6 @@ def journal_of(program, scratch, before):
 
 def short_calls(texts):
     """Those of which each growth is refused."""
-    filled = [MAKE, (POST, texts["a sale"])]
     yield Call("no words, no input", [])
     for name, text in texts.items():
         yield Call(f"no words, {name}", [], text)
@@ -389,24 +389,25 @@ def short_calls(texts):
     yield Call("a post to a file that isn't there", POST, texts["the first purchase"])
     yield Call("a report of a folder", ["journal", "--book", "/"])
     yield Call("a report of a file that is no database", ["gains", "--book", BOOK], file=b"no database\n" * 1000)
-    yield Call("init", INIT)
+    yield Call("migrate a file that isn't there", MIGRATE)
     yield Call("post of the first purchase", POST, texts["the first purchase"], [MAKE])
+
+
+def calls_on_a_book(texts, older):
+    """Those that make a book or open one, and don't do much with it. `older` is the file of a book of edition 1."""
+    filled = [MAKE, (POST, texts["a sale"])]
+    yield Call("init", INIT)
     yield Call("verify of a sale", ["verify", "--book", BOOK], before=filled)
     yield Call("a report of an empty file", ["journal", "--book", BOOK], file=b"")
     yield Call("a dry run of init", [*INIT, "--dry-run"])
     yield Call("a dry run of the first purchase", [*POST, "--dry-run"], texts["the first purchase"], [MAKE])
     yield Call("all or none of a text that is refused", [*POST[:-1], "b", "--all-or-none"], texts["the first purchase"], filled)
-
-
-def migrations(older):
-    """Those of `migrate`, of which each growth is refused, too."""
     yield Call("migrate a book of edition 1", MIGRATE, file=older)
     yield Call("migrate a book of edition 2", MIGRATE, before=[MAKE])
-    yield Call("migrate a file that isn't there", MIGRATE)
 
 
 def longer_calls(texts, broker, older):
-    """Those of which each growth is refused with --whole. `older` is the file of a book of edition 1."""
+    """Those that do more with a book."""
     filled = [MAKE, (POST, texts["a sale"])]
     accounts = [MAKE, (["post", "--book", BOOK, "--batch", "accounts"], broker["accounts.ledger"])]
     yield Call("init of a book that is there", INIT, before=[MAKE])
@@ -454,8 +455,9 @@ def sweep_all(words, scratch):
     }
     broker = {name: content(EXAMPLES, "broker", name) for name in ("accounts.ledger", "2024.csv", "2025.csv")}
     older = older_book(scratch)
-    calls = [(call, 1) for call in (*short_calls(texts), *migrations(older))]
-    calls += [(call, 1 if words.whole else STEP) for call in longer_calls(texts, broker, older)]
+    calls = [(call, 1) for call in short_calls(texts)]
+    calls += [(call, 1 if words.whole else STEP) for call in calls_on_a_book(texts, older)]
+    calls += [(call, 1 if words.whole else LONGER_STEP) for call in longer_calls(texts, broker, older)]
     total = Found()
     with concurrent.futures.ProcessPoolExecutor(len(os.sched_getaffinity(0))) as pool:
         jobs = [

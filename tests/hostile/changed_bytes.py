@@ -21,7 +21,7 @@ import tables
 from small_book import COUNT, PAGE, REPORTS, UNREADABLE, WORDS, WRITERS, ask, read, small_book, with_log
 
 CHANGES = 20_000  # of the file, and a tenth of them of the log
-CHANGES_IN_THE_GATE = 100
+CHANGES_IN_THE_GATE = 40
 MADE = "made where no table is left"
 LOG_HEADER, FRAME_HEADER = 32, 24
 

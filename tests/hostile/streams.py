@@ -3,7 +3,7 @@
     streams.py PROGRAM SCRATCH [--whole]
 
 The input fails, or comes to an end, behind each of its bytes; the output takes each number of bytes and no more. What a book then
-holds is read by SQLite's own library, on every table. Without --whole the longer ones take only some numbers.
+holds is read by SQLite's own library, on every table. Without --whole only some numbers are taken.
 """
 
 import array
@@ -22,7 +22,7 @@ import sweep
 import compare
 import tables
 
-IN_THE_GATE = 25  # places of a sweep
+IN_THE_GATE = 12  # places of a sweep
 MOST_LINES = 50_000  # of a file that grows: with the comments less than an input may have
 ROOM = 1 << 22  # bytes that a file may have where an output is limited: more than a book and its log
 
@@ -311,13 +311,13 @@ def commands_of(text, count, word):
     return b"".join(lines[: [*begins, len(lines)][count]])
 
 
-def limited_replies(ground):
+def limited_replies(ground, all_of_them):
     """Replies of which so many bytes can be written: what was replied to stands, and the command of the line that can't be written."""
     done = sweep.Sweep()
     for name, words, text in list(ground.ways())[1:]:
         lines, held = stands_after(ground, words, text)
         whole = b"".join(lines)
-        for count in range(len(whole) + 1):
+        for count in some(range(len(whole) + 1), all_of_them):
             got = limited(ground, words, text, count)
             wanted = whole[:count], 4 if count < len(whole) else 1
             done.compare(f"{name}, {count} bytes", f"{name} to so many bytes", wanted, got, warns(words), begun(whole, count))
@@ -332,13 +332,13 @@ def limited_replies(ground):
     return done
 
 
-def limited_faults(ground):
+def limited_faults(ground, all_of_them):
     """A fault whose line can't be written: of the input, which applies nothing, and of a damaged row, of whose command nothing stands."""
     done = sweep.Sweep()
     for name, words, text in list(ground.ways())[1:]:
         faulty = text + b"x\n"
         whole = ground.call(words, faulty).output
-        for count in range(len(whole) + 1):
+        for count in some(range(len(whole) + 1), all_of_them):
             got = limited(ground, words, faulty, count)
             wanted = whole[:count], 4 if count < len(whole) else 3
             done.compare(f"{name}, {count} bytes", f"{name} of a faulty input", wanted, got, said=begun(whole, count))
@@ -348,7 +348,7 @@ def limited_faults(ground):
     whole = sweep.lines("1 accepted", "2 fault S7 Damaged")
     text = b"2020-01-01 open Assets:Other\n2020-01-02 *\n  Assets:Cash 1 USD\n  Assets:Other\n2020-01-01 open Assets:Third\n"
     words = ["post", "--book", ground.book, *POST]
-    for count in range(len(whole) + 1):
+    for count in some(range(len(whole) + 1), all_of_them):
         got = limited(ground, words, text, count)
         done.compare(f"damage, {count} bytes", "post on a damaged row", (whole[:count], 4), got, said=begun(whole, count))
         held = tables.contents(ground.book)
@@ -467,8 +467,8 @@ def main():
     hung_up(ground).tell("a terminal that hangs up")
     odd_inputs(ground).tell("inputs that can't be read, and the book itself as input")
     growing(ground, 20 if words.whole else 3).tell("a file that grows while it is read")
-    limited_replies(ground).tell("replies to an output that takes so many bytes")
-    limited_faults(ground).tell("faults to an output that takes so many bytes")
+    limited_replies(ground, words.whole).tell("replies to an output that takes so many bytes")
+    limited_faults(ground, words.whole).tell("faults to an output that takes so many bytes")
     limited_reports(ground, words.whole).tell("reports to an output that takes so many bytes")
     gone_readers(ground).tell("outputs that nobody reads")
     closed(ground).tell("each choice of closed streams")

@@ -10,6 +10,10 @@ scratch=$(mktemp -d) || exit 1
 trap 'rm -rf "$scratch"' EXIT
 export LC_ALL=C
 
+# Where the command `python3` is a script that looks for the interpreter, which takes longer than the interpreter's start, it looks once.
+wrapper=$(command -v python3) && read -rN 2 begin 2>/dev/null <"$wrapper" && [[ $begin == "#!" ]] &&
+    interpreter=$(python3 -c 'import sys; print(sys.executable)') && [[ -x ${interpreter%/*}/python3 ]] && PATH=${interpreter%/*}:$PATH
+
 passed=0 failed=0
 
 pass() { passed=$((passed + 1)) && echo "ok $1"; }
@@ -54,7 +58,8 @@ expect() {
         fail "$1" "status $status instead of $2"
     elif ! cmp -s "$scratch/out" "$3"; then
         fail "$1" "other output: $(diff "$3" "$scratch/out" 2>&1 | head -n 6 | cut -c 1-200 | tr '\n' '|')"
-    elif grep -qv '^lotbook: ' "$scratch/err" || { ((status == 0)) && grep -qvE 'warning: |: \.\.\. and [0-9]+ more$' "$scratch/err"; }; then
+    elif [[ -s $scratch/err ]] &&
+        { grep -qv '^lotbook: ' "$scratch/err" || { ((status == 0)) && grep -qvE 'warning: |: \.\.\. and [0-9]+ more$' "$scratch/err"; }; }; then
         fail "$1" "on standard error: $(grep -m 1 -v '^lotbook: ' "$scratch/err" || head -n 1 "$scratch/err")"
     else
         pass "$1"

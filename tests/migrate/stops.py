@@ -1,9 +1,10 @@
 """Stops `migrate` at random moments, and has it meet a disk without room.
 
-    stops.py PROGRAM SCRATCH [--entries N] [--kills N] [--seed N]
+    stops.py PROGRAM SCRATCH [--entries N] [--kills N] [--step STEP] [--seed N]
 
 After each stop the file is a book of edition 1 or of edition 2, by what its table `book` says, with all tables of that edition as they
-have to be; and `migrate` again makes what one makes that isn't stopped. A line `ok NAME` or `FAILED NAME: ..` for each case.
+have to be; and `migrate` again makes what one makes that isn't stopped. Of the lengths that files may have each STEPth is tried. A line
+`ok NAME` or `FAILED NAME: ..` for each case.
 """
 
 import argparse
@@ -118,10 +119,10 @@ def roomless(ground, room):
     return ground.fault_then(said == "book migrated\n")[1], said
 
 
-def rooms(ground):
+def rooms(ground, step):
     """What is wrong where files may be of several lengths, or nothing: some that the log passes, some that the book's file does."""
     size, said = os.path.getsize(ground.source), set()
-    for room in [*range(0, 400 * 1024, 16 * 1024), *(size + pages * 4096 for pages in range(-8, 40, 4))]:
+    for room in [*range(0, 400 * 1024, 16 * 1024), *(size + pages * 4096 for pages in range(-8, 40, 4))][::step]:
         fault, line = roomless(ground, room)
         if fault:
             return f"with room for {room} bytes: {fault}"
@@ -139,6 +140,7 @@ def main():
     parser.add_argument("scratch")
     parser.add_argument("--entries", type=int, default=3003)
     parser.add_argument("--kills", type=int, default=100)
+    parser.add_argument("--step", type=int, default=1)
     parser.add_argument("--seed", type=int, default=1)
     words = parser.parse_args()
     ground = Ground(words.program, words.scratch, words.entries)
@@ -146,7 +148,7 @@ def main():
     for name, fault in (
         ("a migration without a stop", ground.whole_fault),
         (f"killed {words.kills} times, a book is of one edition or of the other", lambda: killed(ground, rng, words.kills)),
-        ("without room for the log or for the file", lambda: rooms(ground)),
+        ("without room for the log or for the file", lambda: rooms(ground, words.step)),
     ):
         found = fault()
         print(f"FAILED {name}: {found}" if found else f"ok {name}", flush=True)

@@ -267,12 +267,12 @@ def quote_more(rng, drawing):
 
 
 def asked(rng, book):
-    """The days and the ranges to ask for: around those of the ledger, and at the ends of the calendar."""
+    """Some days and ranges to ask for: around those of the ledger, and at the ends of the calendar."""
     days = sorted({entry.command.day for entry in book}) or [(2020, 1, 1)]
     sold = [e.command.day for e in book if any(booked.reduces for booked in e.booked)] or days
     one = rng.choice(sold)
     ranges = [(FIRST_DAY, LAST_DAY), (one, one), (FIRST_DAY, one), (one, LAST_DAY), (rng.choice(days), rng.choice(days)), (LAST_DAY, FIRST_DAY)]
-    return [rng.choice(days), rng.choice(days), FIRST_DAY, LAST_DAY], ranges
+    return rng.sample([rng.choice(days), rng.choice(days), FIRST_DAY, LAST_DAY], 2), rng.sample(ranges, 3)
 
 
 def compare(program, scratch, seed):
@@ -326,7 +326,7 @@ def main():
     words.add_argument("program")
     words.add_argument("scratch")
     words.add_argument("--first", type=int, default=1)
-    words.add_argument("--count", type=int, default=400)
+    words.add_argument("--count", type=int, default=200)
     words = words.parse_args()
     seeds = range(words.first, words.first + words.count)
     census = collections.Counter()
