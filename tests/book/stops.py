@@ -3,7 +3,7 @@
     stops.py PROGRAM SCRATCH [--commands N] [--kills N] [--seed N]
 
 The book that is left in the end has the rows of one that was posted to without a stop, and after each stop it has every
-command that was acknowledged. A line `ok NAME` or `FAILED NAME: ..` for each case.
+command that was acknowledged. Twice as often it is killed while a book is made. A line `ok NAME` or `FAILED NAME: ..` for each case.
 """
 
 import argparse
@@ -143,7 +143,7 @@ def main():
     fault = stopped_posts(words.program, words.scratch, path, rng, words.kills, words.commands, took)
     name = f"killed {words.kills} times, no acknowledged command is lost, and the rows are those of one run"
     print(f"FAILED {name}: {fault}" if fault else f"ok {name}")
-    fault = stopped_inits(words.program, words.scratch, rng, words.kills)
+    fault = stopped_inits(words.program, words.scratch, rng, 2 * words.kills)
     print(f"FAILED killed while a book is made: {fault}" if fault else "ok killed while a book is made")
 
 

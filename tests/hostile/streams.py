@@ -177,7 +177,8 @@ def failing_reads(ground, whole):
                 got = ground.call(words, stdin=descriptors[0])
                 for descriptor in descriptors:
                     os.close(descriptor)
-                done.compare(f"{name}, {kind.__name__}, {at}", name, wanted, got, at == len(text) and warns(words))
+                # The last row is whole without its line end, too.
+                done.compare(f"{name}, {kind.__name__}, {at}", name, wanted, got, at >= len(text) - 1 and warns(words))
                 done.also(ground.applied_nothing())
     return done
 

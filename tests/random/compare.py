@@ -274,7 +274,7 @@ def main():
     words = argparse.ArgumentParser()
     words.add_argument("program")
     words.add_argument("--first", type=int, default=1)
-    words.add_argument("--count", type=int, default=1600)
+    words.add_argument("--count", type=int, default=1800)
     words.add_argument("--changed", type=int, default=1)
     words.add_argument("--crowded", nargs="*", default=["NONE", "FIFO"], choices=model.METHODS)
     words = words.parse_args()
