@@ -102,13 +102,32 @@ fn on_copy(call: &Call<'_>, copy: Connection<FileStore<Image>>) -> u8
     status
 }
 
-/// Does it on a copy, with the replies held back. Where the copy accepted every command, it does the same on the
-/// file, with the same input. Else the replies of the copy are those of the call.
+/// Does it on a copy, and where that accepted every command, on the file, with the same input.
 fn all_or_none(call: &Call<'_>, path: &str) -> Result<u8, Cause> {
-    let (rt, alloc) = (call.rt, call.rt.alloc());
     // The file is open meanwhile, so no other program writes it in between.
-    let file = open(rt, path)?;
-    let copy = open_copy(rt, path)?;
+    let file = open(call.rt, path)?;
+    Ok(match try_on_copy(call, open_copy(call.rt, path)?)? {
+        Tried::Accepted(input) => on_file(call, Input::Again(&input), file),
+        Tried::Ended(status) => status,
+    })
+}
+
+/// What a call came to on a copy.
+#[derive(Drop)]
+enum Tried {
+    /// Every command of this input was accepted.
+    Accepted(Vec<u8>),
+    /// The call ended there, with this status.
+    Ended(u8),
+}
+
+/// Does it on a copy, with the replies held back. Unless the copy accepted every command, its
+/// replies are those of the call.
+fn try_on_copy(call: &Call<'_>, copy: Connection<FileStore<Image>>) -> Result<Tried, Cause>
+    requires outside { copy.in_transaction ≡ false }
+    requires unlimited { copy.step_limit ≡ None }
+{
+    let (rt, alloc) = (call.rt, call.rt.alloc());
     let mut reader = Keeper {
         reader: Input::Standard(rt.reader()),
         kept: Kept::new(alloc),
@@ -119,16 +138,16 @@ fn all_or_none(call: &Call<'_>, path: &str) -> Result<u8, Cause> {
         halt,
         mut conn,
     } = do_quietly(call, &mut reader, &mut writer, copy);
-    let (Some(input), Some(replies)) = (&reader.kept.bytes, writer.writer.held()) else {
+    let (Some(_), Some(replies)) = (&reader.kept.bytes, writer.writer.held()) else {
         return Err(Cause::Memory);
     };
     if status == DONE {
-        return Ok(on_file(call, Input::Again(input), file));
+        return reader.kept.bytes.map(Tried::Accepted).ok_or(Cause::Memory);
     }
     let is_written = io::writer(rt).write_all(replies).is_ok();
     speak(call, &reader.kept, &writer.heard, halt, &mut conn);
     if halt.is_none() {
         withdraw(call);
     }
-    Ok(if is_written { status } else { STOPPED })
+    Ok(Tried::Ended(if is_written { status } else { STOPPED }))
 }
