@@ -33,15 +33,21 @@ pub fn open_copy(rt: &HostRuntime, path: &str) -> Result<Connection<FileStore<Im
     let alloc = rt.alloc();
     if is_missing(rt, path) && fs::symlink_metadata(rt, path).is_err() {
         ensure_names_file(path)?;
-        return open_images(
-            alloc,
-            Files {
-                log: Image::new(Vec::new(alloc)),
-                db: Image::new(Vec::new(alloc)),
-            },
-        );
+        return open_nothing(alloc);
     }
     let files = copied(rt, &locate(rt, path)?)?;
+    open_images(alloc, files)
+}
+
+/// Opens an empty database in memory.
+pub fn open_nothing(alloc: Global) -> Result<Connection<FileStore<Image>>, Cause>
+    ensures outside { IfOk result (λ conn. conn.in_transaction ≡ false) }
+    ensures unlimited { IfOk result (λ conn. conn.step_limit ≡ None) }
+{
+    let files = Files {
+        log: Image::new(Vec::new(alloc)),
+        db: Image::new(Vec::new(alloc)),
+    };
     open_images(alloc, files)
 }
 

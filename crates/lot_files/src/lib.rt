@@ -13,7 +13,7 @@ mod image;
 mod opened;
 
 pub use cause::Cause;
-pub use copy::open_copy;
+pub use copy::{open_copy, open_nothing};
 pub use files::{ensure_openable, is_missing, library_path, open};
 pub use image::Image;
 pub use opened::{Access, Opened, open_book};

@@ -1,31 +1,62 @@
-//! Standard output.
+//! Standard output, and what is held back of it.
 
 use crate::meter::Meter;
+use crate::record::Kept;
 use std::io::{self, BufWriter, Printer, Write};
+use std::mem;
 
-/// Standard output.
+/// Standard output, or what may be written there later.
 ///
 /// The replies of a run are written out at once, and a meter counts them. Other text goes through a
-/// buffer.
+/// buffer. What is held back stays in memory.
 #[derive(Drop)]
 pub struct Output<'a> {
     rt: &'a HostRuntime,
-    /// `None` for replies, and where there is no memory for a buffer.
-    buffer: Option<BufWriter<Printer<'a, HostRuntime>>>,
+    to: Target<'a>,
     replies: Meter<'a>,
+}
+
+/// Where an output goes.
+#[derive(Drop)]
+enum Target<'a> {
+    /// Replies, and text where there is no memory for a buffer.
+    AtOnce,
+    Buffered(BufWriter<Printer<'a, HostRuntime>>),
+    Held(Kept),
 }
 
 impl<'a> Output<'a> {
     /// Returns an output of replies to what is named, in the plural; or without such a name of text that
     /// is written whole, or nearly so.
     pub fn new(rt: &'a HostRuntime, counted: Option<&'static str>) -> Output<'a> {
+        let to = match counted {
+            Some(_) => Target::AtOnce,
+            None => match BufWriter::new(rt.alloc(), io::writer(rt)) {
+                Ok(buffer) => Target::Buffered(buffer),
+                Err(_) => Target::AtOnce,
+            },
+        };
         Output {
             rt,
-            buffer: match counted {
-                Some(_) => None,
-                None => BufWriter::new(rt.alloc(), io::writer(rt)).ok(),
-            },
+            to,
             replies: Meter::of_replies(rt, counted),
+        }
+    }
+
+    /// Returns an output that is held back.
+    pub fn held_back(rt: &'a HostRuntime) -> Output<'a> {
+        Output {
+            rt,
+            to: Target::Held(Kept::new(rt.alloc())),
+            replies: Meter::of_replies(rt, None),
+        }
+    }
+
+    /// Returns what was held back, if there was memory for all of it.
+    pub fn held(&self) -> Option<&[u8]> {
+        match &self.to {
+            Target::Held(Kept { bytes: Some(bytes) }) => Some(bytes),
+            _ => None,
         }
     }
 
@@ -33,7 +64,7 @@ impl<'a> Output<'a> {
     pub fn end(&mut self) {
         self.replies.end();
         // Dropping the buffer would try once more.
-        if let Some(buffer) = self.buffer.take() {
+        if let Target::Buffered(buffer) = mem::replace(&mut self.to, Target::AtOnce) {
             let _unwritten = buffer.into_parts();
         }
     }
@@ -41,18 +72,22 @@ impl<'a> Output<'a> {
 
 impl Write for Output<'_> {
     fn write(&mut self, buf: &[u8]) -> io::Result<usize> {
-        match &mut self.buffer {
-            Some(buffer) => buffer.write(buf),
-            None => io::writer(self.rt).write(buf),
+        match &mut self.to {
+            Target::AtOnce => io::writer(self.rt).write(buf),
+            Target::Buffered(buffer) => buffer.write(buf),
+            Target::Held(kept) => kept.write(buf),
         }
     }
 
     /// Writes out what is in the buffer, or counts the reply that was written.
     fn flush(&mut self) -> io::Result<()> {
-        if let Some(buffer) = &mut self.buffer {
-            return buffer.flush();
+        match &mut self.to {
+            Target::AtOnce => {
+                self.replies.add(1);
+                Ok(())
+            }
+            Target::Buffered(buffer) => buffer.flush(),
+            Target::Held(_) => Ok(()),
         }
-        self.replies.add(1);
-        Ok(())
     }
 }

@@ -8,17 +8,12 @@ use lot_cli::{
     VerifyFault, serve,
 };
 use lot_damage::say_where;
-use lot_output::{Heard, Keeper, Kept, Meter, Output, Witness};
+use lot_output::{Heard, Input, Keeper, Kept, Meter, Output, Witness};
 use sqlite::{Alter, Connection};
-use std::io::{Read, Write};
 
 /// Does what a call is for on the book that the connection leads to, with that input, and says on
 /// standard error what there is to say of it.
-pub fn answer<R: Read + Drop, S: Alter>(
-    call: &Call<'_>,
-    reader: R,
-    conn: Connection<S>,
-) -> Served<S>
+pub fn answer<S: Alter>(call: &Call<'_>, reader: Input<'_>, conn: Connection<S>) -> Served<S>
     requires outside { conn.in_transaction ≡ false }
     requires unlimited { conn.step_limit ≡ None }
 {
@@ -44,10 +39,10 @@ pub fn answer<R: Read + Drop, S: Alter>(
 
 /// Does what a call is for, and says nothing of it. All that `serve` says is left out here, so that
 /// its callers are proved without it.
-pub fn do_quietly<R: Read, W: Write, S: Alter>(
+pub fn do_quietly<S: Alter>(
     call: &Call<'_>,
-    reader: &mut Keeper<R>,
-    writer: &mut Witness<W>,
+    reader: &mut Keeper<Input<'_>>,
+    writer: &mut Witness<Output<'_>>,
     conn: Connection<S>,
 ) -> Served<S>
     requires outside { conn.in_transaction ≡ false }

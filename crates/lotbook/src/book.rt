@@ -6,11 +6,12 @@ use crate::answer::{answer, do_quietly, speak};
 use lot_call::{Call, DONE, REFUSED, STOPPED, UNUSABLE, out_of_memory, say_why, withdraw};
 use lot_cli::{Action, Effect, Served};
 use lot_files::{
-    Access, Cause, Opened, ensure_openable, is_missing, library_path, open, open_book, open_copy,
+    Access, Cause, Image, Opened, ensure_openable, is_missing, library_path, open, open_book,
+    open_copy, open_nothing,
 };
-use lot_output::{Keeper, Kept, Witness};
-use sqlite::{Alter, Connection, File, FileStore};
-use std::io::{self, Read, Write};
+use lot_output::{Input, Keeper, Kept, Output, Witness};
+use sqlite::{Connection, File, FileStore};
+use std::io::{self, Write};
 
 /// Does what a call is for, and returns the status of the program. Where the book can't be opened, a
 /// line on standard output says so, and one on standard error why.
@@ -42,10 +43,7 @@ pub fn act(call: &Call<'_>) -> u8 {
 
 /// Does what a call is for on an empty database in memory.
 fn on_nothing(call: &Call<'_>) -> Result<u8, Cause> {
-    match Connection::open_in_memory(call.rt.alloc()) {
-        Ok(conn) => Ok(on_copy(call, conn)),
-        Err(_) => Err(Cause::Memory),
-    }
+    Ok(on_copy(call, open_nothing(call.rt.alloc())?))
 }
 
 /// Does what a call is for on the book of that path. Where there is no such file and none is to be made, it uses an
@@ -69,13 +67,13 @@ fn on_path(call: &Call<'_>, path: &str) -> Result<u8, Cause> {
         (_, Effect::AllOrNone) => return all_or_none(call, path),
     };
     match open_book(rt, path, access)? {
-        Opened::File(file) => Ok(on_file(call, rt.reader(), file)),
+        Opened::File(file) => Ok(on_file(call, Input::Standard(rt.reader()), file)),
         Opened::Copy(copy) => Ok(on_copy(call, copy)),
     }
 }
 
 /// Does it on the file, with that input, and closes it where the action ran to its end.
-fn on_file<R: Read + Drop>(call: &Call<'_>, input: R, file: Connection<FileStore<File>>) -> u8
+fn on_file(call: &Call<'_>, input: Input<'_>, file: Connection<FileStore<File>>) -> u8
     requires outside { file.in_transaction ≡ false }
     requires unlimited { file.step_limit ≡ None }
 {
@@ -92,7 +90,7 @@ fn on_file<R: Read + Drop>(call: &Call<'_>, input: R, file: Connection<FileStore
 }
 
 /// Does it on a database of which nothing stays.
-fn on_copy<S: Alter + Drop>(call: &Call<'_>, copy: Connection<S>) -> u8
+fn on_copy(call: &Call<'_>, copy: Connection<FileStore<Image>>) -> u8
     requires outside { copy.in_transaction ≡ false }
     requires unlimited { copy.step_limit ≡ None }
 {
@@ -100,37 +98,56 @@ fn on_copy<S: Alter + Drop>(call: &Call<'_>, copy: Connection<S>) -> u8
         status,
         halt: _,
         conn: _,
-    } = answer(call, call.rt.reader(), copy);
+    } = answer(call, Input::Standard(call.rt.reader()), copy);
     status
 }
 
-/// Does it on a copy, with the replies held back. Where the copy accepted every command, it does the same on the
-/// file, with the same input. Else the replies of the copy are those of the call.
+/// Does it on a copy, and where that accepted every command, on the file, with the same input.
 fn all_or_none(call: &Call<'_>, path: &str) -> Result<u8, Cause> {
-    let (rt, alloc) = (call.rt, call.rt.alloc());
     // The file is open meanwhile, so no other program writes it in between.
-    let file = open(rt, path)?;
-    let copy = open_copy(rt, path)?;
+    let file = open(call.rt, path)?;
+    Ok(match try_on_copy(call, open_copy(call.rt, path)?)? {
+        Tried::Accepted(input) => on_file(call, Input::Again(&input), file),
+        Tried::Ended(status) => status,
+    })
+}
+
+/// What a call came to on a copy.
+#[derive(Drop)]
+enum Tried {
+    /// Every command of this input was accepted.
+    Accepted(Vec<u8>),
+    /// The call ended there, with this status.
+    Ended(u8),
+}
+
+/// Does it on a copy, with the replies held back. Unless the copy accepted every command, its
+/// replies are those of the call.
+fn try_on_copy(call: &Call<'_>, copy: Connection<FileStore<Image>>) -> Result<Tried, Cause>
+    requires outside { copy.in_transaction ≡ false }
+    requires unlimited { copy.step_limit ≡ None }
+{
+    let (rt, alloc) = (call.rt, call.rt.alloc());
     let mut reader = Keeper {
-        reader: rt.reader(),
+        reader: Input::Standard(rt.reader()),
         kept: Kept::new(alloc),
     };
-    let mut writer = Witness::new(alloc, Kept::new(alloc), call.most());
+    let mut writer = Witness::new(alloc, Output::held_back(rt), call.most());
     let Served {
         status,
         halt,
         mut conn,
     } = do_quietly(call, &mut reader, &mut writer, copy);
-    let (Some(input), Some(replies)) = (&reader.kept.bytes, &writer.writer.bytes) else {
+    let (Some(_), Some(replies)) = (&reader.kept.bytes, writer.writer.held()) else {
         return Err(Cause::Memory);
     };
     if status == DONE {
-        return Ok(on_file(call, input.as_slice(), file));
+        return reader.kept.bytes.map(Tried::Accepted).ok_or(Cause::Memory);
     }
     let is_written = io::writer(rt).write_all(replies).is_ok();
     speak(call, &reader.kept, &writer.heard, halt, &mut conn);
     if halt.is_none() {
         withdraw(call);
     }
-    Ok(if is_written { status } else { STOPPED })
+    Ok(Tried::Ended(if is_written { status } else { STOPPED }))
 }
