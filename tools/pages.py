@@ -600,14 +600,13 @@ def codes():
 def words():
     """The table of the words of the program: the options of each, and what its help begins with."""
     text = (CRATES / "lot_args/src/program.rt").read_text()
-    told = re.compile(r'((?:^///[^\n]*\n)+)fn (\w+)<.*?"\2",\s*"((?:[^"\\]|\\.)*)"', re.M | re.S)
+    told = re.compile(r'((?:^ +//[^\n]*\n)+) +Word \{\s+name: "(\w+)",\s+about: "((?:[^"\\]|\\.)*)"', re.M)
     yield "| Subcommand and options | What it does |"
     yield "|---|---|"
     for comment, name, about in told.findall(text):
-        usage = " ".join(line[3:].strip() for line in comment.splitlines())
-        if usage.startswith("`%s" % name):
-            what = re.split(r": lotbook |\\n", about)[0]
-            yield "| %s | %s |" % (usage.replace("|", "\\|"), what[0].lower() + what[1:])
+        usage = " ".join(line.strip()[2:].strip() for line in comment.splitlines())
+        what = re.split(r": lotbook |\\n", about)[0]
+        yield "| %s | %s |" % (usage.replace("|", "\\|"), what[0].lower() + what[1:])
 
 
 # ---- the map from rules to definitions

@@ -1,15 +1,17 @@
 -- What the command of the program is.
-use Rattle.std.proofs.Common.{◌≡◌, ◌≢◌, ◌&&◌, ◌||◌, ◌++◌, codes, ◌∙◌, Bool, true, false, not, List, [], ◌∷◌, Option, Some, None, map, find, option_map, refl, subst, sym, ap, ap₂, inl, inr}
+use Rattle.std.proofs.Common.{◌≡◌, ◌≢◌, ◌&&◌, ◌||◌, ◌++◌, codes, ◌∙◌, Bool, true, false, not, List, [], ◌∷◌, Option, Some, None, map, find, option_map, refl, subst, sym, ap, inl, inr, arith, ℕ, zero, suc, ◌<◌, ◌≤◌, length, get_or, drop}
 use Rattle.std.proofs.lemmas.Bool.{true≢false}
 use Rattle.std.specs.Prelude.{◌⊎◌}
 use Rattle.std.specs.Str.{bytes_eq}
 use Rattle.std.proofs.lemmas.Slice.Eq.{bytes_eq-Decides}
-use Rattle.clap.specs.Words.{AddsSubcommand, App, Row, Rule, Shape, Text, app_of, built, fault_of, is_simple, is_simple_and_free, subcommand_of, with_rule, with_subcommand}
+use Rattle.clap.specs.Words.{AddsSubcommand, App, Row, Rule, Shape, Text, app_of, built, fault_of, is_simple, is_simple_and_free, new_app, subcommand_of, with_rule, with_subcommand}
 use Rattle.clap.specs.Simple.{argument_words, built_leaf, entered, help_shape, inherited, label_of, marked_built, names_of, on_top, rows_at, with_leaf_noted}
 use Rattle.clap.specs.Walk.{answers_to, nothing_held, stop_after, walk_from}
 use Rattle.lot_args.proofs.HelpLemmas.{IsOther, first_none, walk_kept}
 use Rattle.clap.specs.declared.builder.command.Command.{Command}
-use Rattle.lot_args.specs.Program.{program_app, with_rules}
+use Rattle.lot_args.specs.Program.{bare_app, program_app, with_rules, with_words}
+use Rattle.lot_args.specs.Table.{app_for, rule_for}
+use Rattle.lot_args.specs.declared.program.Word.{Word}
 use Rattle.lot_args.specs.Steps.{IsBookWord, IsOneOf, IsWord, book_words}
 
 -- the third of tests that all pass
@@ -19,22 +21,54 @@ third_of true true true rest e = absurd (true≢false (sym e))
 third_of true false g rest e = absurd (true≢false (sym e))
 third_of false b g rest e = absurd (true≢false (sym e))
 
--- a word with one option more
-pub one_option : (old new app : App) (more rule : Rule) → old ≡ app → more ≡ rule → new ≡ with_rule old more → new ≡ with_rule app rule
-one_option old new app more rule was is adds = adds ∙ ap₂ with_rule was is
+-- ---- the table of the subcommands
 
--- a word with several options more
-pub more_options : (old new app : App) (rules : List Rule) → old ≡ app → new ≡ with_rules old rules → new ≡ with_rules app rules
-more_options old new app rules was adds = adds ∙ ap (λ (a : App). with_rules a rules) was
+-- what is added to a command, one after another
+module _ {X Y : Type 0} (of : X → Y) (add : App → Y → App) (all : App → List Y → App) (none : (app : App) → all app [] ≡ app)
+    (more : (app : App) (y : Y) (ys : List Y) → all app (y ∷ ys) ≡ all (add app y) ys) where
+  one_more : (xs : List X) (i : ℕ) (other : X) → i < length xs → (old new : App) → new ≡ add old (of (get_or xs i other))
+      → all new (map of (drop (suc i) xs)) ≡ all old (map of (drop i xs))
+  one_more [] i other lt old new adds = absurd (omega (arith, lt))
+  one_more (x ∷ xs) zero other lt old new adds = ap (λ (app : App). all app (map of xs)) adds ∙ sym (more old (of x) (map of xs))
+  one_more (x ∷ xs) (suc i) other lt old new adds = one_more xs i other (omega (arith, lt)) old new adds
+
+  all_added : (xs : List X) (i : ℕ) → length xs ≤ i → (app : App) → all app (map of (drop i xs)) ≡ app
+  all_added [] zero le app = none app
+  all_added [] (suc i) le app = none app
+  all_added (x ∷ xs) zero le app = absurd (omega (arith, le))
+  all_added (x ∷ xs) (suc i) le app = all_added xs i (omega (arith, le)) app
+
+-- options change nothing of what makes a command plain
+plain_kept : (rules : List Rule) (app : App) → (with_rules app rules).top.is_plain ≡ app.top.is_plain
+plain_kept [] app = refl
+plain_kept (rule ∷ rules) app = plain_kept rules (with_rule app rule)
 
 -- what `clap` says of one word more
-pub whole_word : (old word new : Command) → (app_of word).top.is_plain ≡ true → AddsSubcommand old word new
+whole_word : (old word new : Command) → (app_of word).top.is_plain ≡ true → AddsSubcommand old word new
     → app_of new ≡ with_subcommand (app_of old) (app_of word).top
 whole_word old word new plain adds = adds.shape (third_of _ _ _ _ plain)
 
--- a command with one word more
-pub one_word : (old word new app sub : App) → old ≡ app → word ≡ sub → new ≡ with_subcommand old word.top → new ≡ with_subcommand app sub.top
-one_word old word new app sub was is adds = adds ∙ ap₂ with_subcommand was (ap (λ (a : App). a.top) is)
+abbrev add_word : App → App → App
+add_word app word = with_subcommand app word.top
+
+-- one word of the table more
+pub word_added : (words : List Word) (i : ℕ) (other : Word) → i < length words → (old word new : Command)
+    → app_of word ≡ app_for (get_or words i other) → AddsSubcommand old word new
+    → with_words (app_of new) (map app_for (drop (suc i) words)) ≡ with_words (app_of old) (map app_for (drop i words))
+word_added words i other lt old word new is adds =
+    let at = get_or words i other in
+    let plain = ap (λ (app : App). app.top.is_plain) is ∙ plain_kept (map rule_for at.options.now) (new_app at.name.now) in
+    one_more app_for add_word with_words (λ _. refl) (λ _ _ _. refl) words i other lt (app_of old) (app_of new)
+    (whole_word old word new plain adds ∙ ap (add_word (app_of old)) is)
+
+-- no word of the table is left
+pub words_added : (words : List Word) (i : ℕ) → length words ≤ i → (app : App) → with_words app (map app_for (drop i words)) ≡ app
+words_added = all_added app_for add_word with_words (λ _. refl) (λ _ _ _. refl)
+
+-- the program is that of the definitions where its words are
+pub whole_program : (old new : App) (words : List App) → old ≡ bare_app → new ≡ with_words old words → with_words bare_app words ≡ program_app
+    → new ≡ program_app
+whole_program old new words bare adds same = adds ∙ ap (λ (app : App). with_words app words) bare ∙ same
 
 -- `clap` says of the program exactly which words it takes, and what is wrong with others
 pub is_told : is_simple_and_free program_app ≡ true

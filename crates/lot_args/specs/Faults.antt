@@ -3,9 +3,6 @@ use Rattle.std.specs.Prelude.{◌≡◌, ◌≢◌}
 use Rattle.clap.specs.Words.{kind_of}
 use Rattle.clap.specs.declared.error.Error.{Error}
 use Rattle.clap.specs.declared.error.ErrorKind.TheVariants as kind
-use Rattle.lot_args.specs.declared.batch.BatchFault.{BatchFault}
-use Rattle.lot_args.specs.declared.batch.BatchFault.TheVariants as batch_fault
-use Rattle.lot_args.specs.declared.fault.BadOption.TheVariants as option
 use Rattle.lot_args.specs.declared.fault.WordsFault.{WordsFault}
 use Rattle.lot_args.specs.declared.fault.WordsFault.TheVariants.{BadValue, Memory, Usage}
 
@@ -14,8 +11,3 @@ abbrev pub Refuses : Error → WordsFault → Type 0
 Refuses error (Usage told) = (told ≡ error) × (kind_of error ≢ kind.OutOfMemory)
 Refuses error (BadValue bad) = ⊥
 Refuses error Memory = kind_of error ≡ kind.OutOfMemory
-
--- the fault that there is where no batch is made
-abbrev pub fault_of_batch : BatchFault → WordsFault
-fault_of_batch batch_fault.Bad = BadValue option.Batch
-fault_of_batch batch_fault.Memory = Memory

@@ -2,6 +2,7 @@ pub mod Batch
 pub mod Start
 pub mod From
 pub mod Program
+pub mod Table
 pub mod Options
 pub mod Faults
 pub mod Words

@@ -1,7 +1,6 @@
 ghost use Rattle.std.specs.Prelude.{◌≡◌};
 ghost use Rattle.lot_args.specs.Options.{name_of};
 
-use crate::batch::BatchFault;
 use clap::Error;
 use clap::error::ErrorKind;
 use std::alloc::AllocError;
@@ -91,19 +90,6 @@ impl From<AllocError> for WordsFault {
 
     fn from(_error: AllocError) -> WordsFault {
         WordsFault::Memory
-    }
-}
-
-impl From<BatchFault> for WordsFault {
-    ghost use Rattle.lot_args.specs.Faults.{fault_of_batch};
-
-    ghost from_gives = { λ fault r. r ≡ fault_of_batch fault };
-
-    fn from(fault: BatchFault) -> WordsFault {
-        match fault {
-            BatchFault::Bad => WordsFault::BadValue(BadOption::Batch),
-            BatchFault::Memory => WordsFault::Memory,
-        }
     }
 }
 

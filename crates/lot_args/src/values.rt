@@ -1,19 +1,18 @@
 //! What the values of options say, and which are outside their rules.
 //!
 //! All values are looked at before one is kept: what keeps one knows that it is within its rule.
-ghost use Rattle.std.specs.Prelude.{◌≡◌, IfOk, IfErr, IsTrue, None, codes, option_map};
+ghost use Rattle.std.specs.Prelude.{◌≡◌, IfOk, IsTrue, None, codes, option_map};
 ghost use Rattle.lot_base.specs.Name.{is_label};
 ghost use Rattle.std.specs.String.{string_bytes};
 ghost use Rattle.clap.specs.Words.{first_of, found_of, rows_of};
 ghost use Rattle.lot_args.specs.Batch.{is_batch};
 ghost use Rattle.lot_args.specs.Options.{account_options, day_of, first_bad, has_account, has_row, is_format, is_good, is_given, name_of, options_of, value_of};
 ghost use Rattle.lot_args.specs.From.{from_of};
-ghost use Rattle.lot_args.specs.Words.{IsCode, accounts_of, effect_of, format_of, is_in_either, is_set, notes_of};
-ghost use Rattle.lot_args.specs.declared.fault.WordsFault.TheVariants.{Memory};
+ghost use Rattle.lot_args.specs.Words.{IsCode, accounts_of, effect_of, format_of, is_set, notes_of};
 
 use crate::action::Format;
-use crate::batch::Batch;
-use crate::fault::{BadOption, WordsFault};
+use crate::batch::{Batch, BatchFault};
+use crate::fault::BadOption;
 use crate::request::{Effect, Notes};
 use crate::start::Start;
 use clap::ArgMatches;
@@ -89,13 +88,6 @@ fn is_good(options: &ArgMatches<'_>, option: BadOption) -> bool
     }
 }
 
-/// Returns the path of the book. The only error is out of memory.
-pub(crate) fn book(alloc: Global, options: &ArgMatches<'_>) -> Result<String, AllocError>
-    ensures { IfOk result (λ path. string_bytes path ≡ value_of (codes "book") (rows_of (found_of options.now))) }
-{
-    String::from_str(alloc, value(options, "book"))
-}
-
 /// Returns whether a command is posted for the row of a broker file.
 pub(crate) fn has_row(options: &ArgMatches<'_>) -> bool
     ensures { result ≡ has_row (rows_of (found_of options.now)) }
@@ -108,33 +100,33 @@ pub(crate) fn batch(
     alloc: Global,
     options: &ArgMatches<'_>,
     name: &str,
-) -> Result<Batch, WordsFault>
+) -> Result<Batch, AllocError>
     requires { IsTrue (is_batch (value_of name.now (rows_of (found_of options.now)))) }
-    ensures value { IfOk result (λ batch.
-        batch ≡ value_of name.now (rows_of (found_of options.now))) }
-    ensures memory { IfErr result (λ fault. fault ≡ Memory) }
+    ensures { IfOk result (λ batch. batch ≡ value_of name.now (rows_of (found_of options.now))) }
 {
-    Ok(Batch::new(alloc, value(options, name))?)
+    match Batch::new(alloc, value(options, name)) {
+        Ok(batch) => Ok(batch),
+        Err(BatchFault::Memory) => Err(AllocError),
+        Err(BatchFault::Bad) => unreachable!(),
+    }
 }
 
 /// Returns the reference of a row, which is within its rule. The only error is out of memory.
-pub(crate) fn reference(alloc: Global, options: &ArgMatches<'_>) -> Result<Label, WordsFault>
+pub(crate) fn reference(alloc: Global, options: &ArgMatches<'_>) -> Result<Label, AllocError>
     requires { IsTrue (is_label (value_of (codes "ref") (rows_of (found_of options.now)))) }
-    ensures value { IfOk result (λ reference.
+    ensures { IfOk result (λ reference.
         reference ≡ value_of (codes "ref") (rows_of (found_of options.now))) }
-    ensures memory { IfErr result (λ fault. fault ≡ Memory) }
 {
     match Label::new(alloc, value(options, "ref")) {
         Ok(reference) => Ok(reference),
-        Err(_) => Err(WordsFault::Memory),
+        Err(_) => Err(AllocError),
     }
 }
 
 /// Returns the accounts that rows are posted to, whose values are within their rules. The only error is out of memory.
-pub(crate) fn accounts(alloc: Global, options: &ArgMatches<'_>) -> Result<Accounts, WordsFault>
+pub(crate) fn accounts(alloc: Global, options: &ArgMatches<'_>) -> Result<Accounts, AllocError>
     requires { first_bad (rows_of (found_of options.now)) account_options ≡ None }
-    ensures value { IfOk result (λ accounts. accounts ≡ accounts_of (rows_of (found_of options.now))) }
-    ensures memory { IfErr result (λ fault. fault ≡ Memory) }
+    ensures { IfOk result (λ accounts. accounts ≡ accounts_of (rows_of (found_of options.now))) }
 {
     Ok(Accounts {
         invest: account(alloc, options, BadOption::Invest)?,
@@ -149,14 +141,13 @@ fn account(
     alloc: Global,
     options: &ArgMatches<'_>,
     option: BadOption,
-) -> Result<Account, WordsFault>
+) -> Result<Account, AllocError>
     requires { IsTrue (has_account (name_of option) (rows_of (found_of options.now))) }
-    ensures value { IfOk result (λ account. account ≡ value_of (name_of option) (rows_of (found_of options.now))) }
-    ensures memory { IfErr result (λ fault. fault ≡ Memory) }
+    ensures { IfOk result (λ account. account ≡ value_of (name_of option) (rows_of (found_of options.now))) }
 {
     match Account::new(alloc, value(options, option.name())) {
         Ok(account) => Ok(account),
-        Err(_) => Err(WordsFault::Memory),
+        Err(_) => Err(AllocError),
     }
 }
 
@@ -211,10 +202,10 @@ pub(crate) fn effect(options: &ArgMatches<'_>) -> Effect
 pub(crate) fn notes(before: &ArgMatches<'_>, options: &ArgMatches<'_>) -> Notes
     ensures { result ≡ notes_of (rows_of (found_of before.now)) (rows_of (found_of options.now)) }
 {
-    if is_in_either(before, options, "quiet") {
+    if is_set(before, "quiet") || is_set(options, "quiet") {
         return Notes::Quiet;
     }
-    if is_in_either(before, options, "explain-all") {
+    if is_set(before, "explain-all") || is_set(options, "explain-all") {
         return Notes::All;
     }
     Notes::Ten
@@ -231,14 +222,6 @@ pub(crate) fn code(alloc: Global, options: &ArgMatches<'_>) -> Result<Option<Str
     }
 }
 
-/// Returns whether an option without a value stands before or behind the subcommand.
-fn is_in_either(before: &ArgMatches<'_>, options: &ArgMatches<'_>, name: &str) -> bool
-    ensures { result ≡ is_in_either name.now
-        (rows_of (found_of before.now)) (rows_of (found_of options.now)) }
-{
-    is_set(before, name) || is_set(options, name)
-}
-
 /// Returns whether an option without a value is given: `clap` gives it the value `true`, and else `false`.
 fn is_set(options: &ArgMatches<'_>, name: &str) -> bool
     ensures { result ≡ is_set name.now (rows_of (found_of options.now)) }
@@ -251,7 +234,7 @@ fn is_set(options: &ArgMatches<'_>, name: &str) -> bool
 
 /// Returns the value of an option, or the empty text where it isn't given. `clap` has refused arguments that lack a
 /// required option.
-fn value<'a>(options: &ArgMatches<'a>, name: &str) -> &'a str
+pub(crate) fn value<'a>(options: &ArgMatches<'a>, name: &str) -> &'a str
     ensures { result.now ≡ value_of name.now (rows_of (found_of options.now)) }
 {
     given(options, name).unwrap_or("")

@@ -1,4 +1,4 @@
-ghost use Rattle.std.specs.Prelude.{◌≡◌, ◌≢◌, true, Err, IfOk, IfErr, None, map};
+ghost use Rattle.std.specs.Prelude.{◌≡◌, ◌≢◌, true, Err, IfOk, None, map};
 ghost use Rattle.std.specs.String.{string_bytes};
 ghost use Rattle.clap.specs.Words.{IsAmong, fault_of, found_of, kind_of, rows_of, takes};
 ghost use Rattle.clap.specs.declared.error.ErrorKind.TheVariants.{OutOfMemory};
@@ -6,17 +6,17 @@ ghost use Rattle.lot_args.specs.Options.{first_bad, options_of};
 ghost use Rattle.lot_args.specs.Program.{program_app};
 ghost use Rattle.lot_args.specs.Steps.{IsBookWord, IsWord, JudgesOptions};
 ghost use Rattle.lot_args.specs.Words.{AskFor, HaveBadIn, WordAsks, WordRequests};
-ghost use Rattle.lot_args.specs.declared.fault.WordsFault.TheVariants.{BadValue, Memory, Usage};
+ghost use Rattle.lot_args.specs.declared.fault.WordsFault.TheVariants.{BadValue, Usage};
 
 use crate::action::Action;
 use crate::fault::{BadOption, WordsFault};
 use crate::program::program;
 use crate::request::{Effect, Request};
 use crate::values::{
-    accounts, batch, book, code, day, effect, first_bad, format, from, has_row, notes, reference,
+    accounts, batch, code, day, effect, first_bad, format, from, has_row, notes, reference, value,
 };
 use clap::ArgMatches;
-use std::alloc::Global;
+use std::alloc::{AllocError, Global};
 
 /// Returns what the arguments ask for. The first argument is the program's name. Without a subcommand, they ask for a check.
 ///
@@ -59,7 +59,7 @@ fn asked(
 {
     match first_bad(word, options) {
         Some(bad) => Err(WordsFault::BadValue(bad)),
-        None => requested(alloc, before, word, options),
+        None => Ok(requested(alloc, before, word, options)?),
     }
 }
 
@@ -69,12 +69,11 @@ fn requested(
     before: &ArgMatches<'_>,
     word: &str,
     options: &ArgMatches<'_>,
-) -> Result<Request, WordsFault>
+) -> Result<Request, AllocError>
     requires word { IsWord word.now }
     requires good { first_bad (rows_of (found_of options.now)) (options_of word.now) ≡ None }
-    ensures request { IfOk result (WordRequests (rows_of (found_of before.now))
+    ensures { IfOk result (WordRequests (rows_of (found_of before.now))
         word.now (rows_of (found_of options.now))) }
-    ensures memory { IfErr result (λ fault. fault ≡ Memory) }
 {
     if word == "explain" {
         return Ok(Request::Explain {
@@ -90,13 +89,12 @@ fn requested(
 
 /// Returns the action that a subcommand on a book asks for with values that are within their rules. The only error is out of
 /// memory.
-fn action(alloc: Global, word: &str, options: &ArgMatches<'_>) -> Result<Action, WordsFault>
+fn action(alloc: Global, word: &str, options: &ArgMatches<'_>) -> Result<Action, AllocError>
     requires word { IsBookWord word.now }
     requires good { first_bad (rows_of (found_of options.now)) (options_of word.now) ≡ None }
-    ensures action { IfOk result (WordAsks word.now (rows_of (found_of options.now))) }
-    ensures memory { IfErr result (λ fault. fault ≡ Memory) }
+    ensures { IfOk result (WordAsks word.now (rows_of (found_of options.now))) }
 {
-    let book = book(alloc, options)?;
+    let book = String::from_str(alloc, value(options, "book"))?;
     match word {
         "init" => Ok(Action::Init { book }),
         "migrate" => Ok(Action::Migrate { book }),

@@ -1,7 +1,0 @@
-use Rattle.std.proofs.lemmas.Result.{IfOk-weaker}
-use Rattle.lot_args.proofs.ProgramLemmas.{one_option}
-use Rattle.lot_args.proofs.program.explain.Goals as goal
-
-pub returns : goal.returns
-returns c =
-    IfOk-weaker c.with_option.result _ _ (λ command h. one_option _ _ _ _ _ c.word-word.ensures c.place.ensures.rule h) c.with_option.ensures
