@@ -36,8 +36,8 @@ abbrev pub parts_seen : Parts → List CostPart
 parts_seen parts = listed parts.first ++ (listed parts.second ++ listed parts.third)
 
 abbrev pub cost_seen : CostForm → WrittenCost
-cost_seen (Costs.Each parts) = each (parts_seen parts)
-cost_seen (Costs.Whole parts) = whole (parts_seen parts)
+cost_seen (Costs.Each parts) = each (parts_seen parts.now)
+cost_seen (Costs.Whole parts) = whole (parts_seen parts.now)
 
 abbrev pub price_seen : PriceForm → WrittenPrice
 price_seen (Prices.Each n c) = each_unit n.now c.now

@@ -8,27 +8,27 @@ use lot_command::Flag;
 
 /// A posting: its account, and perhaps an amount.
 #[derive(Drop)]
-pub struct PostingForm<'a> {
+pub struct PostingForm<'w, 'a> {
     pub account: &'a str,
-    pub amount: Option<AmountForm<'a>>,
+    pub amount: Option<AmountForm<'w, 'a>>,
 }
 
 /// Units and a commodity, and perhaps a cost and a price.
 #[derive(Drop)]
-pub struct AmountForm<'a> {
+pub struct AmountForm<'w, 'a> {
     pub units: &'a str,
     pub commodity: &'a str,
-    pub cost: Option<CostForm<'a>>,
+    pub cost: Option<CostForm<'w, 'a>>,
     pub price: Option<PriceForm<'a>>,
 }
 
 /// What stands in the braces of a posting.
 #[derive(Drop)]
-pub enum CostForm<'a> {
+pub enum CostForm<'w, 'a> {
     /// In single braces.
-    Each(Parts<'a>),
+    Each(&'w Parts<'a>),
     /// In double braces.
-    Whole(Parts<'a>),
+    Whole(&'w Parts<'a>),
 }
 
 /// A number and a currency.
@@ -61,7 +61,7 @@ pub struct Parts<'a> {
 
 impl<'a> Parts<'a> {
     /// Returns no parts.
-    pub(crate) fn none() -> Parts<'a>
+    pub fn none() -> Parts<'a>
         ensures { result ≡ record { first = None; second = None; third = None } }
     {
         Parts {

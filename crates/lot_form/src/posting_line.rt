@@ -7,35 +7,40 @@ use crate::take::{close, close_close, comma, is_end, number, word};
 use lot_token::{Mark, Token, Tokens};
 
 /// Returns the parts of a posting, by the tokens of its line, or `None` where they have no such form (docs/FORMATS.md, Forms).
-pub fn posting<'a>(tokens: &Tokens<'_, 'a>) -> Option<PostingForm<'a>>
+///
+/// `room` takes the parts of its cost.
+pub fn posting<'w, 'a>(
+    room: &'w mut Parts<'a>,
+    tokens: &Tokens<'_, 'a>,
+) -> Option<PostingForm<'w, 'a>>
     ensures is { IfSome result (λ form. IsPosting tokens.now (posting_seen form)) }
     ensures none { IfNone result ((written : WrittenPosting) → IsPosting tokens.now written → ⊥) }
 {
-    written(tokens)
+    written(room, tokens)
 }
 
 /// Returns the same, by the tokens from the first on.
 #[tactic(auto, unfolding(crate::specs::Shape::posting_of))]
-fn written<'a>(tokens: &Tokens<'_, 'a>) -> Option<PostingForm<'a>>
+fn written<'w, 'a>(room: &'w mut Parts<'a>, tokens: &Tokens<'_, 'a>) -> Option<PostingForm<'w, 'a>>
     ensures { posting_of tokens.now ≡ option_map posting_seen result }
 {
     let (account, rest) = word(tokens)?;
     let amount = if is_end(&rest) {
         None
     } else {
-        Some(amount(&rest)?)
+        Some(amount(room, &rest)?)
     };
     Some(PostingForm { account, amount })
 }
 
 /// Returns units and a commodity, with a cost and a price where there are such.
 #[tactic(auto, unfolding(crate::specs::Shape::amount_of))]
-fn amount<'a>(tokens: &Tokens<'_, 'a>) -> Option<AmountForm<'a>>
+fn amount<'w, 'a>(room: &'w mut Parts<'a>, tokens: &Tokens<'_, 'a>) -> Option<AmountForm<'w, 'a>>
     ensures { amount_of tokens.now ≡ option_map amount_seen result }
 {
     let (units, rest) = number(tokens)?;
     let (commodity, rest) = word(&rest)?;
-    let (cost, rest) = cost(rest)?;
+    let (cost, rest) = cost(room, rest)?;
     let price = price(&rest)?;
     Some(AmountForm {
         units,
@@ -81,75 +86,86 @@ fn money<'a>(tokens: &Tokens<'_, 'a>) -> Option<(&'a str, &'a str)>
 
 /// Returns the cost at the front and the tokens behind it; without braces there is no cost.
 #[tactic(auto, unfolding(crate::specs::Shape::cost_at))]
-fn cost<'t, 'a>(tokens: Tokens<'t, 'a>) -> Option<(Option<CostForm<'a>>, Tokens<'t, 'a>)>
+fn cost<'w, 't, 'a>(
+    room: &'w mut Parts<'a>,
+    tokens: Tokens<'t, 'a>,
+) -> Option<(Option<CostForm<'w, 'a>>, Tokens<'t, 'a>)>
     ensures { MatchOption result (cost_at tokens.entry ≡ None) (λ found. cost_at tokens.entry ≡ Some (option_map cost_seen found.0, found.1)) }
 {
     match tokens.split_first() {
-        Some((Token::Mark(Mark::Open), rest)) => each(rest),
-        Some((Token::Mark(Mark::OpenOpen), rest)) => whole(rest),
+        Some((Token::Mark(Mark::Open), rest)) => each(room, rest),
+        Some((Token::Mark(Mark::OpenOpen), rest)) => whole(room, rest),
         _ => Some((None, tokens)),
     }
 }
 
 /// Returns the cost of each unit, behind its opening brace. Mostly nothing stands between the braces of a sale.
 #[tactic(auto, using(crate::proofs::PostingLemmas::nothing_between))]
-fn each<'t, 'a>(tokens: Tokens<'t, 'a>) -> Option<(Option<CostForm<'a>>, Tokens<'t, 'a>)>
+fn each<'w, 't, 'a>(
+    room: &'w mut Parts<'a>,
+    tokens: Tokens<'t, 'a>,
+) -> Option<(Option<CostForm<'w, 'a>>, Tokens<'t, 'a>)>
     ensures { MatchOption result (each_at tokens.entry ≡ None) (λ found. each_at tokens.entry ≡ Some (option_map cost_seen found.0, found.1)) }
 {
     if let Some(rest) = close(&tokens) {
-        return Some((Some(CostForm::Each(Parts::none())), rest));
+        *room = Parts::none();
+        return Some((Some(CostForm::Each(room)), rest));
     }
-    let (parts, rest) = distinct_parts(tokens)?;
+    let rest = distinct_parts(room, tokens)?;
     let rest = close(&rest)?;
-    Some((Some(CostForm::Each(parts)), rest))
+    Some((Some(CostForm::Each(room)), rest))
 }
 
 /// Returns the cost of all units, behind its opening braces. It gives a number.
-fn whole<'t, 'a>(tokens: Tokens<'t, 'a>) -> Option<(Option<CostForm<'a>>, Tokens<'t, 'a>)>
+fn whole<'w, 't, 'a>(
+    room: &'w mut Parts<'a>,
+    tokens: Tokens<'t, 'a>,
+) -> Option<(Option<CostForm<'w, 'a>>, Tokens<'t, 'a>)>
     ensures { MatchOption result (whole_at tokens.entry ≡ None) (λ found. whole_at tokens.entry ≡ Some (option_map cost_seen found.0, found.1)) }
 {
-    let (parts, rest) = distinct_parts(tokens)?;
-    if !parts.have_number() {
+    let rest = distinct_parts(room, tokens)?;
+    if !room.have_number() {
         return None;
     }
     let rest = close_close(&rest)?;
-    Some((Some(CostForm::Whole(parts)), rest))
+    Some((Some(CostForm::Whole(room)), rest))
 }
 
-/// Returns the parts of a cost, which can stand in one, and the tokens behind them.
+/// Puts the parts of a cost, which can stand in one, into their room, and returns the tokens behind them.
 #[tactic(auto, unfolding(crate::specs::Shape::distinct_at))]
-fn distinct_parts<'t, 'a>(tokens: Tokens<'t, 'a>) -> Option<(Parts<'a>, Tokens<'t, 'a>)>
-    ensures { MatchOption result (distinct_at tokens.entry ≡ None) (λ found. distinct_at tokens.entry ≡ Some (parts_seen found.0, found.1)) }
+fn distinct_parts<'t, 'a>(room: &mut Parts<'a>, tokens: Tokens<'t, 'a>) -> Option<Tokens<'t, 'a>>
+    ensures { MatchOption result (distinct_at tokens.entry ≡ None) (λ rest. distinct_at tokens.entry ≡ Some (parts_seen room.new, rest)) }
 {
-    let (parts, rest) = parts(tokens)?;
-    if parts.are_distinct() {
-        Some((parts, rest))
+    let rest = parts(room, tokens)?;
+    if room.are_distinct() {
+        Some(rest)
     } else {
         None
     }
 }
 
-/// Returns the parts of a cost, with commas between them, and the tokens behind them. More than three can't stand in one cost.
+/// Puts the parts of a cost, with commas between them, into their room, and returns the tokens behind them. More than three can't
+/// stand in one cost.
 #[tactic(auto, unfolding(crate::specs::Shape::parts_at))]
-fn parts<'t, 'a>(tokens: Tokens<'t, 'a>) -> Option<(Parts<'a>, Tokens<'t, 'a>)>
-    ensures { MatchOption result (parts_at tokens.entry ≡ None) (λ found. parts_at tokens.entry ≡ Some (parts_seen found.0, found.1)) }
+fn parts<'t, 'a>(parts: &mut Parts<'a>, tokens: Tokens<'t, 'a>) -> Option<Tokens<'t, 'a>>
+    ensures { MatchOption result (parts_at tokens.entry ≡ None) (λ rest. parts_at tokens.entry ≡ Some (parts_seen parts.new, rest)) }
 {
-    let mut parts = Parts::none();
+    *parts = Parts::none();
     let Some((first, rest)) = part(&tokens) else {
-        return Some((parts, tokens));
+        return Some(tokens);
     };
     parts.first = Some(first);
     let Some(behind) = comma(&rest) else {
-        return Some((parts, rest));
+        return Some(rest);
     };
     let (second, rest) = part(&behind)?;
     parts.second = Some(second);
     let Some(behind) = comma(&rest) else {
-        return Some((parts, rest));
+        return Some(rest);
     };
     let (third, rest) = part(&behind)?;
     parts.third = Some(third);
-    Some((parts, rest))
+    Some(rest)
 }
 
 /// Returns the part of a cost at the front and the tokens behind it, or none where there is no part.

@@ -27,7 +27,7 @@ impl<'a> CheckedCost<'a> {
     /// Returns what a cost means. The error is the fault of its first part that is outside its rule.
     pub(crate) fn new(
         names: &KnownNames,
-        form: &CostForm<'a>,
+        form: &CostForm<'_, 'a>,
     ) -> Result<CheckedCost<'a>, ValueFault>
         requires { FitsCost (cost_seen form.now) }
         ensures means { IfOk result (λ cost. MeansCost (cost_seen form.now) (cost_of cost)) }
@@ -35,7 +35,10 @@ impl<'a> CheckedCost<'a> {
         ensures outside { IfErr result (λ fault. FirstOutside (cost_items (cost_seen form.now)) fault) }
     {
         match form {
-            CostForm::Each(parts) => Ok(CheckedCost::Each(Given::new(names, parts)?)),
+            CostForm::Each(parts) => match Given::new(names, parts) {
+                Ok(given) => Ok(CheckedCost::Each(given)),
+                Err(fault) => Err(fault),
+            },
             CostForm::Whole(parts) => {
                 let given: Given<'_, Total> = Given::new(names, parts)?;
                 match given.number {
@@ -50,7 +53,7 @@ impl<'a> CheckedCost<'a> {
     /// Returns the same, where there is a cost.
     pub(crate) fn perhaps(
         names: &KnownNames,
-        form: &Option<CostForm<'a>>,
+        form: &Option<CostForm<'_, 'a>>,
     ) -> Result<Option<CheckedCost<'a>>, ValueFault>
         requires { FitsPerhaps FitsCost (option_map cost_seen form.now) }
         ensures means { IfOk result (λ cost. MeansPerhaps MeansCost (option_map cost_seen form.now) (option_map cost_of cost)) }
@@ -58,7 +61,10 @@ impl<'a> CheckedCost<'a> {
         ensures outside { IfErr result (λ fault. FirstOutside (listed_by cost_items (option_map cost_seen form.now)) fault) }
     {
         match form {
-            Some(cost) => Ok(Some(CheckedCost::new(names, cost)?)),
+            Some(cost) => match CheckedCost::new(names, cost) {
+                Ok(cost) => Ok(Some(cost)),
+                Err(fault) => Err(fault),
+            },
             None => Ok(None),
         }
     }

@@ -1,28 +1,22 @@
-use std::alloc::{AllocError, AllocFailed};
-use thiserror::Error;
+use std::alloc::AllocError;
 
 /// Why the parts of a line that has a form say nothing.
-#[derive(Clone, Copy, Debug, PartialEq, Eq, Error)]
+#[derive(Clone, Copy)]
 pub enum ValueFault {
     /// A number is outside its kind.
-    #[error("a number is outside its kind")]
     BadNumber,
     /// An account, a commodity, a method, a label or a note is outside its rule.
-    #[error("a name is outside its rule")]
     BadName,
     /// A day isn't in the calendar of the years 1 to 9999.
-    #[error("not a day of the years 1 to 9999")]
     BadDay,
 }
 
 /// Why the parts of a line that has a form give neither a command nor a posting.
-#[derive(Clone, Copy, Debug, PartialEq, Eq, Error)]
+#[derive(Clone, Copy)]
 pub enum MeaningFault {
     /// A part is outside its rule. It is the fault of the first such part.
-    #[error("{0}")]
     Outside(ValueFault),
     /// Out of memory. All parts are within their rules.
-    #[error("out of memory")]
     Memory,
 }
 
@@ -44,17 +38,6 @@ impl From<AllocError> for MeaningFault {
     ghost from_gives = { λ _ e. e ≡ Memory };
 
     fn from(_error: AllocError) -> MeaningFault {
-        MeaningFault::Memory
-    }
-}
-
-impl<T: Drop> From<AllocFailed<T>> for MeaningFault {
-    ghost use Rattle.std.specs.Prelude.{◌≡◌};
-    ghost use Rattle.lot_meaning.specs.declared.fault.MeaningFault.TheVariants.{Memory};
-
-    ghost from_gives = { λ _ e. e ≡ Memory };
-
-    fn from(_failed: AllocFailed<T>) -> MeaningFault {
         MeaningFault::Memory
     }
 }

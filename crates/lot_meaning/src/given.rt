@@ -102,35 +102,47 @@ impl<'a, N: CostNumber> Given<'a, N> {
         ensures outside { IfErr result (λ fault.
             FirstOutside (flat_map (part_items N.item) (listed part.now)) fault) }
     {
-        let nothing = Given {
-            number: None,
-            currency: None,
-            day: None,
-            label: None,
-        };
         match part {
-            Some(Part::Money(number, currency)) => Ok(Given {
-                number: Some(N::of_part(number)?),
-                currency: Some(CommodityPart::new(&names.commodities, currency)?),
-                ..nothing
-            }),
+            Some(Part::Money(number, currency)) => {
+                let number = N::of_part(number)?;
+                let currency = CommodityPart::new(&names.commodities, currency)?;
+                Ok(Given {
+                    number: Some(number),
+                    currency: Some(currency),
+                    day: None,
+                    label: None,
+                })
+            }
             Some(Part::Number(number)) => Ok(Given {
                 number: Some(N::of_part(number)?),
-                ..nothing
+                currency: None,
+                day: None,
+                label: None,
             }),
             Some(Part::Currency(currency)) => Ok(Given {
+                number: None,
                 currency: Some(CommodityPart::new(&names.commodities, currency)?),
-                ..nothing
+                day: None,
+                label: None,
             }),
             Some(Part::Day(text)) => Ok(Given {
+                number: None,
+                currency: None,
                 day: Some(day(text)?),
-                ..nothing
+                label: None,
             }),
             Some(Part::Label(label)) => Ok(Given {
+                number: None,
+                currency: None,
+                day: None,
                 label: Some(LabelPart::new(&names.labels, label)?),
-                ..nothing
             }),
-            None => Ok(nothing),
+            None => Ok(Given {
+                number: None,
+                currency: None,
+                day: None,
+                label: None,
+            }),
         }
     }
 

@@ -21,7 +21,7 @@ use std::alloc::AllocError;
 ///
 /// The error is the fault of the first part, from left to right, that is outside its rule. Where all parts are within their
 /// rules, it is `Memory`: no memory for the names.
-pub fn posting(names: &mut KnownNames, form: &PostingForm<'_>) -> Result<Posting, MeaningFault>
+pub fn posting(names: &mut KnownNames, form: &PostingForm<'_, '_>) -> Result<Posting, MeaningFault>
     requires fits { FitsPerhaps (λ (a : WrittenAmount). FitsPerhaps FitsCost a.cost) (posting_seen form.now).amount }
     ensures means { IfOk result (λ posting. MeansPosting (posting_seen form.now) posting) }
     ensures outside { (fault : ValueFault) → IsErrOf result (Outside fault) → FirstOutside (posting_items (posting_seen form.now)) fault }
@@ -41,7 +41,7 @@ struct CheckedPosting<'a> {
 impl<'a> CheckedPosting<'a> {
     /// Returns what a posting means. The error is the fault of its first part that is outside its rule.
     #[tactic(auto, using(crate::proofs::ItemLemmas::outside_first, crate::proofs::ItemLemmas::outside_later))]
-    fn new(names: &KnownNames, form: &PostingForm<'a>) -> Result<CheckedPosting<'a>, ValueFault>
+    fn new(names: &KnownNames, form: &PostingForm<'_, 'a>) -> Result<CheckedPosting<'a>, ValueFault>
         requires { FitsPerhaps (λ (a : WrittenAmount). FitsPerhaps FitsCost a.cost) (posting_seen form.now).amount }
         ensures means { IfOk result (λ posting. MeansPosting (posting_seen form.now) (posting_of posting)) }
         ensures inside { OnOk result (AreInside (posting_items (posting_seen form.now))) }
@@ -80,7 +80,7 @@ struct CheckedAmount<'a> {
 impl<'a> CheckedAmount<'a> {
     /// Returns what an amount means. The error is the fault of its first part that is outside its rule.
     #[tactic(auto, using(crate::proofs::ItemLemmas::outside_first, crate::proofs::ItemLemmas::outside_later))]
-    fn new(names: &KnownNames, form: &AmountForm<'a>) -> Result<CheckedAmount<'a>, ValueFault>
+    fn new(names: &KnownNames, form: &AmountForm<'_, 'a>) -> Result<CheckedAmount<'a>, ValueFault>
         requires { FitsPerhaps FitsCost (option_map cost_seen form.now.cost) }
         ensures means { IfOk result (λ amount. MeansAmount (amount_seen form.now) (amount_of amount)) }
         ensures inside { OnOk result (AreInside (amount_items (amount_seen form.now))) }
@@ -97,7 +97,7 @@ impl<'a> CheckedAmount<'a> {
     /// Returns the same, where there is an amount.
     fn perhaps(
         names: &KnownNames,
-        form: &Option<AmountForm<'a>>,
+        form: &Option<AmountForm<'_, 'a>>,
     ) -> Result<Option<CheckedAmount<'a>>, ValueFault>
         requires { FitsPerhaps (λ (a : WrittenAmount). FitsPerhaps FitsCost a.cost) (option_map amount_seen form.now) }
         ensures means { IfOk result (λ amount. MeansPerhaps MeansAmount (option_map amount_seen form.now) (option_map amount_of amount)) }
@@ -105,7 +105,10 @@ impl<'a> CheckedAmount<'a> {
         ensures outside { IfErr result (λ fault. FirstOutside (listed_by amount_items (option_map amount_seen form.now)) fault) }
     {
         match form {
-            Some(amount) => Ok(Some(CheckedAmount::new(names, amount)?)),
+            Some(amount) => match CheckedAmount::new(names, amount) {
+                Ok(amount) => Ok(Some(amount)),
+                Err(fault) => Err(fault),
+            },
             None => Ok(None),
         }
     }

@@ -55,7 +55,10 @@ impl<'a> CheckedPrice<'a> {
         ensures outside { IfErr result (λ fault. FirstOutside (listed_by price_items (option_map price_seen form.now)) fault) }
     {
         match form {
-            Some(price) => Ok(Some(CheckedPrice::new(names, price)?)),
+            Some(price) => match CheckedPrice::new(names, price) {
+                Ok(price) => Ok(Some(price)),
+                Err(fault) => Err(fault),
+            },
             None => Ok(None),
         }
     }

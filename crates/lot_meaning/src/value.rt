@@ -13,7 +13,10 @@ pub(crate) fn units(part: &str) -> Result<Units, ValueFault>
     ensures means { IfOk result (λ units. MeansUnits part.now units) }
     ensures outside { IfErr result (λ fault. IsOutside (units_item part.now) fault) }
 {
-    Units::parse(part).map_err(|_| ValueFault::BadNumber)
+    match Units::parse(part) {
+        Ok(units) => Ok(units),
+        Err(_) => Err(ValueFault::BadNumber),
+    }
 }
 
 /// Returns the rate that a part means. The error is `BadNumber`, exactly where it means none.
@@ -21,7 +24,10 @@ pub(crate) fn rate(part: &str) -> Result<Rate, ValueFault>
     ensures means { IfOk result (λ rate. MeansRate part.now rate) }
     ensures outside { IfErr result (λ fault. IsOutside (rate_item part.now) fault) }
 {
-    Rate::parse(part).map_err(|_| ValueFault::BadNumber)
+    match Rate::parse(part) {
+        Ok(rate) => Ok(rate),
+        Err(_) => Err(ValueFault::BadNumber),
+    }
 }
 
 /// Returns the day that a part means. The error is `BadDay`, exactly where it means none.
@@ -29,7 +35,10 @@ pub(crate) fn day(part: &str) -> Result<Day, ValueFault>
     ensures means { IfOk result (λ day. MeansDay part.now day) }
     ensures outside { IfErr result (λ fault. IsOutside (day_item part.now) fault) }
 {
-    Day::parse(part).map_err(|_| ValueFault::BadDay)
+    match Day::parse(part) {
+        Ok(day) => Ok(day),
+        Err(_) => Err(ValueFault::BadDay),
+    }
 }
 
 /// A total, which isn't below zero.

@@ -4,7 +4,7 @@ ghost use Rattle.lot_read.specs.Reading.{GivesStatement, IsLineOf, may_post};
 
 use crate::fault::LineFault;
 use crate::statement::{Statement, StatementFault};
-use lot_form::CurrencyWords;
+use lot_form::{CurrencyWords, Parts};
 use lot_meaning::KnownNames;
 use lot_token::{LineTokens, Tokens};
 use std::alloc::Global;
@@ -31,6 +31,8 @@ pub(crate) struct Kept<'a> {
     tokens: LineTokens<'a>,
     /// The currencies of an opening.
     currencies: CurrencyWords<'a>,
+    /// The parts of a cost.
+    parts: Parts<'a>,
 }
 
 impl<'a> Kept<'a> {
@@ -40,6 +42,7 @@ impl<'a> Kept<'a> {
             names: KnownNames::new(alloc),
             tokens: LineTokens::new(alloc),
             currencies: CurrencyWords::new(),
+            parts: Parts::none(),
         }
     }
 }
@@ -66,7 +69,7 @@ pub(crate) fn statement<'a>(
         return command(&mut kept.names, &mut kept.currencies, &tokens);
     }
     match place {
-        Place::InTransaction => posting(&mut kept.names, &tokens),
+        Place::InTransaction => posting(&mut kept.names, &mut kept.parts, &tokens),
         Place::Elsewhere => Err(StatementFault::Line(LineFault::Syntax)),
     }
 }
@@ -111,14 +114,15 @@ fn command<'a>(
     Ok(Some(Statement::Begins(command)))
 }
 
-/// Returns the posting on an indented line, by its tokens, of which there are some.
-fn posting(
+/// Returns the posting on an indented line, by its tokens, of which there are some. `room` takes the parts of its cost.
+fn posting<'a>(
     names: &mut KnownNames,
-    tokens: &Tokens<'_, '_>,
+    room: &mut Parts<'a>,
+    tokens: &Tokens<'_, 'a>,
 ) -> Result<Option<Statement>, StatementFault>
     ensures { (line : List ℕ) → IsLineOf true tokens.now line → GivesStatement true line result }
 {
-    let Some(form) = lot_form::posting(tokens) else {
+    let Some(form) = lot_form::posting(room, tokens) else {
         return Err(StatementFault::Line(LineFault::Syntax));
     };
     let posting = lot_meaning::posting(names, &form)?;
