@@ -228,11 +228,11 @@ fn assert_comes_whole(rt: &(impl Abort + AllocGlobal), whole: &Whole<'_>, left: 
     assert_that(rt, whole.books.last() == Some(&book), at);
 }
 
-/// Whether such a run left such an image before. Asserts that the book then has as many of a course, and notes a doubt.
-fn is_met(rt: &impl Abort, met: &mut [Left], told: &Told, image: &Image, at: &str) -> bool {
+/// Whether a run left such an image before, with as many of a course as this one may have. Notes a doubt.
+fn is_met(met: &mut [Left], told: &Told, image: &Image) -> bool {
     for left in met {
-        if left.told.next == told.next && left.image == *image {
-            assert_that(rt, told.least <= left.kept && left.kept <= told.most, at);
+        let is_as_many = told.least <= left.kept && left.kept <= told.most;
+        if left.told.next == told.next && is_as_many && left.image == *image {
             left.told.most = left.told.most.max(told.most);
             return true;
         }
@@ -258,7 +258,7 @@ fn assert_stop(
     assert_that(rt, remains.is_stopped || told.is_whole, at);
     for image in remains.images {
         assert_that(rt, !whole.is_unchanged || image == from.image, at);
-        if !is_met(rt, met, &told, &image, at) {
+        if !is_met(met, &told, &image) {
             let kept = kept(rt, whole, &image, &told, at);
             let left = Left { image, told, kept };
             assert_comes_whole(rt, whole, &left, at);
