@@ -1,113 +1,122 @@
-//! Copies of the values that the program doesn't copy. Those of commands are tested by their texts.
+//! Copies of the values that the program doesn't copy. That a copy has every part of its source is its contract; that it is made
+//! is shown here.
 
-use crate::assertions::{assert_is, assert_text};
-use crate::make::{account, commodity, day, label, lot, rate, units};
+use crate::assert_that;
+use lot_base::{Account, Commodity, Day, Label};
 use lot_book::{Holding, Sale, Standing};
 use lot_command::{Currencies, Key, Method, Price, UnitPrice};
-use lot_import::{Accounts, Row, read_rows};
-use std::fmt::Debug;
+use lot_cost::LotKey;
+use lot_import::{Accounts, read_rows};
+use lot_num::{Rate, Units};
+use lot_text::read;
 use std::process::Abort;
 
-/// Asserts that a copy has every part of its source.
-fn assert_same<T: Debug>(rt: &(impl Abort + AllocGlobal), copy: &T, source: &T) {
-    let want = format!(in rt.alloc(); "{source:?}").expect(rt, "source");
-    let found = format!(in rt.alloc(); "{copy:?}").expect(rt, "copy");
-    assert_text(rt, found.as_str(), want.as_str());
+fn account(rt: &(impl Abort + AllocGlobal)) -> Account {
+    Account::new(rt.alloc(), "Assets:Broker").expect(rt, "account")
 }
 
-fn key(rt: &(impl Abort + AllocGlobal)) -> Key {
-    Key {
-        source: label(rt, "post:b"),
-        name: label(rt, "1"),
-    }
+fn commodity(rt: &(impl Abort + AllocGlobal), text: &str) -> Commodity {
+    Commodity::new(rt.alloc(), text).expect(rt, text)
 }
 
-fn holding(rt: &(impl Abort + AllocGlobal)) -> Holding {
-    Holding {
-        account: account(rt, "Assets:Broker"),
-        commodity: commodity(rt, "HOOL"),
-        lot: Some(lot(rt, "100")),
-        units: units(rt, "10"),
-    }
+fn label(rt: &(impl Abort + AllocGlobal)) -> Label {
+    Label::new(rt.alloc(), "x").expect(rt, "label")
 }
 
-/// The row of a broker file.
-fn row(rt: &(impl Abort + AllocGlobal)) -> Row {
-    let file = b"ref,date,action,symbol,units,price,currency,fee,lot\n\
-        A1,2020-02-03,SELL,HOOL,4,130,USD,1.5,B1\n";
-    let mut rows = read_rows(rt.alloc(), file).expect(rt, "rows");
-    rows.pop().expect(rt, "row")
+fn rate(rt: &impl Abort) -> Rate {
+    Rate::parse("100").expect(rt, "rate")
 }
 
-fn accounts(rt: &(impl Abort + AllocGlobal)) -> Accounts {
-    Accounts {
-        invest: account(rt, "Assets:Broker"),
-        cash: account(rt, "Assets:Cash"),
-        fees: account(rt, "Expenses:Fees"),
-        gains: account(rt, "Income:Gains"),
+fn units(rt: &impl Abort) -> Units {
+    Units::parse("-10").expect(rt, "units")
+}
+
+fn day(rt: &impl Abort) -> Day {
+    Day::parse("2020-01-02").expect(rt, "day")
+}
+
+fn lot(rt: &(impl Abort + AllocGlobal)) -> LotKey {
+    LotKey {
+        day: day(rt),
+        currency: commodity(rt, "USD"),
+        number: rate(rt),
+        label: Some(label(rt)),
     }
 }
 
 /// The sale of a lot, at a price for each unit.
 fn sale(rt: &(impl Abort + AllocGlobal)) -> Sale {
     let mut legs = Vec::new(rt.alloc());
-    legs.push((lot(rt, "100"), units(rt, "-10")))
-        .expect(rt, "leg");
+    legs.push((lot(rt), units(rt))).expect(rt, "leg");
     let price = UnitPrice {
-        rate: rate(rt, "130"),
+        rate: rate(rt),
         currency: commodity(rt, "USD"),
     };
     Sale::new(
-        day(rt, "2020-03-15"),
-        account(rt, "Assets:Broker"),
+        day(rt),
+        account(rt),
         commodity(rt, "HOOL"),
-        units(rt, "-10"),
+        units(rt),
         Some(Price::Each(price)),
         legs,
     )
     .expect(rt, "sale")
 }
 
-/// All that a sale says of itself, and its gain, which needs its price.
-fn sale_text(rt: &(impl Abort + AllocGlobal), sale: &Sale) -> String {
-    let (day, account, commodity) = (sale.day(), sale.account(), sale.commodity());
-    let (units, legs, gain) = (sale.units(), sale.legs(), sale.gain());
-    format!(in rt.alloc(); "{day} {account} {commodity} {units:?} {legs:?} {gain:?}").expect(
-        rt, "sale",
-    )
-}
-
-/// Asserts the parts of the copy of an account that was closed.
-fn assert_standing(rt: &(impl Abort + AllocGlobal)) {
+/// An account that was closed.
+fn standing(rt: &(impl Abort + AllocGlobal)) -> Standing {
     let mut usd = Vec::new(rt.alloc());
     usd.push(commodity(rt, "USD")).expect(rt, "USD");
-    let standing = Standing {
-        opened: day(rt, "2020-01-01"),
-        closed: Some(day(rt, "2020-02-01")),
+    Standing {
+        opened: day(rt),
+        closed: Some(day(rt)),
         method: Method::Hifo,
         allowed: Currencies::new(usd).expect(rt, "currencies"),
-    };
-    let copy = standing.copy(rt.alloc()).expect(rt, "standing");
-    assert_is(rt, &copy.opened, &standing.opened, "opened");
-    assert_is(rt, &copy.closed, &standing.closed, "closed");
-    assert_is(rt, &copy.method, &Method::Hifo, "method");
-    let same = copy.allowed.as_slice() == standing.allowed.as_slice();
-    assert_is(rt, &same, &true, "allowed");
+    }
+}
+
+/// Commands of each kind.
+const COMMANDS: &[u8] = b"2020-01-01 open Assets:Broker USD \"HIFO\"\n\
+    2020-01-01 close Assets:Broker\n2020-01-01 commodity HOOL\n2020-01-01 price HOOL 1 USD\n\
+    2020-01-01 * \"a\" \"b\"\n  Assets:Broker 1 HOOL {{1 USD, \"x\"}} @ 2 USD\n  Assets:Cash\n";
+
+/// The file of a broker.
+const FILE: &[u8] = b"ref,date,action,symbol,units,price,currency,fee,lot\n\
+    A1,2020-02-03,SELL,HOOL,4,130,USD,1.5,B1\n";
+
+#[test]
+fn copies_of_what_is_read_are_made(rt: HostRuntime) {
+    let rt = &rt;
+    for command in &read(rt.alloc(), COMMANDS).expect(rt, "commands") {
+        assert_that(rt, command.copy(rt.alloc()).is_ok(), "command");
+    }
+    for row in &read_rows(rt.alloc(), FILE).expect(rt, "rows") {
+        assert_that(rt, row.copy().is_ok(), "row");
+    }
 }
 
 #[test]
-fn copies_equal_their_source(rt: HostRuntime) {
-    let key = key(&rt);
-    assert_same(&rt, &key.copy().expect(&rt, "key"), &key);
-    let holding = holding(&rt);
-    assert_same(&rt, &holding.copy().expect(&rt, "holding"), &holding);
-    let row = row(&rt);
-    assert_same(&rt, &row.copy().expect(&rt, "row"), &row);
-    let accounts = accounts(&rt);
-    assert_same(&rt, &accounts.copy().expect(&rt, "accounts"), &accounts);
-    let sale = sale(&rt);
-    let copy = sale.copy(rt.alloc()).expect(&rt, "sale");
-    let want = sale_text(&rt, &sale);
-    assert_text(&rt, sale_text(&rt, &copy).as_str(), want.as_str());
-    assert_standing(&rt);
+fn copies_are_made(rt: HostRuntime) {
+    let rt = &rt;
+    let key = Key {
+        source: label(rt),
+        name: label(rt),
+    };
+    assert_that(rt, key.copy().is_ok(), "key");
+    let accounts = Accounts {
+        invest: account(rt),
+        cash: account(rt),
+        fees: account(rt),
+        gains: account(rt),
+    };
+    assert_that(rt, accounts.copy().is_ok(), "accounts");
+    let holding = Holding {
+        account: account(rt),
+        commodity: commodity(rt, "HOOL"),
+        lot: Some(lot(rt)),
+        units: units(rt),
+    };
+    assert_that(rt, holding.copy().is_ok(), "holding");
+    assert_that(rt, sale(rt).copy(rt.alloc()).is_ok(), "sale");
+    assert_that(rt, standing(rt).copy(rt.alloc()).is_ok(), "standing");
 }

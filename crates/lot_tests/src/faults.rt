@@ -1,6 +1,6 @@
 //! What no text of the program shows of faults: their own texts, for people, and which of several faults of a number is told.
 
-use crate::assertions::{assert_is, assert_text};
+use crate::assert_text;
 use lot_base::{DayFault, NameFault};
 use lot_booking::{BookingFault, TakeFault};
 use lot_import::{Cause, CommandFault, KeyedFault, RowsFault};
@@ -73,15 +73,6 @@ const OF_TAKING: &[(TakeFault, &str)] = &[
     (TakeFault::Memory, "Memory: out of memory"),
 ];
 
-fn assert_low(rt: &(impl Abort + AllocGlobal)) {
-    assert_told(rt, OF_NUMBERS);
-    assert_told(rt, OF_NAMES);
-    assert_told(rt, OF_DAYS);
-    assert_told(rt, OF_INVENTORIES);
-    assert_told(rt, OF_BOOKING);
-    assert_told(rt, OF_TAKING);
-}
-
 const OF_CAUSES: &[(Cause, &str)] = &[
     (
         Cause::Length,
@@ -135,13 +126,6 @@ const OF_KEYED_ROWS: &[(KeyedFault, &str)] = &[
     ),
     (KeyedFault::Memory, "Memory: out of memory"),
 ];
-
-fn assert_of_files(rt: &(impl Abort + AllocGlobal)) {
-    assert_told(rt, OF_CAUSES);
-    assert_told(rt, OF_FILES);
-    assert_told(rt, OF_ROWS);
-    assert_told(rt, OF_KEYED_ROWS);
-}
 
 const OF_LINES: &[(PrintFault, &str)] = &[
     (PrintFault::Write, "Write: the output can't be written"),
@@ -200,45 +184,45 @@ const OF_RUNS: &[(Fault, &str)] = &[
     ),
 ];
 
-fn assert_of_streams(rt: &(impl Abort + AllocGlobal)) {
-    assert_told(rt, OF_LINES);
-    assert_told(rt, OF_REPORTS);
-    assert_told(rt, OF_JOURNALS);
-    assert_told(rt, OF_INPUTS);
-    assert_told(rt, OF_RUNS);
-}
-
 #[test]
 fn faults_say_what_they_are(rt: HostRuntime) {
-    assert_low(&rt);
-    assert_of_files(&rt);
-    assert_of_streams(&rt);
+    assert_told(&rt, OF_NUMBERS);
+    assert_told(&rt, OF_NAMES);
+    assert_told(&rt, OF_DAYS);
+    assert_told(&rt, OF_INVENTORIES);
+    assert_told(&rt, OF_BOOKING);
+    assert_told(&rt, OF_TAKING);
+    assert_told(&rt, OF_CAUSES);
+    assert_told(&rt, OF_FILES);
+    assert_told(&rt, OF_ROWS);
+    assert_told(&rt, OF_KEYED_ROWS);
+    assert_told(&rt, OF_LINES);
+    assert_told(&rt, OF_REPORTS);
+    assert_told(&rt, OF_JOURNALS);
+    assert_told(&rt, OF_INPUTS);
+    assert_told(&rt, OF_RUNS);
 }
 
-/// Texts that aren't units, a total and a rate, each with the first of its faults. The program tells all four alike.
-const NUMBERS: &[(&str, [NumberFault; 3])] = &[
-    ("1.a23456789", [Syntax, Syntax, Syntax]),
+/// Texts, each with its first fault as units, as a total and as a rate. The program tells all four alike.
+const NUMBERS: &[(&str, &str)] = &[
+    ("1.a23456789", "Some(Syntax) Some(Syntax) Some(Syntax)"),
     (
         "-10000000000.000000001",
-        [TooManyDecimals, TooManyDecimals, TooManyDecimals],
+        "Some(TooManyDecimals) Some(TooManyDecimals) Some(TooManyDecimals)",
     ),
-    ("-10000000000", [TooLarge, TooLarge, TooLarge]),
+    (
+        "-10000000000",
+        "Some(TooLarge) Some(TooLarge) Some(TooLarge)",
+    ),
+    ("-1", "None Some(Negative) Some(Negative)"),
 ];
-
-/// The faults of a text as units, as a total and as a rate.
-fn number_faults(text: &str) -> [Option<NumberFault>; 3] {
-    [
-        Units::parse(text).err(),
-        Units::parse_total(text).err(),
-        Rate::parse(text).err(),
-    ]
-}
 
 #[test]
 fn the_first_fault_of_a_number_is_told(rt: HostRuntime) {
     for (text, want) in NUMBERS {
-        assert_is(&rt, &number_faults(text), &want.map(Some), text);
+        let (units, total) = (Units::parse(text).err(), Units::parse_total(text).err());
+        let rate = Rate::parse(text).err();
+        let told = format!(in rt.alloc(); "{units:?} {total:?} {rate:?}").expect(&rt, want);
+        assert_text(&rt, told.as_str(), want);
     }
-    let below_zero = [None, Some(Negative), Some(Negative)];
-    assert_is(&rt, &number_faults("-1"), &below_zero, "-1");
 }

@@ -1,15 +1,13 @@
 //! Tests of the libraries through their public calls. They test what no contract says and no script over the program shows.
-//! They stand here, above the libraries, so that no library is proved twice.
+//! They stand here, above all libraries, so that no library is proved twice.
 //!
-//! - `assertions`: the assertions that tests call.
-//! - `make`: values made of texts.
-//! - `commands`: the canonical texts of commands and of their copies.
-//! - `copies`: copies of other values equal their source.
+//! - `commands`: the canonical texts of commands.
+//! - `copies`: copies of values that the program doesn't copy.
 //! - `faults`: the texts of faults, and which of several faults of a number is told.
-//! - `edition_2`: ties between lots by edition 2.
-//! - `full_book`: a book with as many entries as it may have.
-//! - `opening_numbers`: the lots that legs leave, with their opening numbers.
-//! - `streams`: readers and writers that give or take little, are interrupted, or fail, by a script (`scripted`).
+//! - `streams`: readers and writers that give or take little, are interrupted, or fail, by a script.
+//! - `stops`: a file of a book stops at each of its calls, once and twice, while a course is gone through: a ledger is sent, a book
+//!   is made, migrated, verified. A commit in doubt is kept or lost. `courses`: what is done, and what is said; `disk`: the files
+//!   of a book, on disks that stop.
 //!
 //! Each function here is proved, too. These habits keep the proofs short. Tables of cases stand in few tests. There is no `?`,
 //! which adds a path on which all live values are dropped. Tables are slices, not arrays that a loop takes by value. Assertions
@@ -17,22 +15,29 @@
 #![tactic(auto)]
 
 #[cfg(test)]
-mod assertions;
-#[cfg(test)]
 mod commands;
 #[cfg(test)]
 mod copies;
 #[cfg(test)]
-mod edition_2;
+mod courses;
+#[cfg(test)]
+mod disk;
 #[cfg(test)]
 mod faults;
 #[cfg(test)]
-mod full_book;
-#[cfg(test)]
-mod make;
-#[cfg(test)]
-mod opening_numbers;
-#[cfg(test)]
-mod scripted;
+mod stops;
 #[cfg(test)]
 mod streams;
+
+#[cfg(test)]
+use std::process::Abort;
+
+#[cfg(test)]
+fn assert_text(rt: &impl Abort, found: &str, want: &str) {
+    assert_eq!(rt; found, want);
+}
+
+#[cfg(test)]
+fn assert_that(rt: &impl Abort, holds: bool, what: &str) {
+    assert!(rt; holds, "{what}");
+}

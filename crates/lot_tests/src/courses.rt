@@ -1,16 +1,41 @@
-//! The ledgers that are sent to books whose disks stop.
+//! What is done to books whose disks stop: ledgers are sent to them, and they are made, migrated and verified.
 
-/// Commands that are sent, each with its reply where nothing stops, and those that stand in the book before them.
-pub(crate) struct Ledger {
+/// Commands that are sent to a book, or one other call of the program, done over again until all is done.
+pub(crate) struct Course {
     pub name: &'static str,
+    /// The calls by which the book is made before, and the text that they are given. Without a call there is no book.
+    pub made_by: &'static [&'static str],
     pub before: &'static str,
+    pub call: Call,
+    /// Commands, or none for another call, each with what is said where nothing stops.
     pub sent: &'static [(&'static str, &'static str)],
+    /// What is posted before the book is asked what it says.
+    pub behind: &'static str,
+    /// How that begins before, and in the end.
+    pub first: &'static str,
+    pub last: &'static str,
 }
 
+/// What is called.
+pub(crate) enum Call {
+    /// The post of commands, from the first without a reply on. Each line of the answer has the number of its command.
+    Post,
+    /// Another call, by its words, and what it says where all is done.
+    Other(&'static str, &'static str),
+}
+
+/// A new book is made, and commands are posted to it.
+const MADE: &[&str] = &[
+    "lotbook init --book b",
+    "lotbook post --book b --batch before",
+];
+
 /// Two purchases, and a sale that takes the first of them whole and a part of the second.
-pub(crate) const SALE: Ledger = Ledger {
+pub(crate) const SALE: Course = Course {
     name: "sale",
+    made_by: MADE,
     before: "",
+    call: Call::Post,
     sent: &[
         ("2020-01-01 open Assets:Broker \"FIFO\"\n", "1 accepted\n"),
         ("2020-01-01 open Assets:Cash\n", "2 accepted\n"),
@@ -29,11 +54,15 @@ pub(crate) const SALE: Ledger = Ledger {
             "7 accepted\n",
         ),
     ],
+    behind: "",
+    first: "",
+    last: "",
 };
 
 /// A sale that is refused as its lot isn't there yet, a purchase of that lot, and a sale of another.
-pub(crate) const DOUBT: Ledger = Ledger {
+pub(crate) const DOUBT: Course = Course {
     name: "doubt",
+    made_by: MADE,
     before: "\
 2020-01-01 open Assets:Broker \"FIFO\"
 2020-01-01 open Assets:Cash
@@ -43,6 +72,7 @@ pub(crate) const DOUBT: Ledger = Ledger {
   Assets:Broker 10 HOOL {100 USD}
   Equity:Start
 ",
+    call: Call::Post,
     sent: &[
         (
             "2020-02-01 *\n  Assets:Broker -5 HOOL {120 USD} @ 130 USD\n  Assets:Cash 650 USD\n  Income:Gains\n",
@@ -57,12 +87,13 @@ pub(crate) const DOUBT: Ledger = Ledger {
             "3 accepted\n",
         ),
     ],
+    behind: "",
+    first: "",
+    last: "",
 };
 
-/// Prices of a lot's commodity, the second in the place of the first.
-pub(crate) const PRICES: Ledger = Ledger {
-    name: "prices",
-    before: "\
+/// Two purchases.
+const TWO_LOTS: &str = "\
 2020-01-01 open Assets:Broker \"FIFO\"
 2020-01-01 open Assets:Cash
 2020-01-01 open Income:Gains
@@ -73,18 +104,30 @@ pub(crate) const PRICES: Ledger = Ledger {
 2020-02-01 *
   Assets:Broker 10 HOOL {120 USD}
   Equity:Start
-",
+";
+
+/// Prices of a lot's commodity, the second in the place of the first.
+pub(crate) const PRICES: Course = Course {
+    name: "prices",
+    made_by: MADE,
+    before: TWO_LOTS,
+    call: Call::Post,
     sent: &[
         ("2020-02-10 price HOOL 125 USD\n", "1 accepted\n"),
         ("2020-02-10 price HOOL 126 USD\n", "2 accepted\n"),
         ("2020-03-01 price HOOL 130 USD\n", "3 accepted\n"),
     ],
+    behind: "",
+    first: "",
+    last: "",
 };
 
 /// Every kind of command, and each refusal that a short text meets.
-pub(crate) const EVERY_KIND: Ledger = Ledger {
+pub(crate) const EVERY_KIND: Course = Course {
     name: "every kind",
+    made_by: MADE,
     before: "",
+    call: Call::Post,
     sent: &[
         (
             "2020-01-01 open Assets:Broker USD,HOOL,GOLD \"FIFO\"\n",
@@ -189,4 +232,103 @@ pub(crate) const EVERY_KIND: Ledger = Ledger {
             "31 accepted\n",
         ),
     ],
+    behind: "",
+    first: "",
+    last: "",
+};
+
+/// A new book is made of no files.
+pub(crate) const MAKING: Course = Course {
+    name: "making",
+    made_by: &[],
+    before: "",
+    call: Call::Other("lotbook init --book b", "fault S1 NotABook"),
+    sent: &[("", "book ready\n")],
+    behind: "",
+    first: "fault S1 NotABook\nfault S1 NotABook\nfault S1 NotABook\nfault S1 NotABook\n",
+    last: "no gains\nnothing held\n",
+};
+
+/// A book of edition 1 is migrated, in which both editions choose the same lots so far. Of three that are alike the second by its key
+/// was bought first, and the last was emptied and opened again. A sale behind it is of the lot that was opened first.
+pub(crate) const MIGRATING: Course = Course {
+    name: "migrating",
+    made_by: &[
+        "lotbook init --book b",
+        "lotbook post --book b --batch before",
+        "sql BEGIN; DROP TABLE opening; DROP TABLE migration; UPDATE book SET edition = 1; COMMIT",
+    ],
+    before: "\
+2020-01-01 open Assets:Broker \"FIFO\"
+2020-01-01 open Assets:Cash
+2020-01-01 open Equity:Start
+2020-01-01 open Income:Gains
+2020-01-02 *
+  Equity:Start
+  Assets:Broker 5 HOOL {100 USD, \"b\"}
+2020-01-02 *
+  Assets:Broker 5 HOOL {100 USD, \"a\"}
+  Assets:Broker 3 HOOL {100 USD, \"c\"}
+  Equity:Start
+2020-01-03 *
+  Assets:Broker -3 HOOL {\"c\"} @ 110 USD
+  Assets:Cash 330 USD
+  Income:Gains
+2020-01-04 *
+  Assets:Broker 4 HOOL {100 USD, 2020-01-02, \"c\"}
+  Equity:Start
+2020-01-05 close Equity:Start
+",
+    call: Call::Other("lotbook migrate --book b", "book migrated"),
+    sent: &[("", "book migrated\n")],
+    behind: "\
+2020-01-06 *
+  Assets:Broker -1 HOOL {} @ 120 USD
+  Assets:Cash 120 USD
+  Income:Gains
+",
+    first: "fault S3 OlderEdition\nfault S3 OlderEdition\nfault S3 OlderEdition\nfault S3 OlderEdition\n",
+    last: "\
+1 accepted
+2020-01-03 Assets:Broker -3 HOOL proceeds 330.00 cost 300.00 gain 30.00 USD
+  -3 HOOL {100 USD, 2020-01-02, \"c\"}
+2020-01-06 Assets:Broker -1 HOOL proceeds 120.00 cost 100.00 gain 20.00 USD
+  -1 HOOL {100 USD, 2020-01-02, \"b\"}
+total gain 50.00 USD
+Assets:Broker 5 HOOL {100 USD, 2020-01-02, \"a\"} value none
+Assets:Broker 4 HOOL {100 USD, 2020-01-02, \"b\"} value none
+Assets:Broker 4 HOOL {100 USD, 2020-01-02, \"c\"} value none
+Assets:Cash 450.00 USD
+Equity:Start -1700.00 USD
+Income:Gains -50.00 USD
+total cost 1300.00 USD
+; entry 1 ",
+};
+
+/// A good book is verified.
+pub(crate) const VERIFYING: Course = Course {
+    name: "verifying",
+    made_by: MADE,
+    before: TWO_LOTS,
+    call: Call::Other("lotbook verify --book b", "book verified"),
+    sent: &[("", "book verified\n")],
+    behind: "",
+    first: "no gains\n",
+    last: "no gains\n",
+};
+
+/// A damaged one is verified: its accounts have no lots.
+pub(crate) const FINDING_DAMAGE: Course = Course {
+    name: "finding damage",
+    made_by: &[
+        "lotbook init --book b",
+        "lotbook post --book b --batch before",
+        "sql DELETE FROM lot",
+    ],
+    before: TWO_LOTS,
+    call: Call::Other("lotbook verify --book b", "fault S7 Damaged"),
+    sent: &[("", "fault S7 Damaged\n")],
+    behind: "",
+    first: "",
+    last: "",
 };
