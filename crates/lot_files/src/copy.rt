@@ -24,6 +24,10 @@ const HEAD: usize = 32;
 /// What the marks in the log of a copy begin with, which nobody reads.
 const SEED: u64 = 0;
 
+/// How many pages of an empty database are kept in memory. At most the tables of a new book are
+/// written to it.
+const FEW: usize = 16;
+
 /// Opens a copy of the database in the file of that path. A file that isn't there is copied as an
 /// empty one. Nothing is written but the copy, which is in memory.
 pub fn open_copy(rt: &HostRuntime, path: &str) -> Result<Connection<FileStore<Image>>, Cause>
@@ -36,7 +40,7 @@ pub fn open_copy(rt: &HostRuntime, path: &str) -> Result<Connection<FileStore<Im
         return open_nothing(alloc);
     }
     let files = copied(rt, &locate(rt, path)?)?;
-    open_images(alloc, files)
+    open_images(alloc, files, Options::new(SEED))
 }
 
 /// Opens an empty database in memory.
@@ -48,17 +52,26 @@ pub fn open_nothing(alloc: Global) -> Result<Connection<FileStore<Image>>, Cause
         log: Image::new(Vec::new(alloc)),
         db: Image::new(Vec::new(alloc)),
     };
-    open_images(alloc, files)
+    let options = Options {
+        cache_pages: FEW,
+        spill_pages: FEW,
+        ..Options::new(SEED)
+    };
+    open_images(alloc, files, options)
 }
 
 /// Opens the database in files in memory.
-fn open_images(alloc: Global, files: Files<Image>) -> Result<Connection<FileStore<Image>>, Cause>
+fn open_images(
+    alloc: Global,
+    files: Files<Image>,
+    options: Options,
+) -> Result<Connection<FileStore<Image>>, Cause>
     ensures outside { IfOk result (λ conn. conn.in_transaction ≡ false) }
     ensures unlimited { IfOk result (λ conn. conn.step_limit ≡ None) }
     ensures found { IfOk result (λ conn. HasCleanDisk (file_state conn) → Finds files conn) }
     ensures cause { IfErr result IsOfCopy }
 {
-    match Connection::open_files(alloc, files, Options::new(SEED)) {
+    match Connection::open_files(alloc, files, options) {
         Ok(conn) => Ok(conn),
         Err((error, _left)) => Err(Cause::of_copy(error)),
     }
