@@ -52,39 +52,30 @@ fn answer(rt: &HostRuntime, words: &[String], fault: &WordsFault) -> u8 {
     }
 }
 
-/// Calls of the subcommands that need options.
-const EXAMPLES: [(&str, &str); 8] = [
-    ("init", "lotbook init --book family.book"),
-    ("migrate", "lotbook migrate --book family.book"),
-    (
-        "post",
-        "lotbook post --book family.book --batch 2024 < 2024.ledger",
-    ),
-    (
-        "import",
-        "lotbook import --book family.book --batch broker --invest Assets:Broker --cash Assets:Cash --fees Expenses:Fees --gains Income:Gains < deals.csv",
-    ),
-    ("holdings", "lotbook holdings --book family.book"),
-    (
-        "gains",
-        "lotbook gains --book family.book --first 2024-01-01 --last 2024-12-31",
-    ),
-    (
-        "journal",
-        "lotbook journal --book family.book > family.ledger",
-    ),
-    ("verify", "lotbook verify --book family.book"),
-];
-
 /// Shows on standard error how the subcommand is called that stands first among the arguments.
 fn show_example(rt: &HostRuntime, words: &[String]) {
     for word in words.iter().skip(1) {
-        for (name, example) in EXAMPLES {
-            if name == word.as_str() {
-                let _ = eprintln!(rt; "\nExample: {example}");
-                return;
-            }
+        if let Some(example) = example_of(word.as_str()) {
+            let _ = eprintln!(rt; "\nExample: {example}");
+            return;
         }
+    }
+}
+
+/// Returns a call of a subcommand that needs options.
+fn example_of(word: &str) -> Option<&'static str> {
+    match word {
+        "init" => Some("lotbook init --book family.book"),
+        "migrate" => Some("lotbook migrate --book family.book"),
+        "post" => Some("lotbook post --book family.book --batch 2024 < 2024.ledger"),
+        "import" => Some(
+            "lotbook import --book family.book --batch broker --invest Assets:Broker --cash Assets:Cash --fees Expenses:Fees --gains Income:Gains < deals.csv",
+        ),
+        "holdings" => Some("lotbook holdings --book family.book"),
+        "gains" => Some("lotbook gains --book family.book --first 2024-01-01 --last 2024-12-31"),
+        "journal" => Some("lotbook journal --book family.book > family.ledger"),
+        "verify" => Some("lotbook verify --book family.book"),
+        _ => None,
     }
 }
 

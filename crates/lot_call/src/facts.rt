@@ -22,17 +22,17 @@ pub struct Facts<'a, S: Alter> {
 
 impl<S: Alter> Known for Facts<'_, S> {
     fn entry(&mut self, source: &str, name: &str) -> Result<Option<Entry>, AllocError> {
-        let rows: Vec<EntryRow> = self.rows(
+        let row: Option<EntryRow> = self.first(
             "SELECT number, source, name, body FROM entry WHERE source = ?1 AND name = ?2",
             params![source, name],
         )?;
-        Ok(match rows.first() {
-            Some(row) => Some(Entry {
-                number: row.number.number(),
-                body: String::from_str(self.alloc, row.body.as_str())?,
-            }),
-            None => None,
-        })
+        let Some(row) = row else {
+            return Ok(None);
+        };
+        Ok(Some(Entry {
+            number: row.number.number(),
+            body: String::from_str(self.alloc, row.body.as_str())?,
+        }))
     }
 
     fn accounts(&mut self) -> Result<Vec<Account>, AllocError> {
@@ -53,15 +53,15 @@ impl<S: Alter> Known for Facts<'_, S> {
         commodity: &Commodity,
     ) -> Result<Option<Latest>, AllocError> {
         let (account, commodity) = (account.as_str(), commodity.as_str());
-        let heads: Vec<HeadRow> = self.rows(
+        let head: Option<HeadRow> = self.first(
             "SELECT account, commodity, day FROM head WHERE account = ?1 AND commodity = ?2",
             params![account, commodity],
         )?;
-        let legs: Vec<LegRow> = self.rows(
+        let leg: Option<LegRow> = self.first(
             "SELECT entry, posting, place, account, commodity, units, cost_number, cost_currency, cost_day, cost_label FROM leg WHERE account = ?1 AND commodity = ?2 AND cost_day IS NOT NULL ORDER BY entry DESC, posting DESC, place DESC LIMIT 1",
             params![account, commodity],
         )?;
-        Ok(match (heads.first(), legs.first()) {
+        Ok(match (&head, &leg) {
             (Some(head), Some(leg)) => Some(Latest {
                 day: head.day,
                 entry: leg.entry.number(),
@@ -88,30 +88,41 @@ impl<S: Alter> Known for Facts<'_, S> {
 
     fn locked(&mut self, account: &Account) -> Result<Option<Commodity>, AllocError> {
         let account = account.as_str();
-        let closed: Vec<AccountRow> = self.rows(
+        let closed: Option<AccountRow> = self.first(
             "SELECT name, opened, closed, method FROM account WHERE name = ?1 AND closed IS NOT NULL",
             params![account],
         )?;
-        if closed.is_empty() {
+        if closed.is_none() {
             return Ok(None);
         }
-        let lots: Vec<LotRow> = self.rows(
+        let lot: Option<LotRow> = self.first(
             "SELECT account, commodity, cost_day, cost_currency, cost_number, cost_label, units FROM lot WHERE account = ?1 ORDER BY account, commodity, cost_day, cost_currency, cost_number, cost_label LIMIT 1",
             params![account],
         )?;
-        let plain: Vec<PlainRow> = self.rows(
+        if let Some(row) = lot {
+            return Ok(Some(row.commodity));
+        }
+        let plain: Option<PlainRow> = self.first(
             "SELECT account, commodity, units FROM plain WHERE account = ?1 ORDER BY account, commodity LIMIT 1",
             params![account],
         )?;
-        Ok(match (lots.into_iter().next(), plain.into_iter().next()) {
-            (Some(row), _) => Some(row.commodity),
-            (None, Some(row)) => Some(row.commodity),
-            (None, None) => None,
-        })
+        match plain {
+            Some(row) => Ok(Some(row.commodity)),
+            None => Ok(None),
+        }
     }
 }
 
 impl<S: Alter> Facts<'_, S> {
+    /// Returns the first row that a query answers, if it answers one and it can be read.
+    fn first<R: TableRow>(
+        &mut self,
+        text: &str,
+        params: &[ValueRef<'_>],
+    ) -> Result<Option<R>, AllocError> {
+        Ok(self.rows(text, params)?.into_iter().next())
+    }
+
     /// Returns the rows that a query answers, none where they can't be read.
     fn rows<R: TableRow>(
         &mut self,

@@ -43,20 +43,24 @@ impl Standing {
 
     /// Says on standard error what stands at a path, and what helps.
     pub fn say(self, rt: &HostRuntime, path: &str) {
-        let _ = match self {
-            Standing::Nothing => eprintln!(rt;
-                "lotbook: {path}: there is no such file: `lotbook init --book {path}` makes a book"
+        let (what, help) = match self {
+            Standing::Nothing => (": there is no such file", Some(("init", "makes a book"))),
+            Standing::EmptyFile => (" is empty", Some(("init", "makes a book of it"))),
+            Standing::Book => (" is a book already", None),
+            Standing::OlderBook => (
+                " is a book of edition 1",
+                Some(("migrate", "takes it over")),
             ),
-            Standing::EmptyFile => eprintln!(rt;
-                "lotbook: {path} is empty: `lotbook init --book {path}` makes a book of it"
+            Standing::OtherDatabase => (
+                " is a database of another program: its tables aren't those of a book",
+                None,
             ),
-            Standing::Book => eprintln!(rt; "lotbook: {path} is a book already"),
-            Standing::OlderBook => eprintln!(rt;
-                "lotbook: {path} is a book of edition 1: `lotbook migrate --book {path}` takes it over"
-            ),
-            Standing::OtherDatabase => eprintln!(rt;
-                "lotbook: {path} is a database of another program: its tables aren't those of a book"
-            ),
+        };
+        let _ = match help {
+            Some((word, does)) => {
+                eprintln!(rt; "lotbook: {path}{what}: `lotbook {word} --book {path}` {does}")
+            }
+            None => eprintln!(rt; "lotbook: {path}{what}"),
         };
     }
 }
