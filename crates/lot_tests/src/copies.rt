@@ -11,11 +11,11 @@ use lot_num::{Rate, Units};
 use lot_text::read;
 use std::process::Abort;
 
-fn account(rt: &(impl Abort + AllocGlobal)) -> Account {
+pub(crate) fn account(rt: &(impl Abort + AllocGlobal)) -> Account {
     Account::new(rt.alloc(), "Assets:Broker").expect(rt, "account")
 }
 
-fn commodity(rt: &(impl Abort + AllocGlobal), text: &str) -> Commodity {
+pub(crate) fn commodity(rt: &(impl Abort + AllocGlobal), text: &str) -> Commodity {
     Commodity::new(rt.alloc(), text).expect(rt, text)
 }
 
@@ -35,7 +35,7 @@ fn day(rt: &impl Abort) -> Day {
     Day::parse("2020-01-02").expect(rt, "day")
 }
 
-fn lot(rt: &(impl Abort + AllocGlobal)) -> LotKey {
+pub(crate) fn lot(rt: &(impl Abort + AllocGlobal)) -> LotKey {
     LotKey {
         day: day(rt),
         currency: commodity(rt, "USD"),
