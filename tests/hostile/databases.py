@@ -2,8 +2,9 @@
 
     databases.py PROGRAM SCRATCH [--whole]
 
-Each word is run on each, without --whole every other one: it answers what it does on the sound book, or names the fault, and then nothing changed. Values in rows that
-no book has are those of tests/tables.sh, which asks the one call that has to meet each. Without --whole they and the forms are a sample.
+Each word is run on each, without --whole every other one: it answers what it does on the sound book, or names the fault, and then
+nothing changed. Values in rows that no book has are those of tests/tables.sh, which asks the one call that has to meet each. Without
+--whole they and the forms are a sample.
 """
 
 import os
