@@ -8,8 +8,9 @@ crates/lotbook/out/build.log.
 
 A call of the kit keeps others out of the folder of each crate that it reads. So each crate is proved in a room, a folder of its own
 with the sources as they were when the build began, and with the libraries that were built before. What the kit leaves there is then
-moved to the crate's own out/, also when the build is stopped: the next one goes on from there. The rooms stand below .git, or where
-there is none in a folder for temporary files, since the kit's gate refuses a second crates.txt anywhere else in the repository.
+moved to the crate's own out/. A build that is stopped loses the crates in work, and the next one goes on with those. The rooms stand
+below .git, or where there is none in a folder for temporary files, since the kit's gate refuses a second crates.txt anywhere else in
+the repository.
 
 The status is 0 where the program stands, 3 where another call was building it, which has ended now, and else 1. After a signal
 nothing that was started here goes on.
@@ -53,7 +54,7 @@ def say(text):
 
 def pace(jobs):
     """How much faster so many jobs are than one."""
-    return 0.6 + 0.4 * jobs
+    return 0.75 + 0.25 * jobs
 
 
 def minutes(seconds):
@@ -280,7 +281,7 @@ class Build:
     def begin(self, crate, jobs):
         furnish(crate)
         crate.jobs, crate.begun = jobs, time.monotonic()
-        words = [RT, "run" if crate.is_program else "lib", "--jobs", str(jobs)]
+        words = proves(crate, jobs)
         how = {"stdin": subprocess.DEVNULL, "stdout": subprocess.PIPE, "stderr": subprocess.STDOUT}
         crate.run = subprocess.Popen(words, cwd=crate.at_work(), start_new_session=True, preexec_fn=end_with_parent, **how)
         crate.part = ""
@@ -392,6 +393,16 @@ class Build:
         for crate in self.running:
             clear(crate.name)
         self.running = []
+
+
+def proves(crate, jobs):
+    """What proves a crate in its room, or builds the program there."""
+    rt = os.path.realpath(RT)
+    is_new = not os.path.exists(f"{crate.home}/out/rlib") and not os.path.exists(f"{crate.at_work()}/out/incremental")
+    if is_new and not crate.is_program and os.path.isfile(f"{os.path.dirname(rt)}/rtlib.py"):
+        return [sys.executable, f"{ROOT}/tools/library.py", rt, str(jobs)]
+    # Work that is kept makes each later check quick.
+    return [RT, "run" if crate.is_program else "lib", "--jobs", str(jobs)]
 
 
 def end_with_parent():
