@@ -18,5 +18,4 @@ pub mod SpreadLemmas
 pub mod StatementLemmas
 pub mod StopLemmas
 pub mod TableLemmas
-pub mod UpdateLemmas
 pub mod WriteLemmas

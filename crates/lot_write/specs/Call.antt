@@ -2,8 +2,8 @@
 use Rattle.std.specs.Prelude.{◌≡◌, ◌⊎◌, IsTrue, List, ◌∷◌, ◌++◌, None, OnErr, OnOk, Result, Err}
 use Rattle.sqlite.specs.State.{HasCleanDisk, KeepsCommit, State, Survives}
 use Rattle.sqlite.specs.Tree.{Trees}
-use Rattle.lot_table.specs.Book.{BookTable, Holds, IsUndone, StaysInside, Turns, always}
-use Rattle.lot_table.specs.Call.{LacksRoom, LacksRoomInPlace}
+use Rattle.lot_table.specs.Book.{BookTable, Holds, IsUndone, StaysInside, Turns}
+use Rattle.lot_table.specs.Call.{LacksRoom}
 use Rattle.lot_table.specs.Statement.{DiskFailed}
 use Rattle.lot_table.specs.declared.fault.Fault.TheVariants.{Damaged, Device}
 use Rattle.lot_table.specs.declared.fault.Fault.{Fault}
@@ -16,9 +16,6 @@ use Rattle.lot_write.specs.declared.write.Write.TheVariants as write
 
 abbrev pub LacksRoomIn : {X : Type 0} → BookTable Tables X → X → Trees → Type 0
 LacksRoomIn t x = LacksRoom layout.schema t.table (t.encode x)
-
-abbrev pub LacksRoomAgain : {X : Type 0} → BookTable Tables X → X → Trees → Type 0
-LacksRoomAgain t x = LacksRoomInPlace layout.schema t.table (t.encode x)
 
 -- the database has no room for the row that is put; a row that is deleted needs none
 abbrev pub LacksRoomFor : Write → Trees → Type 0
@@ -34,10 +31,8 @@ LacksRoomFor (write.NoLot account commodity lot) = λ trees. ⊥
 LacksRoomFor (write.Opening row) = LacksRoomIn opening_table row
 LacksRoomFor (write.NoOpening account commodity lot) = λ trees. ⊥
 LacksRoomFor (write.Plain row) = LacksRoomIn plain_table row
-LacksRoomFor (write.SetPlain row) = LacksRoomAgain plain_table row
 LacksRoomFor (write.NoPlain account commodity) = λ trees. ⊥
 LacksRoomFor (write.Head row) = LacksRoomIn head_table row
-LacksRoomFor (write.SetHead row) = LacksRoomAgain head_table row
 
 -- The writes before one of them are made, and the database then has no room for that one. What they made stands while the
 -- transaction is open.
@@ -53,12 +48,12 @@ pub record Stops (writes : List Write) (tables : Tables) (new : State) : Type 0 
 
 -- ---- calls
 
--- All tables become what the writes make of them, in the open transaction. Without a limit on steps no damage is found in
--- tables that take them, and the device fails only where the disk failed or the database has no room. The last commit stands,
--- whatever happens.
+-- The tables become what the writes make of them, in the open transaction. Without a limit on steps no damage is found in
+-- tables of a book that take them, and the device fails only where the disk failed or the database has no room. The last
+-- commit stands, whatever happens.
 pub record WritesAll {A : Type 0} (writes : List Write) (old new : State) (result : Result A Fault) : Type 0 where
   pub inside : HasCleanDisk new → OnOk result (IsTrue new.in_transaction)
-  pub turns : HasCleanDisk new → OnOk result (Turns layout always (written_all writes) old new)
+  pub turns : HasCleanDisk new → OnOk result (Turns layout (AreFit writes) (written_all writes) old new)
   pub damaged : HasCleanDisk new → result ≡ Err Damaged → old.step_limit ≡ None → (tables : Tables) → AreFit writes tables → ¬ Has old tables
   pub device : HasCleanDisk new → result ≡ Err Device → (tables : Tables) → AreFit writes tables → Has old tables → DiskFailed old new ⊎ Stops writes tables new
   pub kept : HasCleanDisk new → KeepsCommit old new
@@ -67,8 +62,8 @@ pub record WritesAll {A : Type 0} (writes : List Write) (old new : State) (resul
 -- The same of one write, which after a failure has changed nothing, or the transaction is undone.
 pub record WritesOne {A : Type 0} (write : Write) (old new : State) (result : Result A Fault) : Type 0 where
   pub inside : HasCleanDisk new → OnOk result (StaysInside old new)
-  pub turns : HasCleanDisk new → OnOk result (Turns layout always (written write) old new)
+  pub turns : HasCleanDisk new → OnOk result (Turns layout (Fits write) (written write) old new)
   pub damaged : HasCleanDisk new → result ≡ Err Damaged → old.step_limit ≡ None → (tables : Tables) → Fits write tables → ¬ Has old tables
-  pub device : HasCleanDisk new → result ≡ Err Device → (tables : Tables) → Fits write tables → Has old tables → DiskFailed old new ⊎ LacksRoomFor write old.now.trees
+  pub device : HasCleanDisk new → result ≡ Err Device → (tables : Tables) → Has old tables → DiskFailed old new ⊎ LacksRoomFor write old.now.trees
   pub undone : HasCleanDisk new → OnErr result (IsUndone old new)
   pub crash : Survives old new (λ _. ⊥)
