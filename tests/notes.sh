@@ -387,14 +387,14 @@ D-2,2024-01-15,BUY,HOOL,0.3170215,78.8594,USD,1
 lotbook: row 2 (D-2): C4 InexactAmount: the cash of the row has more than eight decimals, or is too large: 26.0001252771 USD, which has 10 decimals: D-2,2024-01-15,BUY,HOOL,0.3170215,78.8594,USD,1
 == 3 rows another header
 ref,date,action,symbol,units,price,currency,Fee
-lotbook: C1 BadHeader: the first record isn't the header of a broker file
+lotbook: C1 BadHeader: the first record isn't the header of a broker file: the file begins with `ref,date,action,symbol,units,price,currency,Fee`
 == 1 rows newest first, a decimal comma and a ref twice
 ref,date,action,symbol,units,price,currency,fee
 D-9,2024-03-15,SELL,HOOL,10,"102,50",USD,4.95
 D-2,2024-02-15,BUY,HOOL,5,102.50,USD,4.95
 D-3,2024-01-15,BUY,HOOL,5,102.50,USD,4.95
 D-2,2024-01-15,BUY,HOOL,6,102.50,USD,4.95
-lotbook: row 1 (D-9): B4 IncompleteCost: the braces open a lot, and don't give its cost and currency: D-9,2024-03-15,SELL,HOOL,10,"102,50",USD,4.95
+lotbook: row 1 (D-9): B4 IncompleteCost: the braces open a lot, and don't give its cost and currency: it sells, and no lot is held that it can take: D-9,2024-03-15,SELL,HOOL,10,"102,50",USD,4.95
 lotbook: row 3 (D-3): L10 BackDated: a later day of this account and commodity is booked at cost already: the latest is 2024-02-15, of entry 5: D-3,2024-01-15,BUY,HOOL,5,102.50,USD,4.95
 lotbook: row 4 (D-2): L1 KeyReused: another command has this key already: entry 5, with the line `2024-02-15 * "D-2"`: D-2,2024-01-15,BUY,HOOL,6,102.50,USD,4.95
 lotbook: warning: the first row is of 2024-03-15, the last of 2024-01-15: rows stand in the order of their days, the oldest first
@@ -473,6 +473,35 @@ reused "a key that stands with fewer lines" "line 1, command 1: ${key}out the li
 printf '2024-01-02 close Assets:Cash\n' >"$scratch/in"
 reused "the key of a row" "line 1, command 1: $key the line \`2024-01-02 * \"Gift\"\`: 2024-01-02 close Assets:Cash" \
     post --book "$book" --row-of b --ref D-1
+
+# The account of a refused row, which stands in the arguments alone, and the currency that it may not have.
+refused_row() {
+    opened
+    printf '2019-01-01 open %s\n' "$2" | "$program" post --book "$book" --batch more >/dev/null 2>&1
+    run import --book "$book" --batch d "${accounts[@]}" <"$scratch/in"
+    if ((status == 1)) && [[ $(<"$scratch/err") == "lotbook: row 2 (D-2): $3: $(tail -n 1 "$scratch/in")" ]]; then
+        pass "$1"
+    else
+        fail "$1" "status $status, and $(head -n 2 "$scratch/err" | tr '\n' '|')"
+    fi
+}
+printf 'ref,date,action,symbol,units,price,currency,fee\nD-1,2024-01-15,BUY,HOOL,10,102.50,EUR,\nD-2,2024-01-16,SELL,HOOL,10,103,EUR,1\n' >"$scratch/in"
+accounts[5]=Expenses:Feees
+refused_row "a row whose account isn't open" Assets:Other \
+    "L3 UnknownAccount: no account of this name was opened: Expenses:Feees: the nearest is Expenses:Fees"
+accounts[5]=Expenses:Later
+refused_row "a row before the opening of an account" $'Assets:Other\n2024-02-01 open Expenses:Later' \
+    "L4 NotOpenYet: the day is before the account's opening: Expenses:Later"
+accounts[5]=Expenses:Shut
+refused_row "a row behind the closing of an account" $'Expenses:Shut\n2019-01-02 close Expenses:Shut' \
+    "L5 Closed: the account is closed: Expenses:Shut"
+accounts[5]=Expenses:Dollars
+refused_row "a row in a currency that an account may not have" "Expenses:Dollars USD" \
+    "L7 CurrencyNotAllowed: the account was opened with other currencies: Expenses:Dollars, EUR"
+accounts[5]=Expenses:Fees accounts[7]=Income:Dollars
+refused_row "a row whose gain an account may not have" "Income:Dollars USD" \
+    "L13 FillNotAllowed: the account of the posting without an amount was opened with other currencies: Income:Dollars, EUR"
+accounts[7]=Income:Gains
 
 # What is kept nowhere: a dry run, and a call that keeps all or nothing. Their facts are those of the copy on which they ran.
 printf '2024-01-02 * "Buy"\n  Assets:Broker 3 HOOL {500 USD}\n  Assets:Cash\n2024-01-03 * "Sell"\n  Assets:Broker -5 HOOL {}\n  Assets:Cash\n' >"$scratch/in"

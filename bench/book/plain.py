@@ -13,14 +13,18 @@ import time
 
 PUT = {
     "account": "INSERT OR REPLACE INTO account (name, opened, closed, method) VALUES (?1, ?2, ?3, ?4)",
-    "entry": "INSERT OR REPLACE INTO entry (number, source, name, body) VALUES (?1, ?2, ?3, ?4)",
-    "leg": "INSERT OR REPLACE INTO leg (entry, posting, place, account, commodity, units, cost_number, cost_currency, cost_day, cost_label) "
+    "entry": "INSERT INTO entry (number, source, name, body) VALUES (?1, ?2, ?3, ?4)",
+    "leg": "INSERT INTO leg (entry, posting, place, account, commodity, units, cost_number, cost_currency, cost_day, cost_label) "
     "VALUES (?1, ?2, ?3, ?4, ?5, ?6, ?7, ?8, ?9, ?10)",
-    "sale": "INSERT OR REPLACE INTO sale (entry, posting, day, account, commodity, units, kind, amount, currency) VALUES (?1, ?2, ?3, ?4, ?5, ?6, ?7, ?8, ?9)",
+    "sale": "INSERT INTO sale (entry, posting, day, account, commodity, units, kind, amount, currency) VALUES (?1, ?2, ?3, ?4, ?5, ?6, ?7, ?8, ?9)",
     "lot": "INSERT OR REPLACE INTO lot (account, commodity, cost_day, cost_currency, cost_number, cost_label, units) VALUES (?1, ?2, ?3, ?4, ?5, ?6, ?7)",
     "plain": "INSERT OR REPLACE INTO plain (account, commodity, units) VALUES (?1, ?2, ?3)",
     "head": "INSERT OR REPLACE INTO head (account, commodity, day) VALUES (?1, ?2, ?3)",
     "opening": "INSERT OR REPLACE INTO opening (account, commodity, cost_day, cost_currency, cost_number, cost_label, opening) VALUES (?1, ?2, ?3, ?4, ?5, ?6, ?7)",
+}
+SET = {
+    "plain": "UPDATE plain SET units = ?3 WHERE account = ?1 AND commodity = ?2",
+    "head": "UPDATE head SET day = ?3 WHERE account = ?1 AND commodity = ?2",
 }
 DROP = {
     "lot": "DELETE FROM lot WHERE account = ?1 AND commodity = ?2 AND cost_day = ?3 AND cost_currency = ?4 AND cost_number = ?5 AND cost_label = ?6",
@@ -53,18 +57,20 @@ def writes(db):
     legs, sales = by_entry(db, "leg"), by_entry(db, "sale")
     accounts = iter(db.execute("SELECT name, opened, closed, method FROM account ORDER BY rowid").fetchall())
     heads = {(account, commodity): day for account, commodity, day in db.execute("SELECT account, commodity, day FROM head")}
-    sums = {}
+    sums, days = {}, set()
     for number, source, name, body in db.execute("SELECT number, source, name, body FROM entry ORDER BY number"):
         list_ = [(PUT["entry"], (number, source, name, body))]
         if " open " in body:
             list_.append((PUT["account"], next(accounts)))
-        changed, opened = {}, {}
+        changed, opened, held = {}, {}, set()
         for leg in legs.get(number, []):
             list_.append((PUT["leg"], leg))
             account, commodity, units, rate, currency, day, label = leg[3:]
             key = (account, commodity) if rate is None else (account, commodity, day, currency, rate, label)
             if rate is not None and not sums.get(key):
                 opened[key] = 64 * (number - 1) + leg[1]
+            if key not in changed and sums.get(key):
+                held.add(key)
             sums[key] = sums.get(key, 0) + units
             changed[key] = sums[key]
             if rate is not None:
@@ -73,9 +79,11 @@ def writes(db):
         for key, value in changed.items():
             table = {2: "plain", 3: "head"}.get(len(key), "lot")
             if table == "head":
-                list_.append((PUT["head"], (*key[:2], value)))
+                list_.append(((SET if key in days else PUT)["head"], (*key[:2], value)))
+                days.add(key)
             else:
-                list_.append((PUT[table], (*key, value)) if value else (DROP[table], key))
+                put = SET if table == "plain" and key in held else PUT
+                list_.append((put[table], (*key, value)) if value else (DROP[table], key))
                 if table == "lot" and not value:
                     list_.append((DROP["opening"], key))
                 elif key in opened:

@@ -22,13 +22,9 @@ pub(crate) fn fact<B: Known>(
     refused: &Refused<'_>,
 ) -> Result<String, AllocError> {
     let (said, postings) = (refused.said, postings_of(refused.command));
-    let posting = match said.posting {
-        Some(place) => item(postings, place),
-        None => None,
-    };
-    match (said.code, posting) {
+    match (said.code, posting_of(refused)) {
         ("L1", _) => key_reused(alloc, book, refused),
-        ("L3", _) => unknown_account(alloc, book, refused, posting),
+        ("L3", posting) => unknown_account(alloc, book, refused, posting),
         ("L8", _) => {
             let count = postings.len();
             format!(in alloc; ": there are {count}")
@@ -36,9 +32,52 @@ pub(crate) fn fact<B: Known>(
         ("L10", Some(posting)) => back_dated(alloc, book, posting),
         ("L12" | "L14", _) => left_over(alloc, postings, said.word),
         ("B2" | "B3", Some(posting)) => fitting(alloc, book, posting, said.code),
+        ("B4", Some(posting)) => nothing_to_sell(alloc, posting),
         ("B5", Some(posting)) => quotient(alloc, posting),
         _ => Ok(String::new(alloc)),
     }
+}
+
+/// Names the account for which a command is refused, and the currency where it is refused for that:
+/// the row of a broker file doesn't show them. It is empty for any other refusal. The only error is
+/// out of memory.
+pub(crate) fn named(alloc: Global, refused: &Refused<'_>) -> Result<String, AllocError> {
+    let said = refused.said;
+    let posting = match said.code {
+        "L13" => without_amount(postings_of(refused.command)),
+        _ => posting_of(refused),
+    };
+    let Some(Posting { account, amount }) = posting else {
+        return Ok(String::new(alloc));
+    };
+    let account = account.as_str();
+    match (said.code, amount) {
+        ("L3" | "L4" | "L5", _) => format!(in alloc; ": {account}"),
+        ("L7", Some(amount)) => {
+            let currency = amount.commodity.as_str();
+            format!(in alloc; ": {account}, {currency}")
+        }
+        ("L13", _) => {
+            let currency = said.word;
+            format!(in alloc; ": {account}, {currency}")
+        }
+        _ => Ok(String::new(alloc)),
+    }
+}
+
+/// Returns the first posting without an amount.
+fn without_amount(postings: &[Posting]) -> Option<&Posting> {
+    for posting in postings {
+        if posting.amount.is_none() {
+            return Some(posting);
+        }
+    }
+    None
+}
+
+/// Returns the posting at which a command was refused, if it was at one.
+fn posting_of<'a>(refused: &Refused<'a>) -> Option<&'a Posting> {
+    item(postings_of(refused.command), refused.said.posting?)
 }
 
 /// Returns the postings of a command, none where it is no transaction.
@@ -72,6 +111,16 @@ fn amount_left(
             format!(in alloc; "{before}{amount} {currency}, which has {count} decimals")
         }
         _ => format!(in alloc; "{before}{amount} {currency}"),
+    }
+}
+
+/// Says of a posting that sells that there is nothing to sell: its braces were to open a lot.
+fn nothing_to_sell(alloc: Global, posting: &Posting) -> Result<String, AllocError> {
+    match &posting.amount {
+        Some(amount) if amount.units.mantissa() < 0 => {
+            String::from_str(alloc, ": it sells, and no lot is held that it can take")
+        }
+        _ => Ok(String::new(alloc)),
     }
 }
 

@@ -44,6 +44,14 @@ impl<'a> Reading<'a> {
         })
     }
 
+    /// Returns the first record of a broker file as it stands there, without blanks around it.
+    pub(crate) fn header(&self) -> &[u8] {
+        match self {
+            Reading::Text { .. } => b"",
+            Reading::Rows { records, .. } => records.header.trim_ascii(),
+        }
+    }
+
     /// Goes on to the command or row of that number, or to a posting of that command by its place,
     /// and returns its place; all count from 1. The only error is out of memory.
     pub(crate) fn go_to(

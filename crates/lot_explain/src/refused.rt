@@ -4,12 +4,13 @@
 use crate::book::Known;
 use crate::call::{Call, Key};
 use crate::explained::find;
-use crate::fact::{cash, fact};
+use crate::fact::{cash, fact, named};
 use crate::faulty::{faulty_lines, faulty_rows};
 use crate::notebook::Notebook;
 use crate::place::Place;
 use crate::reading::Reading;
 use crate::said::{Said, heard};
+use crate::shown::Shown;
 use lot_command::Command;
 use lot_import::{CommandFault, command};
 use lot_token::Lines;
@@ -62,6 +63,13 @@ fn note_said<W: Write, B: Known>(
     let brief = code.brief;
     match said.number {
         None if matches!(said.code, "open" | "S1" | "S3") => Ok(()),
+        None if said.code == "C1" => {
+            let header = Shown(reading.header());
+            notes.note(
+                Place::Whole,
+                format_args!("{code}: {brief}: the file begins with `{header}`"),
+            )
+        }
         None => notes.note(Place::Whole, format_args!("{code}: {brief}")),
         Some(number) => {
             let fact = known(alloc, book, &*call, reading, number, &*said)?;
@@ -103,17 +111,15 @@ fn known<'a, B: Known>(
             Some(row) if said.code == "C4" => cash(alloc, row),
             Some(row) => match command(alloc, row, accounts) {
                 Ok(command) => {
-                    let key = call.key(row.name.as_str());
-                    fact(
-                        alloc,
-                        book,
-                        &Refused {
-                            key,
-                            command: &command,
-                            said,
-                            commands: &[],
-                        },
-                    )
+                    let refused = Refused {
+                        key: call.key(row.name.as_str()),
+                        command: &command,
+                        said,
+                        commands: &[],
+                    };
+                    let mut text = named(alloc, &refused)?;
+                    text.push_str(fact(alloc, book, &refused)?.as_str())?;
+                    Ok(text)
                 }
                 Err(CommandFault::InexactAmount) => Ok(String::new(alloc)),
                 Err(CommandFault::Memory) => Err(AllocError),

@@ -51,8 +51,8 @@ pub puts_one : {A X : Type 0} (t : BookTable Tables X) (x : X) (old new : State)
 puts_one t x old new result puts = record {
   inside = λ clean. on_ok result _ _ (λ inside. inside.mode) (puts.inside clean);
   turns = puts.turns;
-  damaged = puts.damaged;
-  device = λ clean is tables has. elim (puts.device clean is tables has) [
+  damaged = λ clean is unlimited tables has. puts.damaged clean is unlimited tables tt has;
+  device = λ clean is tables has. elim (puts.device clean is tables tt has) [
     | inl disk ↦ inl disk
     | inr none ↦ inr (record { trees = old.now.trees; holds = has.1; lacks = none })
   ];
@@ -169,8 +169,7 @@ pub puts_openings : {A : Type 0} (openings : List LotOpening) (old new : State) 
     → PutsRows (written_all (opening_writes openings)) (IsFullForOpenings openings) old new result
 puts_openings openings old new result w = record {
   inside = w.inside;
-  turns = λ clean. on_ok result _ _
-      (λ turns. record { book = turns.book; lists = λ is tables holds _. turns.lists is tables holds (all_fit openings tables) }) (w.turns clean);
+  turns = w.turns;
   damaged = λ clean is unlimited tables. w.damaged clean is unlimited tables (all_fit openings tables);
   device = λ clean is tables has. elim (w.device clean is tables (all_fit openings tables) has) [
     | inl disk ↦ inl disk

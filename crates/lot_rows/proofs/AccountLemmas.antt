@@ -90,7 +90,7 @@ unfolding understood everything
 put_is x = record { count = 5; terms = put_terms; means = refl; bare = (refl, refl); whole = (omega arith, refl); given = refl; typed = (typed x.name x.opened x.closed (word_of x.method) (pos 0)).1 }
 
 pub puts_row : (old new : State) (x : AccountRow) {A : Type 0} (result : Result A Fault) → Runs put_text (account_cells x) old new result → Puts layout account_table x old new result
-puts_row old new x = puts layout account_table is_table old new put_text x (put_is x) (λ _ _ _. refl)
+puts_row old new x = puts layout account_table is_table old new put_text x (λ _ _ _. refl) (put_is x)
 
 -- ---- find
 

@@ -53,7 +53,7 @@ unfolding understood everything
 put_is x = record { count = 3; terms = put_terms; means = refl; bare = (refl, refl); whole = (omega arith, refl); given = refl; typed = refl }
 
 pub puts_row : (old new : State) (x : BookRow) {A : Type 0} (result : Result A Fault) → Runs put_text (book_cells x) old new result → Puts layout book_table x old new result
-puts_row old new x = puts layout book_table is_table old new put_text x (put_is x) (λ _ _ _. refl)
+puts_row old new x = puts layout book_table is_table old new put_text x (λ _ _ _. refl) (put_is x)
 
 -- ---- all rows
 

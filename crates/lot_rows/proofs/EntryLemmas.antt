@@ -20,7 +20,6 @@ use Rattle.lot_table.proofs.GreatestLemmas.{greatest, greatest_shown, order as g
 use Rattle.lot_table.proofs.ReadLemmas.{agree_is, compared, plain_overlay}
 use Rattle.lot_table.proofs.RefusalLemmas.{IsWhole, not_damaged, steady_query}
 use Rattle.lot_table.proofs.MakeLemmas.{all_push}
-use Rattle.lot_table.proofs.TableLemmas.{clash}
 use Rattle.sqlite.specs.Command.TheVariants.{Select}
 use Rattle.sqlite.specs.Listing.{reads_listing}
 use Rattle.sqlite.specs.Query.{IsAnswer}
@@ -38,14 +37,14 @@ use Rattle.std.proofs.lemmas.List.Elements.{recursion_from_All, All-from_recursi
 use Rattle.std.proofs.lemmas.List.{reverse-append}
 use Rattle.std.specs.List.{AllByRecursion, list_all}
 use Rattle.std.specs.Ordering.{ordering_then}
-use Rattle.lot_rows.specs.Tables.{Has as HasBook, Tables, entry_table, shapes, layout}
+use Rattle.lot_rows.specs.Tables.{Has as HasBook, IsNewEntry, Tables, entry_table, shapes, layout}
 use Rattle.lot_rows.specs.declared.entry.EntryRow.{EntryRow}
 use Rattle.lot_table.proofs.BookLemmas.{if_ok}
 use Rattle.lot_table.specs.Book.{always}
 use Rattle.lot_table.specs.Call.{Answers, Finds, PutsWhere, Runs, Selects}
 use Rattle.lot_table.specs.declared.fault.Fault.{Fault}
 use Rattle.lot_table.proofs.ShapeLemmas.{free}
-use Rattle.lot_table.proofs.StatementLemmas.{IsPut, IsTable, puts_where}
+use Rattle.lot_table.proofs.StatementLemmas.{IsAdd, IsTable, adds_where}
 use Rattle.lot_table.proofs.QueryLemmas.{Asks, IsQuery, finds}
 use Rattle.sqlite_rules.proofs.ListLemmas.{has_got}
 
@@ -54,13 +53,13 @@ same_row x y same =
     let whole : ◌≡◌ {A = EntryRow} (record { number = x.number; source = x.source; name = x.name; body = x.body }) (record { number = y.number; source = y.source; name = y.name; body = y.body }) = cc in
     whole
 
--- ---- put
+-- ---- add
 
-abbrev put_text : List ℕ
-put_text = codes "INSERT OR REPLACE INTO entry (number, source, name, body) VALUES (?1, ?2, ?3, ?4)"
+abbrev add_text : List ℕ
+add_text = codes "INSERT INTO entry (number, source, name, body) VALUES (?1, ?2, ?3, ?4)"
 
-abbrev put_terms : List Term
-put_terms = lit Null ∷ col 0 0 ∷ col 0 1 ∷ col 0 2 ∷ col 0 3 ∷ []
+abbrev add_terms : List Term
+add_terms = lit Null ∷ col 0 0 ∷ col 0 1 ∷ col 0 2 ∷ col 0 3 ∷ []
 
 abbrev is_table : IsTable layout entry_table
 is_table = record {
@@ -77,9 +76,9 @@ is_table = record {
   judged = λ _ _. (refl, refl, refl, refl);
 }
 
-put_is : (x : EntryRow) → IsPut layout entry_table is_table x put_text
+add_is : (x : EntryRow) → IsAdd layout entry_table is_table x add_text
 unfolding understood everything
-put_is x = record { count = 5; terms = put_terms; means = refl; bare = (refl, refl); whole = (omega arith, refl); given = refl; typed = refl }
+add_is x = record { count = 5; terms = add_terms; means = refl; bare = (refl, refl); whole = (omega arith, refl); given = refl; typed = refl }
 
 -- the source and the name of the row that is put are those of no row
 apart : (x : EntryRow) (es : List EntryRow) → IsUnnamed x es → (v : Value) (y : EntryRow) → Has es y → (agree plain (2 ∷ 3 ∷ []) (v ∷ entry_cells y) (2 ∷ 3 ∷ []) (Int (pos 0) ∷ entry_cells x) || false) ≡ false
@@ -87,12 +86,11 @@ unfolding first_key
 apart x es unnamed v y has =
     or-false _ ∙ agree_is 2 1 v (Int (pos 0)) (entry_cells y) (entry_cells x) (refl, (refl, tt)) (refl, (refl, tt)) ∙ all_has (λ e. is_named x.source x.name (entry_cells e) ≡ false) es y unnamed has
 
-pub puts_row : (old new : State) (x : EntryRow) {A : Type 0} (result : Result A Fault) → Runs put_text (entry_cells x) old new result → PutsWhere layout entry_table (λ b. IsUnnamed x b.entry) x old new result
+pub adds_row : (old new : State) (x : EntryRow) {A : Type 0} (result : Result A Fault) → Runs add_text (entry_cells x) old new result → PutsWhere layout entry_table (IsNewEntry x) x old new result
 unfolding first_key
-puts_row old new x =
-    puts_where layout entry_table is_table old new put_text x (put_is x) (λ b. IsUnnamed x b.entry)
-    (λ b unnamed kept. clash entry_cells 1 (λ _. (refl, tt)) entry_table.table layout.schema.indexes x (λ r. agree plain (2 ∷ 3 ∷ []) r (2 ∷ 3 ∷ []) (Int (pos 0) ∷ entry_cells x) || false) (λ _ _ _. refl)
-    (old.now.trees entry_table.table.tree) b.entry (apart x b.entry unnamed) kept)
+adds_row old new x =
+    adds_where layout entry_table is_table old new add_text x (λ r. agree plain (2 ∷ 3 ∷ []) r (2 ∷ 3 ∷ []) (Int (pos 0) ∷ entry_cells x) || false) (λ _ _ _. refl)
+    (IsNewEntry x) (add_is x) (λ b new. (new.0, apart x b.entry new.1))
 
 -- ---- find
 

@@ -1,10 +1,10 @@
 -- The statements on the table `head`.
-use Rattle.std.proofs.Common.{Option, Result, slice_get, IfSome, ◌≡◌, ℕ, List, [], ◌∷◌, codes, refl, arith}
+use Rattle.std.proofs.Common.{Option, Result, slice_get, IfSome, ◌≡◌, ℕ, List, [], ◌∷◌, codes, refl, arith, ap₂}
 use Rattle.sqlite.specs.Collation.TheVariants.{Binary}
 use Rattle.sqlite.specs.Listing.{understood}
 use Rattle.sqlite.specs.State.{State}
 use Rattle.sqlite.specs.Term.{Term, col, lit}
-use Rattle.sqlite.specs.declared.types.Value.TheVariants.{Null, Text}
+use Rattle.sqlite.specs.declared.types.Value.TheVariants.{Int, Null, Text}
 use Rattle.sqlite_tied.specs.Compute.{everything}
 use Rattle.sqlite_value.specs.Keys.{ascending}
 use Rattle.sqlite_value.specs.declared.keys.Key.{Key}
@@ -12,12 +12,13 @@ use Rattle.lot_table.specs.Rows.{has_key, with_key}
 use Rattle.lot_table.proofs.ReadLemmas.{key_terms}
 use Rattle.lot_table.proofs.WriteLemmas.{cast_int}
 use Rattle.lot_rows.specs.Head.{IsHeadRow, head_cells}
+use Rattle.lot_rows.proofs.PairLemmas.{same_pair}
 use Rattle.lot_rows.specs.Tables.{head_table, shapes, layout}
 use Rattle.lot_rows.specs.declared.head.HeadRow.{HeadRow}
-use Rattle.lot_table.specs.Call.{Finds, Puts, Runs, Selects}
+use Rattle.lot_table.specs.Call.{Finds, Puts, Runs, Selects, Sets}
 use Rattle.lot_table.specs.declared.fault.Fault.{Fault}
 use Rattle.lot_table.proofs.ShapeLemmas.{free}
-use Rattle.lot_table.proofs.StatementLemmas.{IsPut, IsTable, puts}
+use Rattle.lot_table.proofs.StatementLemmas.{IsPut, IsSet, IsTable, puts, sets}
 use Rattle.lot_table.proofs.QueryLemmas.{Asks, IsQuery, finds, keyed}
 use Rattle.sqlite_rules.proofs.ListLemmas.{has_got}
 
@@ -54,7 +55,28 @@ unfolding understood everything
 put_is x = record { count = 4; terms = put_terms; means = refl; bare = (refl, refl); whole = (omega arith, refl); given = refl; typed = refl }
 
 pub puts_row : (old new : State) (x : HeadRow) {A : Type 0} (result : Result A Fault) → Runs put_text (head_cells x) old new result → Puts layout head_table x old new result
-puts_row old new x = puts layout head_table is_table old new put_text x (put_is x) (λ _ _ _. refl)
+puts_row old new x = puts layout head_table is_table old new put_text x (λ _ _ _. refl) (put_is x)
+
+-- ---- set
+
+abbrev set_text : List ℕ
+set_text = codes "UPDATE head SET day = ?3 WHERE account = ?1 AND commodity = ?2"
+
+set_is : (x : HeadRow) → IsSet layout head_table is_table x set_text
+unfolding understood everything
+set_is x = record {
+  shows = col 1 0 ∷ col 1 0 ∷ col 1 1 ∷ col 1 2 ∷ col 0 2 ∷ [];
+  means = refl;
+  bare = (refl, refl);
+  whole = (omega arith, refl);
+  typed = refl;
+  becomes = λ y rowid same.
+      let one = same_pair x.account x.commodity y.account y.commodity (Int x.day ∷ []) (Int y.day ∷ []) same in
+      ap₂ (λ account commodity. rowid ∷ rowid ∷ Text account ∷ Text commodity ∷ Int x.day ∷ []) one.0 one.1;
+}
+
+pub sets_row : (old new : State) (x : HeadRow) {A : Type 0} (result : Result A Fault) → Runs set_text (head_cells x) old new result → Sets layout head_table x old new result
+sets_row old new x = sets layout head_table is_table old new set_text x (set_is x) (λ _ _ _. refl)
 
 -- ---- find
 

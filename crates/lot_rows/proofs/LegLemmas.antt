@@ -17,10 +17,10 @@ use Rattle.lot_rows.specs.Tables.{leg_table, shapes, layout}
 use Rattle.lot_rows.specs.declared.leg.LegRow.{LegRow}
 use Rattle.lot_cost.specs.declared.lot_key.LotKey.{LotKey}
 use Rattle.lot_table.specs.Cell.{label_text}
-use Rattle.lot_table.specs.Call.{ListsColumns, Puts, Runs, Selects}
+use Rattle.lot_table.specs.Call.{Adds, ListsColumns, Runs, Selects}
 use Rattle.lot_table.specs.declared.fault.Fault.{Fault}
 use Rattle.lot_table.proofs.ShapeLemmas.{free}
-use Rattle.lot_table.proofs.StatementLemmas.{IsPut, IsTable, puts}
+use Rattle.lot_table.proofs.StatementLemmas.{IsAdd, IsTable, adds}
 use Rattle.lot_table.proofs.QueryLemmas.{Asks, IsQuery, keyed, lists_columns}
 use Rattle.sqlite_rules.proofs.ListLemmas.{has_got}
 use Rattle.sqlite_rules.specs.Steps.{is_typed}
@@ -30,17 +30,17 @@ use Rattle.std.proofs.Common.{Option, Some, ℤ}
 use Rattle.lot_rows.specs.LotKey.{cost_currency, cost_day, cost_label, cost_number}
 use Rattle.sqlite.specs.declared.types.Value.TheVariants.{Text}
 
--- ---- put
+-- ---- add
 
-abbrev put_text : List ℕ
-put_text = codes "INSERT OR REPLACE INTO leg (entry, posting, place, account, commodity, units, cost_number, cost_currency, cost_day, cost_label) VALUES (?1, ?2, ?3, ?4, ?5, ?6, ?7, ?8, ?9, ?10)"
+abbrev add_text : List ℕ
+add_text = codes "INSERT INTO leg (entry, posting, place, account, commodity, units, cost_number, cost_currency, cost_day, cost_label) VALUES (?1, ?2, ?3, ?4, ?5, ?6, ?7, ?8, ?9, ?10)"
 
-abbrev put_terms : List Term
-put_terms = lit Null ∷ col 0 0 ∷ col 0 1 ∷ col 0 2 ∷ col 0 3 ∷ col 0 4 ∷ col 0 5 ∷ col 0 6 ∷ col 0 7 ∷ col 0 8 ∷ col 0 9 ∷ []
+abbrev add_terms : List Term
+add_terms = lit Null ∷ col 0 0 ∷ col 0 1 ∷ col 0 2 ∷ col 0 3 ∷ col 0 4 ∷ col 0 5 ∷ col 0 6 ∷ col 0 7 ∷ col 0 8 ∷ col 0 9 ∷ []
 
 -- each value is of its column, whichever is there
 typed : (entry posting place : ℤ) (account commodity : List ℕ) (units : ℤ) (lot : Option LotKey) (id : ℤ)
-    → (is_typed leg_table.table (Int id ∷ Int entry ∷ Int posting ∷ Int place ∷ Text account ∷ Text commodity ∷ Int units ∷ cost_number lot ∷ cost_currency lot ∷ cost_day lot ∷ cost_label lot ∷ []) ≡ true) × (accepts_terms put_terms (Int entry ∷ Int posting ∷ Int place ∷ Text account ∷ Text commodity ∷ Int units ∷ cost_number lot ∷ cost_currency lot ∷ cost_day lot ∷ cost_label lot ∷ []) ≡ true)
+    → (is_typed leg_table.table (Int id ∷ Int entry ∷ Int posting ∷ Int place ∷ Text account ∷ Text commodity ∷ Int units ∷ cost_number lot ∷ cost_currency lot ∷ cost_day lot ∷ cost_label lot ∷ []) ≡ true) × (accepts_terms add_terms (Int entry ∷ Int posting ∷ Int place ∷ Text account ∷ Text commodity ∷ Int units ∷ cost_number lot ∷ cost_currency lot ∷ cost_day lot ∷ cost_label lot ∷ []) ≡ true)
 typed entry posting place account commodity units None id = (refl, refl)
 typed entry posting place account commodity units (Some lot) id = (refl, refl)
 
@@ -59,12 +59,12 @@ is_table = record {
   judged = λ x id. (refl, (typed (pos x.entry) (pos x.posting) (pos x.place) x.account x.commodity x.units x.lot id).0, refl, refl);
 }
 
-put_is : (x : LegRow) → IsPut layout leg_table is_table x put_text
+add_is : (x : LegRow) → IsAdd layout leg_table is_table x add_text
 unfolding understood everything
-put_is x = record { count = 11; terms = put_terms; means = refl; bare = (refl, refl); whole = (omega arith, refl); given = refl; typed = (typed (pos x.entry) (pos x.posting) (pos x.place) x.account x.commodity x.units x.lot (pos 0)).1 }
+add_is x = record { count = 11; terms = add_terms; means = refl; bare = (refl, refl); whole = (omega arith, refl); given = refl; typed = (typed (pos x.entry) (pos x.posting) (pos x.place) x.account x.commodity x.units x.lot (pos 0)).1 }
 
-pub puts_row : (old new : State) (x : LegRow) {A : Type 0} (result : Result A Fault) → Runs put_text (leg_cells x) old new result → Puts layout leg_table x old new result
-puts_row old new x = puts layout leg_table is_table old new put_text x (put_is x) (λ _ _ _. refl)
+pub adds_row : (old new : State) (x : LegRow) {A : Type 0} (result : Result A Fault) → Runs add_text (leg_cells x) old new result → Adds layout leg_table x old new result
+adds_row old new x = adds layout leg_table is_table old new add_text x (λ _ _ _. refl) (add_is x)
 
 -- ---- list_of
 

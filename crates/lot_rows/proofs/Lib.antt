@@ -9,6 +9,7 @@ pub mod LotLemmas
 pub mod MakeLemmas
 pub mod MigrationLemmas
 pub mod OpeningLemmas
+pub mod PairLemmas
 pub mod PlainLemmas
 pub mod PriceLemmas
 pub mod SaleLemmas

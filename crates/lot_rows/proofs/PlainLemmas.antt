@@ -1,10 +1,10 @@
 -- The statements on the table `plain`.
-use Rattle.std.proofs.Common.{Option, Result, Vec, slice_get, IfSome, ◌≡◌, ℕ, All, List, [], ◌∷◌, codes, refl, arith}
+use Rattle.std.proofs.Common.{Option, Result, Vec, slice_get, IfSome, ◌≡◌, ℕ, All, List, [], ◌∷◌, codes, refl, arith, ap₂}
 use Rattle.sqlite.specs.Collation.TheVariants.{Binary}
 use Rattle.sqlite.specs.Listing.{understood}
 use Rattle.sqlite.specs.State.{State}
 use Rattle.sqlite.specs.Term.{Term, col, lit}
-use Rattle.sqlite.specs.declared.types.Value.TheVariants.{Null, Text}
+use Rattle.sqlite.specs.declared.types.Value.TheVariants.{Int, Null, Text}
 use Rattle.sqlite_tied.specs.Compute.{everything}
 use Rattle.sqlite_value.specs.Keys.{ascending}
 use Rattle.sqlite_value.specs.declared.keys.Key.{Key}
@@ -12,12 +12,13 @@ use Rattle.lot_table.specs.Rows.{has_key, with_key}
 use Rattle.lot_table.proofs.ReadLemmas.{key_terms}
 use Rattle.lot_table.proofs.WriteLemmas.{cast_int}
 use Rattle.lot_rows.specs.Plain.{IsPlainRow, plain_cells}
+use Rattle.lot_rows.proofs.PairLemmas.{same_pair}
 use Rattle.lot_rows.specs.Tables.{plain_table, shapes, layout}
 use Rattle.lot_rows.specs.declared.plain.PlainRow.{PlainRow}
-use Rattle.lot_table.specs.Call.{Deletes, Finds, Lists, Puts, Runs, Selects}
+use Rattle.lot_table.specs.Call.{Deletes, Finds, Lists, Puts, Runs, Selects, Sets}
 use Rattle.lot_table.specs.declared.fault.Fault.{Fault}
 use Rattle.lot_table.proofs.ShapeLemmas.{free}
-use Rattle.lot_table.proofs.StatementLemmas.{IsDelete, IsPut, IsTable, deletes_key, puts}
+use Rattle.lot_table.proofs.StatementLemmas.{IsDelete, IsPut, IsSet, IsTable, deletes_key, puts, sets}
 use Rattle.lot_table.proofs.QueryLemmas.{Asks, IsQuery, every_one, finds, keyed, lists}
 use Rattle.sqlite_rules.proofs.ListLemmas.{has_got}
 use Rattle.std.specs.declared.alloc.Global.{Global}
@@ -55,7 +56,28 @@ unfolding understood everything
 put_is x = record { count = 4; terms = put_terms; means = refl; bare = (refl, refl); whole = (omega arith, refl); given = refl; typed = refl }
 
 pub puts_row : (old new : State) (x : PlainRow) {A : Type 0} (result : Result A Fault) → Runs put_text (plain_cells x) old new result → Puts layout plain_table x old new result
-puts_row old new x = puts layout plain_table is_table old new put_text x (put_is x) (λ _ _ _. refl)
+puts_row old new x = puts layout plain_table is_table old new put_text x (λ _ _ _. refl) (put_is x)
+
+-- ---- set
+
+abbrev set_text : List ℕ
+set_text = codes "UPDATE plain SET units = ?3 WHERE account = ?1 AND commodity = ?2"
+
+set_is : (x : PlainRow) → IsSet layout plain_table is_table x set_text
+unfolding understood everything
+set_is x = record {
+  shows = col 1 0 ∷ col 1 0 ∷ col 1 1 ∷ col 1 2 ∷ col 0 2 ∷ [];
+  means = refl;
+  bare = (refl, refl);
+  whole = (omega arith, refl);
+  typed = refl;
+  becomes = λ y rowid same.
+      let one = same_pair x.account x.commodity y.account y.commodity (Int x.units ∷ []) (Int y.units ∷ []) same in
+      ap₂ (λ account commodity. rowid ∷ rowid ∷ Text account ∷ Text commodity ∷ Int x.units ∷ []) one.0 one.1;
+}
+
+pub sets_row : (old new : State) (x : PlainRow) {A : Type 0} (result : Result A Fault) → Runs set_text (plain_cells x) old new result → Sets layout plain_table x old new result
+sets_row old new x = sets layout plain_table is_table old new set_text x (set_is x) (λ _ _ _. refl)
 
 -- ---- delete
 

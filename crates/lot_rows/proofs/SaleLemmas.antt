@@ -17,10 +17,10 @@ use Rattle.lot_command.specs.declared.price.Price.TheVariants.{Each, Whole}
 use Rattle.lot_command.specs.declared.price.Price.{Price}
 use Rattle.lot_rows.specs.Sale.{amount_of, currency_of, kind_of}
 use Rattle.lot_table.proofs.WriteLemmas.{cast_null}
-use Rattle.lot_table.specs.Call.{Puts, Runs}
+use Rattle.lot_table.specs.Call.{Adds, Runs}
 use Rattle.lot_table.specs.declared.fault.Fault.{Fault}
 use Rattle.lot_table.proofs.ShapeLemmas.{free}
-use Rattle.lot_table.proofs.StatementLemmas.{IsPut, IsTable, puts}
+use Rattle.lot_table.proofs.StatementLemmas.{IsAdd, IsTable, adds}
 use Rattle.sqlite_rules.proofs.ListLemmas.{has_got}
 use Rattle.sqlite_rules.specs.Steps.{is_typed}
 use Rattle.sqlite_typing.specs.Types.{accepts_terms}
@@ -50,17 +50,17 @@ currency_bound None = refl
 currency_bound (Some (Each price)) = refl
 currency_bound (Some (Whole price)) = refl
 
--- ---- put
+-- ---- add
 
-abbrev put_text : List ℕ
-put_text = codes "INSERT OR REPLACE INTO sale (entry, posting, day, account, commodity, units, kind, amount, currency) VALUES (?1, ?2, ?3, ?4, ?5, ?6, ?7, ?8, ?9)"
+abbrev add_text : List ℕ
+add_text = codes "INSERT INTO sale (entry, posting, day, account, commodity, units, kind, amount, currency) VALUES (?1, ?2, ?3, ?4, ?5, ?6, ?7, ?8, ?9)"
 
-abbrev put_terms : List Term
-put_terms = lit Null ∷ col 0 0 ∷ col 0 1 ∷ col 0 2 ∷ col 0 3 ∷ col 0 4 ∷ col 0 5 ∷ col 0 6 ∷ col 0 7 ∷ col 0 8 ∷ []
+abbrev add_terms : List Term
+add_terms = lit Null ∷ col 0 0 ∷ col 0 1 ∷ col 0 2 ∷ col 0 3 ∷ col 0 4 ∷ col 0 5 ∷ col 0 6 ∷ col 0 7 ∷ col 0 8 ∷ []
 
 -- each value is of its column, whichever is there
 typed : (entry posting day : ℤ) (account commodity : List ℕ) (units : ℤ) (price : Option Price) (id : ℤ)
-    → (is_typed sale_table.table (Int id ∷ Int entry ∷ Int posting ∷ Int day ∷ Text account ∷ Text commodity ∷ Int units ∷ Int (kind_of price) ∷ amount_of price ∷ currency_of price ∷ []) ≡ true) × (accepts_terms put_terms (Int entry ∷ Int posting ∷ Int day ∷ Text account ∷ Text commodity ∷ Int units ∷ Int (kind_of price) ∷ amount_of price ∷ currency_of price ∷ []) ≡ true)
+    → (is_typed sale_table.table (Int id ∷ Int entry ∷ Int posting ∷ Int day ∷ Text account ∷ Text commodity ∷ Int units ∷ Int (kind_of price) ∷ amount_of price ∷ currency_of price ∷ []) ≡ true) × (accepts_terms add_terms (Int entry ∷ Int posting ∷ Int day ∷ Text account ∷ Text commodity ∷ Int units ∷ Int (kind_of price) ∷ amount_of price ∷ currency_of price ∷ []) ≡ true)
 typed entry posting day account commodity units None id = (refl, refl)
 typed entry posting day account commodity units (Some (Each price)) id = (refl, refl)
 typed entry posting day account commodity units (Some (Whole price)) id = (refl, refl)
@@ -80,9 +80,9 @@ is_table = record {
   judged = λ x id. (refl, (typed (pos x.entry) (pos x.posting) x.day x.account x.commodity x.units x.price id).0, refl, refl);
 }
 
-put_is : (x : SaleRow) → IsPut layout sale_table is_table x put_text
+add_is : (x : SaleRow) → IsAdd layout sale_table is_table x add_text
 unfolding understood everything
-put_is x = record { count = 10; terms = put_terms; means = refl; bare = (refl, refl); whole = (omega arith, refl); given = refl; typed = (typed (pos x.entry) (pos x.posting) x.day x.account x.commodity x.units x.price (pos 0)).1 }
+add_is x = record { count = 10; terms = add_terms; means = refl; bare = (refl, refl); whole = (omega arith, refl); given = refl; typed = (typed (pos x.entry) (pos x.posting) x.day x.account x.commodity x.units x.price (pos 0)).1 }
 
-pub puts_row : (old new : State) (x : SaleRow) {A : Type 0} (result : Result A Fault) → Runs put_text (sale_cells x) old new result → Puts layout sale_table x old new result
-puts_row old new x = puts layout sale_table is_table old new put_text x (put_is x) (λ _ _ _. refl)
+pub adds_row : (old new : State) (x : SaleRow) {A : Type 0} (result : Result A Fault) → Runs add_text (sale_cells x) old new result → Adds layout sale_table x old new result
+adds_row old new x = adds layout sale_table is_table old new add_text x (λ _ _ _. refl) (add_is x)

@@ -3,13 +3,14 @@ use Rattle.std.specs.Prelude.{ℕ, ◌+◌, List, [], ◌∷◌, ◌++◌, map, 
 use Rattle.sqlite.specs.State.{State}
 use Rattle.sqlite.specs.Table.{Table}
 use Rattle.sqlite_schema.specs.declared.schema.Column.{Column}
+use Rattle.lot_table.specs.Call.{LacksKey}
 use Rattle.lot_table.specs.Book.{BookTable, Has as HasLists, Layout, Slot}
 use Rattle.lot_table.specs.Shape.{Shape, maybe_number, maybe_text, number, schema_of, table, text, trees_of}
 use Rattle.lot_rows.specs.Account.{account_cells}
 use Rattle.lot_rows.specs.Allowed.{allowed_cells}
 use Rattle.lot_rows.specs.Book.{book_cells}
 use Rattle.lot_rows.specs.Commodity.{commodity_cells}
-use Rattle.lot_rows.specs.Entry.{entry_cells}
+use Rattle.lot_rows.specs.Entry.{IsUnnamed, entry_cells}
 use Rattle.lot_rows.specs.Head.{head_cells}
 use Rattle.lot_rows.specs.Leg.{leg_cells}
 use Rattle.lot_rows.specs.Lot.{lot_cells}
@@ -154,6 +155,10 @@ price_table = record { table = made 4 price_shape; encode = price_cells; width =
 
 abbrev pub entry_table : BookTable Tables EntryRow
 entry_table = record { table = made 5 entry_shape; encode = entry_cells; width = 1; rows = λ b. b.entry; with_rows = λ rows b. record b { entry = rows } }
+
+-- no entry has the number of this one, or its source and name
+abbrev pub IsNewEntry : EntryRow → Tables → Type 0
+IsNewEntry row tables = LacksKey entry_table row tables × IsUnnamed row tables.entry
 
 abbrev pub leg_table : BookTable Tables LegRow
 leg_table = record { table = made 6 leg_shape; encode = leg_cells; width = 3; rows = λ b. b.leg; with_rows = λ rows b. record b { leg = rows } }

@@ -1,6 +1,6 @@
 ghost use Rattle.std.specs.Prelude.{◌≡◌, All, IsTrue, option_map};
-ghost use Rattle.lot_rows.specs.Entry.{IsEntryRow, IsNumberRow, IsUnnamed, entry_cells, greatest_number, named, number_cells};
-ghost use Rattle.lot_rows.specs.Tables.{layout, entry_table};
+ghost use Rattle.lot_rows.specs.Entry.{IsEntryRow, IsNumberRow, entry_cells, greatest_number, named, number_cells};
+ghost use Rattle.lot_rows.specs.Tables.{IsNewEntry, layout, entry_table};
 ghost use Rattle.lot_table.specs.Book.{always};
 ghost use Rattle.lot_table.specs.Call.{Answers, Finds, PutsWhere};
 ghost use Rattle.sqlite.specs.Held.{state};
@@ -39,17 +39,16 @@ impl TableRow for EntryRow {
     }
 }
 
-/// Puts a row. It replaces the row of the same number, if there is one. No other row may have its source and name: look
-/// them up before.
-pub fn put<S: Alter>(tx: &mut Transaction<'_, S>, row: &EntryRow) -> Result<(), Fault>
+/// Adds a row. No row may have its number, or its source and name: look them up before.
+pub fn add<S: Alter>(tx: &mut Transaction<'_, S>, row: &EntryRow) -> Result<(), Fault>
     requires { HasCleanDisk (state S.Store tx.old.conn.now) → IsTrue (state S.Store tx.old.conn.now).in_transaction }
     ensures same_reference { tx.new.conn.ghost_name ≡ tx.old.conn.ghost_name }
-    ensures puts { PutsWhere layout entry_table (λ b. IsUnnamed row.now b.entry) row.now
+    ensures adds { PutsWhere layout entry_table (IsNewEntry row.now) row.now
         (state S.Store tx.old.conn.now) (state S.Store tx.new.conn.now) result }
 {
     change(
         tx,
-        "INSERT OR REPLACE INTO entry (number, source, name, body) VALUES (?1, ?2, ?3, ?4)",
+        "INSERT INTO entry (number, source, name, body) VALUES (?1, ?2, ?3, ?4)",
         &[
             row.number.to_cell(),
             row.source.to_cell(),

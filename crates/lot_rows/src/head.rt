@@ -1,7 +1,7 @@
 ghost use Rattle.std.specs.Prelude.{◌≡◌, ◌∷◌, [], IsTrue};
 ghost use Rattle.lot_rows.specs.Head.{IsHeadRow, head_cells};
 ghost use Rattle.lot_rows.specs.Tables.{layout, head_table};
-ghost use Rattle.lot_table.specs.Call.{Finds, Puts};
+ghost use Rattle.lot_table.specs.Call.{Finds, Puts, Sets};
 ghost use Rattle.lot_table.specs.Rows.{with_key};
 ghost use Rattle.sqlite.specs.Held.{state};
 ghost use Rattle.sqlite.specs.State.{HasCleanDisk};
@@ -47,6 +47,25 @@ pub fn put<S: Alter>(tx: &mut Transaction<'_, S>, row: &HeadRow) -> Result<(), F
     change(
         tx,
         "INSERT OR REPLACE INTO head (account, commodity, day) VALUES (?1, ?2, ?3)",
+        &[
+            row.account.to_cell(),
+            row.commodity.to_cell(),
+            row.day.to_cell(),
+        ],
+    )
+}
+
+/// Changes the day of the row of the same key. Where there is none, nothing changes.
+pub fn set<S: Alter>(tx: &mut Transaction<'_, S>, row: &HeadRow) -> Result<(), Fault>
+    requires { HasCleanDisk (state S.Store tx.old.conn.now)
+        → IsTrue (state S.Store tx.old.conn.now).in_transaction }
+    ensures same_reference { tx.new.conn.ghost_name ≡ tx.old.conn.ghost_name }
+    ensures sets { Sets layout head_table row.now
+        (state S.Store tx.old.conn.now) (state S.Store tx.new.conn.now) result }
+{
+    change(
+        tx,
+        "UPDATE head SET day = ?3 WHERE account = ?1 AND commodity = ?2",
         &[
             row.account.to_cell(),
             row.commodity.to_cell(),

@@ -1,7 +1,7 @@
 ghost use Rattle.std.specs.Prelude.{◌≡◌, ◌∷◌, [], IsTrue, pos};
 ghost use Rattle.lot_rows.specs.Leg.{IsLegRow, leg_cells};
 ghost use Rattle.lot_rows.specs.Tables.{layout, leg_table};
-ghost use Rattle.lot_table.specs.Call.{ListsColumns, Puts};
+ghost use Rattle.lot_table.specs.Call.{Adds, ListsColumns};
 ghost use Rattle.lot_table.specs.Rows.{with_key};
 ghost use Rattle.sqlite.specs.Held.{state};
 ghost use Rattle.sqlite.specs.State.{HasCleanDisk};
@@ -50,16 +50,16 @@ impl TableRow for LegRow {
     }
 }
 
-/// Puts a row. It replaces the row of the same key, if there is one.
-pub fn put<S: Alter>(tx: &mut Transaction<'_, S>, row: &LegRow) -> Result<(), Fault>
+/// Adds a row. No row may have its entry, posting and place.
+pub fn add<S: Alter>(tx: &mut Transaction<'_, S>, row: &LegRow) -> Result<(), Fault>
     requires { HasCleanDisk (state S.Store tx.old.conn.now) → IsTrue (state S.Store tx.old.conn.now).in_transaction }
     ensures same_reference { tx.new.conn.ghost_name ≡ tx.old.conn.ghost_name }
-    ensures puts { Puts layout leg_table row.now
+    ensures adds { Adds layout leg_table row.now
         (state S.Store tx.old.conn.now) (state S.Store tx.new.conn.now) result }
 {
     change(
         tx,
-        "INSERT OR REPLACE INTO leg (entry, posting, place, account, commodity, units, cost_number, cost_currency, cost_day, cost_label) VALUES (?1, ?2, ?3, ?4, ?5, ?6, ?7, ?8, ?9, ?10)",
+        "INSERT INTO leg (entry, posting, place, account, commodity, units, cost_number, cost_currency, cost_day, cost_label) VALUES (?1, ?2, ?3, ?4, ?5, ?6, ?7, ?8, ?9, ?10)",
         &[
             row.entry.to_cell(),
             row.posting.to_cell(),

@@ -1,7 +1,7 @@
 ghost use Rattle.std.specs.Prelude.{◌≡◌, IsTrue};
 ghost use Rattle.lot_rows.specs.Sale.{IsSaleRow, sale_cells};
 ghost use Rattle.lot_rows.specs.Tables.{layout, sale_table};
-ghost use Rattle.lot_table.specs.Call.{Puts};
+ghost use Rattle.lot_table.specs.Call.{Adds};
 ghost use Rattle.sqlite.specs.Held.{state};
 ghost use Rattle.sqlite.specs.State.{HasCleanDisk};
 
@@ -45,16 +45,16 @@ impl TableRow for SaleRow {
     }
 }
 
-/// Puts a row. It replaces the row of the same key, if there is one.
-pub fn put<S: Alter>(tx: &mut Transaction<'_, S>, row: &SaleRow) -> Result<(), Fault>
+/// Adds a row. No row may have its entry and posting.
+pub fn add<S: Alter>(tx: &mut Transaction<'_, S>, row: &SaleRow) -> Result<(), Fault>
     requires { HasCleanDisk (state S.Store tx.old.conn.now) → IsTrue (state S.Store tx.old.conn.now).in_transaction }
     ensures same_reference { tx.new.conn.ghost_name ≡ tx.old.conn.ghost_name }
-    ensures puts { Puts layout sale_table row.now
+    ensures adds { Adds layout sale_table row.now
         (state S.Store tx.old.conn.now) (state S.Store tx.new.conn.now) result }
 {
     change(
         tx,
-        "INSERT OR REPLACE INTO sale (entry, posting, day, account, commodity, units, kind, amount, currency) VALUES (?1, ?2, ?3, ?4, ?5, ?6, ?7, ?8, ?9)",
+        "INSERT INTO sale (entry, posting, day, account, commodity, units, kind, amount, currency) VALUES (?1, ?2, ?3, ?4, ?5, ?6, ?7, ?8, ?9)",
         &[
             row.entry.to_cell(),
             row.posting.to_cell(),

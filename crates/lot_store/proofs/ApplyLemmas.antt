@@ -80,20 +80,19 @@ module _ (law : KeepsBook) (entries : List Entry) (key : Key) (command : Command
   grown = book-grows entries key command change.legs is_book step
 
   pub leaves : (trees : Trees) (tables : Tables) → StandFor tables entries
-      → (AreFit (writes_of known.facts key command change) tables → Holds layout trees (written_all (writes_of known.facts key command change) tables))
-      → LeavesEntry entries key command trees
+      → Holds layout trees (written_all (writes_of known.facts key command change) tables) → LeavesEntry entries key command trees
   leaves trees tables stand holds = (
     entries ++ entry_of key command change.legs ∷ [],
     (change.legs, step, refl),
-    record { book = grown; tables = written_all (writes_of known.facts key command change) tables; holds = holds (kept tables stand).0; stand = (kept tables stand).1 },
+    record { book = grown; tables = written_all (writes_of known.facts key command change) tables; holds = holds; stand = (kept tables stand).1 },
   )
 
   pub stands_on : (s : State) (tables : Tables) → StandFor tables entries
-      → (AreFit (writes_of known.facts key command change) tables → Has s (written_all (writes_of known.facts key command change) tables))
+      → Has s (written_all (writes_of known.facts key command change) tables)
       → JudgesOn entries key command Accepted (entries ++ entry_of key command change.legs ∷ []) × Stands s (entries ++ entry_of key command change.legs ∷ [])
   stands_on s tables stand has = (
     (change.legs, step, refl),
-    record { book = grown; tables = written_all (writes_of known.facts key command change) tables; has = has (kept tables stand).0; stand = (kept tables stand).1 },
+    record { book = grown; tables = written_all (writes_of known.facts key command change) tables; has = has; stand = (kept tables stand).1 },
   )
 
 -- ---- what was looked at, with what was kept
@@ -166,13 +165,13 @@ module _ (law : KeepsBook) (Kept Looked : List Entry → Type 0) (key : Key) (co
       subst (λ w. AreFit w there.0.tables) (sym are)
       (kept law entries key command known change there.0.book (told clean entries there).1 comes.0 comes.1 ordered sayable all_good there.0.tables there.0.stand).0
 
-  leave : HasCleanDisk mid → (trees : Trees) → ((tables : Tables) → Has mid tables → AreFit writes tables → Holds layout trees (written_all writes tables))
+  leave : HasCleanDisk mid → (trees : Trees) → ((tables : Tables) → Has mid tables → Holds layout trees (written_all writes tables))
       → (entries : List Entry) → StandsWith Kept old entries → LeavesEntry entries key command trees
   leave clean trees written entries there =
       let tables = there.0.tables in
-      let holds = written tables (has_then clean tables there.0.has) (fit clean entries there) in
+      let holds = written tables (has_then clean tables there.0.has) in
       leaves law entries key command known change there.0.book (told clean entries there).1 comes.0 comes.1 ordered sayable all_good trees tables there.0.stand
-      (λ _. subst (λ w. Holds layout trees (written_all w tables)) are holds)
+      (subst (λ w. Holds layout trees (written_all w tables)) are holds)
 
   -- what is kept then is of the book with the entry
   pub accepts : (KeptThen : List Entry → Type 0)
@@ -184,10 +183,10 @@ module _ (law : KeepsBook) (Kept Looked : List Entry → Type 0) (key : Key) (co
         let early : HasCleanDisk mid = omega (arith, clean, crash.clean) in
         let tables = there.0.tables in
         let now = told early entries there in
-        let has = (done clean).tables tables (has_then early tables there.0.has) (fit early entries there) in
+        let has = (done clean).tables tables (has_then early tables there.0.has) in
         let it =
         stands_on law entries key command known change there.0.book now.1 comes.0 comes.1 ordered sayable all_good new tables there.0.stand
-        (λ _. subst (λ w. Has new (written_all w tables)) are has) in
+        (subst (λ w. Has new (written_all w tables)) are has) in
         (entries ++ entry_of key command change.legs ∷ [], it.0, (it.1, records entries there.0.book now.0 now.1));
     settled = λ clean. ((done clean).is_open, (done clean).committed);
     rest = λ clean. tt;

@@ -31,12 +31,13 @@ use Rattle.lot_stored.specs.Rows.{entry_row}
 use Rattle.lot_table.specs.Book.{Holds}
 use Rattle.lot_table.specs.Rows.{has_key, key_order, put_in, without_key}
 use Rattle.lot_table.specs.Statement.{DiskFailed}
-use Rattle.lot_write.specs.Write.{AreFit, written, written_all}
+use Rattle.lot_write.specs.Write.{written, written_all}
 use Rattle.lot_write.specs.Writes.{own_writes, writes_of}
 use Rattle.lot_write.specs.declared.write.Write.{Write}
 use Rattle.lot_write.specs.declared.write.Write.TheVariants as write
 use Rattle.lot_write.proofs.NamedLemmas.{own_no_entry}
-use Rattle.lot_write.proofs.WrittenLemmas.{IsNoEntry, are_fit, left-written_all}
+use Rattle.lot_write.proofs.AsPutLemmas.{left-made}
+use Rattle.lot_write.proofs.WrittenLemmas.{IsNoEntry}
 use Rattle.lot_store.specs.Apply.{LeavesAlone}
 use Rattle.lot_store.specs.ByText.{AnswersFirst, EndsByText, HasTurned, LeavesByText, RunsByText, TurnAllByText, TurnsByText}
 use Rattle.lot_store.specs.declared.book.Ack.{Ack}
@@ -108,17 +109,13 @@ module _ (known : Facts) (key : Key) (command : Command) (change : Change) (tabl
   unfolding row
   unnamed = none_passes (λ (e : EntryRow). is_named key.source key.name (entry_cells e)) tables.entry (not_mapped_none (λ (e : EntryRow). e.body) (slice_get (named key.source key.name tables.entry) 0) none)
 
-  pub fits_new : AreFit (writes_of known key command change) tables
-  unfolding row
-  fits_new = (unnamed, are_fit (own_writes known command change) (written (write.Entry row) tables) (own_no_entry known command change))
-
   pub text_written : text_in (written_all (writes_of known key command change) tables) key ≡ Some (canonical command)
   unfolding row
   text_written =
       let p : EntryRow → Bool = λ e. is_named key.source key.name (entry_cells e) in
       let first : List EntryRow → Option (List ℕ) = λ es. option_map (λ (e : EntryRow). e.body) (slice_get es 0) in
       let put : (written_all (writes_of known key command change) tables).entry ≡ put_in entry_cells 1 row tables.entry =
-      left-written_all (λ (t : Tables). t.entry) (own_writes known command change) (written (write.Entry row) tables)
+      left-made (λ (t : Tables). t.entry) (own_writes known command change) (written (write.Entry row) tables)
       (all_weaker IsNoEntry _ entry_left _ (own_no_entry known command change)) in
       ap (λ es. first (filter p es)) put
       ∙ ap first (inserted-alone p (λ a b. key_order 1 (entry_cells a) (entry_cells b)) row (without_key entry_cells 1 (entry_cells row) tables.entry) (own_name row)
@@ -127,18 +124,17 @@ module _ (known : Facts) (key : Key) (command : Command) (change : Change) (tabl
 -- its writes are made, and its text stands there
 pub turns_accepted : (known : FactsWithOpenings) (key : Key) (command : Command) (change : Change) (writes : List Write) → writes ≡ writes_of known.facts key command change
     → IsAcceptedWith known command change → IsSayable command → (tables : Tables) → HasText tables key known.facts.text → (new : State)
-    → (AreFit writes tables → Has new (written_all writes tables)) → HasTurned tables key command new Accepted
+    → Has new (written_all writes tables) → HasTurned tables key command new Accepted
 turns_accepted known key command change writes are accepted sayable tables text new has =
     let none = (key_was_new (ties_on known) known.facts command change.legs known.facts.text accepted.0).0 in
-    let absent : text_in tables key ≡ None = text.0 ∙ none in
-    let fit = subst (λ w. AreFit w tables) (sym are) (fits_new known.facts key command change tables absent) in (
+    let absent : text_in tables key ≡ None = text.0 ∙ none in (
       written_all (writes_of known.facts key command change) tables,
       (
         known,
         text,
         (change, accepted, refl, (text_written known.facts key command change tables absent, (command, sayable, refl))),
       ),
-      subst (λ w. Has new (written_all w tables)) are (has fit),
+      subst (λ w. Has new (written_all w tables)) are has,
     )
 
 -- ---- commands, one after another

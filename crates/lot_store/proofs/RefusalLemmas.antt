@@ -154,7 +154,7 @@ puts_none t x tables old mid new Damaged room clean live unlimited makes made pu
     λ opened none.
     let early : HasCleanDisk mid = omega (arith, clean, puts.crash.clean) in
     let sound : IsSound (schema_of []) old.now.trees = subst (λ s. IsSound s old.now.trees) none (live opened).0 in
-    puts.damaged clean refl (makes.limit ∙ unlimited) tables (made early none sound)
+    puts.damaged clean refl (makes.limit ∙ unlimited) tables tt (made early none sound)
 puts_none t x tables old mid new Device room clean live unlimited makes made puts =
     λ none.
     let early : HasCleanDisk mid = omega (arith, clean, puts.crash.clean) in
@@ -163,7 +163,7 @@ puts_none t x tables old mid new Device room clean live unlimited makes made put
       | inl opened ↦
           let sound : IsSound (schema_of []) old.now.trees = subst (λ s. IsSound s old.now.trees) none (live opened).0 in
           let has = made early none sound in
-          elim (puts.device clean refl tables has) [
+          elim (puts.device clean refl tables tt has) [
             | inr lacks ↦ absurd (room mid.now.trees has.1 lacks)
             | inl failed ↦ elim failed [
               | inl more ↦ inl (omega (arith, more, makes.counts))

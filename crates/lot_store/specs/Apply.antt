@@ -12,7 +12,7 @@ use Rattle.lot_book.specs.declared.verdict.Verdict.{Verdict}
 use Rattle.lot_book.specs.declared.verdict.Verdict.TheVariants as verdict
 use Rattle.lot_stored.specs.StandFor.{Stands}
 use Rattle.lot_write.specs.Call.{Stops as StopsWriting}
-use Rattle.lot_write.specs.Write.{AreFit, written_all}
+use Rattle.lot_write.specs.Write.{written_all}
 use Rattle.lot_write.specs.Writes.{AreNumbered, writes_of}
 use Rattle.lot_write.specs.declared.write.Write.{Write}
 use Rattle.lot_rows.specs.Tables.{Has, Tables, layout}
@@ -70,16 +70,16 @@ condition_after (Err (Failed Memory)) = Ready
 
 -- the tables become what the writes make of them, and so does the last commit
 pub record WritesDown (writes : List Write) (old new : State) : Type 0 where
-  pub tables : (tables : Tables) → Has old tables → AreFit writes tables → Has new (written_all writes tables)
+  pub tables : (tables : Tables) → Has old tables → Has new (written_all writes tables)
   pub is_open : IsTrue new.is_open
   pub committed : new.committed ≡ new.now
 
 -- a crash may leave what the writes make of the tables: where they are committed, and where nobody knows or memory refused
 -- the commit
 abbrev pub MayWrite : {A : Type 0} → List Write → State → Result A StoreFault → Trees → Type 0
-MayWrite writes old (Ok done) trees = (tables : Tables) → Has old tables → AreFit writes tables → Holds layout trees (written_all writes tables)
-MayWrite writes old (Err InDoubt) trees = (tables : Tables) → Has old tables → AreFit writes tables → Holds layout trees (written_all writes tables)
-MayWrite writes old (Err Memory) trees = (tables : Tables) → Has old tables → AreFit writes tables → Holds layout trees (written_all writes tables)
+MayWrite writes old (Ok done) trees = (tables : Tables) → Has old tables → Holds layout trees (written_all writes tables)
+MayWrite writes old (Err InDoubt) trees = (tables : Tables) → Has old tables → Holds layout trees (written_all writes tables)
+MayWrite writes old (Err Memory) trees = (tables : Tables) → Has old tables → Holds layout trees (written_all writes tables)
 MayWrite writes old (Err Device) trees = ⊥
 MayWrite writes old (Err NeedsReopen) trees = ⊥
 MayWrite writes old (Err Damaged) trees = ⊥

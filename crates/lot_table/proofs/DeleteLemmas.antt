@@ -17,6 +17,7 @@ use Rattle.sqlite_value.specs.declared.value.Value.TheVariants.{Null}
 use Rattle.sqlite_trees.specs.declared.store.Shape.TheVariants.{Table}
 use Rattle.sqlite_rules.specs.Action.{works}
 use Rattle.sqlite_rules.specs.Calls.{ids_of}
+use Rattle.sqlite_rules.specs.declared.error.Rowids.TheVariants.{Given}
 use Rattle.sqlite_rules.specs.Lists.{Has}
 use Rattle.sqlite_rules.proofs.ListLemmas.{has_at, all_has, has_contained, contains_had, has_filtered, has_kept}
 use Rattle.sqlite_keyed.specs.Lists.{insert_sorted}
@@ -56,7 +57,7 @@ module _ (task : Task) (unreferred : (olds news : List Row) → works task.schem
             (m.0, f.0, sym (alike m.0 f.0) ∙ f.1, m.2);
         complete = λ r h k. has_permuted _ _ (rowid r ∷ []) same (mapped_has id (filter test (db at)) r (has_kept test (db at) r h (alike r h ∙ k)));
       } in
-      let s = steps task unreferred db done.0 (ids_of found.0) [] done.1 in
+      let s = steps task unreferred db done.0 (ids_of found.0) Given 0 [] done.1 in
       let trees : out.1 ≡ record { schema = task.schema; trees = w.0.trees } = ap (λ (o : Tally × Database). o.1) (same_value {E = Option Error} last.2) in
       let written : out.1.trees ≡ done.0 = ap (λ (d : Database). d.trees) trees ∙ ap (λ (o : Written). o.trees) (same_value {E = Option Error} done.2) in
       (ap (λ (t : Trees). t at) written ∙ s.0 ∙ taken_out (db at) (λ r. has_key width key (columns r)) found.0 shaped named, subst (KeepsOthers task.schema at db) (sym written) s.1, ap (λ (d : Database). d.schema) trees)

@@ -1,6 +1,6 @@
 -- Why a change that a text asks for is refused: the store failed, or what the command does is refused.
 use Rattle.std.proofs.Common.{◌≡◌, ◌⊎◌, inl, inr, ℕ, Bool, true, false, ◌||◌, Option, None, Some, Result, Ok, Err, List, length, append-nil, refl, sym, ap, subst, subst₂, ◌∙◌, true≢false}
-use Rattle.sqlite.specs.Command.TheVariants.{CreateTable, Delete, InsertOr}
+use Rattle.sqlite.specs.Command.TheVariants.{CreateTable, Delete, Insert, InsertOr, Update}
 use Rattle.sqlite.specs.Command.{Command}
 use Rattle.sqlite.specs.Clock.{timed}
 use Rattle.sqlite.specs.Does.{Does, Tally}
@@ -18,7 +18,9 @@ use Rattle.lot_table.proofs.RefusalLemmas.{IsWhole, is_statement}
 
 -- a command that changes a table, and is no part of a transaction's frame
 abbrev pub is_change : Command → Bool
+is_change (Insert at from) = true
 is_change (InsertOr at way from clauses) = true
+is_change (Update at q) = true
 is_change (Delete at q) = true
 is_change CreateTable = true
 is_change _ = false
@@ -35,7 +37,9 @@ fails_weaker : (old new : State) (P Q : Type 0) (e : Error) → (P → Q) → Fa
 fails_weaker old new P Q e f fails = (fails.0, fails.1, cause_weaker old new P Q f fails.0 fails.2, fails.3, fails.4)
 
 shown_not : (command : Command) → is_change command ≡ true → (is_query command || (is_pragma command || false)) ≡ false
+shown_not (Insert at from) change = refl
 shown_not (InsertOr at way from clauses) change = refl
+shown_not (Update at q) change = refl
 shown_not (Delete at q) change = refl
 shown_not CreateTable change = refl
 shown_not _ change = absurd (true≢false (sym change))

@@ -152,10 +152,10 @@ module _ (width : ℕ) where
     | inr none ↦ none
   ]
 
-  -- the rows with this one, at a rowid that is free
-  pub kept_with : (tree rows : List Row) (new : Row) → HasRows width tree rows → IsTrue (is_int (rowid new)) → is_taken tree new ≡ false
+  -- the rows with this one in the place of that of its key, at a rowid that the others don't have
+  pub kept_set : (tree rows : List Row) (new : Row) → HasRows width tree rows → IsTrue (is_int (rowid new)) → is_taken (filter (spares (columns new)) tree) new ≡ false
       → HasRows width (put_row new (filter (spares (columns new)) tree)) (with_row width (columns new) rows)
-  kept_with tree rows new kept keyed free =
+  kept_set tree rows new kept keyed free =
       let key = columns new in
       let mid = filter (spares key) tree in
       let was : HasRows width mid (without_row width key rows) = kept_without tree rows key kept in
@@ -169,8 +169,13 @@ module _ (width : ℕ) where
             | inr old ↦ all_has (λ x. IsTrue (is_int (rowid x))) mid r was.shaped.1 old
           ]),
         );
-        same = IsPermutation-trans _ _ _ (IsPermutation-map columns _ _ (IsPermutation-sym _ _ (put_same new mid (still_free (spares key) tree new free))))
+        same = IsPermutation-trans _ _ _ (IsPermutation-map columns _ _ (IsPermutation-sym _ _ (put_same new mid free)))
             (IsPermutation-trans _ _ _ (IsPermutation-cons key _ _ was.same) (same-inserted order total key (without_row width key rows)));
         rises = rises-inserted order total key (without_row width key rows)
             (all_weaker _ (λ r. is_eq (order r key) ≡ false) (λ r h. not_passed _ h) _ (filter-passes (λ r. not (has_key width key r)) rows)) was.rises;
       }
+
+  -- the same at a rowid that is free
+  pub kept_with : (tree rows : List Row) (new : Row) → HasRows width tree rows → IsTrue (is_int (rowid new)) → is_taken tree new ≡ false
+      → HasRows width (put_row new (filter (spares (columns new)) tree)) (with_row width (columns new) rows)
+  kept_with tree rows new kept keyed free = kept_set tree rows new kept keyed (still_free (spares (columns new)) tree new free)

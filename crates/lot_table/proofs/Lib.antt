@@ -18,4 +18,5 @@ pub mod SpreadLemmas
 pub mod StatementLemmas
 pub mod StopLemmas
 pub mod TableLemmas
+pub mod UpdateLemmas
 pub mod WriteLemmas

@@ -1,11 +1,11 @@
--- Why INSERT OR REPLACE of one row and DELETE are refused, whatever the table is: for lack of room alone.
-use Rattle.std.proofs.Common.{IsSome, ◌≡◌, ◌⊎◌, inl, inr, ℕ, ◌/◌, ℤ, Bool, true, false, not, cond, Option, None, Some, Err, List, [], ◌∷◌, filter, length, refl, sym, ap, subst, ◌∙◌, MatchBool, true≢false, is_lt, int_cmp}
+-- Why INSERT and INSERT OR REPLACE of one row and DELETE are refused, whatever the table is: for lack of room alone.
+use Rattle.std.proofs.Common.{IsSome, ◌≡◌, ◌⊎◌, inl, inr, ℕ, ◌/◌, ℤ, Bool, true, false, not, cond, Option, None, Some, Err, List, [], ◌∷◌, filter, fold, length, refl, sym, ap, subst, ◌∙◌, MatchBool, true≢false, is_lt, int_cmp}
 use Rattle.std.proofs.lemmas.Bool.{false_from_ne_true}
-use Rattle.sqlite.specs.Command.TheVariants.{InsertOr}
+use Rattle.sqlite.specs.Command.TheVariants.{Insert, InsertOr}
 use Rattle.sqlite.specs.Does.{OnRows, Concludes, Tally}
 use Rattle.sqlite.specs.Effect.{Database, value_rows}
 use Rattle.sqlite.specs.Order.{Row}
-use Rattle.sqlite.specs.Rows.{Clears, Puts, Task, Tries, TriesEach, Written, count_of, mended, nothing, rowids_for, stamped}
+use Rattle.sqlite.specs.Rows.{Clears, Edited, Puts, Task, Tries, TriesEach, Written, count_of, higher, mended, nothing, rowids_for, stamped}
 use Rattle.sqlite.specs.Schema.{Schema}
 use Rattle.sqlite.specs.Source.TheVariants.{Values}
 use Rattle.sqlite.specs.Table as declared
@@ -59,7 +59,7 @@ module _ (schema : Schema) (table : declared.Table) (free : IsFree schema table)
   task = record { limit = limit; keys = Enforced; schema = schema; table = table; params = params }
 
   -- what is done once the rows are written never stops
-  ends : (mode : Mode) (w : Written) (stop : Option Error) → Concludes task mode None w (Err stop) → ⊥
+  pub ends : (mode : Mode) (w : Written) (stop : Option Error) → Concludes task mode None w (Err stop) → ⊥
   ends mode w stop (inl untested) = untested.1.0 (free.refers _ w.trees)
   ends mode w stop (inr (among, tested, inl unshown)) = let e = unshown.1 in cc
   ends mode w stop (inr (among, tested, inr (shown, gives, h))) = let e = h in cc
@@ -107,7 +107,7 @@ module _ (schema : Schema) (table : declared.Table) (free : IsFree schema table)
 
     stops_puts : (mid : Trees) (stop : Option Error) → IsTable (mid table.tree) → Keeps Unique schema mid → is_taken (mid table.tree) new ≡ false
         → ((r : Row) → Has (mid table.tree) r → conflicts None schema.indexes table new r ≡ false) → Puts task new mid (Err stop) → StopsPut schema table id row stop
-    stops_puts mid stop ordered unique free_id apart (inl h) = subst (StopsPut schema table id row) (sym (same_stop {A = Written} h.2)) (stops_put schema table free mid ordered unique id row (judged id) free_id apart stored h.0 h.1)
+    stops_puts mid stop ordered unique free_id apart (inl h) = subst (StopsPut schema table id row) (sym (same_stop {A = Written} h.2)) (stops_put schema table free mid ordered unique [] id row (judged id) free_id apart stored h.0 h.1)
     stops_puts mid stop ordered unique free_id apart (inr (next, done, h)) = absurd (let e = h in cc)
 
     stops_clears : (found : List Row) (stop : Option Error) → AreConflicts None schema.indexes table (db table.tree) new found → Clears task Replace new db found (Err stop) → StopsPut schema table id row stop
@@ -128,10 +128,13 @@ module _ (schema : Schema) (table : declared.Table) (free : IsFree schema table)
     otherwise : (P : Type 0) {Q : Type 0} (b : Bool) → b ≡ false → MatchBool b P Q → Q
     otherwise P b off h = rw off at h
 
-    new_row : (top : ℤ) → with_rowid (rowids_for table top) (db table.tree) (cast_row table (mended Replace table (Null ∷ row))) ≡ new
-    new_row top =
-        ap (λ r. with_rowid (rowids_for table top) (db table.tree) (cast_row table r)) mends ∙ ap (with_rowid (rowids_for table top) (db table.tree)) (casts Null ∙ ap (λ v. v ∷ row) cast_null)
+    numbered_row : (top : ℤ) → with_rowid (rowids_for table top) (db table.tree) (cast_row table (Null ∷ row)) ≡ new
+    numbered_row top =
+        ap (with_rowid (rowids_for table top) (db table.tree)) (casts Null ∙ ap (λ v. v ∷ row) cast_null)
         ∙ ap (λ b. with_rowid (cond b (Above top) Chosen) (db table.tree) (Null ∷ row)) uncounted
+
+    new_row : (top : ℤ) → with_rowid (rowids_for table top) (db table.tree) (cast_row table (mended Replace table (Null ∷ row))) ≡ new
+    new_row top = ap (λ r. with_rowid (rowids_for table top) (db table.tree) (cast_row table r)) mends ∙ numbered_row top
 
     stops_each : (rows : List Row) (top : ℤ) (stop : Option Error) → rows ≡ (Null ∷ row) ∷ [] → TriesEach task Replace [] rows top (nothing db) (Err stop) → StopsPut schema table id row stop
     stops_each rows top stop is h = elim (subst (λ l. TriesEach task Replace [] l top (nothing db) (Err stop)) is h) [
@@ -139,17 +142,18 @@ module _ (schema : Schema) (table : declared.Table) (free : IsFree schema table)
       | inr on ↦ absurd (let e = on.2 in cc)
     ]
 
+    unsourced : (terms : List Term) (count : ℕ) (stop : Option Error) → accepts_terms terms (stamped table params) ≡ true
+        → Sourced limit (record { schema = schema; trees = db }) (stamped table params) (Values terms count) (Err stop) → Interrupts limit stop
+    unsourced terms count None typed h = absurd h
+    unsourced terms count (Some e) typed (inl mistyped) = absurd (true≢false (sym typed ∙ mistyped.1))
+    unsourced terms count (Some e) typed (inr limited) = (ap (λ x. Some x) limited.0, limited.1)
+
     -- INSERT OR REPLACE of one row
     pub stops_replace : (mode : Mode) (terms : List Term) (count : ℕ) (place : ℕ) (stop : Option Error) → value_rows (stamped table params) count (length terms / count) terms ≡ (Null ∷ row) ∷ []
         → accepts_terms terms (stamped table params) ≡ true → OnRows task mode None (InsertOr place Replace (Values terms count) []) db (Err stop) → StopsPut schema table id row stop ⊎ Interrupts limit stop
     stops_replace mode terms count place stop given typed (inr (w, wrote, h)) = absurd (ends mode w stop h)
     stops_replace mode terms count place stop given typed (inl (kept, inl (unread, refuses, is), named)) =
-        inr (subst (Interrupts limit) (sym (same_stop {A = Tally × Database} named ∙ same_stop {A = Written} is)) (unsourced unread refuses))
-      where
-        unsourced : (stop : Option Error) → Sourced limit (record { schema = schema; trees = db }) (stamped table params) (Values terms count) (Err stop) → Interrupts limit stop
-        unsourced None h = absurd h
-        unsourced (Some e) (inl mistyped) = absurd (true≢false (sym typed ∙ mistyped.1))
-        unsourced (Some e) (inr limited) = (ap (λ x. Some x) limited.0, limited.1)
+        inr (subst (Interrupts limit) (sym (same_stop {A = Tally × Database} named ∙ same_stop {A = Written} is)) (unsourced terms count unread typed refuses))
     stops_replace mode terms count place stop given typed (inl (kept, inr (rows, source, inl (uncounts, h, is)), named)) =
         absurd (let e = otherwise _ table.is_counted uncounted h in cc)
     stops_replace mode terms count place stop given typed (inl (kept, inr (rows, source, inr (counter, counted, inl (tries, h, is))), named)) =
@@ -158,9 +162,32 @@ module _ (schema : Schema) (table : declared.Table) (free : IsFree schema table)
         absurd (let e = otherwise _ (cond table.is_counted (is_lt (int_cmp (count_of counter) done.1)) false) (ap (λ c. cond c (is_lt (int_cmp (count_of counter) done.1)) false) uncounted) h in cc)
     stops_replace mode terms count place stop given typed (inl (kept, inr (rows, source, inr (counter, counted, inr (done, tried, inr (next, on, h)))), named)) = absurd (let e = h in cc)
 
+    -- INSERT of one row, whose key no row has
+    module _ (apart : (r : Row) → Has (db table.tree) r → conflicts None schema.indexes table new r ≡ false) where
+      stops_added : (rows : List Row) (top : ℤ) (stop : Option Error) → rows ≡ (Null ∷ row) ∷ []
+          → Edited schema Enforced db (edit_of db table [] (rowids_for table top) 0 rows) (Err stop) → StopsPut schema table id row stop
+      stops_added rows top stop is h =
+          let one : edit_of db table [] (rowids_for table top) 0 ((Null ∷ row) ∷ []) ≡ edit_of db table [] Given 0 (new ∷ []) = ap (λ r. record { table = table; gone = []; news = r ∷ [] }) (numbered_row top ∙ sym stored) in
+          stops_put schema table free db shaped.0 sound [] id row (judged id) unused apart stored stop
+          (subst (λ e. Edited schema Enforced db e (Err stop)) (ap (λ l. edit_of db table [] (rowids_for table top) 0 l) is ∙ one) h)
+
+      pub stops_add : (mode : Mode) (terms : List Term) (count : ℕ) (place : ℕ) (stop : Option Error) → value_rows (stamped table params) count (length terms / count) terms ≡ (Null ∷ row) ∷ []
+          → accepts_terms terms (stamped table params) ≡ true → OnRows task mode None (Insert place (Values terms count)) db (Err stop) → StopsPut schema table id row stop ⊎ Interrupts limit stop
+      stops_add mode terms count place stop given typed (inr (w, wrote, h)) = absurd (ends mode w stop h)
+      stops_add mode terms count place stop given typed (inl (kept, inl (unread, refuses, is), named)) =
+          inr (subst (Interrupts limit) (sym (same_stop {A = Tally × Database} named ∙ same_stop {A = Written} is)) (unsourced terms count unread typed refuses))
+      stops_add mode terms count place stop given typed (inl (kept, inr (rows, source, inl (uncounts, h, is)), named)) =
+          absurd (let e = otherwise _ table.is_counted uncounted h in cc)
+      stops_add mode terms count place stop given typed (inl (kept, inr (rows, source, inr (counter, counted, inl (step, h, is))), named)) =
+          inl (subst (StopsPut schema table id row) (sym (same_stop {A = Tally × Database} named ∙ same_stop {A = Written} is)) (stops_added rows (count_of counter) step (source.1 ∙ given) h))
+      stops_add mode terms count place stop given typed (inl (kept, inr (rows, source, inr (counter, counted, inr (mid, went, inl (counts, h, is)))), named)) =
+          let top = fold higher (count_of counter) (edit_of db table [] (rowids_for table (count_of counter)) 0 rows).news in
+          absurd (let e = otherwise _ (cond table.is_counted (is_lt (int_cmp (count_of counter) top)) false) (ap (λ c. cond c (is_lt (int_cmp (count_of counter) top)) false) uncounted) h in cc)
+      stops_add mode terms count place stop given typed (inl (kept, inr (rows, source, inr (counter, counted, inr (mid, went, inr (next, on, h)))), named)) = absurd (let e = h in cc)
+
   -- DELETE of the rows that a query finds
   module _ (body : Query) (typed : accepts_program schema [] body params ≡ true) (steady : (trees : Trees) → QueryOverflows body trees params → ⊥) where
-    unqueried : (stop : Option Error) → Queried limit (record { schema = schema; trees = db }) (record { lets = []; body = body }) params (Err stop) → Interrupts limit stop
+    pub unqueried : (stop : Option Error) → Queried limit (record { schema = schema; trees = db }) (record { lets = []; body = body }) params (Err stop) → Interrupts limit stop
     unqueried None h = absurd h
     unqueried (Some e) (inl mistyped) = absurd (true≢false (sym typed ∙ mistyped.1))
     unqueried (Some e) (inr (inl overflows)) = absurd (steady _ overflows.1)

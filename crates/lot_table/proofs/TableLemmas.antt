@@ -1,13 +1,14 @@
--- What a put and a delete by key make of a table whose key is its first columns.
-use Rattle.std.proofs.Common.{◌≡◌, ℕ, ◌/◌, ℤ, Bool, false, not, ◌||◌, IsTrue, true≢false, subst₂, None, Ok, List, [], ◌∷◌, length, map, refl, sym, ap, ap₂, subst, ◌∙◌, is_eq}
+-- What an added row, a put, a change and a delete by key make of a table whose key is its first columns.
+use Rattle.std.proofs.Common.{◌≡◌, inl, ℕ, ◌/◌, ℤ, Bool, false, not, ◌||◌, IsTrue, true, true≢false, subst₂, None, Ok, List, [], ◌∷◌, filter, length, map, refl, sym, ap, ap₂, subst, ◌∙◌, is_eq}
 use Rattle.std.proofs.Math.Bool.{and-true, or-false}
+use Rattle.std.proofs.lemmas.Bool.{false_from_ne_true, or_left}
 use Rattle.sqlite.specs.Order.{Row}
 use Rattle.sqlite.specs.Table.{Table}
 use Rattle.sqlite_schema.specs.declared.schema.Index.{Index}
 use Rattle.sqlite_value.specs.declared.keys.Key.{Key}
-use Rattle.sqlite.specs.Tree.{Trees, rowid}
+use Rattle.sqlite.specs.Tree.{Trees, put_row, rowid}
 use Rattle.sqlite.specs.View.{is_int}
-use Rattle.std.specs.List.{list_all}
+use Rattle.std.specs.List.{list_all, list_any}
 use Rattle.sqlite.specs.Term.{Term, col, holds}
 use Rattle.sqlite.specs.Ops.{is_null}
 use Rattle.sqlite.specs.Cast.{cast, cast_row}
@@ -17,7 +18,7 @@ use Rattle.sqlite.specs.Rows.{Task, stamped, mended}
 use Rattle.sqlite.specs.Does.{Tally, OnRows}
 use Rattle.sqlite.specs.declared.run.Mode.{Mode}
 use Rattle.sqlite.specs.Source.TheVariants.{Values}
-use Rattle.sqlite.specs.Command.TheVariants.{InsertOr, Delete}
+use Rattle.sqlite.specs.Command.TheVariants.{Insert, InsertOr, Delete}
 use Rattle.sqlite.specs.declared.types.Value.{Value}
 use Rattle.sqlite.specs.declared.types.Value.TheVariants.{Null, Int}
 use Rattle.sqlite_schema.specs.declared.command.Conflict.TheVariants.{Replace}
@@ -25,16 +26,21 @@ use Rattle.sqlite_schema.specs.Rules.{agree}
 use Rattle.sqlite_value.specs.Order.{value_cmp}
 use Rattle.sqlite_value.specs.Keys.{plain, first_key}
 use Rattle.sqlite_rules.specs.Action.{works}
-use Rattle.sqlite_rules.specs.Keys.{conflicts}
+use Rattle.sqlite_rules.specs.Keys.{conflicts, shares}
 use Rattle.sqlite_rules.specs.Lists.{Has}
 use Rattle.sqlite_rules.proofs.TableLemmas.{int_is}
-use Rattle.sqlite_rules.proofs.ListLemmas.{all_has}
+use Rattle.sqlite_rules.proofs.ListLemmas.{all_from, all_has, has_filtered}
+use Rattle.sqlite_rules.proofs.PlaceLemmas.{next_is_free}
+use Rattle.sqlite_rules.specs.Edit.{id_in, next_rowid}
+use Rattle.sqlite_rules.specs.declared.error.Rowids.TheVariants.{Chosen}
 use Rattle.sqlite_keyed.specs.Lists.{insert_sorted}
-use Rattle.sqlite_keyed.proofs.ListLemmas.{filter-map}
-use Rattle.lot_table.specs.Rows.{columns, key_order, has_key, HasRows, put_in, without_key}
-use Rattle.lot_table.proofs.KeyLemmas.{kept_with, kept_without, has_mapped, mapped_has}
-use Rattle.lot_table.proofs.WriteLemmas.{KeepsOthers, replaces}
+use Rattle.sqlite_keyed.proofs.ListLemmas.{filter-map, filter_all}
+use Rattle.lot_table.specs.Rows.{columns, key_order, has_key, HasRows, is_there, put_in, with_row, without_key}
+use Rattle.lot_table.proofs.KeyLemmas.{kept_with, kept_without, has_mapped, mapped_has, spares}
+use Rattle.lot_table.proofs.WriteLemmas.{KeepsOthers, adds, fails_here, replaces}
 use Rattle.lot_table.proofs.ReadLemmas.{compared, query, passes, IsPresent, key_terms, key_places, tests_are, agree_is}
+use Rattle.lot_table.proofs.EditLemmas.{shares_none}
+use Rattle.lot_table.proofs.UpdateLemmas.{stored_one}
 use Rattle.lot_table.proofs.DeleteLemmas.{deletes, has_permuted, insert_sorted-map}
 
 -- ---- the rows of a table whose key is its first columns
@@ -42,6 +48,10 @@ use Rattle.lot_table.proofs.DeleteLemmas.{deletes, has_permuted, insert_sorted-m
 stored_as : (r : Row) (row : Row) → IsTrue (is_int (rowid r)) → columns r ≡ row → r ≡ rowid r ∷ row
 stored_as [] row keyed e = absurd (true≢false (sym keyed))
 stored_as (v ∷ c) row keyed e = ap (λ l. v ∷ l) e
+
+any_mapped : {A B : Type 0} (p : B → Bool) (f : A → B) (xs : List A) → list_any p (map f xs) ≡ list_any (λ x. p (f x)) xs
+any_mapped p f [] = refl
+any_mapped p f (x ∷ xs) = ap (λ b. p (f x) || b) (any_mapped p f xs)
 
 module _ {X : Type 0} (encode : X → Row) (width : ℕ) (present : (x : X) → IsPresent width 0 (encode x)) where
   -- a stored row is that of a value in the list, after its rowid
@@ -76,6 +86,50 @@ module _ {X : Type 0} (encode : X → Row) (width : ℕ) (present : (x : X) → 
     abbrev at : ℕ
     at = task.table.tree
 
+    -- the row of a value is put among the rows as the value among the values
+    pub put_as : (x : X) → with_row width (encode x) (map encode xs) ≡ map encode (put_in encode width x xs)
+    put_as x =
+        ap (insert_sorted (key_order width) (encode x)) (filter-map (λ y. not (has_key width (encode x) y)) encode xs) ∙ insert_sorted-map (key_order width) encode x (without_key encode width (encode x) xs)
+
+    -- no stored row has a key that no value has
+    pub apart : (key : Row) → is_there encode width key xs ≡ false → (r : Row) → Has (db at) r → has_key width key (columns r) ≡ false
+    apart key lacks r h =
+        let k = value_of_row (db at) xs kept r h in
+        subst (λ y. has_key width key (columns y) ≡ false) (sym k.2) (fails_here (λ x. has_key width key (encode x)) xs k.0 lacks k.1)
+
+    -- the stored row of a key that is there is that of a value
+    pub the_row : (key : Row) → is_there encode width key xs ≡ true
+        → (id : ℤ) × (y : X) × (has_key width key (encode y) ≡ true) × (filter (λ r. has_key width key (columns r)) (db at) ≡ (Int id ∷ encode y) ∷ [])
+    the_row key some =
+        let one = stored_one width key (db at) (map encode xs) kept (any_mapped (has_key width key) encode xs ∙ some) in
+        let its = has_filtered (λ r. has_key width key (columns r)) (db at) one.0 (subst (λ l. Has l one.0) (sym one.1) (inl refl)) in
+        let value = value_of_row (db at) xs kept one.0 its.0 in
+        let keyed = int_is (rowid one.0) (all_has (λ y. IsTrue (is_int (rowid y))) (db at) one.0 kept.shaped.1 its.0) in
+        let whole : one.0 ≡ Int (id_in (rowid one.0)) ∷ encode value.0 = value.2 ∙ ap (λ v. v ∷ encode value.0) keyed in
+        (id_in (rowid one.0), value.0, sym (ap (λ r. has_key width key (columns r)) value.2) ∙ its.1, one.1 ∙ ap (λ r. r ∷ []) whole)
+
+    -- INSERT went well, so that no row had the key.
+    pub adds_row : (x : X) → task.table.is_counted ≡ false → ((v : Value) → cast_row task.table (v ∷ encode x) ≡ cast Integer v ∷ encode x) → Has task.schema.tables task.table → (rest : Row → Bool)
+        → ((v : Value) (d : Row) (id : ℤ) → list_any (shares None task.table (Int id ∷ encode x) (v ∷ d)) task.schema.indexes ≡ (agree plain (key_places width 0) (v ∷ d) (key_places width 0) (Int id ∷ encode x) || rest (v ∷ d)))
+        → (mode : Mode) (terms : List Term) (count place : ℕ) (out : Tally × Database) → value_rows (stamped task.table task.params) count (length terms / count) terms ≡ (Null ∷ encode x) ∷ []
+        → OnRows task mode None (Insert place (Values terms count)) db (Ok out)
+        → HasRows width (out.1.trees at) (map encode (put_in encode width x xs)) × KeepsOthers task.schema at db out.1.trees
+    adds_row x uncounted casts listed rest keyed mode terms count place out given ran =
+        let id = next_rowid (db at) in
+        let new = Int id ∷ encode x in
+        let r = adds task unreferred (encode x) uncounted casts db mode terms count place out given ran in
+        let free = next_is_free Chosen (db at) (encode x) kept.shaped.0 kept.shaped.1 in
+        let lacks : is_there encode width (encode x) xs ≡ false = false_from_ne_true _ (λ there.
+        let its = the_row (encode x) there in
+        let old = Int its.0 ∷ encode its.1 in
+        let here : Has (db at) old = (has_filtered (λ y. has_key width (encode x) (columns y)) (db at) old (subst (λ l. Has l old) (sym its.3) (inl refl))).0 in
+        let apart = shares_none task.schema task.table listed db out.1.trees id (encode x) free r.0.0 r.0.2 its.0 (encode its.1) here in
+        let same = agree_is width 0 (Int its.0) (Int id) (encode its.1) (encode x) (present its.1) (present x) ∙ its.2 in
+        true≢false (sym (keyed (Int its.0) (encode its.1) id ∙ or_left _ (rest old) same) ∙ apart)) in
+        let all = kept_with width (db at) (map encode xs) new kept refl free in
+        let left : filter (spares width (encode x)) (db at) ≡ db at = filter_all (spares width (encode x)) (db at) (all_from _ (db at) (λ y h. ap not (apart (encode x) lacks y h))) in
+        (subst₂ (HasRows width) (ap (put_row new) left ∙ sym r.0.0) (put_as x) all, r.0.1)
+
     pub puts_row : (x : X) → task.table.is_counted ≡ false → mended Replace task.table (Null ∷ encode x) ≡ Null ∷ encode x → ((v : Value) → cast_row task.table (v ∷ encode x) ≡ cast Integer v ∷ encode x)
         → ((r : Row) (id : ℤ) → Has (db at) r → conflicts None task.schema.indexes task.table (Int id ∷ encode x) r ≡ (is_eq (value_cmp (rowid r) (Int id)) || has_key width (encode x) (columns r)))
         → (mode : Mode) (terms : List Term) (count place : ℕ) (out : Tally × Database) → value_rows (stamped task.table task.params) count (length terms / count) terms ≡ (Null ∷ encode x) ∷ []
@@ -84,8 +138,7 @@ module _ {X : Type 0} (encode : X → Row) (width : ℕ) (present : (x : X) → 
     puts_row x uncounted mends casts clashes mode terms count place out given ran =
         let r = replaces task unreferred width (encode x) uncounted mends casts db clashes kept.shaped mode terms count place out given ran in
         let all = kept_with width (db at) (map encode xs) (Int r.0.0 ∷ encode x) kept refl r.0.1 in
-        let set = ap (insert_sorted (key_order width) (encode x)) (filter-map (λ y. not (has_key width (encode x) y)) encode xs) ∙ insert_sorted-map (key_order width) encode x (without_key encode width (encode x) xs) in
-        (subst₂ (HasRows width) (sym r.0.2) set all, r.0.3)
+        (subst₂ (HasRows width) (sym r.0.2) (put_as x) all, r.0.3)
 
     pub deletes_row : (key : Row) → IsPresent width 0 key → task.params ≡ key → (mode : Mode) (place : ℕ) (out : Tally × Database)
         → OnRows task mode None (Delete place (record { lets = []; body = query at (key_terms width 0) (col 1 0 ∷ []) [] })) db (Ok out)

@@ -1,5 +1,5 @@
 -- What a call on a book says: of the change or the answer, and of each way to fail.
-use Rattle.std.specs.Prelude.{◌≡◌, ◌∷◌, ◌⊎◌, ℕ, false, All, IfOk, IfSome, List, map, None, OnErr, OnOk, Option, Result, Err, Vec, slice_get}
+use Rattle.std.specs.Prelude.{◌≡◌, ◌∷◌, ◌⊎◌, ℕ, ℤ, false, true, All, IfOk, IfSome, List, map, None, OnErr, OnOk, Option, Result, Err, Vec, slice_get}
 use Rattle.std.specs.declared.alloc.Global.{Global}
 use Rattle.sqlite.specs.Order.{Row}
 use Rattle.sqlite.specs.Schema.{Schema}
@@ -7,10 +7,11 @@ use Rattle.sqlite.specs.State.{HasCleanDisk, IsUnchanged, Shown, State, Survives
 use Rattle.sqlite.specs.Table.{Table}
 use Rattle.sqlite.specs.Tree.{Trees}
 use Rattle.sqlite_rules.specs.Edit.{IsOversized, next_rowid}
+use Rattle.sqlite_rules.specs.Lists.{Has as HasRow}
 use Rattle.sqlite_sql.specs.Ops.{fits_i64}
 use Rattle.sqlite_value.specs.declared.value.Value.TheVariants.{Int}
 use Rattle.lot_table.specs.Book.{BookTable, Has, IsUndone, Layout, StaysInside, Turns, always}
-use Rattle.lot_table.specs.Rows.{put_in, without_key}
+use Rattle.lot_table.specs.Rows.{has_key, is_there, put_in, set_in, without_key}
 use Rattle.lot_table.specs.Statement.{DiskFailed, Ran, Refused, RefusedChange, ShowsDamage}
 use Rattle.lot_table.specs.declared.fault.Fault.TheVariants.{Damaged, Device}
 use Rattle.lot_table.specs.declared.fault.Fault.{Fault}
@@ -37,28 +38,54 @@ pub record Selects {X R : Type 0} (encode : X → Row) (IsGood : X → Type 0) (
 
 -- ---- a change of a book
 
--- The book becomes what `f` makes of it. The call never finds damage in a book, without a limit on steps, and the device
+-- A book becomes what `f` makes of it. In one that fits the call never finds damage, without a limit on steps, and the device
 -- fails it only where the disk failed or the database has no room.
 pub record Changes {A B : Type 0} (layout : Layout B) (fits : B → Type 0) (f : B → B) (HasNoRoom : Trees → Type 0) (old new : State) (result : Result A Fault) : Type 0 where
   pub inside : HasCleanDisk new → OnOk result (StaysInside old new)
-  pub turns : HasCleanDisk new → OnOk result (Turns layout fits f old new)
-  pub damaged : HasCleanDisk new → result ≡ Err Damaged → old.step_limit ≡ None → (book : B) → ¬ Has layout old book
-  pub device : HasCleanDisk new → result ≡ Err Device → (book : B) → Has layout old book → DiskFailed old new ⊎ HasNoRoom old.now.trees
+  pub turns : HasCleanDisk new → OnOk result (Turns layout always f old new)
+  pub damaged : HasCleanDisk new → result ≡ Err Damaged → old.step_limit ≡ None → (book : B) → fits book → ¬ Has layout old book
+  pub device : HasCleanDisk new → result ≡ Err Device → (book : B) → fits book → Has layout old book → DiskFailed old new ⊎ HasNoRoom old.now.trees
   pub undone : HasCleanDisk new → OnErr result (IsUndone old new)
   pub crash : Survives old new (λ _. ⊥)
 
--- the greatest rowid is given, or the row, or its entry in an index, is longer than a database takes
-abbrev pub LacksRoom : Schema → Table → Row → Trees → Type 0
-LacksRoom schema table row trees =
-    let rowid = next_rowid (trees table.tree) in (fits_i64 rowid ≡ false) ⊎ IsOversized schema table (Int rowid ∷ row)
+-- the rowid is above all rowids, or the row, or its entry in an index, is longer than a database takes
+abbrev pub IsTooLong : Schema → Table → Row → ℤ → Type 0
+IsTooLong schema table row rowid = (fits_i64 rowid ≡ false) ⊎ IsOversized schema table (Int rowid ∷ row)
 
--- the row is put into the list of its table, instead of the row of its key, in each book that fits
+-- no row more goes in, since the greatest rowid is given, or this one doesn't
+abbrev pub LacksRoom : Schema → Table → Row → Trees → Type 0
+LacksRoom schema table row trees = IsTooLong schema table row (next_rowid (trees table.tree))
+
+-- the row is put into the list of its table, instead of the row of its key
 abbrev pub PutsWhere : {A B X : Type 0} → Layout B → BookTable B X → (B → Type 0) → X → State → State → Result A Fault → Type 0
 PutsWhere layout t fits x =
     Changes layout fits (λ book. t.with_rows (put_in t.encode t.width x (t.rows book)) book) (LacksRoom layout.schema t.table (t.encode x))
 
 abbrev pub Puts : {A B X : Type 0} → Layout B → BookTable B X → X → State → State → Result A Fault → Type 0
 Puts layout t = PutsWhere layout t always
+
+-- no row of the table has the key of this one
+abbrev pub LacksKey : {B X : Type 0} → BookTable B X → X → B → Type 0
+LacksKey t x book = is_there t.encode t.width (t.encode x) (t.rows book) ≡ false
+
+-- a row of the table has the key of this one
+abbrev pub HasKey : {B X : Type 0} → BookTable B X → X → B → Type 0
+HasKey t x book = is_there t.encode t.width (t.encode x) (t.rows book) ≡ true
+
+-- the row doesn't go in at the rowid of the stored row of its key
+abbrev pub LacksRoomInPlace : {B X : Type 0} → Layout B → BookTable B X → X → Trees → Type 0
+LacksRoomInPlace layout t x trees =
+    (rowid : ℤ) × (stored : Row) × HasRow (trees t.table.tree) (Int rowid ∷ stored)
+    × (has_key t.width (t.encode x) stored ≡ true) × IsTooLong layout.schema t.table (t.encode x) rowid
+
+-- the row is put into the list, which has none of its key
+abbrev pub Adds : {A B X : Type 0} → Layout B → BookTable B X → X → State → State → Result A Fault → Type 0
+Adds layout t x = PutsWhere layout t (LacksKey t x) x
+
+-- the row is put in the place of the one of its key; without one nothing changes
+abbrev pub Sets : {A B X : Type 0} → Layout B → BookTable B X → X → State → State → Result A Fault → Type 0
+Sets layout t x =
+    Changes layout always (λ book. t.with_rows (set_in t.encode t.width x (t.rows book)) book) (LacksRoomInPlace layout t x)
 
 -- the row of a key is taken out of the list of its table
 abbrev pub Deletes : {A B X : Type 0} → Layout B → BookTable B X → Row → State → State → Result A Fault → Type 0

@@ -1,5 +1,6 @@
 -- A table as the list of its rows in the order of their keys. A row here is its columns, those of the key first.
-use Rattle.std.specs.Prelude.{◌≡◌, ℕ, Bool, not, List, [], map, drop, filter, IsPermutation}
+use Rattle.std.specs.Prelude.{◌≡◌, ℕ, Bool, not, if◌then◌else◌, List, [], map, drop, filter, IsPermutation}
+use Rattle.std.specs.List.{list_any}
 use Rattle.std.specs.Ordering.{is_eq}
 use Rattle.std.specs.declared.cmp.Ordering.{Ordering}
 use Rattle.std.specs.declared.cmp.Ordering.TheVariants.{Less}
@@ -53,3 +54,11 @@ without_key encode width key = filter (λ x. not (has_key width key (encode x)))
 -- this one in its place, instead of the one of its key
 abbrev pub put_in : {X : Type 0} → (X → Row) → ℕ → X → List X → List X
 put_in encode width new xs = insert_sorted (λ a b. key_order width (encode a) (encode b)) new (without_key encode width (encode new) xs)
+
+-- whether some row has that key
+abbrev pub is_there : {X : Type 0} → (X → Row) → ℕ → Row → List X → Bool
+is_there encode width key xs = list_any (λ x. has_key width key (encode x)) xs
+
+-- this one in the place of the one of its key; nothing where there is none
+abbrev pub set_in : {X : Type 0} → (X → Row) → ℕ → X → List X → List X
+set_in encode width new xs = if is_there encode width (encode new) xs then put_in encode width new xs else xs

@@ -8,7 +8,7 @@ use Rattle.sqlite.specs.State.{HasCleanDisk, KeepsCommit, State, Survives}
 use Rattle.sqlite.proofs.StateLemmas.{survives_then}
 use Rattle.lot_table.proofs.BookLemmas.{turns_then}
 use Rattle.lot_table.proofs.MakeLemmas.{keeps_then, keeps_undone}
-use Rattle.lot_table.specs.Book.{Holds, IsUndone, Turns}
+use Rattle.lot_table.specs.Book.{Holds, IsUndone, Turns, always}
 use Rattle.lot_table.specs.Statement.{DiskFailed}
 use Rattle.lot_table.specs.declared.fault.Fault.{Fault}
 use Rattle.lot_rows.specs.Tables.{Tables, layout}
@@ -24,13 +24,13 @@ fit_push : (writes : List Write) (write : Write) (tables : Tables) → AreFit (w
 fit_push [] write tables fit = (tt, fit.0)
 fit_push (first ∷ more) write tables fit = let rest = fit_push more write (written first tables) fit.1 in ((fit.0, rest.0), rest.1)
 
-pub turns_push : (writes : List Write) (write : Write) (a b c : State) → Turns layout (AreFit writes) (written_all writes) a b → Turns layout (Fits write) (written write) b c
-    → Turns layout (AreFit (writes ++ write ∷ [])) (written_all (writes ++ write ∷ [])) a c
+pub turns_push : (writes : List Write) (write : Write) (a b c : State) → Turns layout always (written_all writes) a b
+    → Turns layout always (written write) b c → Turns layout always (written_all (writes ++ write ∷ [])) a c
 turns_push writes write a b c first second =
-    let both = turns_then layout (AreFit writes) (Fits write) (written_all writes) (written write) a b c first second in
+    let both = turns_then layout always always (written_all writes) (written write) a b c first second in
     record {
       book = both.book;
-      lists = λ is tables holds fit. subst (λ t. Holds layout c.now.trees t) (written_push writes write tables) (both.lists is tables holds (fit_push writes write tables fit));
+      lists = λ is tables holds _. subst (λ t. Holds layout c.now.trees t) (written_push writes write tables) (both.lists is tables holds (tt, tt));
     }
 
 -- the first n and the next one
@@ -59,7 +59,7 @@ stood a b (inr undone) live = absurd (both_ways _ undone.autocommit live)
 -- a write after others failed
 pub failed_next : {A : Type 0} (writes : List Write) (n : ℕ) (write : Write) (old now new : State) (fault : Fault) (result : Result A Fault)
     → take (n + 1) writes ≡ take n writes ++ write ∷ [] → Survives old now (λ _. ⊥)
-    → (HasCleanDisk now → KeepsCommit old now × Turns layout (AreFit (take n writes)) (written_all (take n writes)) old now)
+    → (HasCleanDisk now → KeepsCommit old now × Turns layout always (written_all (take n writes)) old now)
     → WritesOne {A = A} write now new (Err fault) → result ≡ Err fault → WritesAll writes old new result
 failed_next writes n write old now new fault result next before made failed is =
     let early : HasCleanDisk new → HasCleanDisk now = λ clean. omega (arith, failed.crash.clean, clean) in
@@ -69,12 +69,12 @@ failed_next writes n write old now new fault result next before made failed is =
       damaged = λ clean damaged free tables fit has.
           let all = fit_push (take n writes) write tables (subst (λ l. AreFit l tables) next (fit_first (take (n + 1) writes) (drop (n + 1) writes) tables (subst (λ l. AreFit l tables) (sym (take-append-drop (n + 1) writes)) fit))) in
           let turns = (made (early clean)).1 in
-          failed.damaged clean damaged (before.limit ∙ free) (written_all (take n writes) tables) all.1 (turns.book has.0, turns.lists has.0 tables has.1 all.0);
+          failed.damaged clean damaged (before.limit ∙ free) (written_all (take n writes) tables) all.1 (turns.book has.0, turns.lists has.0 tables has.1 tt);
       device = λ clean device tables fit has.
           let all = fit_push (take n writes) write tables (subst (λ l. AreFit l tables) next (fit_first (take (n + 1) writes) (drop (n + 1) writes) tables (subst (λ l. AreFit l tables) (sym (take-append-drop (n + 1) writes)) fit))) in
           let turns = (made (early clean)).1 in
-          let holds = turns.lists has.0 tables has.1 all.0 in
-          elim (failed.device clean device (written_all (take n writes) tables) (turns.book has.0, holds)) [
+          let holds = turns.lists has.0 tables has.1 tt in
+          elim (failed.device clean device (written_all (take n writes) tables) all.1 (turns.book has.0, holds)) [
             | inl disk ↦ inl (failed_later old now new before (early clean) failed.crash.counts disk)
             | inr lacks ↦ inr (record {
               made = take n writes;

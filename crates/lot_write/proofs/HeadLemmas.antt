@@ -35,7 +35,7 @@ module _ (account commodity : List ℕ) where
   abbrev there : List HeadRow → Option HeadRow
   there = first_with_key head_cells 2 (pair_key account commodity)
 
-  same_pair : (other : Pair) → is_eq (pair_cmp pair other) ≡ (same_text account other.account && same_text commodity other.commodity)
+  pub same_pair : (other : Pair) → is_eq (pair_cmp pair other) ≡ (same_text account other.account && same_text commodity other.commodity)
   same_pair other =
       eq_then (text_cmp account other.account) (text_cmp commodity other.commodity)
       ∙ (λ i. sym (texts_ties account other.account) i && sym (texts_ties commodity other.commodity) i)

@@ -5,6 +5,7 @@ use Rattle.std.specs.List.{AllByRecursion}
 use Rattle.std.specs.Ordering.{int_eq}
 use Rattle.std.proofs.Common.{refl, ap, ◌∙◌}
 use Rattle.lot_cost.specs.declared.lot_key.LotKey.{LotKey}
+use Rattle.lot_book.specs.Change.{units_before}
 use Rattle.lot_book.specs.Facts.{Facts}
 use Rattle.lot_book.specs.Leg.{position_cmp}
 use Rattle.lot_book.specs.Sale.{SaleParts}
@@ -15,8 +16,8 @@ use Rattle.lot_book.specs.declared.leg.Position.{Position}
 use Rattle.lot_rows.specs.Tables.{Tables}
 use Rattle.lot_stored.specs.Rows.{head_row, leg_row, lot_row, opening_row, plain_row, sale_row}
 use Rattle.lot_write.proofs.WrittenLemmas.{left-written_all, written_all-append}
-use Rattle.lot_write.specs.Write.{written, written_all}
-use Rattle.lot_write.specs.Writes.{heads_written, legs_written, listed_write, number_written, opening_written, position_write, positions_written, sales_written, units_listed}
+use Rattle.lot_write.proofs.AsPutLemmas.{written, written_all}
+use Rattle.lot_write.specs.Writes.{head_write, heads_written, legs_written, listed_write, number_written, opening_written, plain_write, position_write, positions_written, sales_written, units_listed}
 use Rattle.lot_write.specs.declared.write.Write.{Write}
 use Rattle.lot_write.specs.declared.write.Write.TheVariants as write
 
@@ -35,23 +36,40 @@ module _ {A : Type 0} (rows : Tables → A) where
   sales_keep keeps number [] = tt
   sales_keep keeps number (sale ∷ sales) = (keeps (number, sale), sales_keep keeps number sales)
 
+  head_keeps : ((account commodity : List ℕ) (day : ℤ) → Keeps rows (write.Head (head_row account commodity day)))
+      → (before : Option ℤ) (account commodity : List ℕ) (day : ℤ) → Keeps rows (head_write before account commodity day)
+  head_keeps keeps None account commodity day = keeps account commodity day
+  head_keeps keeps (Some before) account commodity day = keeps account commodity day
+
   pub heads_keep : ((account commodity : List ℕ) (day : ℤ) → Keeps rows (write.Head (head_row account commodity day)))
-      → (heads : List (Pair × ℤ)) → AllByRecursion (Keeps rows) (heads_written heads)
-  heads_keep keeps [] = tt
-  heads_keep keeps (head ∷ heads) = (keeps head.0.account head.0.commodity head.1, heads_keep keeps heads)
+      → (facts : Facts) (heads : List (Pair × ℤ)) → AllByRecursion (Keeps rows) (heads_written facts heads)
+  heads_keep keeps facts [] = tt
+  heads_keep keeps facts (head ∷ heads) =
+      let before = facts.latest_at_cost head.0.account head.0.commodity in
+      (head_keeps keeps before head.0.account head.0.commodity head.1, heads_keep keeps facts heads)
+
+  pub plain_keeps : ((account commodity : List ℕ) (units : ℤ) → Keeps rows (write.Plain (plain_row account commodity units)))
+      → (account commodity : List ℕ) (before units : ℤ) → Keeps rows (plain_write account commodity before units)
+  plain_keeps plain account commodity before units =
+      elim (int_eq before (pos 0)) as (λ b. Keeps rows (cond b (write.Plain (plain_row account commodity units))
+      (write.SetPlain (plain_row account commodity units)))) [
+        | true ↦ plain account commodity units
+        | false ↦ plain account commodity units
+      ]
 
   pub position_keeps : ((account commodity : List ℕ) (units : ℤ) → Keeps rows (write.Plain (plain_row account commodity units)))
       → ((account commodity : List ℕ) → Keeps rows (write.NoPlain account commodity))
       → ((account commodity : List ℕ) (lot : LotKey) (units : ℤ) → Keeps rows (write.Lot (lot_row account commodity lot units)))
       → ((account commodity : List ℕ) (lot : LotKey) → Keeps rows (write.NoLot account commodity lot))
-      → (account commodity : List ℕ) (lot : Option LotKey) (units : ℤ) → Keeps rows (position_write account commodity lot units)
-  position_keeps plain no_plain at_lot no_lot account commodity None units =
+      → (account commodity : List ℕ) (lot : Option LotKey) (before units : ℤ)
+      → Keeps rows (position_write account commodity lot before units)
+  position_keeps plain no_plain at_lot no_lot account commodity None before units =
       elim (int_eq units (pos 0)) as (λ b. Keeps rows (cond b (write.NoPlain account commodity)
-      (write.Plain (plain_row account commodity units)))) [
+      (plain_write account commodity before units))) [
         | true ↦ no_plain account commodity
-        | false ↦ plain account commodity units
+        | false ↦ plain_keeps plain account commodity before units
       ]
-  position_keeps plain no_plain at_lot no_lot account commodity (Some lot) units =
+  position_keeps plain no_plain at_lot no_lot account commodity (Some lot) before units =
       elim (int_eq units (pos 0)) as (λ b. Keeps rows (cond b (write.NoLot account commodity lot)
       (write.Lot (lot_row account commodity lot units)))) [
         | true ↦ no_lot account commodity lot
@@ -86,7 +104,7 @@ module _ {A : Type 0} (rows : Tables → A) where
       → (p : Position) → AllByRecursion (Keeps rows) (listed_write facts change p)
   listed_keeps facts change plain no_plain at_lot no_lot opening no_opening p =
       let units = units_listed facts change p in (
-        position_keeps plain no_plain at_lot no_lot p.account p.commodity p.lot units,
+        position_keeps plain no_plain at_lot no_lot p.account p.commodity p.lot (units_before facts p) units,
         opening_keeps opening no_opening p.account p.commodity p.lot units (get position_cmp change.openings p),
       )
 

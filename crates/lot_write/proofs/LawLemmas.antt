@@ -1,6 +1,6 @@
 -- Tables that stand for a book stand, after the writes of an accepted command, for the book with its entry.
-use Rattle.std.specs.Prelude.{suc, List, [], ◌∷◌, ◌++◌, All}
-use Rattle.std.proofs.Common.{refl, sym, ap, subst, ◌∙◌, arith, length-append}
+use Rattle.std.specs.Prelude.{List, [], ◌∷◌, ◌++◌, All}
+use Rattle.std.proofs.Common.{ap, ◌∙◌, arith, length-append}
 use Rattle.std.proofs.lemmas.List.Elements.{All-from_recursion, recursion_from_All}
 use Rattle.sqlite_keyed.proofs.ListLemmas.{all-append}
 use Rattle.lot_command.specs.declared.command.Command.{Command}
@@ -10,28 +10,17 @@ use Rattle.lot_laws.proofs.MigrationLaws.{behind_place}
 use Rattle.lot_book.specs.Facts.{Entry, Facts}
 use Rattle.lot_book.specs.declared.change.Change.{Change}
 use Rattle.lot_command.specs.Sayable.{IsSayable}
-use Rattle.lot_rows.specs.Entry.{IsUnnamed}
 use Rattle.lot_rows.specs.Tables.{Tables}
-use Rattle.lot_stored.specs.Rows.{entry_row}
 use Rattle.lot_stored.specs.StandFor.{StandFor}
-use Rattle.lot_stored.proofs.KeptLemmas.{entry_rows-unnamed}
-use Rattle.lot_write.proofs.NamedLemmas.{IsAccepted, accepting_step, account-after, allowed-after, commodity-after, entry-after, judged, kind-written, own_no_entry, price-after}
+use Rattle.lot_write.proofs.NamedLemmas.{IsAccepted, accepting_step, account-after, allowed-after, commodity-after, entry-after, kind-written, price-after}
 use Rattle.lot_write.proofs.TransactionLemmas.{heads_stand, legs_stand, lots_stand, openings_stand, plain_stands, sales_stand}
-use Rattle.lot_write.proofs.WrittenLemmas.{are_fit, kept-written_all}
-use Rattle.lot_write.specs.Write.{AreFit, IsGood, written, written_all}
-use Rattle.lot_write.specs.Writes.{ListsInOrder, own_writes, writes_of}
-use Rattle.lot_write.specs.declared.write.Write.TheVariants as write
+use Rattle.lot_write.proofs.WrittenLemmas.{kept-written_all}
+use Rattle.lot_write.proofs.AsPutLemmas.{written_all}
+use Rattle.lot_write.specs.Write.{IsGood}
+use Rattle.lot_write.specs.Writes.{ListsInOrder, writes_of}
 
 module _ (tables : Tables) (entries : List Entry) (known : Facts) (key : Key) (command : Command) (change : Change)
     (stand : StandFor tables entries) (is : IsAccepted entries known key command change) where
-  pub writes_fit : AreFit (writes_of known key command change) tables
-  writes_fit =
-      let new = entry_row (suc known.entries) (entry_of key command change.legs) in (
-        subst (IsUnnamed new) (sym stand.entry)
-            (entry_rows-unnamed 1 entries key new (judged entries known key change command is).0 refl refl),
-        are_fit (own_writes known command change) (written (write.Entry new) tables) (own_no_entry known command change),
-      )
-
   pub writes_stand : ListsInOrder command change → IsSayable command → All IsGood (writes_of known key command change)
       → StandFor (written_all (writes_of known key command change) tables) (entries ++ entry_of key command change.legs ∷ [])
   writes_stand listed sayable good =

@@ -25,7 +25,7 @@ abbrev pub Shows : List LegRow → List Leg → Type 0
 Shows rows legs = (entry posting : ℕ) → with_key leg_cells 2 (posting_key entry posting) rows ≡ map leg_row (legs_of_posting entry posting legs)
 
 -- the rows of a leg's posting are below its row
-rows_below : (entry posting : ℕ) (rows : List LegRow) (done : List Leg) (leg : Leg) → Shows rows done
+pub rows_below : (entry posting : ℕ) (rows : List LegRow) (done : List Leg) (leg : Leg) → Shows rows done
     → AllByRecursion (λ (d : Leg). Precedes d leg) done → is_of_posting entry posting leg ≡ true
     → AllByRecursion (λ (row : LegRow). has_key 2 (posting_key entry posting) (leg_cells row) ≡ true → row_order leg_cells 3 row (leg_row leg) ≡ Less) rows
 rows_below entry posting rows done leg shows precede own =
@@ -41,7 +41,7 @@ rows_below entry posting rows done leg shows precede own =
     let one : d.posting ≡ leg.posting = its.1 ∙ sym mine.1 in
     below_by_place d leg same one (all_has (λ (c : Leg). Precedes c leg) done d precede found.0 same one)))))
 
-put_next : (rows : List LegRow) (done : List Leg) (leg : Leg) → IsRising leg_cells 3 rows → Shows rows done
+pub put_next : (rows : List LegRow) (done : List Leg) (leg : Leg) → IsRising leg_cells 3 rows → Shows rows done
     → AllByRecursion (λ (d : Leg). Precedes d leg) done
     → Shows (put_in leg_cells 3 (leg_row leg) rows) (done ++ leg ∷ [])
 put_next rows done leg up shows precede entry posting = by (is_of_posting entry posting leg) refl

@@ -1,3 +1,4 @@
+pub mod AsPutLemmas
 pub mod KeepLemmas
 pub mod PutLemmas
 pub mod LegLemmas
@@ -8,6 +9,7 @@ pub mod OpeningLemmas
 pub mod SaleLemmas
 pub mod NamedLemmas
 pub mod TransactionLemmas
+pub mod FitLemmas
 pub mod LawLemmas
 pub mod CallLemmas
 pub mod RowLemmas

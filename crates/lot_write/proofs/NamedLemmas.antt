@@ -34,8 +34,9 @@ use Rattle.lot_book.specs.Recorded.{closed_on, standing_after}
 use Rattle.lot_book.specs.Refusals.{already_declared, book_full, closing_again, closing_too_early, closing_unknown, holds_as, was_closed}
 use Rattle.lot_book.specs.Step.{Accept, JudgesUnder, StepIn, first_of}
 use Rattle.lot_book.specs.Touched.{pairs_in}
-use Rattle.lot_book.specs.Change.{IsAcceptedUnder}
+use Rattle.lot_book.specs.Change.{IsAcceptedUnder, units_before}
 use Rattle.lot_book.specs.declared.change.Change.{Change}
+use Rattle.lot_book.specs.declared.change.Pair.{Pair}
 use Rattle.lot_book.specs.declared.leg.Leg.{Leg}
 use Rattle.lot_book.specs.declared.leg.Position.{Position}
 use Rattle.lot_book.specs.declared.refusal.Refusal.{Refusal}
@@ -58,15 +59,16 @@ use Rattle.lot_rows.specs.declared.commodity.CommodityRow.{CommodityRow}
 use Rattle.lot_rows.specs.declared.migration.MigrationRow.{MigrationRow}
 use Rattle.lot_rows.specs.declared.price.PriceRow.{PriceRow}
 use Rattle.lot_stored.specs.Kept.{currencies_in, currencies_of, declared_on, declaring_by, rate_by, rate_on}
-use Rattle.lot_stored.specs.Rows.{account_row, allowed_rows, commodity_row, entry_row, entry_rows, name_key, price_key, price_row, row_at}
+use Rattle.lot_stored.specs.Rows.{account_row, allowed_rows, commodity_row, entry_row, entry_rows, name_key, plain_row, price_key, price_row, row_at}
 use Rattle.lot_stored.specs.StandFor.{StandFor}
 use Rattle.lot_stored.proofs.KeptLemmas.{declared_on-append, declared_on-none, entry_rows-append, entry_rows-below, rate_on-append}
 use Rattle.lot_stored.proofs.KeyLemmas.{has_name, has_price, number_below, same_first}
 use Rattle.lot_stored.proofs.LookupLemmas.{first_with_key, put_in-last, row-put, with_key-put_last, with_key-put_other}
 use Rattle.lot_stored.proofs.OrderLemmas.{IsRising, all-put_in, rises-put_in, row_order}
 use Rattle.lot_write.proofs.WrittenLemmas.{IsNoEntry, left-written_all}
-use Rattle.lot_write.specs.Write.{with_put, written, written_all}
-use Rattle.lot_write.specs.Writes.{closing_written, heads_written, legs_written, listed_write, number_written, opening_written, own_writes, position_write, positions_written, sales_written, units_listed, writes_of}
+use Rattle.lot_write.proofs.AsPutLemmas.{written, written_all}
+use Rattle.lot_write.specs.Write.{with_put}
+use Rattle.lot_write.specs.Writes.{closing_written, head_write, heads_written, legs_written, listed_write, number_written, opening_written, own_writes, plain_write, position_write, positions_written, sales_written, units_listed, writes_of}
 use Rattle.lot_write.specs.declared.write.Write.{Write}
 use Rattle.lot_write.specs.declared.write.Write.TheVariants as write
 
@@ -101,13 +103,23 @@ IsOfTransaction (write.Price row) = ⊥
 IsOfTransaction (write.Entry row) = ⊥
 IsOfTransaction _ = ⊤
 
-position_is : (account commodity : List ℕ) (lot : Option LotKey) (units : ℤ) → IsOfTransaction (position_write account commodity lot units)
-position_is account commodity None units =
-    elim (int_eq units (pos 0)) as (λ b. IsOfTransaction (cond b (write.NoPlain account commodity) (write.Plain (record { account = account; commodity = commodity; units = units })))) [
+plain_is : (account commodity : List ℕ) (before units : ℤ) → IsOfTransaction (plain_write account commodity before units)
+plain_is account commodity before units =
+    elim (int_eq before (pos 0)) as (λ b. IsOfTransaction (cond b (write.Plain (plain_row account commodity units))
+    (write.SetPlain (plain_row account commodity units)))) [
       | true ↦ tt
       | false ↦ tt
     ]
-position_is account commodity (Some lot) units =
+
+position_is : (account commodity : List ℕ) (lot : Option LotKey) (before units : ℤ)
+    → IsOfTransaction (position_write account commodity lot before units)
+position_is account commodity None before units =
+    elim (int_eq units (pos 0)) as (λ b. IsOfTransaction (cond b (write.NoPlain account commodity)
+    (plain_write account commodity before units))) [
+      | true ↦ tt
+      | false ↦ plain_is account commodity before units
+    ]
+position_is account commodity (Some lot) before units =
     elim (int_eq units (pos 0)) as (λ b. IsOfTransaction (cond b (write.NoLot account commodity lot) (write.Lot (record { account = account; commodity = commodity; lot = lot; units = units })))) [
       | true ↦ tt
       | false ↦ tt
@@ -130,7 +142,7 @@ opening_is account commodity (Some lot) units listed =
 listed_is : (facts : Facts) (change : Change) (p : Position) → AllByRecursion IsOfTransaction (listed_write facts change p)
 listed_is facts change p =
     let units = units_listed facts change p in (
-      position_is p.account p.commodity p.lot units,
+      position_is p.account p.commodity p.lot (units_before facts p) units,
       opening_is p.account p.commodity p.lot units (get position_cmp change.openings p),
     )
 
@@ -139,9 +151,13 @@ all_of : {A X : Type 0} (P : X → Type 0) (f : A → List X) → ((a : A) → A
 all_of P f each [] = tt
 all_of P f each (x ∷ xs) = (each x, all_of P f each xs)
 
+head_is : (before : Option ℤ) (account commodity : List ℕ) (day : ℤ) → IsOfTransaction (head_write before account commodity day)
+head_is None account commodity day = tt
+head_is (Some before) account commodity day = tt
+
 pub transaction_is : (facts : Facts) (change : Change)
     → AllByRecursion IsOfTransaction (legs_written change.legs ++ (sales_written (suc facts.entries) change.sales
-    ++ (positions_written facts change change.legs ++ heads_written change.heads.entries)))
+    ++ (positions_written facts change change.legs ++ heads_written facts change.heads.entries)))
 transaction_is facts change =
     let written_at : Leg → List Write = λ leg. listed_write facts change leg.position in
     all-append IsOfTransaction (legs_written change.legs) _ (all-map IsOfTransaction _ (λ leg. tt) change.legs)
@@ -150,7 +166,9 @@ transaction_is facts change =
     (all-append IsOfTransaction (positions_written facts change change.legs) _
     (all-flat_map IsOfTransaction written_at change.legs
     (all_of IsOfTransaction written_at (λ leg. listed_is facts change leg.position) change.legs))
-    (all-map IsOfTransaction _ (λ head. tt) change.heads.entries)))
+    (all-map IsOfTransaction _
+    (λ (head : Pair × ℤ). head_is (facts.latest_at_cost head.0.account head.0.commodity) head.0.account head.0.commodity head.1)
+    change.heads.entries)))
 
 -- the tables that it leaves
 abbrev named : Tables → List AccountRow × List AllowedRow × List CommodityRow × List PriceRow
@@ -166,7 +184,7 @@ named_left _ is old = refl
 
 transaction_leaves : (facts : Facts) (change : Change) (tables : Tables)
     → named (written_all (legs_written change.legs ++ (sales_written (suc facts.entries) change.sales
-    ++ (positions_written facts change change.legs ++ heads_written change.heads.entries))) tables) ≡ named tables
+    ++ (positions_written facts change change.legs ++ heads_written facts change.heads.entries))) tables) ≡ named tables
 transaction_leaves facts change tables =
     left-written_all named _ tables (all_weaker IsOfTransaction _ named_left _ (transaction_is facts change))
 

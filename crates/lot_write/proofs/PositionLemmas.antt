@@ -13,6 +13,7 @@ use Rattle.lot_base.specs.Text.{same_text, text_cmp}
 use Rattle.lot_cost.proofs.OrderLemmas.{eq_then}
 use Rattle.lot_inv.specs.Inventory.{non_zero}
 use Rattle.lot_cost.specs.declared.lot_key.LotKey.{LotKey}
+use Rattle.lot_book.specs.Change.{units_before}
 use Rattle.lot_book.specs.Facts.{Facts}
 use Rattle.lot_book.specs.Leg.{position_cmp, same_position}
 use Rattle.lot_book.specs.declared.change.Change.{Change}
@@ -31,10 +32,10 @@ use Rattle.sqlite.specs.declared.types.Value.TheVariants.{Int}
 use Rattle.lot_stored.specs.Rows.{lot_key, lot_row, opening_row, pair_key, plain_row, row_at}
 use Rattle.lot_stored.proofs.KeyLemmas.{at_lot, has_lot, has_pair}
 use Rattle.lot_stored.proofs.LookupLemmas.{row-put, row-without}
-use Rattle.lot_write.proofs.KeepLemmas.{opening_keeps, position_keeps}
+use Rattle.lot_write.proofs.KeepLemmas.{opening_keeps, plain_keeps, position_keeps}
 use Rattle.lot_write.proofs.WrittenLemmas.{left-written_all, written_all-append}
-use Rattle.lot_write.specs.Write.{written, written_all}
-use Rattle.lot_write.specs.Writes.{listed_write, number_written, opening_written, position_write, positions_written, units_listed}
+use Rattle.lot_write.proofs.AsPutLemmas.{written, written_all}
+use Rattle.lot_write.specs.Writes.{listed_write, number_written, opening_written, plain_write, position_write, positions_written, units_listed}
 use Rattle.lot_write.specs.declared.write.Write.TheVariants as write
 
 -- ---- all legs
@@ -114,10 +115,10 @@ module _ (account commodity : List ℕ) (lot : LotKey) (good : IsLotKey lot) whe
   abbrev lot_there : Tables → Option LotRow
   lot_there = row_at lot_table (lot_key account commodity lot)
 
-  lot_written : (other what : List ℕ) (there : LotKey) (units : ℤ) (tables : Tables) → IsLotKey there
-      → lot_there (written (position_write other what (Some there) units) tables)
+  lot_written : (other what : List ℕ) (there : LotKey) (before units : ℤ) (tables : Tables) → IsLotKey there
+      → lot_there (written (position_write other what (Some there) before units) tables)
       ≡ cond (same_position (at_lot account commodity lot) (at_lot other what there)) (option_map (lot_row account commodity lot) (non_zero units)) (lot_there tables)
-  lot_written other what there units tables good_there = by (int_eq units (pos 0))
+  lot_written other what there before units tables good_there = by (int_eq units (pos 0))
     where
       row_of : (b : Bool) → same_position (at_lot account commodity lot) (at_lot other what there) ≡ b
           → cond b (Some (lot_row other what there units)) (lot_there tables) ≡ cond b (Some (lot_row account commodity lot units)) (lot_there tables)
@@ -139,30 +140,30 @@ module _ (account commodity : List ℕ) (lot : LotKey) (good : IsLotKey lot) whe
           (has_lot account commodity other what lot there (Int units ∷ []) good.label good_there.label)
           ∙ row_of (same_position (at_lot account commodity lot) (at_lot other what there)) refl
 
-  lot_kept : (other what : List ℕ) (units : ℤ) (tables : Tables)
-      → lot_there (written (position_write other what None units) tables) ≡ lot_there tables
-  lot_kept other what units tables =
+  lot_kept : (other what : List ℕ) (before units : ℤ) (tables : Tables)
+      → lot_there (written (position_write other what None before units) tables) ≡ lot_there tables
+  lot_kept other what before units tables =
       elim (int_eq units (pos 0)) as (λ b. lot_there (written (cond b (write.NoPlain other what)
-      (write.Plain (plain_row other what units))) tables) ≡ lot_there tables) [
+      (plain_write other what before units)) tables) ≡ lot_there tables) [
         | true ↦ refl
-        | false ↦ refl
+        | false ↦ plain_keeps lot_there (λ a c u s. refl) other what before units tables
       ]
 
   -- the row of a lot once units are written at a position
-  at_position : (p : Position) (units : ℤ) (tables : Tables) → IsLotOrPlain p.lot
-      → lot_there (written (position_write p.account p.commodity p.lot units) tables)
+  at_position : (p : Position) (before units : ℤ) (tables : Tables) → IsLotOrPlain p.lot
+      → lot_there (written (position_write p.account p.commodity p.lot before units) tables)
       ≡ cond (same_position (at_lot account commodity lot) p) (option_map (lot_row account commodity lot) (non_zero units)) (lot_there tables)
-  at_position p units tables good_there = by p.lot good_there
+  at_position p before units tables good_there = by p.lot good_there
     where
       by : (there : Option LotKey) → IsLotOrPlain there
-          → lot_there (written (position_write p.account p.commodity there units) tables)
+          → lot_there (written (position_write p.account p.commodity there before units) tables)
           ≡ cond (same_position (at_lot account commodity lot) (record { account = p.account; commodity = p.commodity; lot = there }))
           (option_map (lot_row account commodity lot) (non_zero units)) (lot_there tables)
       by None tt_there =
-          lot_kept p.account p.commodity units tables
+          lot_kept p.account p.commodity before units tables
           ∙ ap (λ b. cond b (option_map (lot_row account commodity lot) (non_zero units)) (lot_there tables))
           (sym (lot_or_plain (at_lot account commodity lot) (plain_at p.account p.commodity) lot refl refl))
-      by (Some there) good_key = lot_written p.account p.commodity there units tables good_key
+      by (Some there) good_key = lot_written p.account p.commodity there before units tables good_key
 
   -- the row of a lot once a position is written
   pub lot_step : (facts : Facts) (change : Change) (p : Position) (tables : Tables) → IsLotOrPlain p.lot
@@ -170,12 +171,13 @@ module _ (account commodity : List ℕ) (lot : LotKey) (good : IsLotKey lot) whe
       ≡ cond (same_position (at_lot account commodity lot) p)
       (option_map (lot_row account commodity lot) (non_zero (units_listed facts change p))) (lot_there tables)
   lot_step facts change p tables good_there =
+      let before = units_before facts p in
       let units = units_listed facts change p in
       let number = get position_cmp change.openings p in
       left-written_all lot_there (opening_written p.account p.commodity p.lot units number)
-      (written (position_write p.account p.commodity p.lot units) tables)
+      (written (position_write p.account p.commodity p.lot before units) tables)
       (opening_keeps lot_there (λ a c l n s. refl) (λ a c l s. refl) p.account p.commodity p.lot units number)
-      ∙ at_position p units tables good_there
+      ∙ at_position p before units tables good_there
 
 -- ---- plain units
 
@@ -192,10 +194,20 @@ module _ (account commodity : List ℕ) where
   abbrev plain_there : Tables → Option PlainRow
   plain_there = row_at plain_table (pair_key account commodity)
 
-  plain_written : (other what : List ℕ) (units : ℤ) (tables : Tables)
-      → plain_there (written (position_write other what None units) tables)
+  -- a row is put, whether or not there was one
+  plain_put : (other what : List ℕ) (before units : ℤ) (tables : Tables)
+      → written (plain_write other what before units) tables ≡ written (write.Plain (plain_row other what units)) tables
+  plain_put other what before units tables =
+      elim (int_eq before (pos 0)) as (λ b. written (cond b (write.Plain (plain_row other what units))
+      (write.SetPlain (plain_row other what units))) tables ≡ written (write.Plain (plain_row other what units)) tables) [
+        | true ↦ refl
+        | false ↦ refl
+      ]
+
+  plain_written : (other what : List ℕ) (before units : ℤ) (tables : Tables)
+      → plain_there (written (position_write other what None before units) tables)
       ≡ cond (same_position (plain_at account commodity) (plain_at other what)) (option_map (plain_row account commodity) (non_zero units)) (plain_there tables)
-  plain_written other what units tables = by (int_eq units (pos 0))
+  plain_written other what before units tables = by (int_eq units (pos 0))
     where
       row_of : (b : Bool) → same_position (plain_at account commodity) (plain_at other what) ≡ b
           → cond b (Some (plain_row other what units)) (plain_there tables) ≡ cond b (Some (plain_row account commodity units)) (plain_there tables)
@@ -205,7 +217,7 @@ module _ (account commodity : List ℕ) where
       row_of false apart = refl
 
       by : (zero : Bool)
-          → plain_there (written (cond zero (write.NoPlain other what) (write.Plain (plain_row other what units))) tables)
+          → plain_there (written (cond zero (write.NoPlain other what) (plain_write other what before units)) tables)
           ≡ cond (same_position (plain_at account commodity) (plain_at other what))
           (option_map (plain_row account commodity) (cond zero None (Some units))) (plain_there tables)
       by true =
@@ -213,14 +225,15 @@ module _ (account commodity : List ℕ) where
           ∙ ap (λ b. cond b None (plain_there tables))
           (has_pair account commodity other what [] ∙ sym (same_plain account commodity other what))
       by false =
-          row-put plain_cells 2 (pair_key account commodity) (plain_row other what units) tables.plain
+          ap plain_there (plain_put other what before units tables)
+          ∙ row-put plain_cells 2 (pair_key account commodity) (plain_row other what units) tables.plain
           ∙ ap (λ b. cond b (Some (plain_row other what units)) (plain_there tables))
           (has_pair account commodity other what (Int units ∷ []) ∙ sym (same_plain account commodity other what))
           ∙ row_of (same_position (plain_at account commodity) (plain_at other what)) refl
 
-  plain_kept : (other what : List ℕ) (there : LotKey) (units : ℤ) (tables : Tables)
-      → plain_there (written (position_write other what (Some there) units) tables) ≡ plain_there tables
-  plain_kept other what there units tables =
+  plain_kept : (other what : List ℕ) (there : LotKey) (before units : ℤ) (tables : Tables)
+      → plain_there (written (position_write other what (Some there) before units) tables) ≡ plain_there tables
+  plain_kept other what there before units tables =
       elim (int_eq units (pos 0)) as (λ b. plain_there (written (cond b (write.NoLot other what there)
       (write.Lot (lot_row other what there units))) tables) ≡ plain_there tables) [
         | true ↦ refl
@@ -228,18 +241,18 @@ module _ (account commodity : List ℕ) where
       ]
 
   -- the row of plain units once units are written at a position
-  plain_at_position : (p : Position) (units : ℤ) (tables : Tables)
-      → plain_there (written (position_write p.account p.commodity p.lot units) tables)
+  plain_at_position : (p : Position) (before units : ℤ) (tables : Tables)
+      → plain_there (written (position_write p.account p.commodity p.lot before units) tables)
       ≡ cond (same_position (plain_at account commodity) p) (option_map (plain_row account commodity) (non_zero units)) (plain_there tables)
-  plain_at_position p units tables = by p.lot
+  plain_at_position p before units tables = by p.lot
     where
       by : (there : Option LotKey)
-          → plain_there (written (position_write p.account p.commodity there units) tables)
+          → plain_there (written (position_write p.account p.commodity there before units) tables)
           ≡ cond (same_position (plain_at account commodity) (record { account = p.account; commodity = p.commodity; lot = there }))
           (option_map (plain_row account commodity) (non_zero units)) (plain_there tables)
-      by None = plain_written p.account p.commodity units tables
+      by None = plain_written p.account p.commodity before units tables
       by (Some there) =
-          plain_kept p.account p.commodity there units tables
+          plain_kept p.account p.commodity there before units tables
           ∙ ap (λ b. cond b (option_map (plain_row account commodity) (non_zero units)) (plain_there tables))
           (sym (same_position-turned (plain_at account commodity) (at_lot p.account p.commodity there)
           ∙ lot_or_plain (at_lot p.account p.commodity there) (plain_at account commodity) there refl refl))
@@ -250,12 +263,13 @@ module _ (account commodity : List ℕ) where
       ≡ cond (same_position (plain_at account commodity) p)
       (option_map (plain_row account commodity) (non_zero (units_listed facts change p))) (plain_there tables)
   plain_step facts change p tables fine =
+      let before = units_before facts p in
       let units = units_listed facts change p in
       let number = get position_cmp change.openings p in
       left-written_all plain_there (opening_written p.account p.commodity p.lot units number)
-      (written (position_write p.account p.commodity p.lot units) tables)
+      (written (position_write p.account p.commodity p.lot before units) tables)
       (opening_keeps plain_there (λ a c l n s. refl) (λ a c l s. refl) p.account p.commodity p.lot units number)
-      ∙ plain_at_position p units tables
+      ∙ plain_at_position p before units tables
 
 -- ---- opening numbers
 
@@ -318,10 +332,10 @@ module _ (account commodity : List ℕ) (lot : LotKey) (good : IsLotKey lot) whe
   opening_step facts change p tables good_there =
       let units = units_listed facts change p in
       let listed = get position_cmp change.openings p in
-      by units listed p.lot good_there (written (position_write p.account p.commodity p.lot units) tables)
+      by units listed p.lot good_there (written (position_write p.account p.commodity p.lot (units_before facts p) units) tables)
       ∙ ap (λ had. cond (same_position (at_lot account commodity lot) p) (numbered_row account commodity lot units listed had) had)
       (position_keeps opening_there (λ a c u s. refl) (λ a c s. refl) (λ a c l u s. refl) (λ a c l s. refl)
-      p.account p.commodity p.lot units tables)
+      p.account p.commodity p.lot (units_before facts p) units tables)
     where
       by : (units : ℤ) (listed : Option ℕ) (there : Option LotKey) → IsLotOrPlain there → (now : Tables)
           → opening_there (written_all (opening_written p.account p.commodity there units listed) now)

@@ -118,24 +118,40 @@ earlier_posting number a b below =
     same_first 1 (Int (pos number)) (Int (pos a.0) ∷ behind (sale_row (number, a))) (Int (pos b.0) ∷ behind (sale_row (number, b)))
     ∙ number_below 0 a.0 b.0 (behind (sale_row (number, a))) (behind (sale_row (number, b))) below
 
--- the sales of another entry come behind those of the entries before it
+-- the rows of the sales of an entry of that number
+abbrev pub own_rows : ℕ → List (ℕ × SaleParts) → List SaleRow
+own_rows number own = map (λ (sale : ℕ × SaleParts). sale_row (number, sale)) own
+
+-- a row comes before each of these
+abbrev pub IsUnder : List SaleRow → SaleRow → Type 0
+IsUnder above row = AllByRecursion (λ (new : SaleRow). row_order sale_cells 2 row new ≡ Less) above
+
+-- the sales of another entry are above those of the entries before it, and rise
+pub sales_above : (migration : Migration) (entries : List Entry) (sales : List (ℕ × (ℕ × SaleParts))) (own : List (ℕ × SaleParts))
+    → SalesOf migration entries sales → IsAscending IsEarlier own
+    → AllByRecursion (IsUnder (own_rows (suc (length entries)) own)) (map sale_row sales)
+    × IsRising sale_cells 2 (own_rows (suc (length entries)) own)
+sales_above migration entries sales own of rise =
+    let number = suc (length entries) in
+    let row : ℕ × SaleParts → SaleRow = λ sale. sale_row (number, sale) in (
+      all_map (IsUnder (own_rows number own)) sale_row sales
+          (all_weaker (λ (sale : ℕ × (ℕ × SaleParts)). sale.0 ≤ length entries)
+          (λ (sale : ℕ × (ℕ × SaleParts)). IsUnder (own_rows number own) (sale_row sale))
+          (λ sale within. all-map (λ (new : SaleRow). row_order sale_cells 2 (sale_row sale) new ≡ Less) row
+          (λ other. earlier_entry sale (number, other) (omega (arith, within))) own)
+          sales (up_to migration (length entries) [] entries sales of (omega arith))),
+      ascending-map (λ (a b : SaleRow). row_order sale_cells 2 a b ≡ Less) row own
+          (ascending_weaker IsEarlier (λ (a b : ℕ × SaleParts). row_order sale_cells 2 (row a) (row b) ≡ Less) (earlier_posting number) own rise),
+    )
+
+-- they come behind them
 pub sales_last : (migration : Migration) (entries : List Entry) (sales : List (ℕ × (ℕ × SaleParts))) (own : List (ℕ × SaleParts))
     → SalesOf migration entries sales → IsAscending IsEarlier own
-    → put_each sale_cells 2 (map (λ (sale : ℕ × SaleParts). sale_row (suc (length entries), sale)) own) (map sale_row sales)
+    → put_each sale_cells 2 (own_rows (suc (length entries)) own) (map sale_row sales)
     ≡ map sale_row (sales ++ numbered (suc (length entries)) own)
 sales_last migration entries sales own of rise =
     let number = suc (length entries) in
-    let row : ℕ × SaleParts → SaleRow = λ sale. sale_row (number, sale) in
-    let below : AllByRecursion (λ (x : SaleRow). AllByRecursion (λ (new : SaleRow). row_order sale_cells 2 x new ≡ Less) (map row own)) (map sale_row sales) =
-    all_map (λ (x : SaleRow). AllByRecursion (λ (new : SaleRow). row_order sale_cells 2 x new ≡ Less) (map row own)) sale_row sales
-    (all_weaker (λ (sale : ℕ × (ℕ × SaleParts)). sale.0 ≤ length entries)
-    (λ (sale : ℕ × (ℕ × SaleParts)). AllByRecursion (λ (new : SaleRow). row_order sale_cells 2 (sale_row sale) new ≡ Less) (map row own))
-    (λ sale within. all-map (λ (new : SaleRow). row_order sale_cells 2 (sale_row sale) new ≡ Less) row
-    (λ other. earlier_entry sale (number, other) (omega (arith, within))) own)
-    sales (up_to migration (length entries) [] entries sales of (omega arith))) in
-    let up : IsRising sale_cells 2 (map row own) =
-    ascending-map (λ (a b : SaleRow). row_order sale_cells 2 a b ≡ Less) row own
-    (ascending_weaker IsEarlier (λ (a b : ℕ × SaleParts). row_order sale_cells 2 (row a) (row b) ≡ Less) (earlier_posting number) own rise) in
-    put_each-last sale_cells 2 (map row own) (map sale_row sales) below up
+    let above = sales_above migration entries sales own of rise in
+    put_each-last sale_cells 2 (own_rows number own) (map sale_row sales) above.0 above.1
     ∙ ap (λ (rows : List SaleRow). map sale_row sales ++ rows) (sym (map-map sale_row (λ (sale : ℕ × SaleParts). (number, sale)) own))
     ∙ sym (map-append sale_row sales (numbered number own))

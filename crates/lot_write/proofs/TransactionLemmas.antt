@@ -57,7 +57,8 @@ use Rattle.lot_stored.specs.Rows.{allowed_rows, entry_row, head_row, leg_row, lo
 use Rattle.lot_stored.specs.StandFor.{StandFor, sum_in}
 use Rattle.lot_stored.proofs.KeyLemmas.{at_lot}
 use Rattle.lot_stored.proofs.LookupLemmas.{first_with_key}
-use Rattle.lot_write.specs.Write.{IsGood, written, written_all}
+use Rattle.lot_write.proofs.AsPutLemmas.{written, written_all}
+use Rattle.lot_write.specs.Write.{IsGood}
 use Rattle.lot_write.specs.Writes.{ListsInOrder, closing_written, heads_written, legs_written, listed_write, own_writes, positions_written, sales_written, units_listed, writes_of}
 use Rattle.lot_write.specs.declared.write.Write.TheVariants as write
 use Rattle.lot_stored.proofs.BookedLemmas.{IsBookedAs, booked_as, walks}
@@ -76,7 +77,7 @@ use Rattle.lot_write.proofs.WrittenLemmas.{left-written_all, written_all-append}
 -- ---- other commands
 
 -- a command that isn't a transaction
-abbrev IsOther : Command → Type 0
+abbrev pub IsOther : Command → Type 0
 IsOther (Opening o) = Unit {0}
 IsOther (Closing c) = Unit {0}
 IsOther (Declaring d) = Unit {0}
@@ -103,26 +104,26 @@ module _ {A : Type 0} (rows : Tables → A) (account : (row : AccountRow) → Ke
 -- ---- the parts of a transaction
 
 module _ (tables : Tables) (known : Facts) (key : Key) (t : TransactionOf) (change : Change) where
-  abbrev start : Tables
+  abbrev pub start : Tables
   start = written (write.Entry (entry_row (suc known.entries) (entry_of key (Transaction t) change.legs))) tables
 
-  abbrev with_legs : Tables
+  abbrev pub with_legs : Tables
   with_legs = written_all (legs_written change.legs) start
 
-  abbrev with_sales : Tables
+  abbrev pub with_sales : Tables
   with_sales = written_all (sales_written (suc known.entries) change.sales) with_legs
 
-  abbrev with_positions : Tables
+  abbrev pub with_positions : Tables
   with_positions = written_all (positions_written known change change.legs) with_sales
 
   abbrev with_heads : Tables
-  with_heads = written_all (heads_written change.heads.entries) with_positions
+  with_heads = written_all (heads_written known change.heads.entries) with_positions
 
   in_parts : written_all (writes_of known key (Transaction t) change) tables ≡ with_heads
   in_parts =
       let sales = sales_written (suc known.entries) change.sales in
       let positions = positions_written known change change.legs in
-      let heads = heads_written change.heads.entries in
+      let heads = heads_written known change.heads.entries in
       written_all-append (legs_written change.legs) (sales ++ (positions ++ heads)) start
       ∙ written_all-append sales (positions ++ heads) with_legs
       ∙ written_all-append positions heads with_sales
@@ -132,7 +133,7 @@ module _ (tables : Tables) (known : Facts) (key : Key) (t : TransactionOf) (chan
   changed_legs =
       let rows : Tables → List LegRow = λ (s : Tables). s.leg in
       ap rows in_parts
-      ∙ left-written_all rows (heads_written change.heads.entries) with_positions (heads_keep rows (λ a c d s. refl) change.heads.entries)
+      ∙ left-written_all rows (heads_written known change.heads.entries) with_positions (heads_keep rows (λ a c d s. refl) known change.heads.entries)
       ∙ positions_keep rows known change (listed_keeps rows known change (λ a c u s. refl) (λ a c s. refl) (λ a c l u s. refl)
       (λ a c l s. refl) (λ a c l n s. refl) (λ a c l s. refl)) change.legs with_sales
       ∙ left-written_all rows (sales_written (suc known.entries) change.sales) with_legs
@@ -145,7 +146,7 @@ module _ (tables : Tables) (known : Facts) (key : Key) (t : TransactionOf) (chan
       let rows = λ (s : Tables). s.sale in
       let number = suc known.entries in
       ap rows in_parts
-      ∙ left-written_all rows (heads_written change.heads.entries) with_positions (heads_keep rows (λ a c d s. refl) change.heads.entries)
+      ∙ left-written_all rows (heads_written known change.heads.entries) with_positions (heads_keep rows (λ a c d s. refl) known change.heads.entries)
       ∙ positions_keep rows known change (listed_keeps rows known change (λ a c u s. refl) (λ a c s. refl) (λ a c l u s. refl)
       (λ a c l s. refl) (λ a c l n s. refl) (λ a c l s. refl)) change.legs with_sales
       ∙ sales_put number change.sales with_legs
@@ -157,7 +158,7 @@ module _ (tables : Tables) (known : Facts) (key : Key) (t : TransactionOf) (chan
   changed_heads =
       let rows : Tables → List HeadRow = λ (s : Tables). s.head in
       ap rows in_parts
-      ∙ heads_put change.heads.entries with_positions
+      ∙ heads_put known change.heads.entries with_positions
       ∙ ap (put_each head_cells 2 (map head_of change.heads.entries))
       (positions_keep rows known change (listed_keeps rows known change (λ a c u s. refl) (λ a c s. refl) (λ a c l u s. refl)
       (λ a c l s. refl) (λ a c l n s. refl) (λ a c l s. refl)) change.legs with_sales
@@ -167,13 +168,13 @@ module _ (tables : Tables) (known : Facts) (key : Key) (t : TransactionOf) (chan
 
 -- ---- what is known of an accepted transaction
 
-accepted_known : (entries : List Entry) (known : Facts) (key : Key) (command : Command) (change : Change)
+pub accepted_known : (entries : List Entry) (known : Facts) (key : Key) (command : Command) (change : Change)
     → (is : IsAccepted entries known key command change) → JudgesUnder is.ties known command (Accept change.legs)
 accepted_known entries known key command change is = (key_was_new is.ties known command change.legs known.text is.comes.0).1
 
 module _ (entries : List Entry) (known : Facts) (key : Key) (t : TransactionOf) (change : Change)
     (is : IsAccepted entries known key (Transaction t) change) where
-  alike : AllByRecursion (Alike known (facts_of entries key)) t.postings
+  pub alike : AllByRecursion (Alike known (facts_of entries key)) t.postings
   alike =
       alike_all known (facts_of entries key) t.postings is.agrees.standing is.agrees.latest_at_cost is.agrees.held
       is.agrees.plain_units
@@ -183,7 +184,7 @@ module _ (entries : List Entry) (known : Facts) (key : Key) (t : TransactionOf) 
       booked_as is.ties known t (first_of (first_conditions known t)) change.legs
       (accepted_known entries known key (Transaction t) change is)
 
-  same_legs : AllByRecursion (IsSameAt known (facts_of entries key)) change.legs
+  pub same_legs : AllByRecursion (IsSameAt known (facts_of entries key)) change.legs
   same_legs = same_at_legs is.ties known (facts_of entries key) t change.legs alike booked
 
   -- the sales of the transaction are its sales on the book
@@ -196,7 +197,7 @@ module _ (entries : List Entry) (known : Facts) (key : Key) (t : TransactionOf) 
         sales.2,
       )
 
-  own_rise : IsAscending IsEarlier change.sales
+  pub own_rise : IsAscending IsEarlier change.sales
   own_rise =
       let sales = is.comes.1.sales in
       subst (IsAscending IsEarlier) (sym sales.2)
@@ -320,7 +321,7 @@ fine_lots : (known : Facts) (key : Key) (t : TransactionOf) (change : Change) �
 fine_lots known key t change good =
     let writes = writes_of known key (Transaction t) change in
     let others = sales_written (suc known.entries) change.sales ++ (positions_written known change change.legs
-    ++ heads_written change.heads.entries) in
+    ++ heads_written known change.heads.entries) in
     all_weaker (λ (leg : Leg). IsLegRow (leg_row leg)) (λ (leg : Leg). IsLotOrPlain leg.position.lot) (λ leg fine. fine.lot) change.legs
     (all_unmap IsGood (λ (leg : Leg). write.Leg (leg_row leg)) change.legs
     (all_front IsGood (legs_written change.legs) others (recursion_from_All IsGood writes good).1))
@@ -434,8 +435,8 @@ module _ (tables : Tables) (entries : List Entry) (known : Facts) (key : Key) (c
       (legs_keep there (λ leg s. refl) change.legs)
       ∙ stand.lot account commodity lot fine in
       ap there (in_parts tables known key t change)
-      ∙ left-written_all there (heads_written change.heads.entries) (with_positions tables known key t change)
-      (heads_keep there (λ a c d s. refl) change.heads.entries)
+      ∙ left-written_all there (heads_written known change.heads.entries) (with_positions tables known key t change)
+      (heads_keep there (λ a c d s. refl) known change.heads.entries)
       ∙ units_stand there row (at_lot account commodity lot) (λ (p : Position). IsLotOrPlain p.lot)
       entries known key t change (lot_step account commodity lot fine known change) sales is (fine_lots known key t change good) had
   lots_stand command is good account commodity lot fine =
@@ -461,8 +462,8 @@ module _ (tables : Tables) (entries : List Entry) (known : Facts) (key : Key) (c
       (legs_keep there (λ leg s. refl) change.legs)
       ∙ stand.plain account commodity in
       ap there (in_parts tables known key t change)
-      ∙ left-written_all there (heads_written change.heads.entries) (with_positions tables known key t change)
-      (heads_keep there (λ a c d s. refl) change.heads.entries)
+      ∙ left-written_all there (heads_written known change.heads.entries) (with_positions tables known key t change)
+      (heads_keep there (λ a c d s. refl) known change.heads.entries)
       ∙ units_stand there row (plain_at account commodity) (λ (p : Position). Unit {0})
       entries known key t change (plain_step account commodity known change) sales is (all_of (λ (leg : Leg). Unit {0}) (λ leg. tt) change.legs) had
   plain_stands command is account commodity =
@@ -503,8 +504,8 @@ module _ (tables : Tables) (entries : List Entry) (known : Facts) (key : Key) (c
       (legs_keep there (λ leg s. refl) change.legs)
       ∙ stand.opening account commodity lot fine in
       ap there (in_parts tables known key t change)
-      ∙ left-written_all there (heads_written change.heads.entries) (with_positions tables known key t change)
-      (heads_keep there (λ a c d s. refl) change.heads.entries)
+      ∙ left-written_all there (heads_written known change.heads.entries) (with_positions tables known key t change)
+      (heads_keep there (λ a c d s. refl) known change.heads.entries)
       ∙ position_stands there q IsFine settled entries known key t change step sales before now
       (fine_lots known key t change good) (numbers_settle entries known key t change is account commodity lot)
       (λ none. ap (option_map row) (sym (ap (λ (all : List Leg). opening_number all q) (legs_of-append entries entry)

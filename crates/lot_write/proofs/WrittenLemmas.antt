@@ -20,7 +20,8 @@ use Rattle.lot_rows.specs.Tables.{Tables}
 use Rattle.lot_stored.specs.Rows.{lot_key, pair_key}
 use Rattle.lot_stored.specs.StandFor.{AreGood, AreOrdered}
 use Rattle.lot_stored.proofs.OrderLemmas.{IsRising, all-put_in, all-without_key, rises-put_in, rises-without_key}
-use Rattle.lot_write.specs.Write.{AreFit, Fits, IsGood, written, written_all}
+use Rattle.lot_write.proofs.AsPutLemmas.{AreFit, Fits, written, written_all}
+use Rattle.lot_write.specs.Write.{IsGood}
 use Rattle.lot_write.specs.declared.write.Write.{Write}
 use Rattle.lot_write.specs.declared.write.Write.TheVariants as write
 
@@ -80,9 +81,13 @@ kept_written (write.NoOpening account commodity lot) t is k =
     (k.0, k.1, k.2, k.3, k.4, k.5, k.6, k.7, k.8, k.9, left)
 kept_written (write.Plain row) t is k =
     (k.0, k.1, k.2, k.3, k.4, k.5, k.6, k.7, put plain_cells 2 IsPlainRow row t.plain is k.8, k.9, k.10)
+kept_written (write.SetPlain row) t is k =
+    (k.0, k.1, k.2, k.3, k.4, k.5, k.6, k.7, put plain_cells 2 IsPlainRow row t.plain is k.8, k.9, k.10)
 kept_written (write.NoPlain account commodity) t is k =
     (k.0, k.1, k.2, k.3, k.4, k.5, k.6, k.7, deleted plain_cells 2 IsPlainRow (pair_key account commodity) t.plain k.8, k.9, k.10)
 kept_written (write.Head row) t is k =
+    (k.0, k.1, k.2, k.3, k.4, k.5, k.6, k.7, k.8, put head_cells 2 IsHeadRow row t.head is k.9, k.10)
+kept_written (write.SetHead row) t is k =
     (k.0, k.1, k.2, k.3, k.4, k.5, k.6, k.7, k.8, put head_cells 2 IsHeadRow row t.head is k.9, k.10)
 
 kept_all : (writes : List Write) (tables : Tables) → AllByRecursion IsGood writes → AreKept tables → AreKept (written_all writes tables)
@@ -149,16 +154,19 @@ pub written_all-append : (first more : List Write) (tables : Tables)
 written_all-append [] more tables = refl
 written_all-append (one ∷ first) more tables = written_all-append first more (written one tables)
 
--- ---- writes without an entry fit
-
 abbrev pub IsNoEntry : Write → Type 0
 IsNoEntry (write.Entry row) = ⊥
 IsNoEntry _ = ⊤
 
-fits : (one : Write) (tables : Tables) → IsNoEntry one → Fits one tables
-fits (write.Entry row) tables is = absurd is
-fits _ tables is = tt
+-- ---- writes that fit
 
-pub are_fit : (writes : List Write) (tables : Tables) → AllByRecursion IsNoEntry writes → AreFit writes tables
+pub fit-append : (first more : List Write) (tables : Tables) → AreFit first tables → AreFit more (written_all first tables)
+    → AreFit (first ++ more) tables
+fit-append [] more tables fit next = next
+fit-append (one ∷ first) more tables fit next = (fit.0, fit-append first more (written one tables) fit.1 next)
+
+-- those that fit all tables
+pub are_fit : (writes : List Write) (tables : Tables)
+    → AllByRecursion (λ (one : Write). (old : Tables) → Fits one old) writes → AreFit writes tables
 are_fit [] tables are = tt
-are_fit (one ∷ more) tables are = (fits one tables are.0, are_fit more (written one tables) are.1)
+are_fit (one ∷ more) tables are = (are.0 tables, are_fit more (written one tables) are.1)

@@ -2,8 +2,8 @@
 use Rattle.std.specs.Prelude.{◌≡◌, ◌⊎◌, IsTrue, List, ◌∷◌, ◌++◌, None, OnErr, OnOk, Result, Err}
 use Rattle.sqlite.specs.State.{HasCleanDisk, KeepsCommit, State, Survives}
 use Rattle.sqlite.specs.Tree.{Trees}
-use Rattle.lot_table.specs.Book.{BookTable, Holds, IsUndone, StaysInside, Turns}
-use Rattle.lot_table.specs.Call.{LacksRoom}
+use Rattle.lot_table.specs.Book.{BookTable, Holds, IsUndone, StaysInside, Turns, always}
+use Rattle.lot_table.specs.Call.{LacksRoom, LacksRoomInPlace}
 use Rattle.lot_table.specs.Statement.{DiskFailed}
 use Rattle.lot_table.specs.declared.fault.Fault.TheVariants.{Damaged, Device}
 use Rattle.lot_table.specs.declared.fault.Fault.{Fault}
@@ -31,8 +31,10 @@ LacksRoomFor (write.NoLot account commodity lot) = λ trees. ⊥
 LacksRoomFor (write.Opening row) = LacksRoomIn opening_table row
 LacksRoomFor (write.NoOpening account commodity lot) = λ trees. ⊥
 LacksRoomFor (write.Plain row) = LacksRoomIn plain_table row
+LacksRoomFor (write.SetPlain row) = LacksRoomInPlace layout plain_table row
 LacksRoomFor (write.NoPlain account commodity) = λ trees. ⊥
 LacksRoomFor (write.Head row) = LacksRoomIn head_table row
+LacksRoomFor (write.SetHead row) = LacksRoomInPlace layout head_table row
 
 -- The writes before one of them are made, and the database then has no room for that one. What they made stands while the
 -- transaction is open.
@@ -48,12 +50,12 @@ pub record Stops (writes : List Write) (tables : Tables) (new : State) : Type 0 
 
 -- ---- calls
 
--- The tables become what the writes make of them, in the open transaction. Without a limit on steps no damage is found in
--- tables of a book that take them, and the device fails only where the disk failed or the database has no room. The last
--- commit stands, whatever happens.
+-- All tables become what the writes make of them, in the open transaction. Without a limit on steps no damage is found in
+-- tables that take them, and the device fails only where the disk failed or the database has no room. The last commit stands,
+-- whatever happens.
 pub record WritesAll {A : Type 0} (writes : List Write) (old new : State) (result : Result A Fault) : Type 0 where
   pub inside : HasCleanDisk new → OnOk result (IsTrue new.in_transaction)
-  pub turns : HasCleanDisk new → OnOk result (Turns layout (AreFit writes) (written_all writes) old new)
+  pub turns : HasCleanDisk new → OnOk result (Turns layout always (written_all writes) old new)
   pub damaged : HasCleanDisk new → result ≡ Err Damaged → old.step_limit ≡ None → (tables : Tables) → AreFit writes tables → ¬ Has old tables
   pub device : HasCleanDisk new → result ≡ Err Device → (tables : Tables) → AreFit writes tables → Has old tables → DiskFailed old new ⊎ Stops writes tables new
   pub kept : HasCleanDisk new → KeepsCommit old new
@@ -62,8 +64,8 @@ pub record WritesAll {A : Type 0} (writes : List Write) (old new : State) (resul
 -- The same of one write, which after a failure has changed nothing, or the transaction is undone.
 pub record WritesOne {A : Type 0} (write : Write) (old new : State) (result : Result A Fault) : Type 0 where
   pub inside : HasCleanDisk new → OnOk result (StaysInside old new)
-  pub turns : HasCleanDisk new → OnOk result (Turns layout (Fits write) (written write) old new)
+  pub turns : HasCleanDisk new → OnOk result (Turns layout always (written write) old new)
   pub damaged : HasCleanDisk new → result ≡ Err Damaged → old.step_limit ≡ None → (tables : Tables) → Fits write tables → ¬ Has old tables
-  pub device : HasCleanDisk new → result ≡ Err Device → (tables : Tables) → Has old tables → DiskFailed old new ⊎ LacksRoomFor write old.now.trees
+  pub device : HasCleanDisk new → result ≡ Err Device → (tables : Tables) → Fits write tables → Has old tables → DiskFailed old new ⊎ LacksRoomFor write old.now.trees
   pub undone : HasCleanDisk new → OnErr result (IsUndone old new)
   pub crash : Survives old new (λ _. ⊥)

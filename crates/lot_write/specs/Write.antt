@@ -2,11 +2,12 @@
 use Rattle.std.specs.Prelude.{List, [], ◌∷◌}
 use Rattle.sqlite.specs.Order.{Row}
 use Rattle.lot_table.specs.Book.{BookTable}
-use Rattle.lot_table.specs.Rows.{put_in, without_key}
+use Rattle.lot_table.specs.Call.{LacksKey}
+use Rattle.lot_table.specs.Rows.{put_in, set_in, without_key}
 use Rattle.lot_rows.specs.Account.{IsAccountRow}
 use Rattle.lot_rows.specs.Allowed.{IsAllowedRow}
 use Rattle.lot_rows.specs.Commodity.{IsCommodityRow}
-use Rattle.lot_rows.specs.Entry.{IsEntryRow, IsUnnamed}
+use Rattle.lot_rows.specs.Entry.{IsEntryRow}
 use Rattle.lot_rows.specs.Head.{IsHeadRow}
 use Rattle.lot_rows.specs.Leg.{IsLegRow}
 use Rattle.lot_rows.specs.Lot.{IsLotRow}
@@ -15,7 +16,7 @@ use Rattle.lot_rows.specs.Opening.{IsOpeningRow}
 use Rattle.lot_rows.specs.Plain.{IsPlainRow}
 use Rattle.lot_rows.specs.Price.{IsPriceRow}
 use Rattle.lot_rows.specs.Sale.{IsSaleRow}
-use Rattle.lot_rows.specs.Tables.{Tables, account_table, allowed_table, commodity_table, entry_table, head_table, leg_table, lot_table, opening_table, plain_table, price_table, sale_table}
+use Rattle.lot_rows.specs.Tables.{IsNewEntry, Tables, account_table, allowed_table, commodity_table, entry_table, head_table, leg_table, lot_table, opening_table, plain_table, price_table, sale_table}
 use Rattle.lot_stored.specs.Rows.{lot_key, pair_key}
 use Rattle.lot_write.specs.declared.write.Write.{Write}
 use Rattle.lot_write.specs.declared.write.Write.TheVariants as write
@@ -24,6 +25,9 @@ use Rattle.lot_write.specs.declared.write.Write.TheVariants as write
 
 abbrev pub with_put : {X : Type 0} → BookTable Tables X → X → Tables → Tables
 with_put t x tables = t.with_rows (put_in t.encode t.width x (t.rows tables)) tables
+
+abbrev pub with_set : {X : Type 0} → BookTable Tables X → X → Tables → Tables
+with_set t x tables = t.with_rows (set_in t.encode t.width x (t.rows tables)) tables
 
 abbrev pub with_deleted : {X : Type 0} → BookTable Tables X → Row → Tables → Tables
 with_deleted t key tables = t.with_rows (without_key t.encode t.width key (t.rows tables)) tables
@@ -41,25 +45,29 @@ written (write.NoLot account commodity lot) = with_deleted lot_table (lot_key ac
 written (write.Opening row) = with_put opening_table row
 written (write.NoOpening account commodity lot) = with_deleted opening_table (lot_key account commodity lot)
 written (write.Plain row) = with_put plain_table row
+written (write.SetPlain row) = with_set plain_table row
 written (write.NoPlain account commodity) = with_deleted plain_table (pair_key account commodity)
 written (write.Head row) = with_put head_table row
+written (write.SetHead row) = with_set head_table row
 
--- the tables take the write: an entry's source and name are told of no other entry
+-- the tables take the write: a row that is added is new, and an entry's source and name are told of no other entry
 abbrev pub Fits : Write → Tables → Type 0
 Fits (write.Account row) tables = Unit {0}
 Fits (write.Allowed row) tables = Unit {0}
 Fits (write.Commodity row) tables = Unit {0}
 Fits (write.Price row) tables = Unit {0}
-Fits (write.Entry row) tables = IsUnnamed row tables.entry
-Fits (write.Leg row) tables = Unit {0}
-Fits (write.Sale row) tables = Unit {0}
+Fits (write.Entry row) tables = IsNewEntry row tables
+Fits (write.Leg row) tables = LacksKey leg_table row tables
+Fits (write.Sale row) tables = LacksKey sale_table row tables
 Fits (write.Lot row) tables = Unit {0}
 Fits (write.NoLot account commodity lot) tables = Unit {0}
 Fits (write.Opening row) tables = Unit {0}
 Fits (write.NoOpening account commodity lot) tables = Unit {0}
 Fits (write.Plain row) tables = Unit {0}
+Fits (write.SetPlain row) tables = Unit {0}
 Fits (write.NoPlain account commodity) tables = Unit {0}
 Fits (write.Head row) tables = Unit {0}
+Fits (write.SetHead row) tables = Unit {0}
 
 -- the row that is put is one that a book can have
 abbrev pub IsGood : Write → Type 0
@@ -75,8 +83,10 @@ IsGood (write.NoLot account commodity lot) = IsLotKey lot
 IsGood (write.Opening row) = IsOpeningRow row
 IsGood (write.NoOpening account commodity lot) = IsLotKey lot
 IsGood (write.Plain row) = IsPlainRow row
+IsGood (write.SetPlain row) = IsPlainRow row
 IsGood (write.NoPlain account commodity) = Unit {0}
 IsGood (write.Head row) = IsHeadRow row
+IsGood (write.SetHead row) = IsHeadRow row
 
 -- ---- writes, one after another
 

@@ -26,11 +26,17 @@ use Rattle.lot_write.specs.declared.write.Write.TheVariants as write
 
 -- ---- a transaction
 
--- the units of a position, which holds none where they are zero
-abbrev pub position_write : List ℕ → List ℕ → Option LotKey → ℤ → Write
-position_write account commodity None units =
-    if int_eq units (pos 0) then write.NoPlain account commodity else write.Plain (plain_row account commodity units)
-position_write account commodity (Some lot) units =
+-- plain units, of which there is a row where there were some before
+abbrev pub plain_write : List ℕ → List ℕ → ℤ → ℤ → Write
+plain_write account commodity before units =
+    if int_eq before (pos 0) then write.Plain (plain_row account commodity units)
+    else write.SetPlain (plain_row account commodity units)
+
+-- the units of a position, and those before, which holds none where they are zero
+abbrev pub position_write : List ℕ → List ℕ → Option LotKey → ℤ → ℤ → Write
+position_write account commodity None before units =
+    if int_eq units (pos 0) then write.NoPlain account commodity else plain_write account commodity before units
+position_write account commodity (Some lot) before units =
     if int_eq units (pos 0) then write.NoLot account commodity lot else write.Lot (lot_row account commodity lot units)
 
 -- the opening number that is listed of a lot; one that is added to keeps its row
@@ -53,7 +59,7 @@ units_listed facts change position =
 -- a position that a change touches: its units, and of a lot its opening number
 abbrev pub listed_write : Facts → Change → Position → List Write
 listed_write facts change position =
-    position_write position.account position.commodity position.lot (units_listed facts change position)
+    position_write position.account position.commodity position.lot (units_before facts position) (units_listed facts change position)
     ∷ opening_written position.account position.commodity position.lot
     (units_listed facts change position) (get position_cmp change.openings position)
 
@@ -67,8 +73,14 @@ legs_written legs = map (λ (leg : Leg). write.Leg (leg_row leg)) legs
 abbrev pub sales_written : ℕ → List (ℕ × SaleParts) → List Write
 sales_written number sales = map (λ (sale : ℕ × SaleParts). write.Sale (sale_row (number, sale))) sales
 
-abbrev pub heads_written : List (Pair × ℤ) → List Write
-heads_written heads = map (λ (head : Pair × ℤ). write.Head (head_row head.0.account head.0.commodity head.1)) heads
+-- the latest day of a pair, of which there is a row where there was one before
+abbrev pub head_write : Option ℤ → List ℕ → List ℕ → ℤ → Write
+head_write None account commodity day = write.Head (head_row account commodity day)
+head_write (Some before) account commodity day = write.SetHead (head_row account commodity day)
+
+abbrev pub heads_written : Facts → List (Pair × ℤ) → List Write
+heads_written facts heads =
+    map (λ (head : Pair × ℤ). head_write (facts.latest_at_cost head.0.account head.0.commodity) head.0.account head.0.commodity head.1) heads
 
 -- ---- any command
 
@@ -87,7 +99,7 @@ own_writes facts (Quoting q) change = write.Price (price_row q.base q.quote q.da
 own_writes facts (Transaction t) change =
     legs_written change.legs
     ++ (sales_written (suc facts.entries) change.sales
-    ++ (positions_written facts change change.legs ++ heads_written change.heads.entries))
+    ++ (positions_written facts change change.legs ++ heads_written facts change.heads.entries))
 
 -- an accepted command, by what was known of the book
 abbrev pub writes_of : Facts → Key → Command → Change → List Write

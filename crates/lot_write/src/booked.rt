@@ -1,15 +1,15 @@
 ghost use Rattle.std.specs.Prelude.{◌≡◌, ◌≢◌, ◌++◌, All, Err, IfOk, IfSome, IsSome, OnOk};
 ghost use Rattle.std.specs.BTreeMap.{IsOrdered};
-ghost use Rattle.lot_book.specs.Change.{pair_cmp};
+ghost use Rattle.lot_book.specs.Change.{pair_cmp, units_before};
 ghost use Rattle.lot_stored.specs.Rows.{leg_row, sale_row};
-ghost use Rattle.lot_write.specs.Writes.{AreNumbered, AreOpened, IsNumbered, IsPlaced, heads_written, legs_written, listed_write, opening_written, position_write, positions_written, sales_written, units_listed};
+ghost use Rattle.lot_write.specs.Writes.{AreNumbered, AreOpened, IsNumbered, IsPlaced, head_write, heads_written, legs_written, listed_write, opening_written, plain_write, position_write, positions_written, sales_written, units_listed};
 ghost use Rattle.lot_table.specs.Cell.{IsOpeningNumber};
 ghost use Rattle.lot_table.specs.declared.fault.Fault.TheVariants.{Damaged, Device};
 ghost use Rattle.lot_view.specs.View.{known};
 
 use crate::number::{opening_number, ordinal, place};
 use crate::write::Write;
-use lot_base::Day;
+use lot_base::{Account, Commodity, Day};
 use lot_book::{Change, Leg, Pair, Position, Sale};
 use lot_num::Units;
 use lot_rows::head::HeadRow;
@@ -33,7 +33,8 @@ pub(crate) fn push_change(
 ) -> Result<(), Fault>
     ensures writes { OnOk result (writes.new.items ≡ writes.old.items
         ++ (legs_written change.now.legs ++ (sales_written number change.now.sales
-        ++ (positions_written (known view.now) change.now change.now.legs ++ heads_written change.now.heads.entries)))) }
+        ++ (positions_written (known view.now) change.now change.now.legs
+        ++ heads_written (known view.now) change.now.heads.entries)))) }
     ensures ordered { OnOk result (IsOrdered pair_cmp change.now.heads) }
     ensures fault { result ≢ Err Damaged }
     ensures device { result ≡ Err Device → ¬ AreNumbered change.now }
@@ -42,7 +43,7 @@ pub(crate) fn push_change(
     push_legs(writes, legs)?;
     push_sales(writes, number, change.sales.as_slice())?;
     push_positions(writes, view, change, legs)?;
-    push_heads(writes, &change.heads)?;
+    push_heads(writes, view, &change.heads)?;
     Ok(())
 }
 
@@ -147,7 +148,7 @@ fn push_position(
 {
     let units = units_listed(view, change, position);
     let opening = change.openings.get(position).copied();
-    writes.push(position_write(position, units)?)?;
+    writes.push(position_write(view, position, units)?)?;
     push_opening_number(writes, position, units, opening)
 }
 
@@ -197,10 +198,17 @@ fn push_opening_number(
     Ok(())
 }
 
-/// Returns the row of a position with those units, or that it goes where they are zero.
-fn position_write(position: &Position, units: Units) -> Result<Write, AllocError>
-    ensures { IfOk result (λ write. write ≡ position_write position.now.account position.now.commodity position.now.lot units) }
+/// Returns the row of a position with those units, or that it goes where they are zero. The view is of the book before.
+fn position_write(view: &View, position: &Position, units: Units) -> Result<Write, AllocError>
+    ensures { IfOk result (λ write. write
+        ≡ position_write position.now.account position.now.commodity position.now.lot
+        (units_before (known view.now) position.now) units) }
 {
+    let before = view.units(
+        &position.account,
+        &position.commodity,
+        position.lot.as_ref(),
+    );
     let Position {
         account,
         commodity,
@@ -208,11 +216,7 @@ fn position_write(position: &Position, units: Units) -> Result<Write, AllocError
     } = position.copy()?;
     Ok(match (lot, Sum::new(units)) {
         (None, None) => Write::NoPlain(account, commodity),
-        (None, Some(units)) => Write::Plain(PlainRow {
-            account,
-            commodity,
-            units,
-        }),
+        (None, Some(units)) => plain_write(account, commodity, before, units),
         (Some(lot), None) => Write::NoLot(account, commodity, lot),
         (Some(lot), Some(units)) => Write::Lot(LotRow {
             account,
@@ -223,17 +227,53 @@ fn position_write(position: &Position, units: Units) -> Result<Write, AllocError
     })
 }
 
-fn push_heads(writes: &mut Vec<Write>, heads: &BTreeMap<Pair, Day>) -> Result<(), AllocError>
-    ensures writes { OnOk result (writes.new.items ≡ writes.old.items ++ heads_written heads.now.entries) }
+/// Returns the row of plain units: a new one where the position held none before.
+fn plain_write(account: Account, commodity: Commodity, before: Units, units: Sum) -> Write
+    ensures { result ≡ plain_write account commodity before units }
+{
+    let row = PlainRow {
+        account,
+        commodity,
+        units,
+    };
+    if Sum::new(before).is_none() {
+        Write::Plain(row)
+    } else {
+        Write::SetPlain(row)
+    }
+}
+
+/// Adds the latest days of pairs. The view is of the book before.
+fn push_heads(
+    writes: &mut Vec<Write>,
+    view: &View,
+    heads: &BTreeMap<Pair, Day>,
+) -> Result<(), AllocError>
+    ensures writes { OnOk result
+        (writes.new.items ≡ writes.old.items ++ heads_written (known view.now) heads.now.entries) }
     ensures ordered { OnOk result (IsOrdered pair_cmp heads.now) }
 {
     for (pair, day) in heads {
-        let Pair { account, commodity } = pair.copy()?;
-        writes.push(Write::Head(HeadRow {
-            account,
-            commodity,
-            day: *day,
-        }))?;
+        writes.push(head_write(view, pair, *day)?)?;
     }
     Ok(())
+}
+
+/// Returns the row of a pair with that day: a new one where it had none before.
+fn head_write(view: &View, pair: &Pair, day: Day) -> Result<Write, AllocError>
+    ensures { IfOk result (λ write. write
+        ≡ head_write ((known view.now).latest_at_cost pair.now.account pair.now.commodity)
+        pair.now.account pair.now.commodity day) }
+{
+    let before = view.latest_at_cost(&pair.account, &pair.commodity);
+    let Pair { account, commodity } = pair.copy()?;
+    let row = HeadRow {
+        account,
+        commodity,
+        day,
+    };
+    Ok(match before {
+        None => Write::Head(row),
+        Some(_) => Write::SetHead(row),
+    })
 }

@@ -53,9 +53,9 @@ fn is_good(write: &Write)
         Write::NoLot(_, _, lot) => is_lot_key(lot),
         Write::Opening(row) => is_opening_row(row),
         Write::NoOpening(_, _, lot) => is_lot_key(lot),
-        Write::Plain(row) => is_plain_row(row),
+        Write::Plain(row) | Write::SetPlain(row) => is_plain_row(row),
         Write::NoPlain(_, _) => {}
-        Write::Head(row) => is_head_row(row),
+        Write::Head(row) | Write::SetHead(row) => is_head_row(row),
     }
 }
 

@@ -20,7 +20,8 @@ use lot_rows::{account, allowed, commodity, entry, head, leg, lot, opening, plai
 use lot_table::Fault;
 use sqlite::{Alter, Transaction};
 
-/// A row that is put, in place of the row of its key if there is one, or a row that is deleted.
+/// A row that is written or deleted. It is put in place of the row of its key, if there is one; the row of an entry, a leg or a
+/// sale is new.
 #[derive(Drop)]
 pub enum Write {
     Account(AccountRow),
@@ -37,9 +38,13 @@ pub enum Write {
     /// The row of a lot's opening number goes, if there is one.
     NoOpening(Account, Commodity, LotKey),
     Plain(PlainRow),
+    /// The units of the row of its key change; the row is there.
+    SetPlain(PlainRow),
     /// The row of the plain units goes, if there is one.
     NoPlain(Account, Commodity),
     Head(HeadRow),
+    /// The day of the row of its key changes; the row is there.
+    SetHead(HeadRow),
 }
 
 /// Writes all, one after another, in the open transaction.
@@ -56,7 +61,7 @@ pub fn write_all<S: Alter>(tx: &mut Transaction<'_, S>, writes: &[Write]) -> Res
     Ok(())
 }
 
-/// Puts the row, or deletes the one of its key.
+/// Puts the row, changes the one of its key, or deletes it.
 fn write_one<S: Alter>(tx: &mut Transaction<'_, S>, write: &Write) -> Result<(), Fault>
     requires { HasCleanDisk (state S.Store tx.old.conn.now) → IsTrue (state S.Store tx.old.conn.now).in_transaction }
     ensures same_reference { tx.new.conn.ghost_name ≡ tx.old.conn.ghost_name }
@@ -67,15 +72,17 @@ fn write_one<S: Alter>(tx: &mut Transaction<'_, S>, write: &Write) -> Result<(),
         Write::Allowed(row) => allowed::put(tx, row),
         Write::Commodity(row) => commodity::put(tx, row),
         Write::Price(row) => price::put(tx, row),
-        Write::Entry(row) => entry::put(tx, row),
-        Write::Leg(row) => leg::put(tx, row),
-        Write::Sale(row) => sale::put(tx, row),
+        Write::Entry(row) => entry::add(tx, row),
+        Write::Leg(row) => leg::add(tx, row),
+        Write::Sale(row) => sale::add(tx, row),
         Write::Lot(row) => lot::put(tx, row),
         Write::NoLot(account, commodity, lot) => lot::delete(tx, account, commodity, lot),
         Write::Opening(row) => opening::put(tx, row),
         Write::NoOpening(account, commodity, lot) => opening::delete(tx, account, commodity, lot),
         Write::Plain(row) => plain::put(tx, row),
+        Write::SetPlain(row) => plain::set(tx, row),
         Write::NoPlain(account, commodity) => plain::delete(tx, account, commodity),
         Write::Head(row) => head::put(tx, row),
+        Write::SetHead(row) => head::set(tx, row),
     }
 }

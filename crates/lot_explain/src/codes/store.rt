@@ -97,7 +97,8 @@ $ lotbook holdings --book family.book
         brief: "a total is out of range",
         rule: "A total of a report is out of the range of its numbers.",
         examples: Examples::Absent,
-        help: "Ask for fewer rows, as of gains with --first and --last.",
+        help: "Ask for fewer gains, with --first and --last, or for a table, which has no totals, with \
+            --format csv.",
         page: "docs/RULES.md, Numbers",
     },
     Code {

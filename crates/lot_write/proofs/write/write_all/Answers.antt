@@ -2,9 +2,9 @@ use Rattle.std.proofs.Common.{◌∙◌, arith, rules, subst, sym, take}
 use Rattle.sqlite.proofs.StateLemmas.{survives_then}
 use Rattle.sqlite.specs.Held.{state}
 use Rattle.lot_table.proofs.MakeLemmas.{keeps_shown, keeps_then}
-use Rattle.lot_table.specs.Book.{Turns}
+use Rattle.lot_table.specs.Book.{Turns, always}
 use Rattle.lot_rows.specs.Tables.{layout}
-use Rattle.lot_write.specs.Write.{AreFit, written_all}
+use Rattle.lot_write.specs.Write.{written_all}
 use Rattle.lot_write.proofs.CallLemmas.{failed_next, taken, turns_push}
 use Rattle.lot_write.proofs.write.write_all.Goals as goal
 
@@ -37,6 +37,6 @@ each-preserved g c =
           let inside = made.inside clean in (
             inside.mode,
             keeps_then old now new early.1 (keeps_shown now new _ _ inside),
-            subst (λ l. Turns layout (AreFit l) (written_all l) old new) (sym (taken c.args.writes.now n write _ c.each-test.true c.write-item.is)) (turns_push done write old now new early.2 (made.turns clean)),
+            subst (λ l. Turns layout always (written_all l) old new) (sym (taken c.args.writes.now n write _ c.each-test.true c.write-item.is)) (turns_push done write old now new early.2 (made.turns clean)),
           ),
     )
