@@ -91,11 +91,7 @@ if ((status == 4)) && [[ $(<"$scratch/out") == "fault open" ]]; then pass "a tex
 mkfifo "$scratch/slow"
 "$program" post --book "$book" --batch slow --all-or-none <"$scratch/slow" >"$scratch/posted" 2>&1 &
 exec 8>"$scratch/slow"
-for _ in {1..1200}; do
-    run init --book "$book" </dev/null
-    if [[ $(<"$scratch/out") == "fault open" ]]; then break; fi
-    sleep 0.05
-done
+until_open "$book"
 exec 9<"$first"
 timeout 600 "$program" post --book "$book" --batch a --all-or-none <&9 >"$scratch/out" 2>"$scratch/err" && status=0 || status=$?
 cat <&9 >"$scratch/unread" && exec 9<&-

@@ -81,11 +81,7 @@ as "they are accepted" 0 "1 accepted"
 mkfifo "$scratch/slow"
 "$program" post --book "$book" --batch slow <"$scratch/slow" >"$scratch/posted" 2>&1 &
 exec 8>"$scratch/slow"
-for _ in {1..1200}; do
-    run init --book "$book" </dev/null
-    if [[ $(<"$scratch/out") == "fault open" ]]; then break; fi
-    sleep 0.05
-done
+until_open "$book"
 for _ in {1..100}; do # it has opened the file once nothing changes any more
     before=$(state "$home")
     sleep 0.1

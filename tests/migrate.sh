@@ -195,11 +195,7 @@ first
 mkfifo "$scratch/slow"
 "$program" post --book "$book" --batch b <"$scratch/slow" >"$scratch/posted" 2>&1 &
 exec 8>"$scratch/slow"
-for _ in {1..1200}; do
-    run init --book "$book" </dev/null
-    if [[ $(<"$scratch/out") == "fault open" ]]; then break; fi
-    sleep 0.05
-done
+until_open "$book"
 run migrate --book "$book" </dev/null
 if ((status == 4)) && [[ $(<"$scratch/out") == "fault open" && -s $scratch/err ]]; then
     pass "a book that is open in another program"

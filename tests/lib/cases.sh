@@ -123,3 +123,11 @@ run_python() {
     status=${PIPESTATUS[0]}
     if ((status != 0)); then fail "$1" "it ended with status $status"; fi
 }
+
+# until_open FILE: waits, a minute at most, until a program has that file locked, as one has that opened it as a book.
+until_open() {
+    for _ in {1..1200}; do
+        if grep -q ":$(stat -c %i "$1") " /proc/locks; then return; fi
+        sleep 0.05
+    done
+}

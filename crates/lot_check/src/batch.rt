@@ -61,7 +61,9 @@ fn answer<R: CountedRead, W: CountedWrite>(
     ensures cause { IsErrOf result Fault.Write → HasFailed (W.calls writer.new) }
 {
     let text = slurp(alloc, reader)?;
-    answer_text(alloc, &text, writer)
+    let answered = answer_text(alloc, &text, writer);
+    reader.take_back(text);
+    answered
 }
 
 /// Does the same with a text that was read.

@@ -39,7 +39,9 @@ pub fn keyed_rows<R: CountedRead>(
         return Err(InputFault::Unasked);
     };
     let file = slurp(alloc, reader)?;
-    commands_in(alloc, &source, accounts, from, &file)
+    let keyed = commands_in(alloc, &source, accounts, from, &file);
+    reader.take_back(file);
+    keyed
 }
 
 /// Returns the same of a file that was read, which has no fault of a reader.

@@ -34,7 +34,9 @@ pub fn keyed_text<R: CountedRead>(
     })) }
 {
     let text = slurp(alloc, reader)?;
-    commands_in(alloc, batch, from, &text)
+    let keyed = commands_in(alloc, batch, from, &text);
+    reader.take_back(text);
+    keyed
 }
 
 /// Reads all that a reader has as ledger text. Returns its one command, under the key of the row with that `ref` in the broker
@@ -59,7 +61,9 @@ pub fn keyed_row<R: CountedRead>(
     })) }
 {
     let text = slurp(alloc, reader)?;
-    row_in(alloc, batch, reference, &text)
+    let row = row_in(alloc, batch, reference, &text);
+    reader.take_back(text);
+    row
 }
 
 /// Does the same with a text that was read, so that there is no fault of a reader. Out of memory comes only where all of its

@@ -1,6 +1,8 @@
 -- What is read and put in the transaction makes tables of edition 2 of those of edition 1.
-use Rattle.std.proofs.Common.{◌≡◌, ◌≢◌, ◌∙◌, inl, inr, ℕ, List, None, Err, Result, ap, map, refl, subst}
+use Rattle.std.proofs.Common.{◌≡◌, ◌≢◌, ◌∙◌, inl, inr, ℕ, ◌+◌, List, None, Err, Result, ap, length, map, refl, subst, sym}
+use Rattle.sqlite.specs.Effect.{Database}
 use Rattle.sqlite.specs.State.{HasCleanDisk, State, Survives}
+use Rattle.sqlite_catalog.specs.Change.{KeepsRows}
 use Rattle.lot_table.specs.Book.{Turns, always}
 use Rattle.lot_table.specs.Shape.{schema_of}
 use Rattle.lot_table.specs.Statement.{DiskFailed}
@@ -36,6 +38,10 @@ lists_bare tables openings lists = record {
 -- the two tables are added
 abbrev pub Adds : State → State → Type 0
 Adds old begun = (tables : Tables) → HasFirst old tables → Has begun (bare tables)
+
+-- the eleven have the stored rows that they had
+abbrev pub KeepsFirst : State → State → Type 0
+KeepsFirst old begun = (tables : Tables) → HasFirst old tables → KeepsRows (schema_of first_shapes).tables old.now.trees begun.now.trees
 
 -- ---- all is made
 
@@ -78,34 +84,42 @@ read_refused old begun new Device first adds unlimited clean r =
 read_refused old begun new Memory first adds unlimited clean r = tt
 
 -- there is no room for a row that migration makes of the tables
-none_of : (reading : Reading) (tables : Tables) → IsReading reading (bare tables)
-    → IsFullForAll reading.openings.items reading.entries (bare tables) → HasNoRoom tables
-none_of reading tables it lacks = record {
+none_of : (reading : Reading) (tables : Tables) (old read : State) → IsReading reading (bare tables) → Has read (bare tables)
+    → KeepsRows (schema_of first_shapes).tables old.now.trees read.now.trees
+    → IsFullForAll reading.openings.items reading.entries (bare tables) read.now.trees → HasNoRoom tables old.now.trees
+none_of reading tables old read it has kept lacks = record {
   openings = reading.openings.items;
   lists = lists_bare tables reading.openings.items it.1;
-  lacks = subst (λ (place : ℕ). IsFullForAll reading.openings.items place (bare tables)) it.0 lacks;
+  begun = read.now.trees;
+  kept = kept;
+  holds = has.1;
+  lacks = subst (λ (place : ℕ). IsFullForAll reading.openings.items place (bare tables) read.now.trees) it.0 lacks;
 }
 
 abbrev pub PutsAll : Reading → State → State → Result (Unit {0}) Fault → Type 0
 PutsAll reading =
-    PutsRows (with_all reading.openings.items reading.entries) (IsFullForAll reading.openings.items reading.entries)
+    PutsRows (with_all reading.openings.items reading.entries) (2 + length reading.openings.items)
+    (IsFullForAll reading.openings.items reading.entries)
 
 pub put_refused : (old begun read new : State) (reading : Reading) (fault : Fault) → Survives old begun (λ _. ⊥)
-    → (HasCleanDisk begun → Adds old begun) → Survives begun read (λ _. ⊥) → (HasCleanDisk read → Stays begun read)
-    → (HasCleanDisk read → (tables : Tables) → Has begun tables → IsReading reading tables)
+    → (HasCleanDisk begun → Adds old begun) → (HasCleanDisk begun → KeepsFirst old begun) → Survives begun read (λ _. ⊥)
+    → (HasCleanDisk read → Stays begun read) → (HasCleanDisk read → (tables : Tables) → Has begun tables → IsReading reading tables)
     → old.step_limit ≡ None → HasCleanDisk new → PutsAll reading read new (Err fault)
     → NotTakenOver old new (migrate_fault_of fault)
-put_refused old begun read new reading Memory first adds second same says unlimited clean p = tt
-put_refused old begun read new reading Damaged first adds second same says unlimited clean p =
+put_refused old begun read new reading Memory first adds stored second same says unlimited clean p = tt
+put_refused old begun read new reading Damaged first adds stored second same says unlimited clean p =
     λ tables has can.
     let was = early read new p.crash clean in
     p.damaged clean refl (second.limit ∙ first.limit ∙ unlimited) (bare tables)
     (has_on begun read (bare tables) (same was) (adds (early begun read second was) tables has))
-put_refused old begun read new reading Device first adds second same says unlimited clean p =
+put_refused old begun read new reading Device first adds stored second same says unlimited clean p =
     λ tables has.
     let was = early read new p.crash clean in
-    let added = adds (early begun read second was) tables has in
-    elim (p.device clean refl (bare tables) (has_on begun read (bare tables) (same was) added)) [
+    let earlier = early begun read second was in
+    let added = adds earlier tables has in
+    let there = has_on begun read (bare tables) (same was) added in
+    let kept = subst (λ (d : Database). KeepsRows (schema_of first_shapes).tables old.now.trees d.trees) (sym (same was).now) (stored earlier tables has) in
+    elim (p.device clean refl (bare tables) there) [
       | inl disk ↦ inl (failed_later old read new (survives_both old begun read first second) was p.crash.counts disk)
-      | inr lacks ↦ inr (none_of reading tables (says was (bare tables) added) lacks)
+      | inr lacks ↦ inr (none_of reading tables old read (says was (bare tables) added) there kept lacks)
     ]

@@ -23,6 +23,7 @@ use Rattle.lot_store.specs.declared.fault.AdoptFault.TheVariants as adopt
 use Rattle.lot_migrate.specs.Fault.{refusal_of}
 use Rattle.lot_migrate.specs.First.{StandsFirst, first_edition}
 use Rattle.lot_migrate.specs.Migrate.{IsOfFirst, IsOfSecond, IsCommitted, IsOlder, LeavesMigrated, LeavesTakenOver, Migrates, MigratesMarked, NotTakenOver, TakesOver}
+use Rattle.lot_migrate.specs.Put.{HasNoRoom}
 use Rattle.lot_migrate.specs.declared.fault.MigrateFault.{MigrateFault}
 use Rattle.lot_migrate.specs.declared.fault.MigrateFault.TheVariants as migrate
 use Rattle.lot_migrate.proofs.MarkLemmas.{first_answers, first_marks}
@@ -102,7 +103,7 @@ module _ (old mid : State) where
     refused_then new migrate.Device first refused =
         λ tables has. elim (refused tables (first_then tables has)) [
           | inl disk ↦ inl (failed_then old mid new same first disk)
-          | inr none ↦ inr none
+          | inr none ↦ inr (subst (λ (db : Database). HasNoRoom tables db.trees) same.0.now_is none)
         ]
     refused_then new migrate.InDoubt first refused = omega (arith, first.counts, refused)
     refused_then new migrate.Damaged first refused = λ tables has. refused tables (first_then tables has)

@@ -1,16 +1,19 @@
 -- The rows of edition 2 are put, one after another.
-use Rattle.std.proofs.Common.{◌≡◌, ◌∙◌, ◌⊎◌, inl, inr, ◌++◌, ◌≤◌, ℕ, ℤ, List, [], ◌∷◌, Ok, Err, OnErr, OnOk, Result, map, refl, sym, ap, subst, arith}
+use Rattle.std.proofs.Common.{◌≡◌, ◌∙◌, ◌⊎◌, inl, inr, ◌++◌, ◌+◌, ◌≤◌, ℕ, ℤ, List, [], ◌∷◌, Ok, Err, OnErr, OnOk, Result, length, map, refl, sym, ap, subst, arith}
 use Rattle.std.proofs.lemmas.Bool.{both_ways, cases_Bool}
-use Rattle.std.proofs.lemmas.List.{append_assoc, map-append}
+use Rattle.std.proofs.lemmas.List.{append_assoc, length-map, map-append}
 use Rattle.sqlite.specs.State.{HasCleanDisk, KeepsCommit, State, Survives}
+use Rattle.sqlite.specs.Tree.{Trees}
 use Rattle.lot_ledger.specs.declared.opening_numbers.LotOpening.{LotOpening}
 use Rattle.lot_stored.specs.Rows.{marked, migration_row, this_edition}
 use Rattle.lot_stored.proofs.LookupLemmas.{has_own_key}
 use Rattle.lot_stored.proofs.OrderLemmas.{IsRising}
 use Rattle.lot_table.proofs.BookLemmas.{on_ok, turns_then}
 use Rattle.lot_table.proofs.MakeLemmas.{keeps_shown, keeps_then, keeps_undone}
+use Rattle.lot_table.proofs.RowidLemmas.{each_in_reach, each_then}
 use Rattle.lot_table.specs.Book.{BookTable, Holds, IsUndone, StaysInside, Turns, always}
 use Rattle.lot_table.specs.Call.{Puts}
+use Rattle.lot_table.specs.Rowids.{EachStaysInReach}
 use Rattle.lot_table.specs.Rows.{put_in}
 use Rattle.lot_table.specs.Statement.{DiskFailed}
 use Rattle.lot_table.specs.declared.fault.Fault.{Fault}
@@ -18,13 +21,13 @@ use Rattle.lot_table.specs.declared.fault.Fault.TheVariants.{Memory}
 use Rattle.lot_rows.proofs.StateLemmas.{early, survives_both, survives_same}
 use Rattle.lot_rows.specs.Book.{book_cells}
 use Rattle.lot_rows.specs.Opening.{opening_cells}
-use Rattle.lot_rows.specs.Tables.{Has, Tables, layout, opening_table}
+use Rattle.lot_rows.specs.Tables.{Has, Tables, book_table, layout, migration_table, opening_table}
 use Rattle.lot_rows.specs.declared.book.BookRow.{BookRow}
-use Rattle.lot_write.specs.Call.{LacksRoomFor, LacksRoomIn, Stops, WritesAll}
+use Rattle.lot_write.specs.Call.{GivesRowids, LacksRoomFor, LacksRoomIn, Stops, WritesAll}
 use Rattle.lot_write.specs.Write.{AreFit, with_put, written_all}
 use Rattle.lot_write.specs.declared.write.Write.{Write}
 use Rattle.lot_write.specs.declared.write.Write.TheVariants.{Opening}
-use Rattle.lot_migrate.specs.Put.{IsFullFor, IsFullForOpenings, PutsRows, opening_writes, with_all, with_marks}
+use Rattle.lot_migrate.specs.Put.{IsFullFor, IsFullForMarks, IsFullForOpenings, PutsRows, opening_writes, with_all, with_marks}
 use Rattle.lot_migrate.specs.Rows.{bare, migrated, row_of_opening}
 use Rattle.lot_migrate.proofs.OpeningLemmas.{put_next}
 
@@ -45,16 +48,38 @@ failed_later a b c first clean up (inr shut) = elim (cases_Bool a.is_open) [
 same_fault : {A B : Type 0} {a b : Fault} → ◌≡◌ {A = Result A Fault} (Err a) (Err b) → ◌≡◌ {A = Result B Fault} (Err a) (Err b)
 same_fault {A} {B} {a} {b} is = let one : a ≡ b = cc in ap Err one
 
+-- no row fits where none was put yet
+abbrev pub IsFull : {X : Type 0} → BookTable Tables X → X → Tables → Trees → Type 0
+IsFull t x tables before = IsFullFor t x tables before 0
+
+-- nor did it fit before so many changes
+pub full_since : {X : Type 0} (t : BookTable Tables X) (x : X) (tables : Tables) (first count all : ℕ) (old mid : Trees)
+    → count + first ≡ all → EachStaysInReach first layout.schema old mid → IsFullFor t x tables mid count → IsFullFor t x tables old all
+full_since t x tables first count all old mid sum stay full = record {
+  trees = full.trees;
+  holds = full.holds;
+  reach = subst (λ k. EachStaysInReach k layout.schema old full.trees) sum
+      (each_then first count old mid full.trees layout.schema.tables stay full.reach);
+  lacks = full.lacks;
+}
+
+pub marks_since : (place : ℕ) (tables : Tables) (first : ℕ) (old mid : Trees) → EachStaysInReach first layout.schema old mid
+    → IsFullForMarks place tables mid 0 → IsFullForMarks place tables old first
+marks_since place tables first old mid stay (inl full) = inl (full_since migration_table (migration_row place) tables first 0 first old mid (omega arith) stay full)
+marks_since place tables first old mid stay (inr full) =
+    inr (full_since book_table this_edition (with_put migration_table (migration_row place) tables) first 1 (1 + first) old mid refl stay full)
+
 -- the last of the rows
 pub puts_one : {A X : Type 0} (t : BookTable Tables X) (x : X) (old new : State) (result : Result A Fault)
-    → Puts layout t x old new result → PutsRows (with_put t x) (IsFullFor t x) old new result
+    → Puts layout t x old new result → PutsRows (with_put t x) 1 (IsFull t x) old new result
 puts_one t x old new result puts = record {
   inside = λ clean. on_ok result _ _ (λ inside. inside.mode) (puts.inside clean);
   turns = puts.turns;
+  rowids = puts.rowids;
   damaged = λ clean is unlimited tables has. puts.damaged clean is unlimited tables tt has;
   device = λ clean is tables has. elim (puts.device clean is tables tt has) [
     | inl disk ↦ inl disk
-    | inr none ↦ inr (record { trees = old.now.trees; holds = has.1; lacks = none })
+    | inr none ↦ inr (record { trees = old.now.trees; holds = has.1; reach = each_in_reach old.now.trees layout.schema.tables; lacks = none })
   ];
   kept = λ clean. kept result (puts.inside clean) (puts.undone clean);
   crash = puts.crash;
@@ -65,17 +90,22 @@ puts_one t x old new result puts = record {
     kept (Err fault) inside undone = keeps_undone old new undone
 
 -- rows, and others behind them
-pub puts_then : {A B : Type 0} (f g : Tables → Tables) (NoRoom NoneThen : Tables → Type 0) (old mid new : State) (done : A)
-    (result : Result B Fault)
-    → PutsRows f NoRoom old mid (Ok done) → PutsRows g NoneThen mid new result
-    → PutsRows (λ tables. g (f tables)) (λ tables. NoRoom tables ⊎ NoneThen (f tables)) old new result
-puts_then f g NoRoom NoneThen old mid new done result first second = record {
+pub puts_then : {A B : Type 0} (f g : Tables → Tables) (count more : ℕ) (NoRoom NoneThen NoneSince : Tables → Trees → Type 0)
+    (old mid new : State) (done : A) (result : Result B Fault)
+    → ((tables : Tables) → EachStaysInReach count layout.schema old.now.trees mid.now.trees → NoneThen tables mid.now.trees
+    → NoneSince tables old.now.trees)
+    → PutsRows f count NoRoom old mid (Ok done) → PutsRows g more NoneThen mid new result
+    → PutsRows (λ tables. g (f tables)) (more + count) (λ tables before. NoRoom tables before ⊎ NoneSince (f tables) before) old new result
+puts_then f g count more NoRoom NoneThen NoneSince old mid new done result since first second = record {
   inside = second.inside;
   turns = λ clean. on_ok result _ _ (λ turns. both clean turns) (second.turns clean);
+  rowids = λ clean. on_ok result _ _ (λ given tables has.
+      each_then count more old.now.trees mid.now.trees new.now.trees layout.schema.tables
+      (first.rowids (early mid new second.crash clean) tables has) (given (f tables) (has_then clean tables has))) (second.rowids clean);
   damaged = λ clean is unlimited tables has. second.damaged clean is (first.crash.limit ∙ unlimited) (f tables) (has_then clean tables has);
   device = λ clean is tables has. elim (second.device clean is (f tables) (has_then clean tables has)) [
     | inl disk ↦ inl (failed_later old mid new first.crash (early mid new second.crash clean) second.crash.counts disk)
-    | inr lacks ↦ inr (inr lacks)
+    | inr lacks ↦ inr (inr (since (f tables) (first.rowids (early mid new second.crash clean) tables has) lacks))
   ];
   kept = λ clean. keeps_then old mid new (first.kept (early mid new second.crash clean)) (second.kept clean);
   crash = survives_both old mid new first.crash second.crash;
@@ -91,26 +121,29 @@ puts_then f g NoRoom NoneThen old mid new done result first second = record {
         record { book = all.book; lists = λ is tables holds _. all.lists is tables holds (tt, tt) }
 
 -- a failure puts nothing, whatever were put behind it
-pub puts_fails : {A B : Type 0} (f g : Tables → Tables) (NoRoom NoneThen : Tables → Type 0) (old new : State) (fault : Fault)
-    → ((tables : Tables) → NoRoom tables → NoneThen tables) → PutsRows {A = A} f NoRoom old new (Err fault)
-    → PutsRows {A = B} g NoneThen old new (Err fault)
-puts_fails f g NoRoom NoneThen old new fault then p = record {
+pub puts_fails : {A B : Type 0} (f g : Tables → Tables) (count all : ℕ) (NoRoom NoneThen : Tables → Trees → Type 0) (old new : State)
+    (fault : Fault) → ((tables : Tables) (before : Trees) → NoRoom tables before → NoneThen tables before)
+    → PutsRows {A = A} f count NoRoom old new (Err fault) → PutsRows {A = B} g all NoneThen old new (Err fault)
+puts_fails f g count all NoRoom NoneThen old new fault then p = record {
   inside = λ clean. tt;
   turns = λ clean. tt;
+  rowids = λ clean. tt;
   damaged = λ clean is. p.damaged clean (same_fault is);
   device = λ clean is tables has. elim (p.device clean (same_fault is) tables has) [
     | inl disk ↦ inl disk
-    | inr lacks ↦ inr (then tables lacks)
+    | inr lacks ↦ inr (then tables old.now.trees lacks)
   ];
   kept = p.kept;
   crash = p.crash;
 }
 
 -- there is no memory before the first of them
-pub puts_out : {A : Type 0} (f : Tables → Tables) (NoRoom : Tables → Type 0) (s : State) → PutsRows {A = A} f NoRoom s s (Err Memory)
-puts_out f NoRoom s = record {
+pub puts_out : {A : Type 0} (f : Tables → Tables) (count : ℕ) (NoRoom : Tables → Trees → Type 0) (s : State)
+    → PutsRows {A = A} f count NoRoom s s (Err Memory)
+puts_out f count NoRoom s = record {
   inside = λ clean. tt;
   turns = λ clean. tt;
+  rowids = λ clean. tt;
   damaged = λ clean is. absurd cc;
   device = λ clean is. absurd cc;
   kept = λ clean. record { was_open = λ live. live; committed = λ _. refl };
@@ -149,11 +182,12 @@ parts (it ∷ more) (m ∷ made) next left is =
       here = p.here;
     }
 
-none_for_openings : (openings : List LotOpening) (tables : Tables) (new : State) → Stops (opening_writes openings) tables new
-    → IsFullForOpenings openings tables
-none_for_openings openings tables new stops =
+none_for_openings : (openings : List LotOpening) (tables : Tables) (before : Trees) (new : State)
+    → Stops (opening_writes openings) tables before new → IsFullForOpenings openings tables before
+none_for_openings openings tables before new stops =
     let p = parts openings stops.made stops.next stops.left stops.split in
     let holds = subst (λ (made : List Write). Holds layout stops.trees (written_all made tables)) p.before stops.holds in
+    let many : length stops.made ≡ length p.first = ap length p.before ∙ length-map p.first _ in
     let lacks : LacksRoomIn opening_table (row_of_opening p.it) stops.trees =
     subst (λ (next : Write). LacksRoomFor next stops.trees) p.here stops.lacks in
     record {
@@ -161,19 +195,25 @@ none_for_openings openings tables new stops =
       next = p.it;
       left = p.more;
       split = p.split;
-      lacks = record { trees = stops.trees; holds = holds; lacks = lacks };
+      lacks = record {
+        trees = stops.trees;
+        holds = holds;
+        reach = subst (λ k. EachStaysInReach k layout.schema before stops.trees) many stops.reach;
+        lacks = lacks;
+      };
     }
 
 pub puts_openings : {A : Type 0} (openings : List LotOpening) (old new : State) (result : Result A Fault)
     → WritesAll (opening_writes openings) old new result
-    → PutsRows (written_all (opening_writes openings)) (IsFullForOpenings openings) old new result
+    → PutsRows (written_all (opening_writes openings)) (length openings) (IsFullForOpenings openings) old new result
 puts_openings openings old new result w = record {
   inside = w.inside;
   turns = w.turns;
+  rowids = λ clean. on_ok result _ _ (subst (λ k. GivesRowids k old new) (length-map openings _)) (w.rowids clean);
   damaged = λ clean is unlimited tables. w.damaged clean is unlimited tables (all_fit openings tables);
   device = λ clean is tables has. elim (w.device clean is tables (all_fit openings tables) has) [
     | inl disk ↦ inl disk
-    | inr stops ↦ inr (none_for_openings openings tables new stops)
+    | inr stops ↦ inr (none_for_openings openings tables old.now.trees new stops)
   ];
   kept = w.kept;
   crash = w.crash;

@@ -81,7 +81,7 @@ abbrev pub NotTakenOver : State → State → MigrateFault → Type 0
 NotTakenOver old new migrate.NotABook = (tables : Tables) → ¬ HasFirst old tables
 NotTakenOver old new migrate.NewerEdition = ⊥
 NotTakenOver old new migrate.Device =
-    (tables : Tables) → HasFirst old tables → DiskFailed old new ⊎ HasNoRoom tables
+    (tables : Tables) → HasFirst old tables → DiskFailed old new ⊎ HasNoRoom tables old.now.trees
 NotTakenOver old new migrate.InDoubt = MoreFaults old.faults new.faults
 NotTakenOver old new migrate.Damaged = (tables : Tables) → HasFirst old tables → ¬ CanMigrate tables
 NotTakenOver old new migrate.Memory = Unit {0}

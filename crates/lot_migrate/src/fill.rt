@@ -1,4 +1,16 @@
-ghost use Rattle.std.specs.Prelude.{◌≡◌, ◌≢◌, All, Err, IfErr, IfOk, IsTrue, None, OnOk};
+ghost use Rattle.std.specs.Prelude.{
+  ◌≡◌,
+  ◌≢◌,
+  ◌+◌,
+  All,
+  Err,
+  IfErr,
+  IfOk,
+  IsTrue,
+  None,
+  OnOk,
+  length,
+};
 ghost use Rattle.lot_migrate.specs.Migrate.{MigratesMarked, NotTakenOver};
 ghost use Rattle.lot_migrate.specs.Put.{
   IsFullForAll,
@@ -147,7 +159,7 @@ fn put_all<S: Alter>(
     ensures opened { HasCleanDisk (state S.Store tx.new.conn.now)
         → OnOk result (IsTrue (state S.Store tx.new.conn.now).is_open) }
     ensures puts { PutsRows (with_all reading.openings.items reading.entries)
-        (IsFullForAll reading.openings.items reading.entries)
+        (2 + length reading.openings.items) (IsFullForAll reading.openings.items reading.entries)
         (state S.Store tx.old.conn.now) (state S.Store tx.new.conn.now) result }
 {
     let Reading { entries, openings } = reading;
@@ -168,7 +180,8 @@ fn put_marks<S: Alter>(
     ensures same_reference { tx.new.conn.ghost_name ≡ tx.old.conn.ghost_name }
     ensures opened { HasCleanDisk (state S.Store tx.new.conn.now)
         → OnOk result (IsTrue (state S.Store tx.new.conn.now).is_open) }
-    ensures puts { PutsRows (with_marks entries) (IsFullForMarks entries)
+    ensures puts { PutsRows (with_marks entries) 2
+        (λ tables before. IsFullForMarks entries tables before 0)
         (state S.Store tx.old.conn.now) (state S.Store tx.new.conn.now) result }
 {
     migration::put(tx, &MigrationRow { entries })?;

@@ -2,7 +2,7 @@
 //! it afterwards.
 //!
 //! - `input`: standard input; `output`: standard output; `meter`: how far a run is, on standard error.
-//! - `record`: bytes that are kept, a reader and a writer that keep them, and what was heard of a call.
+//! - `record`: bytes that are kept, a writer that keeps lines, and what was heard of a call.
 #![tactic(auto)]
 
 mod input;
@@ -13,4 +13,4 @@ mod record;
 pub use input::Input;
 pub use meter::Meter;
 pub use output::Output;
-pub use record::{Heard, Keeper, Kept, Witness};
+pub use record::{Heard, Kept, Witness};

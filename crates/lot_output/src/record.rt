@@ -1,12 +1,12 @@
 //! What a call read and wrote: kept for what is said of it on standard error, and for a second run.
 
-ghost use Rattle.std.specs.Prelude.{◌≡◌, [], IfOk, None, OnErr, Some, length, take};
-ghost use Rattle.std.specs.Io.{ReadsAtMost, WritesAtMost};
-ghost use Rattle.std.specs.Io.KnownBytes.{ReadConsumes, WriteAppends};
+ghost use Rattle.std.specs.Prelude.{◌≡◌, [], IfOk, None, Some, length};
+ghost use Rattle.std.specs.Io.{WritesAtMost};
+ghost use Rattle.std.specs.Io.KnownBytes.{WriteAppends};
 ghost use Rattle.lot_output.specs.Record.{Keeps, held};
 
 use std::alloc::Global;
-use std::io::{self, ErrorKind, Read, Write};
+use std::io::{self, ErrorKind, Write};
 use std::str;
 
 /// Bytes that are kept.
@@ -27,7 +27,7 @@ impl Kept {
     }
 
     /// Keeps more bytes behind those that are kept. Where memory ends all of them are let go.
-    fn keep(&mut self, more: &[u8])
+    pub fn keep(&mut self, more: &[u8])
         ensures { Keeps more.now self.old self.new }
     {
         if let Some(bytes) = &mut self.bytes
@@ -55,30 +55,6 @@ impl Write for Kept {
 
     fn flush(&mut self) -> io::Result<()> {
         Ok(())
-    }
-}
-
-/// A reader that keeps what was read.
-#[derive(Drop)]
-pub struct Keeper<R> {
-    pub reader: R,
-    pub kept: Kept,
-}
-
-impl<R: Read> Read for Keeper<R> {
-    ghost remaining = { λ keeper. R.remaining keeper.reader };
-
-    fn read(&mut self, buf: &mut [u8]) -> io::Result<usize>
-        ensures bound { ReadsAtMost result buf.new }
-        ensures bytes { ReadConsumes (R.remaining self.old.reader) (R.remaining self.new.reader)
-            result buf.new }
-        ensures kept { IfOk result (λ count.
-            Keeps (take count buf.new) self.old.kept self.new.kept) }
-        ensures stays { OnErr result (self.new.kept ≡ self.old.kept) }
-    {
-        let count = self.reader.read(buf)?;
-        self.kept.keep(&buf[..count]);
-        Ok(count)
     }
 }
 

@@ -263,15 +263,27 @@ module _ {S : Type 0} (g : Ghosts S) (a b : Held S) where
       let made = makes_all g upto (λ _. []) 0 steps a b each_creates each_fits (none_new upto 0 steps) ran had in
       has_stored (λ _. []) (state g b) no_rows_yet made none_held
 
-  pub all_added : RanEach g (texts_of later_steps) a b → (tables : Tables) → HasFirst (state g a) tables
-      → Has (state g b) (record tables { opening = []; migration = [] })
-  all_added ran tables has =
+  later_stored : RanEach g (texts_of later_steps) a b → (tables : Tables) → HasFirst (state g a) tables
+      → Stores (first_rows (state g a).now.trees) layout.schema (state g b)
+  later_stored ran tables has =
       let trees = (state g a).now.trees in
       let is_sound = subst (λ s. IsSound s trees) (sym has.0) has.1.sound in
       let had : Stores (first_rows trees) (upto 11) (state g a) =
       record { tables = has.0; stored = first_stored trees; sound = is_sound } in
-      let made = makes_all g upto (first_rows trees) 11 later_steps a b later_creates later_fits (first_new trees) ran had in
-      has_stored (first_rows trees) (state g b) _ made (first_held trees tables has.1.held)
+      makes_all g upto (first_rows trees) 11 later_steps a b later_creates later_fits (first_new trees) ran had
+
+  pub all_added : RanEach g (texts_of later_steps) a b → (tables : Tables) → HasFirst (state g a) tables
+      → Has (state g b) (record tables { opening = []; migration = [] })
+  all_added ran tables has =
+      let trees = (state g a).now.trees in
+      has_stored (first_rows trees) (state g b) _ (later_stored ran tables has) (first_held trees tables has.1.held)
+
+  -- the eleven tables have the stored rows that they had
+  pub first_kept : RanEach g (texts_of later_steps) a b → (tables : Tables) → HasFirst (state g a) tables
+      → KeepsRows (schema_of first_shapes).tables (state g a).now.trees (state g b).now.trees
+  first_kept ran tables has =
+      let s = (later_stored ran tables has).stored in
+      (s.0, (s.1.0, (s.1.1.0, (s.1.1.1.0, (s.1.1.1.1.0, (s.1.1.1.1.1.0, (s.1.1.1.1.1.1.0, (s.1.1.1.1.1.1.1.0, (s.1.1.1.1.1.1.1.1.0, (s.1.1.1.1.1.1.1.1.1.0, (s.1.1.1.1.1.1.1.1.1.1.0, tt)))))))))))
 
   module _ (those : List (List ℕ × Table)) (creates : CreatesEach those) where
     pub all_free : RanEach g (texts_of those) a b → is_taken (names_of those) (state g a).now.schema ≡ false

@@ -13,6 +13,7 @@ ghost use Rattle.lot_table.specs.Shape.{schema_of};
 ghost use Rattle.lot_table.specs.Statement.{DiskFailed};
 ghost use Rattle.sqlite.specs.Held.{state};
 ghost use Rattle.sqlite.specs.State.{HasCleanDisk, KeepsCommit, Survives};
+ghost use Rattle.sqlite_catalog.specs.Change.{KeepsRows};
 ghost use Rattle.sqlite_catalog.specs.Listing.{IsSound};
 
 use lot_table::{Fault, MakeFault, make_each};
@@ -64,7 +65,7 @@ pub fn make<S: Alter>(tx: &mut Transaction<'_, S>) -> Result<(), MakeFault>
     )
 }
 
-/// Adds the two tables of edition 2 to the eleven of edition 1. The rows of these stay as they are.
+/// Adds the two tables of edition 2 to the eleven of edition 1. The rows of these stay as they are, with their rowids.
 ///
 /// A book that had the tables of edition 1 then has the schema of a book that `make` made. The call fails where a table, an
 /// index or a view has the name of one of the two, without regard to the case of ASCII letters. The error is `Taken` only
@@ -80,6 +81,10 @@ pub fn add_later<S: Alter>(tx: &mut Transaction<'_, S>) -> Result<(), MakeFault>
     ensures made { HasCleanDisk (state S.Store tx.new.conn.now)
         → OnOk result ((tables : Tables) → HasFirst (state S.Store tx.old.conn.now) tables
         → Has (state S.Store tx.new.conn.now) (record tables { opening = []; migration = [] })) }
+    ensures stored { HasCleanDisk (state S.Store tx.new.conn.now)
+        → OnOk result ((tables : Tables) → HasFirst (state S.Store tx.old.conn.now) tables
+        → KeepsRows (schema_of first_shapes).tables (state S.Store tx.old.conn.now).now.trees
+        (state S.Store tx.new.conn.now).now.trees) }
     ensures free { HasCleanDisk (state S.Store tx.new.conn.now)
         → OnOk result (is_taken later_names (state S.Store tx.old.conn.now).now.schema ≡ false) }
     ensures taken { HasCleanDisk (state S.Store tx.new.conn.now)

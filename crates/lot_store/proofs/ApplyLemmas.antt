@@ -1,5 +1,5 @@
 -- Applying a command: what is judged on a view, and what its writes come to.
-use Rattle.std.proofs.Common.{◌≡◌, ◌∙◌, ◌⊎◌, inl, inr, false, IfSome, None, Ok, Err, IsTrue, List, [], ◌∷◌, ◌++◌, All, Option, Result, Some, refl, sym, subst, arith}
+use Rattle.std.proofs.Common.{◌≡◌, ◌∙◌, ◌⊎◌, inl, inr, false, IfSome, None, Ok, Err, IsTrue, List, [], ◌∷◌, ◌++◌, All, Option, Result, Some, refl, sym, subst, subst₂, arith}
 use Rattle.sqlite.specs.Effect.{Database}
 use Rattle.sqlite.specs.State.{HasCleanDisk, IsUnchanged, KeepsCommit, State, Survives}
 use Rattle.sqlite.proofs.StateLemmas.{survives_then, survives_weaker}
@@ -40,7 +40,7 @@ use Rattle.lot_store.proofs.CommitLemmas.{leaves_none}
 use Rattle.lot_table.proofs.MakeLemmas.{keeps_then}
 
 -- tables are those of a state's database alone
-pub stands_along : (a b : State) (entries : List Entry) → b.now ≡ a.now → Stands a entries → Stands b entries
+abbrev pub stands_along : (a b : State) (entries : List Entry) → b.now ≡ a.now → Stands a entries → Stands b entries
 stands_along a b entries same stands = record {
   book = stands.book;
   tables = stands.tables;
@@ -223,7 +223,7 @@ module _ (law : KeepsBook) (Kept Looked : List Entry → Type 0) (key : Key) (co
         (λ clean db written. may_add (omega (arith, clean, crash.clean)) fault db written) looked crash;
   }
 
-  pub refused : HasCleanDisk mid → ((tables : Tables) → AreFit writes tables → Has mid tables → DiskFailed mid new ⊎ Stops writes tables new)
+  pub refused : HasCleanDisk mid → ((tables : Tables) → AreFit writes tables → Has mid tables → DiskFailed mid new ⊎ Stops writes tables mid.now.trees new)
       → RefusedByDeviceWith Kept key command old new
   refused clean cause entries stands is_kept =
       by_cause (cause stands.tables (fit clean entries (stands, is_kept)) (has_then clean stands.tables stands.has))
@@ -231,7 +231,7 @@ module _ (law : KeepsBook) (Kept Looked : List Entry → Type 0) (key : Key) (co
       open_shut : (s : State) → IsTrue s.is_open → s.is_open ≡ false → ⊥
       open_shut s opened shut = cc
 
-      by_cause : DiskFailed mid new ⊎ Stops writes stands.tables new → DiskFailed old new ⊎ HasNoRoomFor key command entries stands.tables new
+      by_cause : DiskFailed mid new ⊎ Stops writes stands.tables mid.now.trees new → DiskFailed old new ⊎ HasNoRoomFor key command entries stands.tables old.now.trees new
       by_cause (inl (inl more)) = inl (inl (omega (arith, more, looked.counts)))
       by_cause (inl (inr shut)) = absurd (open_shut mid (same clean).0.is_open shut)
       by_cause (inr stops) = inr (record {
@@ -239,7 +239,7 @@ module _ (law : KeepsBook) (Kept Looked : List Entry → Type 0) (key : Key) (co
         change = change;
         agrees = (told clean entries (stands, is_kept)).1;
         accepted = comes;
-        lacks = inr (subst (λ w. Stops w stands.tables new) are stops);
+        lacks = inr (subst₂ (λ (w : List Write) (d : Database). Stops w stands.tables d.trees new) are (same clean).0.now_is stops);
       })
 
 -- ---- no row is written

@@ -40,14 +40,15 @@ of_damaged table.TheVariants.Damaged is = refl
 of_damaged table.TheVariants.Memory is = cc
 
 -- outside a transaction nothing is said of what the writes had made
-stops_undone : (writes : List Write) (tables : Tables) (a b : State) → b.in_transaction ≡ false → Stops writes tables a → Stops writes tables b
-stops_undone writes tables a b outside stops = record {
+stops_undone : (writes : List Write) (tables : Tables) (before : Trees) (a b : State) → b.in_transaction ≡ false → Stops writes tables before a → Stops writes tables before b
+stops_undone writes tables before a b outside stops = record {
   made = stops.made;
   next = stops.next;
   left = stops.left;
   trees = stops.trees;
   split = stops.split;
   holds = stops.holds;
+  reach = stops.reach;
   lacks = stops.lacks;
   stands = λ inside. absurd (inside_outside b inside outside);
 }
@@ -57,14 +58,14 @@ stops_undone writes tables a b outside stops = record {
 
 -- what refused the writes of a transaction refused them for a caller who has it rolled back
 pub refused_undone : {S : Type 0} (g : Ghosts S) (old begun last end : Held S) (writes : List Write) (tables : Tables) → begun ≡ record old { in_transaction = true }
-    → (HasCleanDisk (state g last) → Has (state g begun) tables → DiskFailed (state g begun) (state g last) ⊎ Stops writes tables (state g last))
+    → (HasCleanDisk (state g last) → Has (state g begun) tables → DiskFailed (state g begun) (state g last) ⊎ Stops writes tables (state g begun).now.trees (state g last))
     → Survives (state g last) (state g end) (λ _. ⊥) → end.in_transaction ≡ false → HasCleanDisk (state g end)
-    → Has (state g old) tables → DiskFailed (state g old) (state g end) ⊎ Stops writes tables (state g end)
+    → Has (state g old) tables → DiskFailed (state g old) (state g end) ⊎ Stops writes tables (state g old).now.trees (state g end)
 refused_undone g old begun last end writes tables is refused undone outside clean has =
-    by_cause (subst (λ h. Has (state g h) tables → DiskFailed (state g h) (state g last) ⊎ Stops writes tables (state g last)) is
+    by_cause (subst (λ h. Has (state g h) tables → DiskFailed (state g h) (state g last) ⊎ Stops writes tables (state g h).now.trees (state g last)) is
     (refused (omega (arith, clean, undone.clean))) has)
   where
-    by_cause : DiskFailed (state g old) (state g last) ⊎ Stops writes tables (state g last) → DiskFailed (state g old) (state g end) ⊎ Stops writes tables (state g end)
+    by_cause : DiskFailed (state g old) (state g last) ⊎ Stops writes tables (state g old).now.trees (state g last) → DiskFailed (state g old) (state g end) ⊎ Stops writes tables (state g old).now.trees (state g end)
     by_cause (inl (inl more)) = inl (inl (omega (arith, more, undone.counts)))
     by_cause (inl (inr shut)) = inl (inr shut)
-    by_cause (inr stops) = inr (stops_undone writes tables (state g last) (state g end) outside stops)
+    by_cause (inr stops) = inr (stops_undone writes tables (state g old).now.trees (state g last) (state g end) outside stops)

@@ -1,7 +1,7 @@
 -- A run of commands, one after another.
 use Rattle.std.proofs.Common.{◌≡◌, ◌≢◌, ◌∙◌, ◌⊎◌, inl, inr, false, ◌<◌, ◌≤◌, ◌+◌, ℕ, IfSome, IsTrue, List, [], ◌∷◌, ◌++◌, Ok, Err, Option, Result, Some, length, take, drop, get_or, add-one, append_assoc, append-nil, length-append, take-append-drop, refl, sym, ap, subst, arith}
 use Rattle.std.proofs.KnownBytes.{Appends-nil, Appends-trans}
-use Rattle.std.proofs.lemmas.Bool.{true≢false}
+use Rattle.std.proofs.lemmas.Bool.{cases_Bool, true≢false}
 use Rattle.std.proofs.Math.Seq.{take-suc}
 use Rattle.std.specs.Io.KnownBytes.{Appends}
 use Rattle.sqlite.proofs.StateLemmas.{survives_then}
@@ -24,7 +24,7 @@ use Rattle.lot_report.specs.declared.line.PrintFault.TheVariants.{Write, Memory 
 use Rattle.lot_rows.specs.Tables.{Has, Tables, layout}
 use Rattle.lot_table.specs.Book.{Holds}
 use Rattle.lot_table.specs.Statement.{DiskFailed}
-use Rattle.lot_store.specs.Apply.{AppliesWith, FailsFor, MayAdd, StandsWith, condition_after, ready_of, verdict_of}
+use Rattle.lot_store.specs.Apply.{AppliesWith, FailsFor, HasNoRoomFor, MayAdd, StandsWith, condition_after, ready_of, verdict_of}
 use Rattle.lot_store.specs.ByText.{AnswersByText, AnswersFirst, EndsByText, HasTurned, IsByText, RunsByText, TurnAllByText}
 use Rattle.lot_store.specs.Run.{AppendsSome, EndsBehind, FlushesLine, HasNoRoomForNext, IsConditionAfter, LeavesAfter, LeavesAtAnswer, LeavesAtFault, LeavesAtVerdict, RepliesTo, RunsSession, RunsBook, StopsWith, Writes, WritesEnd, WritesOut, answer_line, count_refused, fault_line, told}
 use Rattle.lot_store.specs.Session.{LeavesEntry, LeavesFirst, LeavesJudged, LeavesNext, LeavesStopped, Session}
@@ -380,9 +380,23 @@ module _ (Kept KeptThen : List Entry → Type 0) (commands : List (Key × Comman
   refused_for : (book : List Entry) → StandsWith Kept now book → AppliesWith Kept KeptThen next.0 next.1 now new (Err (apply.Failed Device))
       → FailsFor Kept next.0 next.1 now new (Err (apply.Failed Device)) → HasCleanDisk new → DiskFailed old new ⊎ HasNoRoomForNext book (next ∷ drop (index + 1) commands) new
   refused_for book there applies fails clean = elim (fails.device clean refl book there.0 there.1) [
-    | inl failed ↦ inl (failed_since (Err (apply.Failed Device)) applies clean failed)
-    | inr room ↦ inr (there.0.tables, there.0.stand, room)
+    | inl failed ↦ failed_so failed
+    | inr room ↦ elim (cases_Bool now.is_open) [
+      | inl live ↦ elim (applies.crash.closes clean live) [
+        | inl still ↦
+            let same = (applies.rest clean).1 still in
+            inr (
+              stands_along now new book same there.0,
+              subst (λ (d : Database). HasNoRoomFor next.0 next.1 book there.0.tables d.trees new) (sym same) room,
+            )
+        | inr fault ↦ failed_so (inl fault)
+      ]
+      | inr shut ↦ failed_so (inr shut)
+    ]
   ]
+    where
+      failed_so : DiskFailed now new → DiskFailed old new ⊎ HasNoRoomForNext book (next ∷ drop (index + 1) commands) new
+      failed_so failed = inl (failed_since (Err (apply.Failed Device)) applies clean failed)
 
   -- what stands after a fault of the command
   at_fault : (fault : StoreFault) → AppliesWith Kept KeptThen next.0 next.1 now new (Err (apply.Failed fault))

@@ -141,22 +141,23 @@ AppliesWith Kept KeptThen key command old new = AppliesOn (StandsWith Kept old) 
 
 -- The database has no room for what a command writes: a number of it doesn't fit its column, or a row its table. The command
 -- is accepted on facts that agree with the book's, and so do their opening numbers.
-pub record HasNoRoomFor (key : Key) (command : Command) (entries : List Entry) (tables : Tables) (new : State) : Type 0 where
+pub record HasNoRoomFor (key : Key) (command : Command) (entries : List Entry) (tables : Tables) (before : Trees) (new : State)
+    : Type 0 where
   pub known : FactsWithOpenings
   pub change : Change
   pub agrees : AgreesWithOpenings known (facts_with_openings entries key) command
   pub accepted : IsAcceptedWith known command change
-  pub lacks : (¬ AreNumbered change) ⊎ StopsWriting (writes_of known.facts key command change) tables new
+  pub lacks : (¬ AreNumbered change) ⊎ StopsWriting (writes_of known.facts key command change) tables before new
 
 -- the device refuses a command of a book only where the disk failed, or the database has no room
 abbrev pub RefusedByDevice : Key → Command → State → State → Type 0
 RefusedByDevice key command old new =
-    (entries : List Entry) (stands : Stands old entries) → DiskFailed old new ⊎ HasNoRoomFor key command entries stands.tables new
+    (entries : List Entry) (stands : Stands old entries) → DiskFailed old new ⊎ HasNoRoomFor key command entries stands.tables old.now.trees new
 
 -- the same of the books that what is kept is of
 abbrev pub RefusedByDeviceWith : (List Entry → Type 0) → Key → Command → State → State → Type 0
 RefusedByDeviceWith Kept key command old new =
-    (entries : List Entry) (stands : Stands old entries) → Kept entries → DiskFailed old new ⊎ HasNoRoomFor key command entries stands.tables new
+    (entries : List Entry) (stands : Stands old entries) → Kept entries → DiskFailed old new ⊎ HasNoRoomFor key command entries stands.tables old.now.trees new
 
 -- why applying a command fails: where the device refuses it, its commit is in doubt, or a damaged text stands under its key
 pub record FailsFor (Kept : List Entry → Type 0) (key : Key) (command : Command) (old new : State)

@@ -10,7 +10,7 @@ use Rattle.lot_book.specs.Judged.{JudgesOn}
 use Rattle.lot_book.specs.declared.verdict.Verdict.{Verdict}
 use Rattle.lot_book.specs.declared.verdict.Verdict.TheVariants.{Accepted, Repeated, Refused}
 use Rattle.lot_rows.specs.Tables.{Has, Tables}
-use Rattle.lot_stored.specs.StandFor.{StandFor, Stands}
+use Rattle.lot_stored.specs.StandFor.{Stands}
 use Rattle.std.specs.declared.io.Error.{Error}
 use Rattle.lot_report.specs.declared.line.PrintFault.{PrintFault}
 use Rattle.lot_report.specs.Output.{AllFlushed, HasFailed, WritesMade}
@@ -152,11 +152,11 @@ EndsBehind commands replied answer Complete = replied ≡ commands
 EndsBehind commands replied answer (Stopped fault) = IsAtCommand commands replied (Err (apply.Failed fault))
 EndsBehind commands replied answer Output = IsAtCommand commands replied answer
 
--- the database has no room for the first of these commands on that book
+-- the database stands for that book, and has no room for the first of these commands on it
 abbrev pub HasNoRoomForNext : List Entry → List (Key × Command) → State → Type 0
 HasNoRoomForNext book [] new = ⊥
 HasNoRoomForNext book (next ∷ left) new =
-    (tables : Tables) × StandFor tables book × HasNoRoomFor next.0 next.1 book tables new
+    (stands : Stands new book) × HasNoRoomFor next.0 next.1 book stands.tables new.now.trees new
 
 -- What stands after a run whose next command came to a fault, and what a crash may leave. The device refuses a command only
 -- where the disk failed or the database has no room for it, and a commit is in doubt only where the disk failed.

@@ -16,7 +16,7 @@ use sqlite::{Alter, Connection, Error, ErrorCode};
 ///
 /// Where the writes fit the tables, `Device` comes only where the disk failed, or the database has no room for a row. After
 /// `InDoubt` the commit was made or not. After `Memory` it wasn't, but a crash may leave it. After any error the last commit
-/// stands as long as the connection is open.
+/// stands as long as the connection is open. Where a transaction is open already, nothing is written, and the error is `Device`.
 pub(crate) fn commit<S: Alter>(conn: &mut Connection<S>, writes: &[Write]) -> Result<(), StoreFault>
     requires { HasCleanDisk (state S.Store conn.old) → conn.old.in_transaction ≡ false }
     ensures outside { HasCleanDisk (state S.Store conn.new) → conn.new.in_transaction ≡ false }
@@ -26,9 +26,10 @@ pub(crate) fn commit<S: Alter>(conn: &mut Connection<S>, writes: &[Write]) -> Re
     ensures damaged { HasCleanDisk (state S.Store conn.new) → result ≡ Err Damaged → (state S.Store conn.old).step_limit ≡ None
         → (tables : Tables) → AreFit writes.now tables → ¬ Has (state S.Store conn.old) tables }
     ensures device { HasCleanDisk (state S.Store conn.new) → result ≡ Err Device → (tables : Tables) → AreFit writes.now tables → Has (state S.Store conn.old) tables
-        → DiskFailed (state S.Store conn.old) (state S.Store conn.new) ⊎ Stops writes.now tables (state S.Store conn.new) }
+        → DiskFailed (state S.Store conn.old) (state S.Store conn.new) ⊎ Stops writes.now tables (state S.Store conn.old).now.trees (state S.Store conn.new) }
     ensures in_doubt { HasCleanDisk (state S.Store conn.new) → result ≡ Err InDoubt → DiskFailed (state S.Store conn.old) (state S.Store conn.new) }
     ensures usable { result ≢ Err NeedsReopen }
+    ensures open { IsTrue conn.old.in_transaction → result ≡ Err Device }
     ensures crash { Survives (state S.Store conn.old) (state S.Store conn.new) (MayWrite writes.now (state S.Store conn.old) result) }
 {
     // A disk that has lied may have left anything, a transaction too.

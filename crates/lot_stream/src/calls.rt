@@ -22,6 +22,11 @@ pub trait CountedRead {
         ensures bound { ReadsAtMost result chunk.new }
         ensures bytes { ReadConsumes (remaining self.old) (remaining self.new) result chunk.new }
         ensures calls { CountsCall (calls self.old) (calls self.new) result };
+
+    /// Takes back the bytes that were read of it, once they are read as a text. A reader that keeps none lets them go.
+    fn take_back(&mut self, bytes: Vec<u8>)
+        ensures remaining { remaining self.new ≡ remaining self.old }
+        ensures calls { calls self.new ≡ calls self.old };
 }
 
 impl<R: Read> CountedRead for R {
@@ -32,6 +37,8 @@ impl<R: Read> CountedRead for R {
     fn read_counted(&mut self, chunk: &mut [u8]) -> io::Result<usize> {
         self.read(chunk)
     }
+
+    fn take_back(&mut self, _bytes: Vec<u8>) {}
 }
 
 /// A reader whose calls are counted. A count stops at `u64::MAX`.
@@ -80,4 +87,6 @@ impl<R: Read> CountedRead for Counted<R> {
         }
         outcome
     }
+
+    fn take_back(&mut self, _bytes: Vec<u8>) {}
 }

@@ -12,6 +12,7 @@ pub mod MakeLemmas
 pub mod QueryLemmas
 pub mod ReadLemmas
 pub mod RefusalLemmas
+pub mod RowidLemmas
 pub mod SelectLemmas
 pub mod ShapeLemmas
 pub mod SpreadLemmas

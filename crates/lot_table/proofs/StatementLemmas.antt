@@ -42,6 +42,7 @@ use Rattle.sqlite.proofs.Callers.{IsPlain, command_of, statement_of, runs_as}
 use Rattle.lot_table.specs.Book.{Slot, AreHeld, BookTable, with_rows, Layout, Holds, Has as HasBook, Turns, always}
 use Rattle.lot_table.specs.Call.{Adds, Changes, Deletes, HasKey, LacksKey, LacksRoom, LacksRoomInPlace, PutsWhere, Puts, Runs, Sets}
 use Rattle.lot_table.specs.Fault.{fault_of}
+use Rattle.lot_table.specs.Rowids.{EachStaysInReach, StayInReach}
 use Rattle.lot_table.specs.Rows.{columns, has_key, HasRows, is_there, put_in, set_in, without_key}
 use Rattle.lot_table.specs.Statement.{DiskFailed, Ran, RefusedChange}
 use Rattle.lot_table.specs.declared.fault.Fault.TheVariants.{Damaged, Device}
@@ -50,13 +51,14 @@ use Rattle.lot_table.proofs.BookLemmas.{held_all, on_ok}
 use Rattle.lot_table.proofs.CastLemmas.{AreStored, row_stored}
 use Rattle.lot_table.proofs.EditLemmas.{IsFree, StopsPut}
 use Rattle.lot_table.proofs.HaltLemmas.{halted, is_change}
-use Rattle.lot_table.proofs.KeyLemmas.{kept_set}
+use Rattle.lot_table.proofs.KeyLemmas.{kept_set, spares}
 use Rattle.lot_table.proofs.ReadLemmas.{query, IsPresent, key_terms, key_places, passes, tests_are}
 use Rattle.lot_table.proofs.RefusalLemmas.{IsWhole, steady_query}
+use Rattle.lot_table.proofs.RowidLemmas.{all_in_reach, had_in_reach, left_in_reach, one_in_reach, put_in_reach}
 use Rattle.lot_table.proofs.StopLemmas.{Interrupts, stops_add, stops_delete, stops_replace}
-use Rattle.lot_table.proofs.TableLemmas.{adds_row, apart, clash, deletes_row, picked_rows, put_as, puts_row, the_row}
+use Rattle.lot_table.proofs.TableLemmas.{Becomes, adds_row, apart, clash, deletes_row, picked_rows, put_as, puts_row, the_row}
 use Rattle.lot_table.proofs.UpdateLemmas.{filter_none, free_left, stops_none, stops_set, updates, updates_none}
-use Rattle.lot_table.proofs.WriteLemmas.{KeepsOthers, cast_int, fails_here as none_here, schema_kept}
+use Rattle.lot_table.proofs.WriteLemmas.{cast_int, fails_here as none_here, schema_kept}
 
 -- where the list of a table is in a book, that the layout has it there, and that each row has what the table asks for
 pub record IsTable {B X : Type 0} (layout : Layout B) (t : BookTable B X) : Type 0 where
@@ -151,7 +153,7 @@ module _ {B X : Type 0} (layout : Layout B) (t : BookTable B X) (is : IsTable la
 
   -- the book with these rows of this table is what the file has
   turned : (old new : State) (f : List X → List X) (sound : IsSound layout.schema new.now.trees) (b : B) → Holds layout old.now.trees b
-      → HasRows t.width (new.now.trees at) (map t.encode (f (t.rows b))) × KeepsOthers layout.schema at old.now.trees new.now.trees → Holds layout new.now.trees (t.with_rows (f (t.rows b)) b)
+      → Becomes layout.schema at t.width (map t.encode (f (t.rows b))) old.now.trees new.now.trees → Holds layout new.now.trees (t.with_rows (f (t.rows b)) b)
   turned old new f sound b holds wrote = record {
     sound = sound;
     held = subst (AreHeld new.now.trees) (is.is_set b (f (t.rows b)))
@@ -164,7 +166,7 @@ module _ {B X : Type 0} (layout : Layout B) (t : BookTable B X) (is : IsTable la
   -- limit on steps.
   record Works (old : State) (params : Row) (command : Command) (fits : B → Type 0) (f : List X → List X) (Room : Trees → Type 0) : Type 0 where
     makes : (b : B) → Holds layout old.now.trees b → (out : Tally × Database) → OnRows (task old params) (mode_of old) None command old.now.trees (Ok out)
-        → HasRows t.width (out.1.trees at) (map t.encode (f (t.rows b))) × KeepsOthers layout.schema at old.now.trees out.1.trees
+        → Becomes layout.schema at t.width (map t.encode (f (t.rows b))) old.now.trees out.1.trees
     stops : (b : B) → Holds layout old.now.trees b → fits b → (stop : Option Error) → OnRows (task old params) (mode_of old) None command old.now.trees (Err stop)
         → StopsFor (Room old.now.trees) stop ⊎ Interrupts old.step_limit stop
 
@@ -180,16 +182,21 @@ module _ {B X : Type 0} (layout : Layout B) (t : BookTable B X) (is : IsTable la
     does_here book out h =
         on_table out (subst (λ s. Does old.step_limit (mode_of old) params (record old.now { schema = s }) (statement_of text (understood layout.schema text)) None command out) book h)
 
+    wrote : Ran text params old new → old.now.schema ≡ layout.schema → (new.now.schema ≡ layout.schema) × IsSound layout.schema new.now.trees
+        × ((b : B) → Holds layout old.now.trees b → Becomes layout.schema at t.width (map t.encode (f (t.rows b))) old.now.trees new.now.trees)
+    wrote ran book =
+        let w = ended book ran in
+        let does : OnRows (task old params) (mode_of old) None command old.now.trees (Ok (w.0, new.now)) = does_here book (Ok (w.0, new.now)) w.1 in
+        let kept = schema_kept (task old params) (mode_of old) command old.now.trees (w.0, new.now) does in
+        (kept, subst (λ s. IsSound s new.now.trees) kept w.2, λ b holds. works.makes b holds (w.0, new.now) does)
+
     turns_here : Ran text params old new → Turns layout always (λ b. t.with_rows (f (t.rows b)) b) old new
-    turns_here ran = record { book = λ book. (wrote book).0; lists = λ book b holds ok. turned old new f (wrote book).1 b holds ((wrote book).2 b holds) }
-      where
-        wrote : old.now.schema ≡ layout.schema → (new.now.schema ≡ layout.schema) × IsSound layout.schema new.now.trees
-            × ((b : B) → Holds layout old.now.trees b → HasRows t.width (new.now.trees at) (map t.encode (f (t.rows b))) × KeepsOthers layout.schema at old.now.trees new.now.trees)
-        wrote book =
-            let w = ended book ran in
-            let does : OnRows (task old params) (mode_of old) None command old.now.trees (Ok (w.0, new.now)) = does_here book (Ok (w.0, new.now)) w.1 in
-            let kept = schema_kept (task old params) (mode_of old) command old.now.trees (w.0, new.now) does in
-            (kept, subst (λ s. IsSound s new.now.trees) kept w.2, λ b holds. works.makes b holds (w.0, new.now) does)
+    turns_here ran = record { book = λ book. (wrote ran book).0; lists = λ book b holds ok. turned old new f (wrote ran book).1 b holds ((wrote ran book).2 b holds) }
+
+    rowids_here : Ran text params old new → (b : B) → HasBook layout old b → EachStaysInReach 1 layout.schema old.now.trees new.now.trees
+    rowids_here ran b has =
+        let it = (wrote ran has.0).2 b has.1 in
+        one_in_reach at old.now.trees new.now.trees it.2 layout.schema.tables it.1
 
     stops_here : (b : B) → fits b → HasBook layout old b → (stop : Option Error)
         → Does old.step_limit (mode_of old) params old.now (statement_of text (understood layout.schema text)) None command (Err stop) → StopsFor (Room old.now.trees) stop ⊎ Interrupts old.step_limit stop
@@ -207,6 +214,7 @@ module _ {B X : Type 0} (layout : Layout B) (t : BookTable B X) (is : IsTable la
     changes result runs = record {
       inside = runs.inside;
       turns = λ clean. on_ok result _ _ turns_here (runs.ran clean);
+      rowids = λ clean. on_ok result _ _ rowids_here (runs.ran clean);
       damaged = λ clean same unlimited b fit has. (fails_here b fit has Damaged (runs.refused clean Damaged same)).0 refl unlimited;
       device = λ clean same b fit has. (fails_here b fit has Device (runs.refused clean Device same)).1 refl;
       undone = runs.undone;
@@ -306,7 +314,7 @@ module _ {B X : Type 0} (layout : Layout B) (t : BookTable B X) (is : IsTable la
         casts = row_stored t.table set_row (is.stored x) (Int its.0) ∙ ap (λ v. v ∷ set_row) (cast_int its.0)
 
         changed_there : (out : Tally × Database) → OnRows (task old set_row) (mode_of old) None (Update is.place (record { lets = []; body = picks })) old.now.trees (Ok out)
-            → HasRows t.width (out.1.trees at) (map t.encode (put_in t.encode t.width x (t.rows b))) × KeepsOthers layout.schema at old.now.trees out.1.trees
+            → Becomes layout.schema at t.width (map t.encode (put_in t.encode t.width x (t.rows b))) old.now.trees out.1.trees
         changed_there out does =
             let becomes = set.becomes its.1 (Int its.0) its.2 in
             let done = updates layout.schema t.table old.step_limit set_row t.width (key_terms t.width 0) set.shows set_row old.now.trees rows.shaped alike its.0 (t.encode its.1) its.3 becomes is.free.unreferred casts (mode_of old) is.place out does in
@@ -314,6 +322,9 @@ module _ {B X : Type 0} (layout : Layout B) (t : BookTable B X) (is : IsTable la
               subst₂ (HasRows t.width) (sym done.0) (put_as t.encode t.width is.present (task old set_row) is.free.unreferred old.now.trees (t.rows b) rows x)
                   (kept_set t.width (old.now.trees at) (map t.encode (t.rows b)) (Int its.0 ∷ set_row) rows refl free),
               done.1,
+              subst (StayInReach 1 (old.now.trees at)) (sym done.0)
+                  (put_in_reach 1 (old.now.trees at) _ (Int its.0 ∷ set_row) (left_in_reach 1 (old.now.trees at) (spares t.width set_row))
+                  (had_in_reach 1 (old.now.trees at) (Int its.0 ∷ t.encode its.1) stored)),
             )
 
         stopped_there : (stop : Option Error) → OnRows (task old set_row) (mode_of old) None (Update is.place (record { lets = []; body = picks })) old.now.trees (Err stop)
@@ -335,19 +346,22 @@ module _ {B X : Type 0} (layout : Layout B) (t : BookTable B X) (is : IsTable la
 
       -- no row has its key, so that nothing changes
       nothing_changed : LacksKey t x b → (out : Tally × Database) → OnRows (task old set_row) (mode_of old) None (Update is.place (record { lets = []; body = picks })) old.now.trees (Ok out)
-          → HasRows t.width (out.1.trees at) (map t.encode (t.rows b)) × KeepsOthers layout.schema at old.now.trees out.1.trees
+          → Becomes layout.schema at t.width (map t.encode (t.rows b)) old.now.trees out.1.trees
       nothing_changed lacks out does =
           let none = none_picked lacks in
-          let same = updates_none layout.schema t.table old.step_limit set_row (key_terms t.width 0) set.shows old.now.trees none is.free.unreferred (mode_of old) is.place out does in
-          (subst (λ l. HasRows t.width l (map t.encode (t.rows b))) (sym same.0) rows, same.1)
+          let same = updates_none layout.schema t.table old.step_limit set_row (key_terms t.width 0) set.shows old.now.trees none is.free.unreferred (mode_of old) is.place out does in (
+            subst (λ l. HasRows t.width l (map t.encode (t.rows b))) (sym same.0) rows,
+            same.1,
+            subst (StayInReach 1 (old.now.trees at)) (sym same.0) (all_in_reach 1 (old.now.trees at)),
+          )
 
       changed : (out : Tally × Database) → OnRows (task old set_row) (mode_of old) None (Update is.place (record { lets = []; body = picks })) old.now.trees (Ok out)
-          → HasRows t.width (out.1.trees at) (map t.encode (set_in t.encode t.width x (t.rows b))) × KeepsOthers layout.schema at old.now.trees out.1.trees
+          → Becomes layout.schema at t.width (map t.encode (set_in t.encode t.width x (t.rows b))) old.now.trees out.1.trees
       changed out does = by (is_there t.encode t.width set_row (t.rows b)) (λ there. changed_there there out does) (λ lacks. nothing_changed lacks out does)
         where
-          by : (has : Bool) → (has ≡ true → HasRows t.width (out.1.trees at) (map t.encode (put_in t.encode t.width x (t.rows b))) × KeepsOthers layout.schema at old.now.trees out.1.trees)
-              → (has ≡ false → HasRows t.width (out.1.trees at) (map t.encode (t.rows b)) × KeepsOthers layout.schema at old.now.trees out.1.trees)
-              → HasRows t.width (out.1.trees at) (map t.encode (cond has (put_in t.encode t.width x (t.rows b)) (t.rows b))) × KeepsOthers layout.schema at old.now.trees out.1.trees
+          by : (has : Bool) → (has ≡ true → Becomes layout.schema at t.width (map t.encode (put_in t.encode t.width x (t.rows b))) old.now.trees out.1.trees)
+              → (has ≡ false → Becomes layout.schema at t.width (map t.encode (t.rows b)) old.now.trees out.1.trees)
+              → Becomes layout.schema at t.width (map t.encode (cond has (put_in t.encode t.width x (t.rows b)) (t.rows b))) old.now.trees out.1.trees
           by true there lacks = there refl
           by false there lacks = lacks refl
 

@@ -3,6 +3,7 @@ use Rattle.std.proofs.Common.{◌≡◌, inl, ℕ, ◌/◌, ℤ, Bool, false, no
 use Rattle.std.proofs.Math.Bool.{and-true, or-false}
 use Rattle.std.proofs.lemmas.Bool.{false_from_ne_true, or_left}
 use Rattle.sqlite.specs.Order.{Row}
+use Rattle.sqlite.specs.Schema.{Schema}
 use Rattle.sqlite.specs.Table.{Table}
 use Rattle.sqlite_schema.specs.declared.schema.Index.{Index}
 use Rattle.sqlite_value.specs.declared.keys.Key.{Key}
@@ -35,13 +36,19 @@ use Rattle.sqlite_rules.specs.Edit.{id_in, next_rowid}
 use Rattle.sqlite_rules.specs.declared.error.Rowids.TheVariants.{Chosen}
 use Rattle.sqlite_keyed.specs.Lists.{insert_sorted}
 use Rattle.sqlite_keyed.proofs.ListLemmas.{filter-map, filter_all}
+use Rattle.lot_table.specs.Rowids.{StayInReach}
 use Rattle.lot_table.specs.Rows.{columns, key_order, has_key, HasRows, is_there, put_in, with_row, without_key}
 use Rattle.lot_table.proofs.KeyLemmas.{kept_with, kept_without, has_mapped, mapped_has, spares}
 use Rattle.lot_table.proofs.WriteLemmas.{KeepsOthers, adds, fails_here, replaces}
+use Rattle.lot_table.proofs.RowidLemmas.{all_in_reach, left_in_reach, next_in_reach, put_in_reach}
 use Rattle.lot_table.proofs.ReadLemmas.{compared, query, passes, IsPresent, key_terms, key_places, tests_are, agree_is}
 use Rattle.lot_table.proofs.EditLemmas.{shares_none}
 use Rattle.lot_table.proofs.UpdateLemmas.{stored_one}
 use Rattle.lot_table.proofs.DeleteLemmas.{deletes, has_permuted, insert_sorted-map}
+
+-- The table of this tree has these rows now, each other one is as it was, and no rowid is given but the next one.
+abbrev pub Becomes : Schema → ℕ → ℕ → List Row → Trees → Trees → Type 0
+Becomes schema tree width rows old new = HasRows width (new tree) rows × KeepsOthers schema tree old new × StayInReach 1 (old tree) (new tree)
 
 -- ---- the rows of a table whose key is its first columns
 
@@ -113,7 +120,7 @@ module _ {X : Type 0} (encode : X → Row) (width : ℕ) (present : (x : X) → 
         → ((v : Value) (d : Row) (id : ℤ) → list_any (shares None task.table (Int id ∷ encode x) (v ∷ d)) task.schema.indexes ≡ (agree plain (key_places width 0) (v ∷ d) (key_places width 0) (Int id ∷ encode x) || rest (v ∷ d)))
         → (mode : Mode) (terms : List Term) (count place : ℕ) (out : Tally × Database) → value_rows (stamped task.table task.params) count (length terms / count) terms ≡ (Null ∷ encode x) ∷ []
         → OnRows task mode None (Insert place (Values terms count)) db (Ok out)
-        → HasRows width (out.1.trees at) (map encode (put_in encode width x xs)) × KeepsOthers task.schema at db out.1.trees
+        → Becomes task.schema at width (map encode (put_in encode width x xs)) db out.1.trees
     adds_row x uncounted casts listed rest keyed mode terms count place out given ran =
         let id = next_rowid (db at) in
         let new = Int id ∷ encode x in
@@ -128,24 +135,27 @@ module _ {X : Type 0} (encode : X → Row) (width : ℕ) (present : (x : X) → 
         true≢false (sym (keyed (Int its.0) (encode its.1) id ∙ or_left _ (rest old) same) ∙ apart)) in
         let all = kept_with width (db at) (map encode xs) new kept refl free in
         let left : filter (spares width (encode x)) (db at) ≡ db at = filter_all (spares width (encode x)) (db at) (all_from _ (db at) (λ y h. ap not (apart (encode x) lacks y h))) in
-        (subst₂ (HasRows width) (ap (put_row new) left ∙ sym r.0.0) (put_as x) all, r.0.1)
+        let raised = put_in_reach 1 (db at) (db at) new (all_in_reach 1 (db at)) (next_in_reach (db at)) in
+        (subst₂ (HasRows width) (ap (put_row new) left ∙ sym r.0.0) (put_as x) all, r.0.1, subst (StayInReach 1 (db at)) (sym r.0.0) raised)
 
     pub puts_row : (x : X) → task.table.is_counted ≡ false → mended Replace task.table (Null ∷ encode x) ≡ Null ∷ encode x → ((v : Value) → cast_row task.table (v ∷ encode x) ≡ cast Integer v ∷ encode x)
         → ((r : Row) (id : ℤ) → Has (db at) r → conflicts None task.schema.indexes task.table (Int id ∷ encode x) r ≡ (is_eq (value_cmp (rowid r) (Int id)) || has_key width (encode x) (columns r)))
         → (mode : Mode) (terms : List Term) (count place : ℕ) (out : Tally × Database) → value_rows (stamped task.table task.params) count (length terms / count) terms ≡ (Null ∷ encode x) ∷ []
         → OnRows task mode None (InsertOr place Replace (Values terms count) []) db (Ok out)
-        → HasRows width (out.1.trees at) (map encode (put_in encode width x xs)) × KeepsOthers task.schema at db out.1.trees
+        → Becomes task.schema at width (map encode (put_in encode width x xs)) db out.1.trees
     puts_row x uncounted mends casts clashes mode terms count place out given ran =
         let r = replaces task unreferred width (encode x) uncounted mends casts db clashes kept.shaped mode terms count place out given ran in
-        let all = kept_with width (db at) (map encode xs) (Int r.0.0 ∷ encode x) kept refl r.0.1 in
-        (subst₂ (HasRows width) (sym r.0.2) (put_as x) all, r.0.3)
+        let new = Int (next_rowid (db at)) ∷ encode x in
+        let all = kept_with width (db at) (map encode xs) new kept refl r.0.0 in
+        let raised = put_in_reach 1 (db at) _ new (left_in_reach 1 (db at) (spares width (encode x))) (next_in_reach (db at)) in
+        (subst₂ (HasRows width) (sym r.0.1) (put_as x) all, r.0.2, subst (StayInReach 1 (db at)) (sym r.0.1) raised)
 
     pub deletes_row : (key : Row) → IsPresent width 0 key → task.params ≡ key → (mode : Mode) (place : ℕ) (out : Tally × Database)
         → OnRows task mode None (Delete place (record { lets = []; body = query at (key_terms width 0) (col 1 0 ∷ []) [] })) db (Ok out)
-        → HasRows width (out.1.trees at) (map encode (without_key encode width key xs)) × KeepsOthers task.schema at db out.1.trees
+        → Becomes task.schema at width (map encode (without_key encode width key xs)) db out.1.trees
     deletes_row key some same mode place out ran =
         let alike : (r : Row) → Has (db at) r → passes at (key_terms width 0) (col 1 0 ∷ []) [] task.params db r ≡ has_key width key (columns r) =
         subst (λ p. (r : Row) → Has (db at) r → passes at (key_terms width 0) (col 1 0 ∷ []) [] p db r ≡ has_key width key (columns r)) (sym same) (picked_rows (key_terms width 0) key (has_key width key) (λ v x. tests_are width 0 v (encode x) key (present x) some) at (col 1 0 ∷ []) [] db xs kept) in
         let r = deletes task unreferred width (key_terms width 0) key db kept.shaped alike mode place out ran in
         let all = kept_without width (db at) (map encode xs) key kept in
-        (subst₂ (HasRows width) (sym r.0) (filter-map (λ y. not (has_key width key y)) encode xs) all, r.1)
+        (subst₂ (HasRows width) (sym r.0) (filter-map (λ y. not (has_key width key y)) encode xs) all, r.1, subst (StayInReach 1 (db at)) (sym r.0) (left_in_reach 1 (db at) (spares width key)))

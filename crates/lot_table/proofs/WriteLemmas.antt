@@ -138,7 +138,7 @@ module _ (task : Task) (unreferred : (olds news : List Row) → works task.schem
 
   abbrev Replaced : ℕ → Row → Trees → Trees → Type 0
   Replaced width row db new =
-      (id : ℤ) × (is_taken (db at) (Int id ∷ row) ≡ false) × (new at ≡ put_row (Int id ∷ row) (filter (spares width row) (db at))) × KeepsOthers task.schema at db new
+      (is_taken (db at) (Int (next_rowid (db at)) ∷ row) ≡ false) × (new at ≡ put_row (Int (next_rowid (db at)) ∷ row) (filter (spares width row) (db at))) × KeepsOthers task.schema at db new
 
   module _ (width : ℕ) (row : Row) (uncounted : task.table.is_counted ≡ false) (mends : mended Replace task.table (Null ∷ row) ≡ Null ∷ row)
       (casts : (v : Value) → cast_row task.table (v ∷ row) ≡ cast Integer v ∷ row) (db : Trees)
@@ -153,12 +153,13 @@ module _ (task : Task) (unreferred : (olds news : List Row) → works task.schem
           complete = λ r h k. are.complete r h (apart r h ∙ k);
         }
 
-    settled : (id : ℤ) (one : Written) → is_taken (db at) (Int id ∷ row) ≡ false → Tries task Replace [] (Int id ∷ row) db (Ok one) → Replaced width row db one.trees
-    settled id one free (inl refused) = absurd (let e = refused.1 in cc)
-    settled id one free (inr (Some why, judged, h)) = absurd (let e = h in cc)
-    settled id one free (inr (None, judged, h)) =
+    settled : (one : Written) → is_taken (db at) (Int (next_rowid (db at)) ∷ row) ≡ false → Tries task Replace [] (Int (next_rowid (db at)) ∷ row) db (Ok one) → Replaced width row db one.trees
+    settled one free (inl refused) = absurd (let e = refused.1 in cc)
+    settled one free (inr (Some why, judged, h)) = absurd (let e = h in cc)
+    settled one free (inr (None, judged, h)) =
+        let id = next_rowid (db at) in
         let c = clears db (Int id ∷ row) h.0 one (casts (Int id) ∙ ap (λ v. v ∷ row) (cast_int id)) h.2 in
-        (id, free, c.0 ∙ ap (put_row (Int id ∷ row)) (taken_out (db at) _ h.0 shaped (named id h.0 free h.1)), c.1)
+        (free, c.0 ∙ ap (put_row (Int id ∷ row)) (taken_out (db at) _ h.0 shaped (named id h.0 free h.1)), c.1)
 
     new_row : (top : ℤ) → with_rowid (rowids_for task.table top) (db at) (cast_row task.table (mended Replace task.table (Null ∷ row))) ≡ Int (next_rowid (db at)) ∷ row
     new_row top =
@@ -169,7 +170,7 @@ module _ (task : Task) (unreferred : (olds news : List Row) → works task.schem
     one_row rows top out is h =
         let a = went (subst (λ l. TriesEach task Replace [] l top (nothing db) (Ok out)) is h) in
         let same : out.0.trees ≡ a.0.trees = ap (λ (o : Written × ℤ). o.0.trees) (same_value {E = Option Error} a.2) in
-        let s = settled (next_rowid (db at)) a.0 (next_is_free Chosen (db at) row shaped.0 shaped.1) (subst (λ r. Tries task Replace [] r db (Ok a.0)) (new_row top) a.1) in
+        let s = settled a.0 (next_is_free Chosen (db at) row shaped.0 shaped.1) (subst (λ r. Tries task Replace [] r db (Ok a.0)) (new_row top) a.1) in
         subst (Replaced width row db) (sym same) s
 
     -- INSERT OR REPLACE of one row, whose key is the only UNIQUE

@@ -11,6 +11,7 @@ use Rattle.sqlite_rules.specs.Lists.{Has as HasRow}
 use Rattle.sqlite_sql.specs.Ops.{fits_i64}
 use Rattle.sqlite_value.specs.declared.value.Value.TheVariants.{Int}
 use Rattle.lot_table.specs.Book.{BookTable, Has, IsUndone, Layout, StaysInside, Turns, always}
+use Rattle.lot_table.specs.Rowids.{EachStaysInReach}
 use Rattle.lot_table.specs.Rows.{has_key, is_there, put_in, set_in, without_key}
 use Rattle.lot_table.specs.Statement.{DiskFailed, Ran, Refused, RefusedChange, ShowsDamage}
 use Rattle.lot_table.specs.declared.fault.Fault.TheVariants.{Damaged, Device}
@@ -38,11 +39,13 @@ pub record Selects {X R : Type 0} (encode : X → Row) (IsGood : X → Type 0) (
 
 -- ---- a change of a book
 
--- A book becomes what `f` makes of it. In one that fits the call never finds damage, without a limit on steps, and the device
--- fails it only where the disk failed or the database has no room.
+-- A book becomes what `f` makes of it, and no rowid is given but the next one of a table. In a book that fits the call never
+-- finds damage, without a limit on steps, and the device fails it only where the disk failed or the database has no room.
 pub record Changes {A B : Type 0} (layout : Layout B) (fits : B → Type 0) (f : B → B) (HasNoRoom : Trees → Type 0) (old new : State) (result : Result A Fault) : Type 0 where
   pub inside : HasCleanDisk new → OnOk result (StaysInside old new)
   pub turns : HasCleanDisk new → OnOk result (Turns layout always f old new)
+  pub rowids : HasCleanDisk new
+      → OnOk result ((book : B) → Has layout old book → EachStaysInReach 1 layout.schema old.now.trees new.now.trees)
   pub damaged : HasCleanDisk new → result ≡ Err Damaged → old.step_limit ≡ None → (book : B) → fits book → ¬ Has layout old book
   pub device : HasCleanDisk new → result ≡ Err Device → (book : B) → fits book → Has layout old book → DiskFailed old new ⊎ HasNoRoom old.now.trees
   pub undone : HasCleanDisk new → OnErr result (IsUndone old new)

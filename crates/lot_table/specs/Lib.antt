@@ -3,6 +3,7 @@ pub mod Call
 pub mod Cell
 pub mod Fault
 pub mod Make
+pub mod Rowids
 pub mod Rows
 pub mod Shape
 pub mod Statement

@@ -1,9 +1,10 @@
 -- What writing says: of the tables, and of each way to fail.
-use Rattle.std.specs.Prelude.{◌≡◌, ◌⊎◌, IsTrue, List, ◌∷◌, ◌++◌, None, OnErr, OnOk, Result, Err}
+use Rattle.std.specs.Prelude.{◌≡◌, ◌⊎◌, ℕ, IsTrue, List, ◌∷◌, ◌++◌, length, None, OnErr, OnOk, Result, Err}
 use Rattle.sqlite.specs.State.{HasCleanDisk, KeepsCommit, State, Survives}
 use Rattle.sqlite.specs.Tree.{Trees}
 use Rattle.lot_table.specs.Book.{BookTable, Holds, IsUndone, StaysInside, Turns, always}
 use Rattle.lot_table.specs.Call.{LacksRoom, LacksRoomInPlace}
+use Rattle.lot_table.specs.Rowids.{EachStaysInReach}
 use Rattle.lot_table.specs.Statement.{DiskFailed}
 use Rattle.lot_table.specs.declared.fault.Fault.TheVariants.{Damaged, Device}
 use Rattle.lot_table.specs.declared.fault.Fault.{Fault}
@@ -36,19 +37,24 @@ LacksRoomFor (write.NoPlain account commodity) = λ trees. ⊥
 LacksRoomFor (write.Head row) = LacksRoomIn head_table row
 LacksRoomFor (write.SetHead row) = LacksRoomInPlace layout head_table row
 
--- The writes before one of them are made, and the database then has no room for that one. What they made stands while the
--- transaction is open.
-pub record Stops (writes : List Write) (tables : Tables) (new : State) : Type 0 where
+-- The writes before one of them are made, and the database then has no room for that one. They gave no rowid but the next one
+-- of a table each. What they made stands while the transaction is open.
+pub record Stops (writes : List Write) (tables : Tables) (before : Trees) (new : State) : Type 0 where
   pub made : List Write
   pub next : Write
   pub left : List Write
   pub trees : Trees
   pub split : writes ≡ made ++ next ∷ left
   pub holds : Holds layout trees (written_all made tables)
+  pub reach : EachStaysInReach (length made) layout.schema before trees
   pub lacks : LacksRoomFor next trees
   pub stands : IsTrue new.in_transaction → new.now.trees ≡ trees
 
 -- ---- calls
+
+-- in the file of a book each of so many changes gives no rowid but the next one of its table
+abbrev pub GivesRowids : ℕ → State → State → Type 0
+GivesRowids count old new = (tables : Tables) → Has old tables → EachStaysInReach count layout.schema old.now.trees new.now.trees
 
 -- All tables become what the writes make of them, in the open transaction. Without a limit on steps no damage is found in
 -- tables that take them, and the device fails only where the disk failed or the database has no room. The last commit stands,
@@ -56,8 +62,9 @@ pub record Stops (writes : List Write) (tables : Tables) (new : State) : Type 0 
 pub record WritesAll {A : Type 0} (writes : List Write) (old new : State) (result : Result A Fault) : Type 0 where
   pub inside : HasCleanDisk new → OnOk result (IsTrue new.in_transaction)
   pub turns : HasCleanDisk new → OnOk result (Turns layout always (written_all writes) old new)
+  pub rowids : HasCleanDisk new → OnOk result (GivesRowids (length writes) old new)
   pub damaged : HasCleanDisk new → result ≡ Err Damaged → old.step_limit ≡ None → (tables : Tables) → AreFit writes tables → ¬ Has old tables
-  pub device : HasCleanDisk new → result ≡ Err Device → (tables : Tables) → AreFit writes tables → Has old tables → DiskFailed old new ⊎ Stops writes tables new
+  pub device : HasCleanDisk new → result ≡ Err Device → (tables : Tables) → AreFit writes tables → Has old tables → DiskFailed old new ⊎ Stops writes tables old.now.trees new
   pub kept : HasCleanDisk new → KeepsCommit old new
   pub crash : Survives old new (λ _. ⊥)
 
@@ -65,6 +72,7 @@ pub record WritesAll {A : Type 0} (writes : List Write) (old new : State) (resul
 pub record WritesOne {A : Type 0} (write : Write) (old new : State) (result : Result A Fault) : Type 0 where
   pub inside : HasCleanDisk new → OnOk result (StaysInside old new)
   pub turns : HasCleanDisk new → OnOk result (Turns layout always (written write) old new)
+  pub rowids : HasCleanDisk new → OnOk result (GivesRowids 1 old new)
   pub damaged : HasCleanDisk new → result ≡ Err Damaged → old.step_limit ≡ None → (tables : Tables) → Fits write tables → ¬ Has old tables
   pub device : HasCleanDisk new → result ≡ Err Device → (tables : Tables) → Fits write tables → Has old tables → DiskFailed old new ⊎ LacksRoomFor write old.now.trees
   pub undone : HasCleanDisk new → OnErr result (IsUndone old new)

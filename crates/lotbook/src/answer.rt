@@ -2,13 +2,14 @@
 
 ghost use Rattle.std.specs.Prelude.{◌≡◌, None, false};
 
+use crate::keeper::{Keep, Keeper};
 use lot_call::{Call, Standing, explain, sum_up};
 use lot_cli::{
-    AdoptFault, Counted, CountedWriter, CreateFault, Halt, MigrateFault, Progress, Served,
-    VerifyFault, serve,
+    AdoptFault, CountedWriter, CreateFault, Halt, MigrateFault, Progress, Served, VerifyFault,
+    serve,
 };
 use lot_damage::say_where;
-use lot_output::{Heard, Input, Keeper, Kept, Meter, Output, Witness};
+use lot_output::{Heard, Input, Kept, Meter, Output, Witness};
 use sqlite::{Alter, Connection};
 
 /// Does what a call is for on the book that the connection leads to, with that input, and says on
@@ -18,14 +19,15 @@ pub fn answer<S: Alter>(call: &Call<'_>, reader: Input<'_>, conn: Connection<S>)
     requires unlimited { conn.step_limit ≡ None }
 {
     let alloc = call.rt.alloc();
-    let kept = if call.is_quiet() {
-        Kept { bytes: None }
+    let keep = if call.is_quiet() {
+        Keep::Nothing
     } else {
-        Kept::new(alloc)
+        Keep::TakenBack
     };
-    let mut reader = Keeper { reader, kept };
+    let mut reader = Keeper::new(alloc, reader, keep);
     let mut writer = Witness::new(alloc, Output::new(call.rt, call.runs()), call.most());
     let mut served = do_quietly(call, &mut reader, &mut writer, conn);
+    reader.free_room();
     writer.writer.end();
     speak(
         call,
@@ -48,11 +50,16 @@ pub fn do_quietly<S: Alter>(
     requires outside { conn.in_transaction ≡ false }
     requires unlimited { conn.step_limit ≡ None }
 {
-    let mut input = Counted::new(reader);
     let mut output = CountedWriter::new(writer);
     let mut legs = Legs(Meter::of_legs(call.rt));
-    let alloc = call.rt.alloc();
-    serve(alloc, call.action, &mut input, &mut output, &mut legs, conn)
+    serve(
+        call.rt.alloc(),
+        call.action,
+        reader,
+        &mut output,
+        &mut legs,
+        conn,
+    )
 }
 
 /// Says on standard error what there is to say of what was read and written.

@@ -3,13 +3,14 @@
 ghost use Rattle.std.specs.Prelude.{◌≡◌, None, false};
 
 use crate::answer::{answer, do_quietly, speak};
+use crate::keeper::{Keep, Keeper};
 use lot_call::{Call, DONE, REFUSED, STOPPED, UNUSABLE, out_of_memory, say_why, withdraw};
 use lot_cli::{Action, Effect, Served};
 use lot_files::{
     Access, Cause, Image, Opened, ensure_openable, is_missing, library_path, open, open_book,
     open_copy, open_nothing,
 };
-use lot_output::{Input, Keeper, Kept, Output, Witness};
+use lot_output::{Input, Output, Witness};
 use sqlite::{Connection, File, FileStore};
 use std::io::{self, Write};
 
@@ -128,16 +129,14 @@ fn try_on_copy(call: &Call<'_>, copy: Connection<FileStore<Image>>) -> Result<Tr
     requires unlimited { copy.step_limit ≡ None }
 {
     let (rt, alloc) = (call.rt, call.rt.alloc());
-    let mut reader = Keeper {
-        reader: Input::Standard(rt.reader()),
-        kept: Kept::new(alloc),
-    };
+    let mut reader = Keeper::new(alloc, Input::Standard(rt.reader()), Keep::EachRead);
     let mut writer = Witness::new(alloc, Output::held_back(rt), call.most());
     let Served {
         status,
         halt,
         mut conn,
     } = do_quietly(call, &mut reader, &mut writer, copy);
+    reader.free_room();
     let (Some(_), Some(replies)) = (&reader.kept.bytes, writer.writer.held()) else {
         return Err(Cause::Memory);
     };

@@ -2,10 +2,12 @@
 //!
 //! - `book`: the book that a call is on.
 //! - `answer`: what the call is for is done there, and standard error says what there is to say.
+//! - `keeper`: the reader of a call, which keeps what was read.
 #![tactic(auto)]
 
 mod answer;
 mod book;
+mod keeper;
 
 use crate::book::act;
 use lot_call::{Call, path_of, tell, understand};

@@ -6,12 +6,14 @@ use Rattle.lot_input.proofs.text.keyed_text.Goals as goal
 
 pub returns-clause-ok : goal.returns-clause-ok
 returns-clause-ok g c =
-    gives_of _ c.in_ok-text.text.items c.deref.result.now (vec_len c.in_ok-text.text) c.deref.ensures.value c.in_ok-text.ensures.every_byte
+    rw (c.take_back.ensures.remaining, c.take_back.ensures.calls)
+    (gives_of _ c.in_ok-text.text.items c.deref.result.now (vec_len c.in_ok-text.text) c.deref.ensures.value c.in_ok-text.ensures.every_byte
     (omega (arith, c.deref.ensures.len, c.in_ok-text.ensures.limit)) c.in_ok-text.ensures.end (omega (arith, c.deref.ensures.len)) c.in_ok-text.ensures.calls
-    (TextMeans c.args.batch.now c.args.from) (λ keyed. keyed.items) c.commands_in.result c.commands_in.ensures.ok
+    (TextMeans c.args.batch.now c.args.from) (λ keyed. keyed.items) c.commands_in-keyed.result c.commands_in-keyed.ensures.ok)
 
 pub returns-clause-err : goal.returns-clause-err
 returns-clause-err g c =
-    none_of _ c.in_ok-text.text.items c.deref.result.now (vec_len c.in_ok-text.text) c.deref.ensures.value c.in_ok-text.ensures.every_byte
+    rw (c.take_back.ensures.remaining, c.take_back.ensures.calls)
+    (none_of _ c.in_ok-text.text.items c.deref.result.now (vec_len c.in_ok-text.text) c.deref.ensures.value c.in_ok-text.ensures.every_byte
     (omega (arith, c.deref.ensures.len, c.in_ok-text.ensures.limit)) c.in_ok-text.ensures.end (omega (arith, c.deref.ensures.len)) c.in_ok-text.ensures.calls
-    IsFaultyText (λ fault is. is) (λ is. is) c.commands_in.result c.commands_in.ensures.err
+    IsFaultyText (λ fault is. is) (λ is. is) c.commands_in-keyed.result c.commands_in-keyed.ensures.err)

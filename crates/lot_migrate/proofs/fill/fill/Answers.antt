@@ -21,7 +21,7 @@ returns-in_err-put_all-clause-refused g c clean =
     rw (fault.1, fault.2)
     (put_refused (state g.S.Store c.args.tx.now.conn.now) (state g.S.Store c.add_later.new.tx.conn.now)
     (state g.S.Store c.read_book.new.tx.conn.now) (state g.S.Store c.put_all.new.tx.conn.now)
-    c.in_ok-reading.reading c.in_err-put_all.field-0.0 added.crash added.made read.crash read.same read.says
+    c.in_ok-reading.reading c.in_err-put_all.field-0.0 added.crash added.made added.stored read.crash read.same read.says
     c.requires.unlimited clean c.in_err-put_all.ensures.puts)
 
 pub returns-clause-made : goal.returns-clause-made

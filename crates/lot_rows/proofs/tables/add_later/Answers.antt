@@ -1,11 +1,15 @@
 use Rattle.std.proofs.Common.{refl}
-use Rattle.lot_rows.proofs.MakeLemmas.{all_added, all_free, err_is, later_creates, later_excused, later_free, later_steps, one_is_taken}
+use Rattle.lot_rows.proofs.MakeLemmas.{all_added, all_free, err_is, first_kept, later_creates, later_excused, later_free, later_steps, one_is_taken}
 use Rattle.lot_table.proofs.BookLemmas.{on_ok}
 use Rattle.lot_rows.proofs.tables.add_later.Goals as goal
 
 pub returns-clause-made : goal.returns-clause-made
 returns-clause-made g c clean =
     on_ok c.make_each.result _ _ (λ ran tables has. all_added g.S.Store c.args.tx.now.conn.now c.make_each.new.tx.conn.now ran tables has) (c.make_each.ensures.ran clean)
+
+pub returns-clause-stored : goal.returns-clause-stored
+returns-clause-stored g c clean =
+    on_ok c.make_each.result _ _ (λ ran tables has. first_kept g.S.Store c.args.tx.now.conn.now c.make_each.new.tx.conn.now ran tables has) (c.make_each.ensures.ran clean)
 
 pub returns-clause-free : goal.returns-clause-free
 returns-clause-free g c clean =

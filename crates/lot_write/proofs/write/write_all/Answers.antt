@@ -1,11 +1,12 @@
-use Rattle.std.proofs.Common.{◌∙◌, arith, rules, subst, sym, take}
+use Rattle.std.proofs.Common.{◌∙◌, arith, refl, rules, subst, sym, take}
 use Rattle.sqlite.proofs.StateLemmas.{survives_then}
 use Rattle.sqlite.specs.Held.{state}
 use Rattle.lot_table.proofs.MakeLemmas.{keeps_shown, keeps_then}
 use Rattle.lot_table.specs.Book.{Turns, always}
+use Rattle.lot_rows.proofs.StateLemmas.{survives_same}
 use Rattle.lot_rows.specs.Tables.{layout}
 use Rattle.lot_write.specs.Write.{written_all}
-use Rattle.lot_write.proofs.CallLemmas.{failed_next, taken, turns_push}
+use Rattle.lot_write.proofs.CallLemmas.{failed_next, rowids_push, rowids_start, taken, turns_push}
 use Rattle.lot_write.proofs.write.write_all.Goals as goal
 
 pub returns-in_err-write_one-clause-writes : goal.returns-in_err-write_one-clause-writes
@@ -17,8 +18,21 @@ returns-in_err-write_one-clause-writes g c =
     let write = c.write-item.result in
     let was = c.each.invariant in
     failed_next c.args.writes.now n write old now new c.in_err-write_one.field-0.0 c.from_residual.result
-    (taken c.args.writes.now n write _ c.each-test.true c.write-item.is) was.1
-    (λ clean. ((was.2 clean).1, (was.2 clean).2)) c.in_err-write_one.ensures.writes (search rules)
+    (taken c.args.writes.now n write _ c.each-test.true c.write-item.is) c.each-test.true was.1
+    (λ clean. let it = was.2 clean in (it.1, it.2, it.3)) c.in_err-write_one.ensures.writes (search rules)
+
+pub each-init : goal.each-init
+each-init g c =
+    let old = state g.S.Store c.args.tx.now.conn.now in (
+      refl,
+      survives_same old (λ _. ⊥),
+      λ clean. (
+        c.requires clean,
+        record { was_open = λ live. live; committed = λ _. refl },
+        record { book = λ is. is; lists = λ is tables holds _. holds },
+        rowids_start old,
+      ),
+    )
 
 pub each-preserved : goal.each-preserved
 each-preserved g c =
@@ -38,5 +52,6 @@ each-preserved g c =
             inside.mode,
             keeps_then old now new early.1 (keeps_shown now new _ _ inside),
             subst (λ l. Turns layout always (written_all l) old new) (sym (taken c.args.writes.now n write _ c.each-test.true c.write-item.is)) (turns_push done write old now new early.2 (made.turns clean)),
+            rowids_push n old now new (written_all done) early.2 early.3 (made.rowids clean),
           ),
     )
