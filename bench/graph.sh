@@ -1,7 +1,7 @@
 #!/usr/bin/env bash
 # The crates and how they stand on one another, by crates.txt: of each its level (1 where it stands on no other of them), its functions
 # and lines of code but for files with tests, its lines of definitions, of proofs and of tests, and how many crates are proved again
-# after an edit of it, itself counted. Empty lines and comments don't count.
+# after an edit of it, itself counted; with names, which these are. Empty lines and comments don't count.
 #
 #   bench/graph.sh            the table of all
 #   bench/graph.sh NAME..     the crates that are proved again after an edit of each of these

@@ -3,8 +3,8 @@
     tools/build.py
 
 Each crate is proved as soon as those below it are, the one with the longest chain above it first, as many at a time as there are
-processors and memory; one that is alone gets several processors. Progress goes to standard error, and what the kit prints to
-crates/lotbook/out/build.log.
+processors and memory. The one that leads, with the longest chain of all that is left, gets several processors, and goes before the
+others; so does one that is alone. Progress goes to standard error, and what the kit prints to crates/lotbook/out/build.log.
 
 A call of the kit keeps others out of the folder of each crate that it reads. So each crate is proved in a room, a folder of its own
 with the sources as they were when the build began, and with the libraries that were built before. What the kit leaves there is then
@@ -38,6 +38,7 @@ ROOMS = f"{ROOT}/.git/rooms" if os.path.isdir(f"{ROOT}/.git") else f"{tempfile.g
 SOURCES = f"{ROOMS}/sources"
 PARTS = ("src", "specs", "proofs")
 MOST_JOBS = 4  # a check gains little from more
+BEHIND = 10  # by so much crates that don't lead are nicer
 EVERY = 20  # seconds from one report to the next
 
 RT = shutil.which("rt")
@@ -109,7 +110,7 @@ class Crate:
         functions = len(re.findall(r"(?m)^\s*(?:pub(?:\(\w+\))? )?(?:const )?fn ", texts))
         self.functions, self.seconds = times.get(name, (functions, 20 + 4 * functions + 100 * self.sqlite + 200 * self.is_program))
         self.begun = self.took = self.run = None
-        self.counted, self.last, self.retried = functions, [], False
+        self.counted, self.last, self.retried, self.leads = functions, [], False, False
 
     def summed(self, line, sums):
         """A sum of all that the library is made from."""
@@ -261,16 +262,18 @@ class Build:
 
     def start(self):
         """Starts as many of the crates that can be proved as there is room for."""
-        ready = self.ready()
+        ready, chains = self.ready(), self.chains()
         for at, crate in enumerate(ready):
-            idle = self.lanes - sum(it.jobs for it in self.running)
+            idle = self.lanes - sum(1 if it.leads else it.jobs for it in self.running)
             room = self.memory - sum(it.need() * (0.4 + 0.6 * it.jobs) for it in self.running)
             if idle <= 0 or (self.running and (room < crate.need() or any(it.retried for it in [crate, *self.running]))):
                 return
             spare = 1 + int(max(room / crate.need() - 1, 0) / 0.6)
             share = -(-idle // (len(ready) - at))  # what is left over goes to the longest chain, which comes first
             alone = crate.retried or self.awaits_longer(crate)
-            self.begin(crate, 1 if alone else max(1, min(MOST_JOBS, share, spare)))
+            crate.leads = not crate.retried and chains[crate.name] >= max(chains[it.name] for it in self.todo)
+            wanted = self.lanes if crate.leads else 1 if alone else share
+            self.begin(crate, max(1, min(MOST_JOBS, wanted, spare)))
 
     def awaits_longer(self, crate):
         """Whether a longer chain waits for another crate: it gets the processors that will be idle then."""
@@ -283,7 +286,8 @@ class Build:
         crate.jobs, crate.begun = jobs, time.monotonic()
         words = proves(crate, jobs)
         how = {"stdin": subprocess.DEVNULL, "stdout": subprocess.PIPE, "stderr": subprocess.STDOUT}
-        crate.run = subprocess.Popen(words, cwd=crate.at_work(), start_new_session=True, preexec_fn=end_with_parent, **how)
+        first = end_with_parent if crate.leads else end_with_parent_behind_others
+        crate.run = subprocess.Popen(words, cwd=crate.at_work(), start_new_session=True, preexec_fn=first, **how)
         crate.part = ""
         self.selector.register(crate.run.stdout, selectors.EVENT_READ, crate)
         self.running.append(crate)
@@ -409,6 +413,15 @@ def end_with_parent():
     """In a process that was just started: it ends where this one is killed."""
     with contextlib.suppress(OSError, AttributeError):
         LIBC.prctl(1, signal.SIGKILL)
+
+
+def end_with_parent_behind_others():
+    """The same; and the system lets others go before it, also where it shares processors by sessions."""
+    end_with_parent()
+    with contextlib.suppress(OSError):
+        os.nice(BEHIND)
+        with open("/proc/self/autogroup", "w", encoding="ascii") as it:
+            it.write(str(BEHIND))
 
 
 try:

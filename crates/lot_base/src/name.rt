@@ -30,7 +30,6 @@ pub type Note = Name<NoteGrammar>;
 /// A text of the grammar `G`, kept as it was given. Its copies share the text.
 ///
 /// A contract sees a name as the list of its bytes. Names are equal where their bytes are, and are ordered by them.
-#[derive(Drop)]
 pub struct Name<G: Grammar> {
     text: RcStr,
     grammar: PhantomData<G>,
@@ -93,6 +92,16 @@ impl<G: Grammar> Name<G> {
             text: self.text.clone()?,
             grammar: PhantomData,
         })
+    }
+}
+
+impl<G: Grammar> Drop for Name<G> {
+    /// It is written out, so that callers don't prove again how each part is dropped.
+    fn drop(self) {
+        let Name {
+            text: _text,
+            grammar: _grammar,
+        } = self;
     }
 }
 

@@ -6,7 +6,7 @@ use lot_num::Units;
 use std::alloc::AllocError;
 
 /// What one position holds: a row that the store keeps and that reports print.
-#[derive(Debug, PartialEq, Eq, Drop)]
+#[derive(Debug, PartialEq, Eq)]
 pub struct Holding {
     pub account: Account,
     pub commodity: Commodity,
@@ -30,5 +30,17 @@ impl Holding {
             lot,
             units: self.units,
         })
+    }
+}
+
+impl Drop for Holding {
+    /// It is written out, so that callers don't prove again how each part is dropped.
+    fn drop(self) {
+        let Holding {
+            account: _account,
+            commodity: _commodity,
+            lot: _lot,
+            units: _units,
+        } = self;
     }
 }

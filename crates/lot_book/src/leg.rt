@@ -39,7 +39,6 @@ impl Position {
 }
 
 /// Units that a posting of an entry puts into a position. Below zero it takes them out.
-#[derive(Drop)]
 pub struct Leg {
     /// The place of the entry in its book, from 1.
     pub entry: u64,
@@ -71,5 +70,18 @@ impl Leg {
         ensures { result ≡ posting_number self.now }
     {
         MOST_POSTINGS as u64 * (self.entry - 1) + self.posting as u64
+    }
+}
+
+impl Drop for Leg {
+    /// It is written out, so that callers don't prove again how each part is dropped.
+    fn drop(self) {
+        let Leg {
+            entry: _entry,
+            posting: _posting,
+            place: _place,
+            position: _position,
+            units: _units,
+        } = self;
     }
 }

@@ -17,7 +17,6 @@ use std::marker::Model;
 ///
 /// Its units and those of its legs are below zero where it sold, and above zero where it bought back what was owed. The legs
 /// add up to its units. A contract sees the parts of a sale.
-#[derive(Drop)]
 pub struct Sale {
     day: Day,
     account: Account,
@@ -143,6 +142,20 @@ impl Sale {
             price,
             legs: copies(alloc, &self.legs)?,
         })
+    }
+}
+
+impl Drop for Sale {
+    /// It is written out, so that callers don't prove again how each part is dropped.
+    fn drop(self) {
+        let Sale {
+            day: _day,
+            account: _account,
+            commodity: _commodity,
+            units: _units,
+            price: _price,
+            legs: _legs,
+        } = self;
     }
 }
 

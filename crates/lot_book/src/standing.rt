@@ -5,7 +5,6 @@ use lot_command::{Currencies, Method};
 use std::alloc::{AllocError, Global};
 
 /// The state of an account: what its opening says of it, and whether it is closed.
-#[derive(Drop)]
 pub struct Standing {
     /// The first day on which it may be posted to.
     pub opened: Day,
@@ -27,5 +26,17 @@ impl Standing {
             method: self.method,
             allowed: self.allowed.copy(alloc)?,
         })
+    }
+}
+
+impl Drop for Standing {
+    /// It is written out, so that callers don't prove again how each part is dropped.
+    fn drop(self) {
+        let Standing {
+            opened: _opened,
+            closed: _closed,
+            method: _method,
+            allowed: _allowed,
+        } = self;
     }
 }

@@ -8,7 +8,6 @@ use lot_num::Rate;
 use std::alloc::{AllocError, Global};
 
 /// What a ledger text asks for (docs/RULES.md, Commands).
-#[derive(Drop)]
 pub enum Command {
     /// To open an account.
     Opening(Opening),
@@ -34,6 +33,19 @@ impl Command {
             Command::Quoting(quoting) => Command::Quoting(quoting.copy()?),
             Command::Transaction(transaction) => Command::Transaction(transaction.copy(alloc)?),
         })
+    }
+}
+
+impl Drop for Command {
+    /// It is written out, so that callers don't prove again how each part is dropped.
+    fn drop(self) {
+        match self {
+            Command::Opening(_opening) => {}
+            Command::Closing(_closing) => {}
+            Command::Declaring(_declaring) => {}
+            Command::Quoting(_quoting) => {}
+            Command::Transaction(_transaction) => {}
+        }
     }
 }
 

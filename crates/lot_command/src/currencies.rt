@@ -10,7 +10,6 @@ const MOST_CURRENCIES: usize = 64;
 
 /// The currencies with which an account is opened, in the order in which they are written. There are at most 64. Without any,
 /// every commodity is allowed. A contract sees them as a list.
-#[derive(Drop)]
 pub struct Currencies {
     items: Vec<Commodity>,
 }
@@ -71,5 +70,12 @@ impl Currencies {
             items.push(currency.copy()?)?;
         }
         Ok(Currencies { items })
+    }
+}
+
+impl Drop for Currencies {
+    /// It is written out, so that callers don't prove again how each part is dropped.
+    fn drop(self) {
+        let Currencies { items: _items } = self;
     }
 }

@@ -5,7 +5,6 @@ use std::marker::Model;
 const FIRST_ROOM: usize = 3;
 
 /// Items in their order. A contract sees them as a list.
-#[derive(Drop)]
 pub struct Items<T> {
     items: Vec<T>,
 }
@@ -54,5 +53,12 @@ impl<T: Drop> Items<T> {
         ensures { result.now ≡ self.now }
     {
         self.items.as_slice()
+    }
+}
+
+impl<T: Drop> Drop for Items<T> {
+    /// It is written out, so that callers don't prove again how each part is dropped.
+    fn drop(self) {
+        let Items { items: _items } = self;
     }
 }

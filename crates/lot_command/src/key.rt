@@ -4,7 +4,7 @@ use lot_base::Label;
 use std::alloc::AllocError;
 
 /// Identifies a command: where it comes from, and its name there (docs/RULES.md, Keys and repeats).
-#[derive(Debug, PartialEq, Eq, Drop)]
+#[derive(Debug, PartialEq, Eq)]
 pub struct Key {
     pub source: Label,
     pub name: Label,
@@ -19,5 +19,15 @@ impl Key {
             source: self.source.copy()?,
             name: self.name.copy()?,
         })
+    }
+}
+
+impl Drop for Key {
+    /// It is written out, so that callers don't prove again how each part is dropped.
+    fn drop(self) {
+        let Key {
+            source: _source,
+            name: _name,
+        } = self;
     }
 }

@@ -6,7 +6,6 @@ use std::alloc::AllocError;
 use std::marker::Model;
 
 /// The price in a posting.
-#[derive(Drop)]
 pub enum Price {
     /// `@`: the price of each unit.
     Each(UnitPrice),
@@ -23,6 +22,16 @@ impl Price {
             Price::Each(price) => Price::Each(price.copy()?),
             Price::Whole(price) => Price::Whole(price.copy()?),
         })
+    }
+}
+
+impl Drop for Price {
+    /// It is written out, so that callers don't prove again how each part is dropped.
+    fn drop(self) {
+        match self {
+            Price::Each(_each) => {}
+            Price::Whole(_whole) => {}
+        }
     }
 }
 

@@ -8,7 +8,6 @@ use lot_num::Units;
 use std::alloc::{AllocError, Global};
 
 /// Amounts move between accounts on one day.
-#[derive(Drop)]
 pub struct Transaction {
     pub day: Day,
     pub flag: Flag,
@@ -31,6 +30,18 @@ impl Transaction {
             narration,
             postings: copies(alloc, self.postings.as_slice())?,
         })
+    }
+}
+
+impl Drop for Transaction {
+    /// It is written out, so that callers don't prove again how each part is dropped.
+    fn drop(self) {
+        let Transaction {
+            day: _day,
+            flag: _flag,
+            narration: _narration,
+            postings: _postings,
+        } = self;
     }
 }
 
@@ -78,7 +89,6 @@ impl Narration {
 }
 
 /// One line of a transaction. A posting without an amount is elided: it takes what balances the others.
-#[derive(Drop)]
 pub struct Posting {
     pub account: Account,
     pub amount: Option<Amount>,
@@ -100,8 +110,17 @@ impl Posting {
     }
 }
 
+impl Drop for Posting {
+    /// It is written out, so that callers don't prove again how each part is dropped.
+    fn drop(self) {
+        let Posting {
+            account: _account,
+            amount: _amount,
+        } = self;
+    }
+}
+
 /// Units of a commodity. They may have a cost, which is what their braces say, and a price.
-#[derive(Drop)]
 pub struct Amount {
     pub units: Units,
     pub commodity: Commodity,
@@ -128,5 +147,17 @@ impl Amount {
             cost,
             price,
         })
+    }
+}
+
+impl Drop for Amount {
+    /// It is written out, so that callers don't prove again how each part is dropped.
+    fn drop(self) {
+        let Amount {
+            units: _units,
+            commodity: _commodity,
+            cost: _cost,
+            price: _price,
+        } = self;
     }
 }

@@ -7,7 +7,7 @@ use std::alloc::AllocError;
 use std::marker::Model;
 
 /// What a posting says in its braces.
-#[derive(Debug, Drop)]
+#[derive(Debug)]
 pub enum Cost {
     /// `{..}`: the cost of each unit.
     Each(CostSpec),
@@ -23,6 +23,16 @@ impl Cost {
         match self {
             Cost::Each(spec) => Ok(Cost::Each(spec.copy()?)),
             Cost::Whole(whole) => Ok(Cost::Whole(whole.copy()?)),
+        }
+    }
+}
+
+impl Drop for Cost {
+    /// It is written out, so that callers don't prove again how each part is dropped.
+    fn drop(self) {
+        match self {
+            Cost::Each(_each) => {}
+            Cost::Whole(_whole) => {}
         }
     }
 }

@@ -6,7 +6,7 @@ use std::alloc::AllocError;
 
 /// Identifies the purchase that units came from. Keys are ordered by day, currency, number and
 /// label. A lot without a label stands before those with one.
-#[derive(Debug, PartialEq, Eq, PartialOrd, Ord, Drop)]
+#[derive(Debug, PartialEq, Eq, PartialOrd, Ord)]
 pub struct LotKey {
     pub day: Day,
     pub currency: Commodity,
@@ -30,5 +30,17 @@ impl LotKey {
             number: self.number,
             label,
         })
+    }
+}
+
+impl Drop for LotKey {
+    /// It is written out, so that callers don't prove again how each part is dropped.
+    fn drop(self) {
+        let LotKey {
+            day: _day,
+            currency: _currency,
+            number: _number,
+            label: _label,
+        } = self;
     }
 }

@@ -8,8 +8,22 @@ use Rattle.std.specs.declared.io.ErrorKind.TheVariants as kind
 use Rattle.sqlite.specs.declared.error.Error.{Error}
 use Rattle.sqlite.specs.declared.error.Error.TheVariants.{SqliteFailure}
 use Rattle.sqlite.specs.declared.error.ErrorCode.TheVariants as code
+use Rattle.sqlite_std_file.specs.declared.pair.OpenError.{OpenError}
+use Rattle.sqlite_std_file.specs.declared.pair.OpenError.TheVariants as opening
 use Rattle.lot_files.specs.declared.cause.Cause.{Cause}
 use Rattle.lot_files.specs.declared.cause.Cause.TheVariants.{Damaged, Folder, InUse, Library, Memory, NoFile, NoFolder, NoPermission, NotADatabase, ReadOnly, System}
+
+-- the error of the library for a file that the system doesn't open
+abbrev pub error_of_kind : ErrorKind → Error
+error_of_kind kind.OutOfMemory = SqliteFailure code.OutOfMemory
+error_of_kind _ = SqliteFailure code.CannotOpen
+
+-- the error of the library for files that can't be those of a database that is open here alone
+abbrev pub opening_error : OpenError → Error
+opening_error opening.OutOfMemory = SqliteFailure code.OutOfMemory
+opening_error opening.Busy = SqliteFailure code.DatabaseBusy
+opening_error opening.HotJournal = SqliteFailure code.CannotOpen
+opening_error (opening.Io error) = error_of_kind (error_kind error)
 
 -- what an error of the library of the database says by itself
 abbrev pub library_cause : Error → Cause

@@ -1,4 +1,5 @@
 pub mod Cause
 pub mod Image
+pub mod Medium
 pub mod Opened
 pub mod Path

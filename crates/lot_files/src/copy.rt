@@ -5,10 +5,13 @@ ghost use Rattle.sqlite.specs.Files.{Finds, file_state};
 ghost use Rattle.sqlite.specs.State.{HasCleanDisk};
 ghost use Rattle.lot_files.specs.Cause.{IsOfCopy};
 ghost use Rattle.lot_files.specs.Image.{copy_of, held_by};
+ghost use Rattle.lot_files.specs.Medium.{in_memory};
 
 use crate::cause::Cause;
 use crate::files::{Located, ensure_names_file, is_missing, locate};
 use crate::image::Image;
+use crate::medium::Medium;
+use crate::opened::BookFile;
 use sqlite::{Connection, FileStore, Files, Options};
 use std::alloc::Global;
 use std::fs;
@@ -30,7 +33,7 @@ const FEW: usize = 16;
 
 /// Opens a copy of the database in the file of that path. A file that isn't there is copied as an
 /// empty one. Nothing is written but the copy, which is in memory.
-pub fn open_copy(rt: &HostRuntime, path: &str) -> Result<Connection<FileStore<Image>>, Cause>
+pub fn open_copy(rt: &HostRuntime, path: &str) -> Result<Connection<FileStore<BookFile>>, Cause>
     ensures outside { IfOk result (λ conn. conn.in_transaction ≡ false) }
     ensures unlimited { IfOk result (λ conn. conn.step_limit ≡ None) }
 {
@@ -44,7 +47,7 @@ pub fn open_copy(rt: &HostRuntime, path: &str) -> Result<Connection<FileStore<Im
 }
 
 /// Opens an empty database in memory.
-pub fn open_nothing(alloc: Global) -> Result<Connection<FileStore<Image>>, Cause>
+pub fn open_nothing(alloc: Global) -> Result<Connection<FileStore<BookFile>>, Cause>
     ensures outside { IfOk result (λ conn. conn.in_transaction ≡ false) }
     ensures unlimited { IfOk result (λ conn. conn.step_limit ≡ None) }
 {
@@ -65,12 +68,17 @@ fn open_images(
     alloc: Global,
     files: Files<Image>,
     options: Options,
-) -> Result<Connection<FileStore<Image>>, Cause>
+) -> Result<Connection<FileStore<BookFile>>, Cause>
     ensures outside { IfOk result (λ conn. conn.in_transaction ≡ false) }
     ensures unlimited { IfOk result (λ conn. conn.step_limit ≡ None) }
-    ensures found { IfOk result (λ conn. HasCleanDisk (file_state conn) → Finds files conn) }
+    ensures found { IfOk result (λ conn. HasCleanDisk (file_state conn)
+        → Finds (in_memory files) conn) }
     ensures cause { IfErr result IsOfCopy }
 {
+    let files = Files {
+        log: Medium::Memory(files.log),
+        db: Medium::Memory(files.db),
+    };
     match Connection::open_files(alloc, files, options) {
         Ok(conn) => Ok(conn),
         Err((error, _left)) => Err(Cause::of_copy(error)),

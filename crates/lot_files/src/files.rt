@@ -2,12 +2,17 @@
 
 ghost use Rattle.std.specs.Prelude.{◌≡◌, ◌↔◌, IfOk, IsTrue, None, false};
 ghost use Rattle.std.specs.String.{string_bytes};
+ghost use Rattle.lot_files.specs.Cause.{opening_error};
 ghost use Rattle.lot_files.specs.Path.{HasLongName, library_path, names_file, names_no_file};
 
 use crate::cause::{Cause, why};
-use sqlite::{Connection, File, FileStore};
+use crate::medium::Medium;
+use crate::opened::BookFile;
+use sqlite::{Connection, Error, ErrorCode, FileStore, Files, Options, Unknown};
+use sqlite_std_file::OpenError;
 use std::alloc::{AllocError, Global};
 use std::fs;
+use std::hash::{BuildHasher, RandomState};
 use std::io::{self, ErrorKind, Read};
 use std::os::unix::fs::MetadataExt;
 use std::path::Path;
@@ -16,14 +21,40 @@ use std::path::Path;
 /// may. Their names have up to eight bytes more, and no file's name has more than 255.
 const LONGEST_NAME: usize = 247;
 
+const NO_MEMORY: Error = Error::SqliteFailure(ErrorCode::OutOfMemory);
+
+const CANNOT_OPEN: Error = Error::SqliteFailure(ErrorCode::CannotOpen);
+
 /// Opens the database in the file of that path, and makes one where there is none.
-pub fn open(rt: &HostRuntime, path: &str) -> Result<Connection<FileStore<File>>, Cause>
+pub fn open(rt: &HostRuntime, path: &str) -> Result<Connection<FileStore<BookFile>>, Cause>
     ensures outside { IfOk result (λ conn. conn.in_transaction ≡ false) }
     ensures unlimited { IfOk result (λ conn. conn.step_limit ≡ None) }
 {
-    match Connection::open(rt, path) {
+    let files = match sqlite_std_file::open(rt, path, Unknown) {
+        Ok(Files { log, db }) => Files {
+            log: Medium::System(log),
+            db: Medium::System(db),
+        },
+        Err(error) => return Err(why(rt, path, opening_error(error))),
+    };
+    let Ok(seed) = RandomState::new(rt) else {
+        return Err(why(rt, path, CANNOT_OPEN));
+    };
+    match Connection::open_files(rt.alloc(), files, Options::new(seed.hash_one(&0u8))) {
         Ok(conn) => Ok(conn),
-        Err(error) => Err(why(rt, path, error)),
+        Err((error, _left)) => Err(why(rt, path, error)),
+    }
+}
+
+/// Returns the error of the library for files that it couldn't open.
+fn opening_error(error: OpenError) -> Error
+    ensures { result ≡ opening_error error }
+{
+    match error {
+        OpenError::OutOfMemory => NO_MEMORY,
+        OpenError::Busy => Error::SqliteFailure(ErrorCode::DatabaseBusy),
+        OpenError::Io(error) if error.kind() == ErrorKind::OutOfMemory => NO_MEMORY,
+        OpenError::Io(_) | OpenError::HotJournal => CANNOT_OPEN,
     }
 }
 

@@ -2,7 +2,7 @@
 //!
 //! - `files`: a book's file and its log, and what may stand there in their place.
 //! - `cause`: why a book can't be opened.
-//! - `copy`: a copy of a book in memory; `image`: a file in memory.
+//! - `copy`: a copy of a book in memory; `image`: a file in memory; `medium`: a file there or of the system.
 //! - `opened`: a book that is opened: its file, or a copy of it.
 #![tactic(auto)]
 
@@ -10,10 +10,12 @@ mod cause;
 mod copy;
 mod files;
 mod image;
+mod medium;
 mod opened;
 
 pub use cause::Cause;
 pub use copy::{open_copy, open_nothing};
 pub use files::{ensure_openable, is_missing, library_path, open};
 pub use image::Image;
-pub use opened::{Access, Opened, open_book};
+pub use medium::Medium;
+pub use opened::{Access, BookFile, Opened, open_book};

@@ -7,7 +7,11 @@ use crate::cause::Cause;
 use crate::copy::open_copy;
 use crate::files::{is_empty, open};
 use crate::image::Image;
+use crate::medium::Medium;
 use sqlite::{Connection, File, FileStore};
+
+/// A file of a book: of the system, or of a copy in memory.
+pub type BookFile = Medium<File, Image>;
 
 /// What a book is opened for.
 #[derive(Clone, Copy)]
@@ -23,8 +27,8 @@ pub enum Access {
 /// A book that is opened.
 #[derive(Drop)]
 pub enum Opened {
-    File(Connection<FileStore<File>>),
-    Copy(Connection<FileStore<Image>>),
+    File(Connection<FileStore<BookFile>>),
+    Copy(Connection<FileStore<BookFile>>),
 }
 
 /// Opens the book in the file of that path.

@@ -14,7 +14,7 @@ pub enum Action {
 }
 
 /// One row of a broker file: a deal.
-#[derive(Debug, Drop)]
+#[derive(Debug)]
 pub struct Row {
     /// The broker's name of the deal, `ref` in the file.
     pub name: Label,
@@ -60,5 +60,22 @@ impl Row {
             Some(lot) => Ok(Some(lot.copy()?)),
             None => Ok(None),
         }
+    }
+}
+
+impl Drop for Row {
+    /// It is written out, so that callers don't prove again how each part is dropped.
+    fn drop(self) {
+        let Row {
+            name: _name,
+            day: _day,
+            action: _action,
+            symbol: _symbol,
+            units: _units,
+            price: _price,
+            currency: _currency,
+            fee: _fee,
+            lot: _lot,
+        } = self;
     }
 }

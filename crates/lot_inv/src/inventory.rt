@@ -29,14 +29,12 @@ use std::marker::Model;
 ///
 /// A contract sees an inventory as two finite maps. One has the units of each position, which are never zero. A position is a
 /// commodity with the key of a lot, or without one. The other map has the opening numbers of the lots.
-#[derive(Drop)]
 pub struct Inventory {
     alloc: Global,
     held: BTreeMap<Commodity, Holding>,
 }
 
 /// What is held of one commodity.
-#[derive(Drop)]
 struct Holding {
     plain: Units,
     lots: Lots,
@@ -285,6 +283,16 @@ impl Inventory {
     }
 }
 
+impl Drop for Inventory {
+    /// It is written out, so that callers don't prove again how each part is dropped.
+    fn drop(self) {
+        let Inventory {
+            alloc: _alloc,
+            held: _held,
+        } = self;
+    }
+}
+
 impl Holding {
     ghost use Rattle.lot_inv.specs.Holding.{HoldsSomething, IsHolding, NeedsLot, held_at, listed, opening_of, units_of};
     ghost use Rattle.lot_inv.specs.Lots.{lot_at};
@@ -368,6 +376,16 @@ impl Holding {
     {
         list_plain(self.plain, commodity, rows)?;
         self.lots.list(commodity, rows)
+    }
+}
+
+impl Drop for Holding {
+    /// It is written out, so that callers don't prove again how each part is dropped.
+    fn drop(self) {
+        let Holding {
+            plain: _plain,
+            lots: _lots,
+        } = self;
     }
 }
 

@@ -68,7 +68,6 @@ pub struct Available<'a> {
 /// The lots of one commodity, each under its key. None of them has zero units.
 ///
 /// A contract sees them as a list, in the order of their keys.
-#[derive(Drop)]
 pub(crate) struct Lots {
     alloc: Global,
     by_key: BTreeMap<LotKey, OpenLot>,
@@ -388,6 +387,18 @@ impl Lots {
         };
         self.by_number = index;
         Ok(())
+    }
+}
+
+impl Drop for Lots {
+    /// It is written out, so that callers don't prove again how each part is dropped.
+    fn drop(self) {
+        let Lots {
+            alloc: _alloc,
+            by_key: _by_key,
+            by_number: _by_number,
+            below: _below,
+        } = self;
     }
 }
 

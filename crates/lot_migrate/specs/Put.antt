@@ -32,7 +32,7 @@ with_marks place tables =
 abbrev pub with_all : List LotOpening → ℕ → Tables → Tables
 with_all openings place tables = with_marks place (written_all (opening_writes openings) tables)
 
--- A database that has these tables has no room for this row, once so many changes were made from these trees on.
+-- A database that has these tables has no room for this row, once so many changes were made, beginning with these trees.
 pub record IsFullFor {X : Type 0} (t : BookTable Tables X) (x : X) (tables : Tables) (before : Trees)
     (count : ℕ) : Type 0 where
   pub trees : Trees
@@ -73,8 +73,8 @@ pub record HasNoRoom (tables : Tables) (before : Trees) : Type 0 where
   pub lacks : IsFullForAll openings (entries_in tables) (bare tables) begun
 
 -- The tables become what `f` makes of them by so many changes, in the open transaction. Without a
--- limit on steps no damage is found, and the device fails only where the disk failed or there is no
--- room, from the trees before on.
+-- limit on steps no damage is found. The device fails only where the disk failed, or where there is
+-- no room, beginning with the trees before.
 pub record PutsRows {A : Type 0} (f : Tables → Tables) (count : ℕ)
     (NoRoom : Tables → Trees → Type 0) (old new : State) (result : Result A Fault) : Type 0 where
   pub inside : HasCleanDisk new → OnOk result (IsTrue new.in_transaction)

@@ -4,7 +4,7 @@ ghost use Rattle.std.specs.String.{string_bytes};
 use std::marker::Model;
 
 /// A text of UTF-8. A contract sees its bytes.
-#[derive(Debug, Drop)]
+#[derive(Debug)]
 pub struct AnyText {
     text: String,
 }
@@ -31,5 +31,12 @@ impl AnyText {
         ensures { result.now ≡ self.now }
     {
         self.text.as_str()
+    }
+}
+
+impl Drop for AnyText {
+    /// It is written out, so that callers don't prove again how each part is dropped.
+    fn drop(self) {
+        let AnyText { text: _text } = self;
     }
 }

@@ -5,7 +5,7 @@ use std::marker::Model;
 
 /// The number of the posting that opened a lot, from 1: 64 for each entry before its own, plus its place in its own. It fits an
 /// integer of SQL.
-#[derive(Clone, Copy, Debug, PartialEq, Eq, PartialOrd, Ord, Hash)]
+#[derive(Clone, Copy, Debug, PartialEq, Eq)]
 pub struct OpeningNumber {
     number: u64,
 }

@@ -3,7 +3,7 @@ ghost use Rattle.std.specs.Prelude.{◌≡◌, ◌≤◌, SomeIff};
 use std::marker::Model;
 
 /// A number that counts from 1: of an entry in its book, or of a posting in its transaction.
-#[derive(Clone, Copy, Debug, PartialEq, Eq, PartialOrd, Ord, Hash)]
+#[derive(Clone, Copy, Debug, PartialEq, Eq)]
 pub struct Ordinal {
     number: u32,
 }

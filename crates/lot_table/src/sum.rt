@@ -5,7 +5,7 @@ use lot_num::Units;
 use std::marker::Model;
 
 /// A sum of units that isn't zero: what a position holds. A sum of zero has no row.
-#[derive(Clone, Copy, Debug, PartialEq, Eq, PartialOrd, Ord, Hash)]
+#[derive(Clone, Copy, Debug, PartialEq, Eq)]
 pub struct Sum {
     units: Units,
 }

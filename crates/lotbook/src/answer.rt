@@ -8,8 +8,8 @@ use lot_cli::{
     AdoptFault, CountedWriter, CreateFault, Halt, MigrateFault, Progress, Served, VerifyFault,
     serve,
 };
-use lot_damage::say_where;
 use lot_output::{Heard, Input, Kept, Meter, Output, Witness};
+use lot_verify::say_where;
 use sqlite::{Alter, Connection};
 
 /// Does what a call is for on the book that the connection leads to, with that input, and says on

@@ -7,11 +7,11 @@ use crate::keeper::{Keep, Keeper};
 use lot_call::{Call, DONE, REFUSED, STOPPED, UNUSABLE, out_of_memory, say_why, withdraw};
 use lot_cli::{Action, Effect, Served};
 use lot_files::{
-    Access, Cause, Image, Opened, ensure_openable, is_missing, library_path, open, open_book,
+    Access, BookFile, Cause, Opened, ensure_openable, is_missing, library_path, open, open_book,
     open_copy, open_nothing,
 };
 use lot_output::{Input, Output, Witness};
-use sqlite::{Connection, File, FileStore};
+use sqlite::{Connection, FileStore};
 use std::io::{self, Write};
 
 /// Does what a call is for, and returns the status of the program. Where the book can't be opened, a
@@ -74,7 +74,7 @@ fn on_path(call: &Call<'_>, path: &str) -> Result<u8, Cause> {
 }
 
 /// Does it on the file, with that input, and closes it where the action ran to its end.
-fn on_file(call: &Call<'_>, input: Input<'_>, file: Connection<FileStore<File>>) -> u8
+fn on_file(call: &Call<'_>, input: Input<'_>, file: Connection<FileStore<BookFile>>) -> u8
     requires outside { file.in_transaction ≡ false }
     requires unlimited { file.step_limit ≡ None }
 {
@@ -91,7 +91,7 @@ fn on_file(call: &Call<'_>, input: Input<'_>, file: Connection<FileStore<File>>)
 }
 
 /// Does it on a database of which nothing stays.
-fn on_copy(call: &Call<'_>, copy: Connection<FileStore<Image>>) -> u8
+fn on_copy(call: &Call<'_>, copy: Connection<FileStore<BookFile>>) -> u8
     requires outside { copy.in_transaction ≡ false }
     requires unlimited { copy.step_limit ≡ None }
 {
@@ -124,7 +124,7 @@ enum Tried {
 
 /// Does it on a copy, with the replies held back. Unless the copy accepted every command, its
 /// replies are those of the call.
-fn try_on_copy(call: &Call<'_>, copy: Connection<FileStore<Image>>) -> Result<Tried, Cause>
+fn try_on_copy(call: &Call<'_>, copy: Connection<FileStore<BookFile>>) -> Result<Tried, Cause>
     requires outside { copy.in_transaction ≡ false }
     requires unlimited { copy.step_limit ≡ None }
 {
@@ -136,7 +136,6 @@ fn try_on_copy(call: &Call<'_>, copy: Connection<FileStore<Image>>) -> Result<Tr
         halt,
         mut conn,
     } = do_quietly(call, &mut reader, &mut writer, copy);
-    reader.free_room();
     let (Some(_), Some(replies)) = (&reader.kept.bytes, writer.writer.held()) else {
         return Err(Cause::Memory);
     };

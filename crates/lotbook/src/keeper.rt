@@ -1,6 +1,6 @@
 //! The reader of a call, which keeps what was read for what is said of it, or for a second run.
 
-ghost use Rattle.std.specs.Prelude.{◌≡◌, ◌≢◌, IfOk, IsNone, IsSome, None, OnErr, Some, take};
+ghost use Rattle.std.specs.Prelude.{[], ◌≡◌, ◌≢◌, IfOk, IsNone, IsSome, None, OnErr, Some, take};
 ghost use Rattle.std.specs.Io.{ReadsAtMost};
 ghost use Rattle.std.specs.Io.KnownBytes.{ReadConsumes};
 ghost use Rattle.lot_output.specs.Record.{Keeps, held};
@@ -42,6 +42,8 @@ impl<R> Keeper<R> {
     pub fn new(alloc: Global, reader: R, keep: Keep) -> Keeper<R>
         ensures reader { reader_of result.reader ≡ reader }
         ensures keep { result.keep ≡ keep }
+        ensures none { keep ≡ Keep.Nothing → held result.kept ≡ None }
+        ensures begun { keep ≡ Keep.EachRead → held result.kept ≡ Some [] }
     {
         let room = match keep {
             Keep::TakenBack => Vec::with_capacity(alloc, ROOM).ok(),
@@ -62,6 +64,7 @@ impl<R> Keeper<R> {
 
     /// Lets go of the memory that was set aside, once all is read and done.
     pub fn free_room(&mut self)
+        ensures freed { self.new.room ≡ None }
         ensures kept { self.new.kept ≡ self.old.kept }
     {
         self.room = None;
@@ -82,6 +85,7 @@ impl<R: Read> CountedRead for Keeper<R> {
         ensures same { self.new.keep ≡ self.old.keep }
         ensures kept { self.old.keep ≡ Keep.EachRead → IfOk result (λ count.
             Keeps (take count chunk.new) self.old.kept self.new.kept) }
+        ensures others { self.old.keep ≢ Keep.EachRead → self.new.kept ≡ self.old.kept }
         ensures stays { OnErr result (self.new.kept ≡ self.old.kept) }
     {
         let count = self.reader.read_counted(chunk)?;

@@ -15,38 +15,6 @@ loop-index-preserved g c = record {
   none_failed = no_fault (c.in_ok-next.next, c.in_ok-next.replied) _ c.in_ok-next.ensures.none_failed ∙ c.loop-index.invariant.none_failed;
 }
 
-pub loop-index-preserved-in_ok-next : goal.loop-index-preserved-in_ok-next
-loop-index-preserved-in_ok-next g c = record {
-  ran = run_next _ _ _ c.in-Some.command _ (c.in-Some.index + 1) _ c.loop-index.view c.in_ok-next.next _ _ _ _ _ _ c.loop-index.invariant.ran
-      c.in-Some.ensures.steps.0.0 (ap (λ n. n + 1) c.in-Some.ensures.steps.1) c.in-Some.ensures.steps.2 (omega (arith, c.args.commands.ok, c.args.commands.small))
-      c.in_ok-next.ensures.replies c.and-status.ensures;
-  none_failed = no_fault (c.in_ok-next.next, c.in_ok-next.replied) _ c.in_ok-next.ensures.none_failed ∙ c.loop-index.invariant.none_failed;
-}
-
-pub loop-index-preserved-in_ok-next-2 : goal.loop-index-preserved-in_ok-next-2
-loop-index-preserved-in_ok-next-2 g c = record {
-  ran = run_next _ _ _ c.in-Some.command _ (c.in-Some.index + 1) _ c.loop-index.view c.in_ok-next.next _ _ _ _ _ _ c.loop-index.invariant.ran
-      c.in-Some.ensures.steps.0.0 (ap (λ n. n + 1) c.in-Some.ensures.steps.1) c.in-Some.ensures.steps.2 (omega (arith, c.args.commands.ok, c.args.commands.small))
-      c.in_ok-next.ensures.replies c.and-status.ensures;
-  none_failed = no_fault (c.in_ok-next.next, c.in_ok-next.replied) _ c.in_ok-next.ensures.none_failed ∙ c.loop-index.invariant.none_failed;
-}
-
-pub loop-index-preserved-in_ok-next-3 : goal.loop-index-preserved-in_ok-next-3
-loop-index-preserved-in_ok-next-3 g c = record {
-  ran = run_next _ _ _ c.in-Some.command _ (c.in-Some.index + 1) _ c.loop-index.view c.in_ok-next.next _ _ _ _ _ _ c.loop-index.invariant.ran
-      c.in-Some.ensures.steps.0.0 (ap (λ n. n + 1) c.in-Some.ensures.steps.1) c.in-Some.ensures.steps.2 (omega (arith, c.args.commands.ok, c.args.commands.small))
-      c.in_ok-next.ensures.replies c.and-status.ensures;
-  none_failed = no_fault (c.in_ok-next.next, c.in_ok-next.replied) _ c.in_ok-next.ensures.none_failed ∙ c.loop-index.invariant.none_failed;
-}
-
-pub loop-index-preserved-in_ok-next-4 : goal.loop-index-preserved-in_ok-next-4
-loop-index-preserved-in_ok-next-4 g c = record {
-  ran = run_next _ _ _ c.in-Some.command _ (c.in-Some.index + 1) _ c.loop-index.view c.in_ok-next.next _ _ _ _ _ _ c.loop-index.invariant.ran
-      c.in-Some.ensures.steps.0.0 (ap (λ n. n + 1) c.in-Some.ensures.steps.1) c.in-Some.ensures.steps.2 (omega (arith, c.args.commands.ok, c.args.commands.small))
-      c.in_ok-next.ensures.replies c.and-status.ensures;
-  none_failed = no_fault (c.in_ok-next.next, c.in_ok-next.replied) _ c.in_ok-next.ensures.none_failed ∙ c.loop-index.invariant.none_failed;
-}
-
 pub loop-index-init : goal.loop-index-init
 loop-index-init g c =
     let given = c.into_iter-index-iterator.ensures.into_iter_gives in

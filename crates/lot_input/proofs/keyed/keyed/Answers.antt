@@ -21,26 +21,6 @@ loop-index-preserved-in-Continue-branch-3 c =
     (c.in_ok-push.ensures.items ∙ ap (λ (key : Key). c.loop-index.keyed.items ++ (key, c.in-Some.command) ∷ []) (c.in_ok-key.ensures ∙ ap (λ source. numbered_key source (c.in-Some.index + 1)) c.in_ok-source.ensures))
     c.requires c.if-number-from.true
 
-pub loop-index-preserved-else-number-from : goal.loop-index-preserved-else-number-from
-loop-index-preserved-else-number-from c =
-    skips_next _ _ _ _ _ c.in-Some.command _ (c.in-Some.index + 1) _ _ c.loop-index.invariant c.in-Some.ensures.steps.0.0
-    (ap (λ n. n + 1) c.in-Some.ensures.steps.1) c.in-Some.ensures.steps.2 c.if-number-from.false
-
-pub loop-index-preserved-else-number-from-2 : goal.loop-index-preserved-else-number-from-2
-loop-index-preserved-else-number-from-2 c =
-    skips_next _ _ _ _ _ c.in-Some.command _ (c.in-Some.index + 1) _ _ c.loop-index.invariant c.in-Some.ensures.steps.0.0
-    (ap (λ n. n + 1) c.in-Some.ensures.steps.1) c.in-Some.ensures.steps.2 c.if-number-from.false
-
-pub loop-index-preserved-else-number-from-3 : goal.loop-index-preserved-else-number-from-3
-loop-index-preserved-else-number-from-3 c =
-    skips_next _ _ _ _ _ c.in-Some.command _ (c.in-Some.index + 1) _ _ c.loop-index.invariant c.in-Some.ensures.steps.0.0
-    (ap (λ n. n + 1) c.in-Some.ensures.steps.1) c.in-Some.ensures.steps.2 c.if-number-from.false
-
-pub loop-index-preserved-else-number-from-4 : goal.loop-index-preserved-else-number-from-4
-loop-index-preserved-else-number-from-4 c =
-    skips_next _ _ _ _ _ c.in-Some.command _ (c.in-Some.index + 1) _ _ c.loop-index.invariant c.in-Some.ensures.steps.0.0
-    (ap (λ n. n + 1) c.in-Some.ensures.steps.1) c.in-Some.ensures.steps.2 c.if-number-from.false
-
 pub loop-index-preserved : goal.loop-index-preserved
 loop-index-preserved c =
     skips_next _ _ _ _ _ c.in-Some.command _ (c.in-Some.index + 1) _ _ c.loop-index.invariant c.in-Some.ensures.steps.0.0

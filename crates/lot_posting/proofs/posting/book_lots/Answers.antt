@@ -131,19 +131,19 @@ alike_on_none c =
 pub returns-then-not-may_reduce-clause-booked : goal.returns-then-not-may_reduce-clause-booked
 returns-then-not-may_reduce-clause-booked c =
     booked_on (known_with_openings c.args.view.now) c.args.site.now c.args.tally.now.legs c.args.cost.now c.method_of.result
-    c.new.result (alike_on_none c) c.book_on-then-not-may_reduce.result c.book_on-then-not-may_reduce.ensures.booked
+    c.new.result (alike_on_none c) c.book_on.result c.book_on.ensures.booked
 
 pub returns-then-not-may_reduce-clause-stops : goal.returns-then-not-may_reduce-clause-stops
 returns-then-not-may_reduce-clause-stops c =
     stops_on (known_with_openings c.args.view.now) c.args.site.now c.args.tally.now.legs c.args.cost.now c.method_of.result
-    c.new.result (alike_on_none c) c.requires.cost c.book_on-then-not-may_reduce.result
-    c.book_on-then-not-may_reduce.ensures.stops
+    c.new.result (alike_on_none c) c.requires.cost c.book_on.result
+    c.book_on.ensures.stops
 
 pub returns-then-not-may_reduce-clause-memory : goal.returns-then-not-may_reduce-clause-memory
 returns-then-not-may_reduce-clause-memory c = λ lacks.
     inl
     (legs_on (known_with_openings c.args.view.now) c.args.site.now c.args.tally.now.legs c.args.cost.now c.method_of.result
-    c.new.result (alike_on_none c) c.requires.cost (c.book_on-then-not-may_reduce.ensures.memory lacks))
+    c.new.result (alike_on_none c) c.requires.cost (c.book_on.ensures.memory lacks))
 
 -- ---- some lot of the commodity has changed
 
@@ -266,15 +266,15 @@ alike_in-None c =
 pub returns-in-None-clause-booked : goal.returns-in-None-clause-booked
 returns-in-None-clause-booked c =
     booked_on (known_with_openings c.args.view.now) c.args.site.now c.args.tally.now.legs c.args.cost.now c.method_of.result
-    c.new-in-None.result (alike_in-None c) c.book_on-in-None-2.result c.book_on-in-None-2.ensures.booked
+    c.new-in-None.result (alike_in-None c) c.book_on-in-None.result c.book_on-in-None.ensures.booked
 
 pub returns-in-None-clause-stops : goal.returns-in-None-clause-stops
 returns-in-None-clause-stops c =
     stops_on (known_with_openings c.args.view.now) c.args.site.now c.args.tally.now.legs c.args.cost.now c.method_of.result
-    c.new-in-None.result (alike_in-None c) c.requires.cost c.book_on-in-None-2.result c.book_on-in-None-2.ensures.stops
+    c.new-in-None.result (alike_in-None c) c.requires.cost c.book_on-in-None.result c.book_on-in-None.ensures.stops
 
 pub returns-in-None-clause-memory : goal.returns-in-None-clause-memory
 returns-in-None-clause-memory c = λ lacks.
     inl
     (legs_on (known_with_openings c.args.view.now) c.args.site.now c.args.tally.now.legs c.args.cost.now c.method_of.result
-    c.new-in-None.result (alike_in-None c) c.requires.cost (c.book_on-in-None-2.ensures.memory lacks))
+    c.new-in-None.result (alike_in-None c) c.requires.cost (c.book_on-in-None.ensures.memory lacks))
