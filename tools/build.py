@@ -39,6 +39,7 @@ SOURCES = f"{ROOMS}/sources"
 PARTS = ("src", "specs", "proofs")
 MOST_JOBS = 4  # a check gains little from more
 BEHIND = 10  # by so much crates that don't lead are nicer
+MORE = 1.2  # so many times as much a check costs with several jobs
 EVERY = 20  # seconds from one report to the next
 
 RT = shutil.which("rt")
@@ -55,7 +56,7 @@ def say(text):
 
 def pace(jobs):
     """How much faster so many jobs are than one."""
-    return 0.75 + 0.25 * jobs
+    return 0.65 + 0.35 * jobs
 
 
 def minutes(seconds):
@@ -109,7 +110,7 @@ class Crate:
         texts = "".join(read(it) for it in files_below(f"{SOURCES}/{name}/src") if not it.endswith("tests.rt"))
         functions = len(re.findall(r"(?m)^\s*(?:pub(?:\(\w+\))? )?(?:const )?fn ", texts))
         self.functions, self.seconds = times.get(name, (functions, 20 + 4 * functions + 100 * self.sqlite + 200 * self.is_program))
-        self.begun = self.took = self.run = None
+        self.begun = self.took = self.cost = self.run = None
         self.counted, self.last, self.retried, self.leads = functions, [], False, False
 
     def summed(self, line, sums):
@@ -241,6 +242,7 @@ class Build:
     def __init__(self, crates, lanes, memory):
         self.crates, self.lanes, self.memory = crates, lanes, memory
         self.todo = [it for it in crates.values() if not it.is_built()]
+        self.work = sum(it.seconds for it in self.todo)
         self.ended = {it.name for it in crates.values() if it.is_built()}
         self.begun, self.reported = time.monotonic(), 0
         self.running, self.selector = [], selectors.DefaultSelector()
@@ -309,7 +311,9 @@ class Build:
         """Takes in how the kit's work on a crate ended. Returns whether that is well."""
         self.selector.unregister(crate.run.stdout)
         crate.run.stdout.close()
-        status = crate.run.wait()
+        _, ended, used = os.wait4(crate.run.pid, 0)
+        status = crate.run.returncode = os.WEXITSTATUS(ended) if os.WIFEXITED(ended) else -os.WTERMSIG(ended)
+        crate.cost = used.ru_utime + used.ru_stime
         self.running.remove(crate)
         crate.took = time.monotonic() - crate.begun
         wanted = f"{crate.at_work()}/out/{PROGRAM}" if crate.is_program else f"{crate.at_work()}/out/rlib/stamp"
@@ -337,30 +341,26 @@ class Build:
         """Notes what a crate took, for the next build's reports."""
         times = noted(f"{OUT}/times.json")
         # A check over kept work takes less.
-        seconds = max(round(crate.took * pace(crate.jobs)), times.get(crate.name, (0, 0))[1])
+        seconds = max(round(crate.cost / (1 if crate.jobs == 1 else MORE)), times.get(crate.name, (0, 0))[1])
         times[crate.name] = (crate.counted, seconds)
         with open(f"{OUT}/times.json", "w", encoding="utf-8") as it:
             json.dump(times, it, indent=0, sort_keys=True)
 
+    def rest(self, crate):
+        """About how many seconds of one processor are left of a crate."""
+        if crate.begun is None:
+            return crate.seconds
+        share = pace(crate.jobs) if crate.leads or len(self.running) == 1 else 0.7
+        return max(crate.seconds - share * (time.monotonic() - crate.begun), 0.1 * crate.seconds)
+
     def left(self):
-        """About how many seconds are left: the rest by the same plan, at the pace so far."""
-        done = [it for it in self.crates.values() if it.took is not None and it.name in self.ended]
-        planned = sum(it.seconds / pace(it.jobs) for it in done)
-        slower = min(max(sum(it.took for it in done) / planned, 0.2), 5) if planned > 60 else 1
-        chains, now = self.chains(), time.monotonic()
-        ends, busy = {name: 0.0 for name in self.ended}, []
-        for it in self.running:
-            all_of_it = it.seconds * slower / pace(it.jobs)
-            ends[it.name] = max(all_of_it - (now - it.begun), 0.1 * all_of_it)
-            busy += [ends[it.name]] * it.jobs
-        lanes = sorted([*busy, *[0.0] * self.lanes])[-self.lanes :]
-        for it in sorted((it for it in self.todo if it.begun is None), key=lambda it: (len(it.names), -chains[it.name])):
-            lanes.sort()
-            start = max([lanes[0], *[ends[name] for name in it.uses]])
-            idle = sum(lane <= start for lane in lanes)
-            ends[it.name] = start + it.seconds * slower / pace(min(idle, MOST_JOBS) if len(it.names) > 20 else 1)
-            lanes[0] = ends[it.name]
-        return max(ends.values(), default=0)
+        """About how many seconds are left: all work on all processors, at the pace so far, or the longest chain."""
+        rest = sum(self.rest(it) for it in self.todo)
+        planned = (self.work - rest) / self.lanes
+        slower = min(max((time.monotonic() - self.begun) / planned, 0.2), 5) if planned > 60 else 1
+        chains = self.chains()
+        longest = max((chains[it.name] - it.seconds + self.rest(it) for it in self.todo), default=0)
+        return max(rest / self.lanes * slower, longest / pace(min(self.lanes, MOST_JOBS)))
 
     def report(self, what=""):
         now = time.monotonic()
