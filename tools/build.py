@@ -3,8 +3,8 @@
     tools/build.py
 
 Each crate is proved as soon as those below it are, the one with the longest chain above it first, as many at a time as there are
-processors and memory. The one that leads, with the longest chain of all that is left, gets several processors, and goes before the
-others; so does one that is alone. Progress goes to standard error, and what the kit prints to crates/lotbook/out/build.log.
+processors and memory. The one that leads, with the longest chain of all that is left, gets several of them, and goes before the
+others; one that is alone gets several, too. Progress goes to standard error, and what the kit prints to crates/lotbook/out/build.log.
 
 A call of the kit keeps others out of the folder of each crate that it reads. So each crate is proved in a room, a folder of its own
 with the sources as they were when the build began, and with the libraries that were built before. What the kit leaves there is then
