@@ -48,8 +48,8 @@ chmod +x out/lotbook
 END
 chmod +x "$scratch/kit/bin/rt"
 mkdir "$scratch/tools"
-for tool in awk bash sh basename cat chmod cmp cp cut date dirname find getconf grep gzip head ls mkdir mktemp mv nproc ps readlink rm sed setsid sha256sum sleep \
-    sort tail tee touch tr uname wc xargs; do
+for tool in awk bash sh basename cat chmod cmp cp cut date dirname find getconf grep gzip head ls mkdir mktemp mv nproc ps readlink rm rmdir sed setsid sha256sum sleep \
+    sort stat tail tee touch tr uname wc xargs; do
     ln -s "$(command -v "$tool")" "$scratch/tools/$tool"
 done
 printf '#!/bin/sh\nexec %s "$@"\n' "$(python3 -c 'import sys; print(sys.executable)')" >"$scratch/tools/python3"
@@ -90,6 +90,7 @@ says() { if grep -qE "$2" "$scratch/err"; then pass "$1"; else fail "$1" "$(tail
 path=$without
 wrapped "no kit and no program" 4 0
 messages "no kit: one sentence" 1
+says "no kit: the reason, too" "^lotbook: there is no program yet, and release/ holds no program; and the Rattle kit is missing"
 path=$with
 touch "$repo/crates/lotbook/src/broken"
 wrapped "a build that fails" 4 4
@@ -120,16 +121,27 @@ wrapped "a new file at the bottom: all" 7 13 y
 rm "$repo/crates/low/specs/More.antt"
 wrapped "a file taken away" 7 17 y
 wrapped "and then nothing" 7 17 y
-touch "$repo/crates/other/src/lib.rt"
-wrapped "a crate that the program doesn't stand on: the program alone" 7 18 y
+echo "// more" >>"$repo/crates/other/src/lib.rt"
+wrapped "a crate that the program doesn't stand on" 7 17 y
+touch "$repo/crates/lotbook/src/main.rt"
+wrapped "a date alone" 7 17 y
 echo "kit 2" >"$scratch/kit/KIT-ID"
-wrapped "another kit: all" 7 22 y
-wrapped "the same kit again" 7 22 y
-rm "$repo/crates/lotbook/out/kit"
-wrapped "a program that the gate built" 7 22 y
-touch "$repo/crates/lotbook/src/main.rt" && path=$without
-wrapped "newer sources and no kit" 4 22 y
+wrapped "another kit: all" 7 21 y
+wrapped "the same kit again" 7 21 y
+mv "$repo/crates/lotbook/out/sums" "$scratch/sums"
+wrapped "nothing says from what the program was built" 7 22 y
+cmp -s "$scratch/sums" "$repo/crates/lotbook/out/sums" && pass "it is said again" || fail "it is said again" "$(tr '\n' ' ' <"$repo/crates/lotbook/out/sums")"
+echo "# another" >>"$repo/crates/lotbook/out/lotbook"
+wrapped "another program than its sums name" 7 23 y
+cp -p "$repo/crates/lotbook/src/main.rt" "$scratch/main.rt"
+echo "// other" >>"$repo/crates/lotbook/src/main.rt" && touch -d 2001-01-01 "$repo/crates/lotbook/src/main.rt" && path=$without
+wrapped "a changed source with an older date, and no kit" 4 23 y
+says "that is the reason" "^lotbook: its sources changed, and release/ holds no program; and the Rattle kit is missing"
+cp -p "$scratch/main.rt" "$repo/crates/lotbook/src/"
+wrapped "the sources as they were" 7 23 y
 path=$with
+echo "// other" >>"$repo/crates/lotbook/src/main.rt" && touch -d 2001-01-01 "$repo/crates/lotbook/src/main.rt"
+wrapped "a changed source with an older date" 7 24 y
 
 # ---- stops, and two at once
 
@@ -151,7 +163,7 @@ ended() {
     done
     fail "$1" "it goes on"
 }
-touch "$repo/crates/lotbook/src/slow"
+echo "// more" >>"$repo/crates/lotbook/src/main.rt" && touch "$repo/crates/lotbook/src/slow"
 PATH=$path setsid "$repo/lotbook" a >"$scratch/out" 2>"$scratch/err" </dev/null &
 begun 1
 kill -TERM -- -$! && wait $! && status=0 || status=$?
@@ -162,7 +174,7 @@ for _ in {1..1200}; do # what builds ends a little later than the script
     sleep 0.05
 done
 says "it says so" "^lotbook: stopped; the next call goes on from here$"
-if [[ ! -e $repo/.git/rooms && $(wc -l <"$repo/crates/lotbook/out/incremental/kept") == 9 ]]; then
+if [[ ! -e $repo/.git/rooms && $(wc -l <"$repo/crates/lotbook/out/incremental/kept") == 11 ]]; then
     pass "what it kept goes to the crate"
 else
     fail "what it kept goes to the crate" "$(wc -l <"$repo/crates/lotbook/out/incremental/kept") times"
@@ -177,7 +189,7 @@ ended "nothing of that goes on"
 rm "$CALLS.slow" "$repo/crates/lotbook/src/slow"
 built=$(calls)
 wrapped "the next one goes on" 7 $((built + 1)) y
-if [[ ! -e $repo/.git/rooms && $(wc -l <"$repo/crates/lotbook/out/incremental/kept") == 11 ]]; then
+if [[ ! -e $repo/.git/rooms && $(wc -l <"$repo/crates/lotbook/out/incremental/kept") == 13 ]]; then
     pass "from what that one kept"
 else
     fail "from what that one kept" "$(wc -l <"$repo/crates/lotbook/out/incremental/kept") times"
@@ -275,6 +287,7 @@ compared() {
 }
 compared "compared: the same program" 0 "2 passed, 0 failed"
 echo "# another" >>"$repo/crates/lotbook/out/lotbook"
+sed -i "s/^program .*/program $(sha256sum <"$repo/crates/lotbook/out/lotbook" | cut -d ' ' -f 1)/" "$repo/crates/lotbook/out/sums"
 compared "compared: another program of the same sources" 1 "1 passed, 1 failed"
 echo more >>"$repo/crates/low/src/lib.rt"
 compared "compared: a program of other sources" 0 "1 passed, 0 failed"

@@ -8,7 +8,8 @@ others; one that is alone gets several, too. Progress goes to standard error, an
 
 A call of the kit keeps others out of the folder of each crate that it reads. So each crate is proved in a room, a folder of its own
 with the sources as they were when the build began, and with the libraries that were built before. What the kit leaves there is then
-moved to the crate's own out/. A build that is stopped loses the crates in work, and the next one goes on with those. The rooms stand
+moved to the crate's own out/. A build that is stopped loses the crates in work, and the next one goes on with those. What the program
+was built from is said by crates/lotbook/out/sums, beside it, which has the date at which the build began. The rooms stand
 below .git, or where there is none in a folder for temporary files, since the kit's gate refuses a second crates.txt anywhere else in
 the repository.
 
@@ -35,7 +36,8 @@ ROOT = os.path.dirname(os.path.dirname(os.path.abspath(__file__)))
 PROGRAM = "lotbook"
 OUT = f"{ROOT}/crates/{PROGRAM}/out"
 ROOMS = f"{ROOT}/.git/rooms" if os.path.isdir(f"{ROOT}/.git") else f"{tempfile.gettempdir()}/lotbook-rooms-{os.getpid()}"
-SOURCES = f"{ROOMS}/sources"
+TAKEN = f"{ROOMS}/sources"  # crates.txt and crates/ as they were when the build began
+SOURCES = f"{TAKEN}/crates"
 PARTS = ("src", "specs", "proofs")
 MOST_JOBS = 4  # a check gains little from more
 BEHIND = 10  # by so much crates that don't lead are nicer
@@ -71,9 +73,9 @@ def read(path):
         return it.read()
 
 
-def listed():
-    """The libraries that each crate of crates.txt stands on, those of the kit too."""
-    lines = (line.split("#")[0].replace(":", " ").split() for line in read(f"{ROOT}/crates.txt").splitlines())
+def listed(folder):
+    """The libraries that each crate of a folder's crates.txt stands on, those of the kit too."""
+    lines = (line.split("#")[0].replace(":", " ").split() for line in read(f"{folder}/crates.txt").splitlines())
     return {words[0]: words[1:] for words in lines if words}
 
 
@@ -168,12 +170,17 @@ def moved(one, other):
         shutil.move(one, other)
 
 
-def snapshot(names):
-    shutil.rmtree(SOURCES, ignore_errors=True)
-    for name in names:
+def snapshot():
+    """Takes the sources as they are now. Returns the crates of the program, each behind those that it stands on, with these."""
+    shutil.rmtree(TAKEN, ignore_errors=True)
+    os.makedirs(TAKEN)
+    shutil.copy2(f"{ROOT}/crates.txt", TAKEN)
+    crates = listed(TAKEN)
+    for name in below(crates, PROGRAM):
         for part in PARTS:
             if os.path.isdir(f"{ROOT}/crates/{name}/{part}"):
                 shutil.copytree(f"{ROOT}/crates/{name}/{part}", f"{SOURCES}/{name}/{part}")
+    return {name: crates[name] for name in below(crates, PROGRAM)}
 
 
 def furnish(crate):
@@ -182,7 +189,7 @@ def furnish(crate):
     os.makedirs(crate.room())
     if os.path.isfile(f"{ROOT}/HANDLES"):
         shutil.copy2(f"{ROOT}/HANDLES", crate.room())
-    crates = listed()
+    crates = listed(TAKEN)
     with open(f"{crate.room()}/crates.txt", "w", encoding="utf-8") as it:
         it.writelines(f"{name}: {' '.join(crates[name])}\n" for name in [*crate.names, crate.name])
     for name in [*crate.names, crate.name]:
@@ -454,6 +461,42 @@ def stopped(number, _):
     raise Stopped(number)
 
 
+# ---- what the program was built from
+
+
+def tool(name, *words):
+    """What a script of tools/ prints."""
+    found = subprocess.run([f"{ROOT}/tools/{name}", *words], stdin=subprocess.DEVNULL, stdout=subprocess.PIPE, text=True, check=False)
+    return found.stdout.strip() if found.returncode == 0 else ""
+
+
+def note(sources, begun):
+    """Writes the program's sums beside it, with the time at which its build began: what is changed later is newer."""
+    sums = tool("sums", f"{OUT}/{PROGRAM}", sources, kit())
+    if sources and sums:
+        with open(f"{OUT}/sums.new", "w", encoding="utf-8") as it:
+            it.write(f"{sums}\n")
+        os.utime(f"{OUT}/sums.new", (begun, begun))
+        os.replace(f"{OUT}/sums.new", f"{OUT}/sums")
+
+
+def is_stamped():
+    """Whether the program stands already: `rt run` left it, and by the kit's stamp it is of what stands here. If so it is noted."""
+    if not os.path.exists(f"{OUT}/{PROGRAM}.stamp"):
+        return False
+    begun, sources = now(), tool("sources", kit())
+    words = [sys.executable, "-B", f"{ROOT}/tools/stamped.py", os.path.realpath(RT), f"{ROOT}/crates/{PROGRAM}"]
+    if subprocess.run(words, stdin=subprocess.DEVNULL, stderr=subprocess.DEVNULL, check=False).returncode != 0 or tool("sources", kit()) != sources:
+        return False
+    note(sources, begun)
+    return True
+
+
+def now():
+    """The time, somewhat before that of a file that is written now: the system's dates of files lag a little."""
+    return time.time() - 0.02
+
+
 def built():
     os.makedirs(OUT, exist_ok=True)
     lock, is_other = held(f"{ROOT}/tools/build.py")
@@ -461,23 +504,26 @@ def built():
         say("another call is proving and building the program; waiting for it")
         fcntl.flock(lock, fcntl.LOCK_EX)
         return 3
-    crates = listed()
-    names = below(crates, PROGRAM)
     locks = []
-    for name in names:
+    for name in below(listed(ROOT), PROGRAM):
         locks.append(held(f"{ROOT}/crates/{name}"))
         if locks[-1][1]:
             say(f"waiting for another command of the kit to finish in crates/{name}")
             fcntl.flock(locks[-1][0], fcntl.LOCK_EX)
+    if is_stamped():
+        say("it stands: the kit's stamp says that it was built from these sources")
+        return 0
     leftovers()
     os.makedirs(ROOMS, 0o700, exist_ok=True)
-    snapshot(names)
+    begun, crates = now(), snapshot()
     known, times = {}, {**noted(f"{ROOT}/tools/times.json"), **noted(f"{OUT}/times.json")}
-    for name in names:
+    for name in crates:
         known[name] = Crate(name, crates, known, times)
     build = Build(known, processors(), free())
     try:
         is_well = build.whole()
+        if is_well:
+            note(tool("sources", kit(), TAKEN), begun)
     finally:
         build.stop()
         shutil.rmtree(ROOMS, ignore_errors=True)
