@@ -286,6 +286,20 @@ fi
 cat "$first" >&8 && exec 8>&-
 wait && [[ $(<"$scratch/first") == "$accepted" ]] && pass "the first post goes on" || fail "the first post goes on" "$(<"$scratch/first")"
 
+# Ten posts side by side, each of which waits for its turn: all of them are kept.
+makes "$scratch/turns.book"
+for number in {1..10}; do
+    printf '2020-01-01 open Assets:A%d\n2020-01-02 price A%d 1 USD\n' "$number" "$number" |
+        flock "$scratch/turns.lock" "$program" post --book "$scratch/turns.book" --batch "b$number" >"$scratch/turn.$number" 2>&1 &
+done
+wait
+if [[ $(cat "$scratch"/turn.* | sort | uniq -c | tr -s ' \n' ' ') == " 10 1 accepted 10 2 accepted " ]]; then
+    pass "ten posts that wait for their turn"
+else
+    fail "ten posts that wait for their turn" "$(cat "$scratch"/turn.* | sort | uniq -c | tr '\n' '|')"
+fi
+shows "each is in the book" "10|20" rows "$scratch/turns.book" "SELECT count(DISTINCT source), count(*) FROM entry"
+
 # ---- damage
 
 makes "$scratch/damaged.book"

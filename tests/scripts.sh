@@ -21,7 +21,9 @@ cat >"$scratch/kit/bin/rt" <<'END'
 #!/usr/bin/env bash
 case $1 in
     version) cat "$(dirname "$(readlink -f "$0")")/../KIT-ID" && exit ;;
-    ci) cat "$CI" && exit "$(<"$CI.status")" ;;
+    ci)
+        if [[ -e $CI.makes ]]; then source "$CI.makes"; fi
+        cat "$CI" && exit "$(<"$CI.status")" ;;
     all) exit "$(<"$CI.status")" ;;
     must-fail)
         for edit in crates/*/must-fail/*.edit; do echo "rt: must-fail ${edit//\/must-fail/}: $(<"$edit")"; done | sed 's|crates/||'
@@ -278,6 +280,192 @@ printf '#!/bin/sh\necho Linux aarch64\n' >"$scratch/tools/uname" && chmod +x "$s
 passed_over "another machine" "is for x86-64 Linux with glibc"
 mv "$scratch/uname" "$scratch/tools/uname"
 
+# ---- release/ in a checkout that the caller can't write
+
+# Another user calls where this one may become one; else this one, whose right to write the checkout is taken away.
+fresh
+mkdir "$scratch/others" && chmod 755 "$scratch" && chmod -R a+rX "$repo" "$scratch/kit" "$scratch/tools"
+other=() own=$EUID
+if ((EUID == 0)) && command -v setpriv >/dev/null; then
+    own=12345
+    other=("$(command -v setpriv)" --reuid "$own" --regid "$own" --clear-groups --)
+    chown "$own:$own" "$scratch/others"
+else
+    find "$repo" -type d ! -path '*/.git*' -exec chmod a-w {} +
+fi
+# belongs NAME: makes a folder of that user's.
+belongs() { "${other[@]}" mkdir -p "$1"; }
+place=$scratch/others
+belongs "$place/home" && belongs "$place/tmp"
+settings=(HOME="$place/home" TMPDIR="$place/tmp")
+around=() # what the call is made in
+# called NAME STATUS WORDS..: the user's call, with the path, the settings and the checkout at hand.
+called() {
+    local name=$1 wanted=$2
+    shift 2
+    printf 'in\n' | "${around[@]}" "${other[@]}" "$(command -v env)" -u HOME -u XDG_CACHE_HOME -u TMPDIR PATH="$path" "${settings[@]}" \
+        "$(command -v bash)" "$checkout/lotbook" "$@" >"$scratch/out" 2>"$scratch/err"
+    status=$?
+    if ((wanted == 7)); then printf 'words: %s\nin\n' "$*"; fi >"$scratch/expected"
+    if ((status != wanted)) || ! cmp -s "$scratch/out" "$scratch/expected"; then
+        fail "$name" "status $status; $(head -n 3 "$scratch/out" "$scratch/err" | tr '\n' '|')"
+    elif ((status == 7)) && [[ -s $scratch/err ]]; then
+        fail "$name" "on standard error: $(head -n 3 "$scratch/err" | tr '\n' '|')"
+    elif [[ -e $checkout/crates/lotbook/out ]]; then
+        fail "$name" "it wrote into the checkout"
+    else
+        pass "$name"
+    fi
+}
+# unpacked NAME FILES: these files and no others are below the user's folder, but for the folders named as `left`.
+left=none
+unpacked() {
+    local found
+    found=$(cd "$place" && find . -type f ! -path "$left" | sed -E 's/released-[0-9a-f]{64}$/released/; s/lotbook-[0-9]+\.[A-Za-z0-9]{10}/lotbook-N.X/' | sort | tr '\n' ' ')
+    if [[ $found == "$2" ]]; then pass "$1"; else fail "$1" "$found"; fi
+}
+cached=./home/.cache/lotbook/released temporary=./tmp/lotbook-N.X/released
+path=$without checkout=$repo
+called "a checkout that can't be written" 7 a "b c"
+unpacked "its program is in the cache" "$cached "
+is_private=$(stat -c '%a %u' "$place/home/.cache/lotbook")
+if [[ $is_private == "700 $own" ]]; then pass "the folder is the user's alone"; else fail "the folder is the user's alone" "$is_private"; fi
+was=$(stat -c '%i %y' "$place"/home/.cache/lotbook/*)
+called "again" 7 x
+if [[ $(stat -c '%i %y' "$place"/home/.cache/lotbook/*) == "$was" ]]; then pass "it is unpacked once"; else fail "it is unpacked once" "$was"; fi
+path=$with called "with a kit" 7 x
+for kept in "$place"/home/.cache/lotbook/*; do printf 'echo changed\n' >>"$kept"; done
+called "one that was changed there isn't run" 7 x
+printf '#!/bin/sh\necho evil\n' >"$scratch/evil" && chmod 755 "$scratch/evil"
+"${other[@]}" ln -sf "$scratch/evil" "$kept"
+called "nor what a link there leads to" 7 x
+if [[ ! -L $kept ]]; then pass "the link is gone"; else fail "the link is gone" "$(readlink "$kept")"; fi
+"${other[@]}" touch -d '40 days ago' "${kept%/*}/released-0" && "${other[@]}" touch -d '2 hours ago' "${kept%/*}/unpacked.0" && rm "$kept"
+called "what older calls left there goes" 7 x
+unpacked "it is gone" "$cached "
+rm -r "$place/home/.cache"
+for which in one two three; do
+    "${other[@]}" env PATH="$path" "${settings[@]}" "$(command -v bash)" "$repo/lotbook" "$which" </dev/null >"$scratch/$which" 2>&1 &
+done
+wait
+if [[ "$(<"$scratch/one") $(<"$scratch/two") $(<"$scratch/three")" == "words: one words: two words: three" ]]; then
+    pass "three first calls at once"
+else
+    fail "three first calls at once" "$(cat "$scratch"/{one,two,three} | tr '\n' '|')"
+fi
+unpacked "they leave one program" "$cached "
+rm -r "$place/home/.cache"
+
+settings=(HOME="$place/home" XDG_CACHE_HOME="$place/a cache" TMPDIR="$place/tmp")
+called "a cache with a blank in its name, that isn't there yet" 7 x
+unpacked "that is made" "./a cache/lotbook/released "
+rm -r "$place/a cache"
+settings=(HOME="$place/home" XDG_CACHE_HOME="cache" TMPDIR="$place/tmp")
+called "a cache that is no whole path" 7 x
+unpacked "the home's is taken" "$cached "
+rm -r "$place/home/.cache"
+settings=(TMPDIR="$place/tmp")
+called "no HOME" 7 x
+called "again without it" 7 y
+unpacked "one among the temporary files" "$temporary "
+settings=(HOME=/nowhere TMPDIR="$place/tmp")
+called "a HOME that isn't there" 7 x
+settings=(HOME=/ TMPDIR="$place/tmp")
+called "another user's HOME" 7 x
+settings=(HOME="$scratch/evil" TMPDIR="$place/tmp")
+called "a HOME that is a file" 7 x
+settings=(HOME="$place/home" TMPDIR="$place/tmp")
+left="./tmp/*"
+# passed_by NAME: the folder in the cache isn't used.
+passed_by() {
+    called "$1" 7 x
+    unpacked "$1: it isn't used" ""
+    rm -rf "$place/home/.cache"
+}
+belongs "$place/home/.cache/lotbook" && chmod 777 "$place/home/.cache/lotbook"
+passed_by "a folder that others can write"
+belongs "$place/home/.cache" && belongs "$place/elsewhere" && chmod 700 "$place/elsewhere" && "${other[@]}" ln -s "$place/elsewhere" "$place/home/.cache/lotbook"
+passed_by "a link in place of the folder"
+belongs "$place/home/.cache/lotbook" && chmod 700 "$place/home/.cache/lotbook" && chmod 777 "$place/home/.cache"
+passed_by "a folder that others can replace"
+belongs "$place/home/.cache" && chmod a-w "$place/home/.cache"
+((EUID == 0 && own == 0)) || passed_by "a cache that can't be written"
+if ((own != EUID)); then
+    mkdir -p "$place/home/.cache/lotbook" && chmod -R 700 "$place/home/.cache/lotbook" && chmod 755 "$place/home/.cache"
+    passed_by "another user's folder in the cache"
+    settings=(TMPDIR="$place/tmp")
+    rm -r "$place"/tmp/* && chmod 1777 "$place/tmp" && mkdir -m 755 "$place/tmp/lotbook-$own.AAAAAAAAAA"
+    cp "$scratch/evil" "$place/tmp/lotbook-$own.AAAAAAAAAA/released-$(sed -n 's/^program //p' "$repo/release/sums")"
+    called "another user's folder among the temporary files" 7 x
+    rm -r "$place/tmp/lotbook-$own.AAAAAAAAAA"
+    left=none unpacked "it isn't used" "$temporary "
+else
+    echo "skipped: this user may not call as another one"
+fi
+rm -r "$place"/tmp/* && chmod 777 "$place/tmp"
+settings=(HOME="$place/home" TMPDIR="$place/tmp")
+called "the cache again" 7 x
+rm -r "$place/home/.cache"
+settings=(HOME=/nowhere TMPDIR="$place/tmp")
+called "temporary files that others can replace" 4 x
+says "the reason is said" "the program in release/ finds no folder of yours to run in"
+chmod 755 "$place/tmp"
+settings=(HOME=/nowhere TMPDIR=/nowhere)
+called "no folder" 4 x
+messages "no folder: one sentence" 1
+says "no folder: the reason" "^lotbook: there is no program yet, and the program in release/ finds no folder of yours to run in: XDG_CACHE_HOME or TMPDIR may name one; and the Rattle kit is missing"
+path=$with called "no folder, with a kit" 4 x
+says "no folder, with a kit: the reason" "; and it can't be built, since .*/crates/lotbook/out can't be written$"
+path=$without
+
+settings=(HOME="$place/home" TMPDIR="$place/tmp")
+cp -r "$repo" "$scratch/a checkout" && chmod u+w "$scratch/a checkout/crates/right/src" && checkout="$scratch/a checkout"
+called "a checkout with a blank in its name" 7 "a b"
+was=$(sed -n 1p "$checkout/crates/right/src/lib.rt")
+echo "fn changed()" >"$checkout/crates/right/src/lib.rt" && touch -d 2001-01-01 "$checkout/crates/right/src/lib.rt"
+called "a changed source with an older date" 4 x
+says "it is of other sources" "the program in release/ is of other sources; and the Rattle kit is missing"
+echo "$was" >"$checkout/crates/right/src/lib.rt"
+checkout=$repo
+rm -r "$place/home/.cache"
+
+# What a mount makes of it: a read-only checkout, a cache where no program runs, one that is full.
+mounts=(unshare -m)
+((EUID == 0)) || mounts=(unshare -rm)
+mkdir "$scratch/mount" && chmod 755 "$scratch/mount"
+if "${mounts[@]}" mount -t tmpfs tmpfs "$scratch/mount" 2>/dev/null; then
+    # mounting [FOLDER OPTIONS]: around the calls, the checkout is read-only, and in place of the folder stands a file system that is made with
+    # the options and has a page of bytes.
+    mounting() {
+        around=("${mounts[@]}" "$(command -v bash)" -c 'PATH=$1 checkout=$2 place=$3 options=$4
+            mount --bind "$checkout" "$checkout" && mount -o remount,ro,bind "$checkout" || exit 99
+            if [[ $place ]]; then mount -t tmpfs -o "$options" tmpfs "$place" && head -c 4096 /dev/zero >"$place/more" 2>/dev/null; fi
+            shift 4
+            "$@"' bash "$PATH" "$repo" "${1:-}" "${2:-}")
+    }
+    belongs "$place/home/.cache"
+    belongs "$place/home/.cache/lotbook" && chmod 700 "$place/home/.cache/lotbook"
+    whose=uid=$own,gid=$own
+    ((own != EUID)) || whose=uid=0
+    mounting "$place/home/.cache/lotbook" "mode=700,$whose,noexec"
+    called "a cache where no program runs" 7 x
+    mounting "$place/home/.cache/lotbook" "mode=700,$whose,size=4k"
+    rm -rf "$place"/tmp/*
+    called "a full cache" 7 x
+    left=none unpacked "one among the temporary files in its place" "$temporary "
+    settings=(HOME="$place/home" TMPDIR=/nowhere)
+    mounting "$place/home/.cache/lotbook" "mode=700,$whose,noexec"
+    called "no other folder" 4 x
+    says "no other folder: the reason" "finds no folder of yours to run in, $place/home/.cache/lotbook allows no programs: "
+    mounting
+    settings=(HOME="$place/home" TMPDIR="$place/tmp")
+    called "a read-only checkout" 7 x
+    around=()
+else
+    echo "skipped: no file system can be mounted here"
+fi
+chmod -R u+w "$repo" "$scratch/a checkout" && path=$with
+
 # compared NAME STATUS LASTLINE: tests/release.sh of the repository.
 mkdir "$repo/examples" && cp -r "$root/tests/lib" "$root/tests/release.sh" "$repo/tests/"
 compared() {
@@ -319,6 +507,15 @@ echo 0 >"$CI.status"
 printf 'some lines\n4 passed, 0 failed\n' >"$CI"
 tested "test: all counts are added" 0 "5 passed, 0 failed"
 tested "test: the whole" 0 "15 passed, 0 failed" whole
+if [[ ! -e $repo/crates/lotbook/out/sums ]]; then pass "test: no program and no sums"; else fail "test: no program and no sums" "$(<"$repo/crates/lotbook/out/sums")"; fi
+echo "printf '#!/bin/sh\\necho built\\n' >crates/lotbook/out/lotbook && chmod +x crates/lotbook/out/lotbook" >"$CI.makes"
+tested "test: the gate leaves a program" 0 "5 passed, 0 failed"
+printf 'built\n' >"$scratch/expected" && PATH=$without "$repo/lotbook" >"$scratch/out" 2>"$scratch/err" && status=0 || status=$?
+expect "test: it is run" 0 "$scratch/expected"
+echo "echo // more >>crates/left/src/lib.rt" >>"$CI.makes"
+tested "test: a source is changed meanwhile" 0 "5 passed, 0 failed"
+if [[ ! -e $repo/crates/lotbook/out/sums ]]; then pass "test: then nothing is said of it"; else fail "test: then nothing is said of it" "$(<"$repo/crates/lotbook/out/sums")"; fi
+rm "$CI.makes"
 tested "test: another word" 2 "0 passed, 1 failed" all
 printf '4 passed, 2 failed\n' >"$CI" && echo 1 >"$CI.status"
 tested "test: a failure of the gate" 1 "5 passed, 2 failed"
