@@ -1,24 +1,32 @@
-# Completion of lotbook's words, options and books in bash: source completions/lotbook.bash
-# tests/completion.sh holds it to the help of the program.
+# Completion of lotbook in bash: source completions/lotbook.bash
+# Written by tools/pages.py from the subcommands of the program: change those, and run it again.
 
-# The words of the program, and those of `explain` and `help`.
+# The words of the program, and those of `help`; the codes of `explain`.
 _lotbook_words="init migrate post import holdings gains journal verify explain help"
+_lotbook_codes="N1 N2 N3 N4 M1 M2 M3 M4 M5 I1 B1 B2 B3 B4 B5 B6"
+_lotbook_codes+=" L1 L2 L3 L4 L5 L6 L7 L8 L9 L10 L11 L12 L13 L14 L15 L16"
+_lotbook_codes+=" X1 X2 X3 X4 X5 X6 X7 C1 C2 C3 C4 S1 S2 S3 S4 S5"
+_lotbook_codes+=" S6 S7 S8 P1 P2 P3 U1 U2 K1 K2 Memory open"
 
 # _lotbook_options WORD: prints the options of a word, or of a call without one.
 _lotbook_options() {
     case $1 in
-        init | migrate) echo --book --dry-run --quiet --help ;;
-        post) echo --book --batch --row-of --ref --from --dry-run --all-or-none --explain-all --quiet --help ;;
+        init) echo --book --dry-run --quiet --help ;;
+        migrate) echo --book --dry-run --quiet --help ;;
+        post)
+            echo --book --batch --row-of --ref --from --dry-run --all-or-none --explain-all --quiet --help
+            ;;
         import)
-            echo --book --batch --invest --cash --fees --gains --from
-            echo --dry-run --all-or-none --explain-all --quiet --help
+            echo --book --batch --invest --cash --fees --gains --from --dry-run --all-or-none --explain-all --quiet
+            echo --help
             ;;
         holdings) echo --book --day --format --quiet --help ;;
         gains) echo --book --first --last --format --quiet --help ;;
-        journal | verify) echo --book --quiet --help ;;
+        journal) echo --book --quiet --help ;;
+        verify) echo --book --quiet --help ;;
         explain) echo --help ;;
         help) ;;
-        *) echo --quiet --explain-all --help --version ;;
+        *) echo --explain-all --quiet --help --version ;;
     esac
 }
 
@@ -52,13 +60,15 @@ _lotbook() {
             _lotbook_offer -W "text csv"
             return
             ;;
-        --batch | --row-of | --ref | --from | --invest | --cash | --fees | --gains | --day | --first | --last) return ;;
+        --batch | --cash | --day | --fees | --first | --from | --gains | --invest | --last | --ref | --row-of) return ;;
     esac
     if [[ $current == -* ]]; then
         _lotbook_offer -W "$(_lotbook_options "$word")"
     elif [[ -z $word || $word == help ]]; then
         _lotbook_offer -W "$_lotbook_words"
-    elif [[ $word != explain ]]; then
+    elif [[ $word == explain ]]; then
+        _lotbook_offer -W "$_lotbook_codes"
+    else
         _lotbook_offer -W "$(_lotbook_options "$word")"
     fi
 }

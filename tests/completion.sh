@@ -1,5 +1,6 @@
 #!/usr/bin/env bash
-# The completion for bash: the words, the options and the files that it offers, against the help of the program.
+# The completions for bash, zsh and fish: the words, the options, the codes and the files that they offer, against the help of the
+# program. That they are what tools/words.py writes is a case of tests/generated.sh.
 source "$(dirname "$(readlink -f "${BASH_SOURCE[0]}")")/lib/cases.sh"
 need_program
 source "$root/completions/lotbook.bash"
@@ -45,7 +46,9 @@ for word in $words; do
     offers "the options of $word behind one of the program" "$options" --quiet "$word" --
 done
 offers "the options of a call without a word" "$(options_in_help)" -
-offers "no code" "" explain ""
+codes=$("$program" explain | sed 's/[ :].*//' | sort)
+offers "the codes" "$codes" explain ""
+offers "the codes that begin so" "$(grep '^B' <<<"$codes")" explain B
 offers "the option that begins so" "--batch" post --book f --ba
 
 # Files for --book, in both forms; no value is offered for other options.
@@ -69,5 +72,81 @@ for word in $words; do
         esac
     done
 done
+
+# ---- zsh and fish
+
+# names FILE: the file has each word, each option and each code; a shell that is there takes it.
+names() {
+    local word option missing=""
+    for word in $words $codes; do grep -qw -- "$word" "$root/completions/$1" || missing+=" $word"; done
+    for word in "" $words; do
+        [[ $word != help ]] || continue
+        for option in $(options_in_help $word); do grep -qE -- "(--|-l )${option#--}[^a-z-]" "$root/completions/$1" || missing+=" $option"; done
+    done
+    if [[ ! $missing ]]; then pass "$1 names all"; else fail "$1 names all" "not$missing"; fi
+}
+# read_by SHELL FILE: it reads the file without a complaint.
+read_by() {
+    if said=$("$1" -n "$root/completions/$2" 2>&1) && [[ ! $said ]]; then pass "$1 reads $2"; else fail "$1 reads $2" "$said"; fi
+}
+for file in lotbook.bash _lotbook lotbook.fish; do names "$file"; done
+read_by bash lotbook.bash
+
+# lists NAME WANTED LINE: fish offers exactly these lines for the last word of a line.
+lists() {
+    local got
+    got=$(HOME=$scratch XDG_DATA_HOME=$scratch XDG_CONFIG_HOME=$scratch fish --no-config -c "source \"$root/completions/lotbook.fish\"; complete -C '$3'" |
+        cut -f 1 | sort)
+    if [[ $got == "$2" ]]; then pass "fish: $1"; else fail "fish: $1" "'$(tr '\n' ' ' <<<"$got")' instead of '$(tr '\n' ' ' <<<"$2")'"; fi
+}
+if command -v fish >/dev/null; then
+    read_by fish lotbook.fish
+    lists "the words" "$words" "lotbook "
+    lists "the words of help" "$words" "lotbook help "
+    lists "the codes" "$codes" "lotbook explain "
+    lists "the options of a call without a word" "$(options_in_help)" "lotbook --"
+    for word in $words; do
+        [[ $word == help ]] || lists "the options of $word" "$(options_in_help "$word")" "lotbook --quiet $word --"
+    done
+    lists "the books that begin so" "family.book" "lotbook post --book fam"
+    lists "the formats" $'csv\ntext' "lotbook gains --format "
+    lists "no batch" "" "lotbook post --batch "
+else
+    echo "skipped: there is no fish on this machine"
+fi
+
+if command -v zsh >/dev/null; then
+    read_by zsh _lotbook
+    typed=() wanted=()
+    # makes WANTED TYPED: zsh makes this of such a line; its last blank, or the `=` of an option with a value, isn't compared.
+    makes() {
+        wanted+=("$1")
+        typed+=("$2")
+    }
+    for word in $words; do
+        makes "lotbook $word" "lotbook ${word%?}"
+        makes "lotbook help $word" "lotbook help ${word%?}"
+        [[ $word != help ]] || continue
+        for option in $(options_in_help "$word"); do makes "lotbook --quiet $word $option" "lotbook --quiet $word ${option%?}"; done
+    done
+    for option in $(options_in_help); do makes "lotbook $option" "lotbook ${option%?}"; done
+    makes "lotbook explain B2" "lotbook explain B2"
+    makes "lotbook explain Memory" "lotbook explain Mem"
+    makes "lotbook gains --format csv" "lotbook gains --format c"
+    makes "lotbook gains --format=text" "lotbook gains --format=t"
+    makes "lotbook post --book family.book" "lotbook post --book fam"
+    makes "lotbook post --book=family.book" "lotbook post --book=fam"
+    makes "lotbook post --batch fam" "lotbook post --batch fam"
+    mkdir "$scratch/zsh" && touch "$scratch/zsh/family.book"
+    printf '%s\n' "${typed[@]}" | python3 -B "$root/tests/lib/zsh.py" "$scratch/zsh" "$root/completions" 2>&1 | sed 's/[ =]$//' >"$scratch/got"
+    printf '%s\n' "${wanted[@]}" >"$scratch/wanted"
+    if ((${#wanted[@]} > 40)) && cmp -s "$scratch/got" "$scratch/wanted"; then
+        pass "zsh completes words, options, codes and files"
+    else
+        fail "zsh completes words, options, codes and files" "$(diff "$scratch/wanted" "$scratch/got" | head -n 6 | tr '\n' '|')"
+    fi
+else
+    echo "skipped: there is no zsh on this machine"
+fi
 
 finish

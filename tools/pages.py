@@ -1,7 +1,8 @@
 #!/usr/bin/env python3
 """Writes what the pages take from the sources: docs/CALLS.md, docs/DEFINITIONS.md, the crates and
 the scripts in docs/ARCHITECTURE.md, limits, words, codes and the map in docs/RULES.md, the
-headline in docs/PROVED.md, and that, the sizes and the prover's time in docs/RESEARCH.md.
+headline in docs/PROVED.md, and that, the sizes and the prover's time in docs/RESEARCH.md; by words.py
+lotbook.1 and completions/.
 
     tools/pages.py            writes them
     tools/pages.py --check    compares them with the sources, and so the codes that pages and
@@ -18,6 +19,9 @@ import re
 import sys
 from collections import OrderedDict, namedtuple
 from pathlib import Path
+
+sys.dont_write_bytecode = True
+import words as subcommands  # noqa: E402
 
 ROOT = Path(__file__).resolve().parent.parent
 CRATES = ROOT / "crates"
@@ -570,8 +574,8 @@ def headline():
     yield "```"
 
 
-def explained():
-    """The codes that lot_explain tells of: code, name, what is wrong, and where to read on."""
+def all_codes():
+    """What lot_explain tells of: the code, which is the name where it has no other, the name, what is wrong, and where to read on."""
     home = CRATES / "lot_explain/src/codes"
     order = re.findall(r"&(\w+)::CODES", home.with_suffix(".rt").read_text())
     told = re.compile(
@@ -580,8 +584,12 @@ def explained():
     )
     for part in order:
         for code, name, brief, page in told.findall((home / (part + ".rt")).read_text()):
-            if code != name:
-                yield code, name, re.sub(r"\\\n\s*", "", brief), page
+            yield code, name, re.sub(r"\\\n\s*", "", brief), page
+
+
+def explained():
+    """Those of them that have a code."""
+    return ((code, name, brief, page) for code, name, brief, page in all_codes() if code != name)
 
 
 def codes():
@@ -731,6 +739,7 @@ def generated():
             ("docs/RULES.md", rules),
             ("docs/PROVED.md", proved),
             ("docs/RESEARCH.md", research),
+            *subcommands.files([(code, "%s: %s" % (name, brief)) for code, name, brief, _ in all_codes()]).items(),
         ]
     )
 
