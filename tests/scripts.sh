@@ -507,8 +507,10 @@ echo 0 >"$CI.status"
 printf 'some lines\n4 passed, 0 failed\n' >"$CI"
 tested "test: all counts are added" 0 "5 passed, 0 failed"
 tested "test: the whole" 0 "15 passed, 0 failed" whole
-if [[ ! -e $repo/crates/lotbook/out/sums ]]; then pass "test: no program and no sums"; else fail "test: no program and no sums" "$(<"$repo/crates/lotbook/out/sums")"; fi
-echo "printf '#!/bin/sh\\necho built\\n' >crates/lotbook/out/lotbook && chmod +x crates/lotbook/out/lotbook" >"$CI.makes"
+rm "$repo/crates/lotbook/out/sums"
+tested "test: the gate stops at once" 0 "5 passed, 0 failed"
+if [[ ! -e $repo/crates/lotbook/out/sums ]]; then pass "test: nothing is said of an earlier program"; else fail "test: nothing is said of an earlier program" "$(<"$repo/crates/lotbook/out/sums")"; fi
+echo "rm -r crates/lotbook/out && mkdir crates/lotbook/out && printf '#!/bin/sh\\necho built\\n' >crates/lotbook/out/lotbook && chmod +x crates/lotbook/out/lotbook" >"$CI.makes"
 tested "test: the gate leaves a program" 0 "5 passed, 0 failed"
 printf 'built\n' >"$scratch/expected" && PATH=$without "$repo/lotbook" >"$scratch/out" 2>"$scratch/err" && status=0 || status=$?
 expect "test: it is run" 0 "$scratch/expected"

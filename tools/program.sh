@@ -129,7 +129,7 @@ unpack() {
     # What a call left that was killed, and programs of other versions, which are unpacked again where they are needed.
     find "$folder" -maxdepth 1 -type f \( -name 'unpacked.*' -mmin +60 -o -name 'released-*' -mtime +30 \) -delete 2>/dev/null
     scratch=$(mktemp "$folder/unpacked.XXXXXXXXXX" 2>/dev/null) || return
-    if gzip -dc "$packed" 2>/dev/null >"$scratch" && is_whole "$scratch" && chmod =rwx "$scratch"; then
+    if gzip -dc "$packed" 2>/dev/null >|"$scratch" && is_whole "$scratch" && chmod =rwx "$scratch"; then
         if [[ ! -x $scratch ]]; then
             problem="allows no programs"
         elif [[ $("$scratch" </dev/null 2>/dev/null) != "nothing held" ]]; then
