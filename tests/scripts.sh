@@ -376,8 +376,9 @@ settings=(HOME="$scratch/evil" TMPDIR="$place/tmp")
 called "a HOME that is a file" 7 x
 settings=(HOME="$place/home" TMPDIR="$place/tmp")
 left="./tmp/*"
-# passed_by NAME: the folder in the cache isn't used.
+# passed_by NAME: the folder in the cache isn't used, though there is no other yet.
 passed_by() {
+    rm -rf "$place"/tmp/*
     called "$1" 7 x
     unpacked "$1: it isn't used" ""
     rm -rf "$place/home/.cache"
@@ -421,13 +422,25 @@ path=$without
 settings=(HOME="$place/home" TMPDIR="$place/tmp")
 cp -r "$repo" "$scratch/a checkout" && chmod u+w "$scratch/a checkout/crates/right/src" && checkout="$scratch/a checkout"
 called "a checkout with a blank in its name" 7 "a b"
-was=$(sed -n 1p "$checkout/crates/right/src/lib.rt")
+cp "$checkout/crates/right/src/lib.rt" "$scratch/lib.rt"
 echo "fn changed()" >"$checkout/crates/right/src/lib.rt" && touch -d 2001-01-01 "$checkout/crates/right/src/lib.rt"
 called "a changed source with an older date" 4 x
 says "it is of other sources" "the program in release/ is of other sources; and the Rattle kit is missing"
-echo "$was" >"$checkout/crates/right/src/lib.rt"
-checkout=$repo
+cp "$scratch/lib.rt" "$checkout/crates/right/src/"
 rm -r "$place/home/.cache"
+if ((own != EUID)); then
+    # Who rules the machine leaves nothing in another user's checkout or cache.
+    chown "$own" "$checkout/crates/lotbook" && mkdir -p -m 700 "$scratch/cache/lotbook" && mkdir "$scratch/roots" && chown "$own" "$scratch/cache/lotbook"
+    their=("${other[@]}") other=() settings=(XDG_CACHE_HOME="$scratch/cache" TMPDIR="$scratch/roots")
+    called "root in another user's checkout" 7 x
+    if [[ $(ls -A "$scratch/cache/lotbook") == "" && $(ls "$scratch/roots") == lotbook-0.* ]]; then
+        pass "nor in another user's folder"
+    else
+        fail "nor in another user's folder" "$(ls "$scratch/cache/lotbook" "$scratch/roots" | tr '\n' ' ')"
+    fi
+    other=("${their[@]}") settings=(HOME="$place/home" TMPDIR="$place/tmp")
+fi
+checkout=$repo
 
 # What a mount makes of it: a read-only checkout, a cache where no program runs, one that is full.
 mounts=(unshare -m)
