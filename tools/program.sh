@@ -19,7 +19,7 @@ say() { printf 'lotbook: %s\n' "$*" >&2 || :; } # a message that can't be writte
 # The line that names the kit. The kit's own command for it takes a third of a second, and this runs at each call.
 kit_id() {
     local rt
-    rt=$(command -v rt) && rt=$(readlink -f "$rt") && cat "${rt%/*}/../KIT-ID" 2>/dev/null
+    rt=$(command -v rt) && rt=$(readlink -f "$rt") && { printf '%s' "$(<"${rt%/*}/../KIT-ID")"; } 2>/dev/null
 }
 
 declare -A held=()
@@ -45,8 +45,22 @@ is_of_these_sources() {
     [[ $sources && $sources == "${held[sources]}" ]]
 }
 
+# sum_ahead FILE: begins to sum the file that `is_whole` is asked for next, beside what is done meanwhile.
+summing=""
+sum_ahead() { summing=$1 && exec {sum_of}< <(sha256sum <"$1" 2>/dev/null); }
+
 # is_whole FILE: whether it has the sum of the program that `held` names.
-is_whole() { [[ -f $1 && $(sha256sum <"$1" 2>/dev/null) == "${held[program]}  -" ]]; }
+is_whole() {
+    local sum=""
+    if [[ $summing == "$1" ]]; then
+        read -r sum <&"$sum_of"
+        exec {sum_of}<&-
+        summing=""
+    else
+        sum=$(sha256sum <"$1" 2>/dev/null)
+    fi
+    [[ $sum == "${held[program]} "* ]]
+}
 
 # ---- the program that was built here
 
@@ -55,16 +69,19 @@ newer() { (($# > 1)) && [[ -n $(find "${@:2}" -newer "$1" -print -quit) ]]; }
 
 # is_built: the program that was built here can be run; else why not, in `why`.
 is_built() {
-    local proved
+    local of_these=1 proved
     program=$out/lotbook
     why="there is no program yet"
     [[ -x $program ]] || return
     why="nothing says from which sources its program was built"
-    read_sums "$out/sums" && is_whole "$program" || return
+    read_sums "$out/sums" || return
+    sum_ahead "$program"
+    is_of_these_sources && of_these=0
+    is_whole "$program" || return
     why="another kit built the program"
     if is_of_another_kit; then return 1; fi
     why="its sources changed"
-    is_of_these_sources || return
+    ((of_these == 0)) || return
     why="a definition or a proof is newer than the program"
     shopt -s nullglob
     proved=("$root"/crates/*/specs "$root"/crates/*/proofs)
@@ -160,20 +177,27 @@ unpack_somewhere() {
 
 # is_released: the program that release/ holds can be run; else why not, in `why`.
 is_released() {
-    local place folder sum
+    local place folder standing=() right="" of_these=1 sum
     why="release/ holds no program"
     [[ -f $packed ]] && read_sums "$root/release/sums" || return
     why="the program in release/ is of another kit"
     if is_of_another_kit; then return 1; fi
-    why="the program in release/ is of other sources"
-    is_of_these_sources || return
-    why="the program in release/ is for x86-64 Linux with glibc"
-    [[ $(uname -sm) == "Linux x86_64" && $(getconf GNU_LIBC_VERSION 2>/dev/null) == glibc* ]] || return
-    why=""
     for place in folder_here folder_in_cache folder_in_tmp; do
         folder=$($place) && program=$folder/released-${held[program]} || continue
-        if [[ ! -L $program && -x $program ]] && is_whole "$program"; then return; fi
+        if [[ ! -L $program && -f $program && -x $program ]]; then standing+=("$program"); fi
     done
+    if ((${#standing[@]})); then sum_ahead "${standing[0]}"; fi
+    is_of_these_sources && of_these=0
+    for program in "${standing[@]}"; do
+        if is_whole "$program"; then right=$program && break; fi
+    done
+    why="the program in release/ is of other sources"
+    ((of_these == 0)) || return
+    why=""
+    program=$right
+    if [[ $right ]]; then return; fi
+    why="the program in release/ is for x86-64 Linux with glibc"
+    [[ $(uname -sm) == "Linux x86_64" && $(getconf GNU_LIBC_VERSION 2>/dev/null) == glibc* ]] || return
     why="the program in release/ can't be unpacked"
     sum=$(gzip -dc "$packed" 2>/dev/null | sha256sum) || return
     why="the program in release/ isn't the one that release/sums names"
