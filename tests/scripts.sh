@@ -220,6 +220,23 @@ for it in "rt 5 lib --jobs 3,build -o made --statements,check --incremental kept
     if ((status == wanted)) && [[ $said == "$expected" ]]; then pass "tools/library.py with $name"; else fail "tools/library.py with $name" "status $status, '$said'"; fi
 done
 
+# The kit's stamp beside a program says whether it is of what stands there.
+mkdir -p "$scratch/stamped/kit" "$scratch/stamped/it/out" && echo program >"$scratch/stamped/it/out/it" && echo source >"$scratch/stamped/source"
+printf '%s\n' 'import os' 'text_of = lambda file: open(file).read() if os.path.isfile(file) else None' 'sum_of = lambda file: repr(text_of(file))' 'class Crate:' \
+    '    def __init__(self, name): self.name = name' '    def stamp(self): return self.name + text_of("source")' \
+    'crates_below = lambda folder: [Crate("below"), Crate(os.path.basename(folder))]' >"$scratch/stamped/kit/rtlib.py"
+stamped() {
+    (cd "$scratch/stamped" && python3 -B "$root/tools/stamped.py" "$scratch/stamped/kit/rt" "$scratch/stamped/it") 2>"$scratch/err" && status=0 || status=$?
+    if ((status == $2)); then pass "tools/stamped.py: $1"; else fail "tools/stamped.py: $1" "status $status"; fi
+}
+stamped "no stamp" 1
+printf 'itsource\n%s' "'program\\n'" >"$scratch/stamped/it/out/it.stamp"
+stamped "the program of these sources" 0
+echo other >"$scratch/stamped/source"
+stamped "other sources" 1
+echo source >"$scratch/stamped/source" && echo other >"$scratch/stamped/it/out/it"
+stamped "another program" 1
+
 # ---- release/
 
 release() { PATH=$path "$repo/tools/release.sh" >"$scratch/out" 2>"$scratch/err" </dev/null; }
