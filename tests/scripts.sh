@@ -383,7 +383,9 @@ unpacked "the home's is taken" "$cached "
 rm -r "$place/home/.cache"
 settings=(TMPDIR="$place/tmp")
 called "no HOME" 7 x
+was=$(stat -c '%i %y' "$place"/tmp/*/*)
 called "again without it" 7 y
+if [[ $(stat -c '%i %y' "$place"/tmp/*/*) == "$was" ]]; then pass "it is unpacked once there, too"; else fail "it is unpacked once there, too" "$was"; fi
 unpacked "one among the temporary files" "$temporary "
 settings=(HOME=/nowhere TMPDIR="$place/tmp")
 called "a HOME that isn't there" 7 x
