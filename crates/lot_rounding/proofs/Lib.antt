@@ -1,0 +1,4 @@
+mod NearestLemmas
+mod RateLemmas
+mod CrumbLemmas
+mod OneLemmas

@@ -1,0 +1,4 @@
+pub mod Nearest
+pub mod Rates
+pub mod Crumbs
+pub mod Completion
