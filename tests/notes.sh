@@ -355,6 +355,7 @@ D-1,2024-01-15,BUY,HOOL,10,102.50,USD,4.95
 D-2,2024-01-16,BUY,HOOL,10,103.50,USD,4.95
 "D-3",2024-02-16,SELL,HOOL,5,"1,103.50",USD,4.95
 lotbook: row 3 (D-3): B2 Ambiguous: several lots fit the braces, and STRICT doesn't choose among them: lots that fit now: 2, with 20 units; they differ in day, cost: "D-3",2024-02-16,SELL,HOOL,5,"1,103.50",USD,4.95
+lotbook: row 3 (D-3): warning: price 1,103.50 is read as 1103.5: commas are skipped, decimals stand behind a point: "D-3",2024-02-16,SELL,HOOL,5,"1,103.50",USD,4.95
 == 3 rows faulty rows
 ref,date,action,symbol,units,price,currency,fee
 D-1,2024-01-15,BUY,HOOL,10,102.50,USD,4.95
@@ -398,13 +399,83 @@ lotbook: row 1 (D-9): B4 IncompleteCost: the braces open a lot, and don't give i
 lotbook: row 3 (D-3): L10 BackDated: a later day of this account and commodity is booked at cost already: the latest is 2024-02-15, of entry 5: D-3,2024-01-15,BUY,HOOL,5,102.50,USD,4.95
 lotbook: row 4 (D-2): L1 KeyReused: another command has this key already: entry 5, with the line `2024-02-15 * "D-2"`: D-2,2024-01-15,BUY,HOOL,6,102.50,USD,4.95
 lotbook: warning: the first row is of 2024-03-15, the last of 2024-01-15: rows stand in the order of their days, the oldest first
-lotbook: row 1 (D-9): warning: 102,50 is read as 10250: decimals stand behind a point: D-9,2024-03-15,SELL,HOOL,10,"102,50",USD,4.95
+lotbook: row 1 (D-9): warning: price 102,50 is read as 10250: commas are skipped, decimals stand behind a point: D-9,2024-03-15,SELL,HOOL,10,"102,50",USD,4.95
 lotbook: row 4 (D-2): warning: row 2 has this ref, too: a deal is known by it, so this one is a repeat or refused: D-2,2024-01-15,BUY,HOOL,6,102.50,USD,4.95
 == 0 rows rows without a fault
 ref,date,action,symbol,units,price,currency,fee
-D-1,2024-01-15,BUY,HOOL,10,102.50,USD,4.95
-D-2,2024-01-16,BUY,HOOL,"1,010",103.50,USD,4.95
+"D,1","2024-01-15","BUY","HOOL","10","102.50","USD","4.95"
+D-2,2024-01-16,BUY,HOOL,1010,103.50,USD,4.95
+== 0 rows a comma before three decimals
+ref,date,action,symbol,units,price,currency,fee
+D-1,2024-01-15,BUY,FUND,3,"605,007",EUR,
+lotbook: row 1 (D-1): warning: price 605,007 is read as 605007: commas are skipped, decimals stand behind a point: D-1,2024-01-15,BUY,FUND,3,"605,007",EUR,
+== 0 rows a comma in each column, in several rows
+ref,date,action,symbol,units,price,currency,fee,lot
+D-1,2024-01-15,BUY,HOOL,10,"605,007",EUR,,
+D-2,2024-01-16,BUY,HOOL,"1,000","6,5",EUR,"4,95",
+"D,3",2024-01-17,BUY,HOOL,"2,000.5",6.5,EUR,"0,5","D,3"
+D-4,2024-01-18,BUY,HOOL,10,"6,5",EUR,5,
+lotbook: row 2 (D-2): warning: units 1,000 is read as 1000: commas are skipped, decimals stand behind a point; 1 more row has a comma there: D-2,2024-01-16,BUY,HOOL,"1,000","6,5",EUR,"4,95",
+lotbook: row 1 (D-1): warning: price 605,007 is read as 605007: commas are skipped, decimals stand behind a point; 2 more rows have a comma there: D-1,2024-01-15,BUY,HOOL,10,"605,007",EUR,,
+lotbook: row 2 (D-2): warning: fee 4,95 is read as 495: commas are skipped, decimals stand behind a point; 1 more row has a comma there: D-2,2024-01-16,BUY,HOOL,"1,000","6,5",EUR,"4,95",
+== 3 rows all columns of a row that are faulty
+ref,date,action,symbol,units,price,currency,fee
+D-1,15.01.2024,Kauf,BRK/B,10,"1.102,50",EUR,
+D-2,2024-01-16,BUY,HOOL,10,102.50,EUR,
+D-3,2024-01-17,BUY,HOOL,-10,102.50,€,x
+D-4,2024-01-32,SELL,HOOL,10,102.50,EUR
+lotbook: row 1 (D-1): C2 BadRow: a field is outside the rule of its column: date isn't a day: `15.01.2024`; action is neither BUY nor SELL: `Kauf`; symbol isn't a commodity (at most 24 of A-Z, 0-9 and ' . _ -, a letter first, a letter or a digit last): `BRK/B`: the nearest is BRK.B; price isn't a rate: `1.102,50`: D-1,15.01.2024,Kauf,BRK/B,10,"1.102,50",EUR,
+lotbook: row 3 (D-3): C2 BadRow: a field is outside the rule of its column: units isn't a number of units, or is below zero: `-10`; currency isn't a commodity (at most 24 of A-Z, 0-9 and ' . _ -, a letter first, a letter or a digit last): `€`; fee is neither empty nor a rate: `x`: D-3,2024-01-17,BUY,HOOL,-10,102.50,€,x
+lotbook: row 4 (D-4): C2 BadRow: a field is outside the rule of its column: another number of fields than the header: 7: D-4,2024-01-32,SELL,HOOL,10,102.50,EUR
+== 3 rows columns of version 2, of which a lot goes by the action
+ref,date,action,symbol,units,price,currency,fee,lot
+,,,,,,,x,a\b
+D-2,2024-01-15,Kauf,HOOL,10,102.50,USD,4.95,D-1
+D-3,2024-01-15,Kauf,HOOL,10,102.50,USD,4.95,a\b
+D-4,2024-01-15,BUY,HOOL,10,x,USD,4.95,D-1
+a\b,2024-01-15,BUY,HOOL,10,102.50,USD,4.95,a\b
+D-6,2024-01-15,SELL,HOOL,10,x,USD,4.95,D-1
+D-7,2024-01-15,BUY,HOOL,x,102.50,USD,4.95
+lotbook: row 1 (): C2 BadRow: a field is outside the rule of its column: ref isn't a label: ``; date isn't a day: ``; action is neither BUY nor SELL: ``; symbol isn't a commodity (at most 24 of A-Z, 0-9 and ' . _ -, a letter first, a letter or a digit last): ``; units isn't a number of units, or is below zero: ``; price isn't a rate: ``; currency isn't a commodity (at most 24 of A-Z, 0-9 and ' . _ -, a letter first, a letter or a digit last): ``; fee is neither empty nor a rate: `x`; lot isn't the label of a lot: `a\b`: ,,,,,,,x,a\b
+lotbook: row 2 (D-2): C2 BadRow: a field is outside the rule of its column: action is neither BUY nor SELL: `Kauf`: D-2,2024-01-15,Kauf,HOOL,10,102.50,USD,4.95,D-1
+lotbook: row 3 (D-3): C2 BadRow: a field is outside the rule of its column: action is neither BUY nor SELL: `Kauf`; lot isn't the label of a lot: `a\b`: D-3,2024-01-15,Kauf,HOOL,10,102.50,USD,4.95,a\b
+lotbook: row 4 (D-4): C2 BadRow: a field is outside the rule of its column: price isn't a rate: `x`; lot isn't the ref of the purchase: `D-1`: D-4,2024-01-15,BUY,HOOL,10,x,USD,4.95,D-1
+lotbook: row 5 (a\b): C2 BadRow: a field is outside the rule of its column: ref isn't a label: `a\b`; lot isn't the label of a lot: `a\b`: a\b,2024-01-15,BUY,HOOL,10,102.50,USD,4.95,a\b
+lotbook: row 6 (D-6): C2 BadRow: a field is outside the rule of its column: price isn't a rate: `x`: D-6,2024-01-15,SELL,HOOL,10,x,USD,4.95,D-1
+lotbook: row 7 (D-7): C2 BadRow: a field is outside the rule of its column: another number of fields than the header: 8: D-7,2024-01-15,BUY,HOOL,x,102.50,USD,4.95
+== 3 rows fields with quotes and line ends
+ref,date,action,symbol,units,price,currency,fee
+"D
+1","2024-01-15","Buy","H""L",10,"1
+0",USD,
+lotbook: row 1 (D?1): C2 BadRow: a field is outside the rule of its column: ref isn't a label: `D?1`; action is neither BUY nor SELL: `Buy`; symbol isn't a commodity (at most 24 of A-Z, 0-9 and ' . _ -, a letter first, a letter or a digit last): `H"L`: the nearest is H.L; price isn't a rate: `1?0`: "D?1","2024-01-15","Buy","H""L",10,"1?0",USD,
 CASES
+
+# Symbols that aren't commodities, each with the name that is one and near; with none, where no letter and no digit stands there.
+near() {
+    printf 'ref,date,action,symbol,units,price,currency,fee\nD-1,2024-01-15,BUY,%s,1,1,USD,\n' "$1" >"$scratch/in"
+    printf "lotbook: row 1 (D-1): C2 BadRow: a field is outside the rule of its column: symbol isn't a commodity (%s): \`%s\`%s: %s\n" \
+        "at most 24 of A-Z, 0-9 and ' . _ -, a letter first, a letter or a digit last" "$1" "${2:+: the nearest is $2}" \
+        "$(tail -n 1 "$scratch/in")" >"$scratch/told"
+    notes "the symbol '$1'" 3 "${import[@]}"
+}
+near BRK/B BRK.B
+near brk.b BRK.B
+near "BRK B" BRK.B
+near " HOOL " HOOL
+near 3M X3M
+near 7203.T X7203.T
+near -5.T X5.T
+near '$HOOL.' HOOL
+near "A & B -C" A.B.C
+near "o'neil_x-1" "O'NEIL_X-1"
+near MÜNCH M.NCH
+near VANGUARD-FTSE-ALL-WORLD-UCITS VANGUARD-FTSE-ALL-WORLD
+near ABCDEFGHIJKLMNOPQRSTUVWXYZ ABCDEFGHIJKLMNOPQRSTUVWX
+near 012345678901234567890123 X01234567890123456789012
+near "" ""
+near "?" ""
+near "..." ""
 
 # Bytes that no line may bring to a terminal, marks and line ends of other systems, and long lines.
 printf '\357\273\2772020-01-01 open Assets:A\r\n2020-01-02 * "Z\374rich"\r\n' >"$scratch/in"
@@ -440,6 +511,31 @@ if cmp -s "$scratch/each" "$scratch/err"; then pass "all of them"; else fail "al
 head -n 10 "$scratch/in" >"$scratch/ten" && mv "$scratch/ten" "$scratch/in"
 head -n 10 "$scratch/each" >"$scratch/told"
 notes "ten and no more" 1 "${post[@]}"
+
+# Rows that are faulty, each with all its columns.
+for n in {1..12}; do echo "D-$n,2024-01-15,buy,HOOL,x,1,USD,"; done >"$scratch/each"
+{ echo "ref,date,action,symbol,units,price,currency,fee" && cat "$scratch/each"; } >"$scratch/in"
+{
+    sed -n '1,10s/^D-\([0-9]*\),.*/lotbook: row \1 (D-\1): C2 BadRow: a field is outside the rule of its column: action is neither BUY nor SELL: `buy`; units isn'"'"'t a number of units, or is below zero: `x`: &/p' "$scratch/each"
+    echo "lotbook: ... and 2 more"
+} >"$scratch/told"
+notes "the first ten faulty rows" 3 "${import[@]}"
+
+# Warnings of a file as a whole and of its columns come before those of its rows, so that ten have room for them.
+{
+    printf 'ref,date,action,symbol,units,price,currency,fee\nD-1,2024-01-16,BUY,HOOL,1,1,USD,\n'
+    for n in {2..12}; do printf 'D-1,2024-01-15,BUY,HOOL,1,"1,5",USD,\n'; done
+} >"$scratch/in"
+{
+    echo "lotbook: warning: the first row is of 2024-01-16, the last of 2024-01-15: rows stand in the order of their days, the oldest first"
+    echo "lotbook: warning: --from 13 is past the end of 12 rows: none was run"
+    echo 'lotbook: row 2 (D-1): warning: price 1,5 is read as 15: commas are skipped, decimals stand behind a point; 10 more rows have a comma there: D-1,2024-01-15,BUY,HOOL,1,"1,5",USD,'
+    for n in {2..8}; do
+        printf 'lotbook: row %d (D-1): warning: row %d has this ref, too: a deal is known by it, so this one is a repeat or refused: D-1,2024-01-15,BUY,HOOL,1,"1,5",USD,\n' "$n" "$((n - 1))"
+    done
+    echo "lotbook: ... and 4 more"
+} >"$scratch/told"
+notes "warnings of a file, of its columns and of its rows" 0 "${import[@]}" --from 13
 
 # A start past the end; a fault of the input; no input.
 printf '2020-01-01 open Assets:A\n2020-01-01 open Assets:B\n' >"$scratch/in"

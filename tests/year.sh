@@ -61,17 +61,19 @@ step "the accounts" 0 $'1 accepted\n2 accepted\n3 accepted\n4 accepted\n5 accept
 import north north.csv --all-or-none
 step "a fraction of a share whose cash doesn't fit" 3 "fault row 2 C4 InexactAmount" \
     "row 2 (N4): C4 InexactAmount: the cash of the row has more than eight decimals, or is too large: 33.704445885 USD, which has 9 decimals" \
-    "warning: the first row is of 2024-11-04, the last of 2024-01-15: rows stand in the order of their days, the oldest first"
+    "warning: the first row is of 2024-11-04, the last of 2024-01-15: rows stand in the order of their days, the oldest first" \
+    "row 4 (N2): warning: units 1,000 is read as 1000: commas are skipped, decimals stand behind a point: N2,"
 grep -v ^N4 "$scratch/north.csv" >"$scratch/without.csv"
 import north without.csv --all-or-none
 step "the newest row first" 1 $'1 refused B4 IncompleteCost posting 1\n2 accepted\n3 accepted\n4 refused L10 BackDated posting 1' \
     "row 1 (N5): B4 IncompleteCost" \
     "row 4 (N1): L10 BackDated: a later day of this account and commodity is booked at cost already: the latest is 2024-03-15, of entry 6" \
     "warning: the first row is of 2024-11-04, the last of 2024-01-15: rows stand in the order of their days, the oldest first" \
+    "row 3 (N2): warning: units 1,000 is read as 1000" \
     "nothing is kept, since not all was accepted"
 { head -n 1 "$scratch/without.csv" && tail -n +2 "$scratch/without.csv" | tac; } >"$scratch/oldest.csv"
 import north oldest.csv --all-or-none
-step "the oldest row first" 0 $'1 accepted\n2 accepted\n3 accepted\n4 accepted'
+step "the oldest row first" 0 $'1 accepted\n2 accepted\n3 accepted\n4 accepted' "row 2 (N2): warning: units 1,000 is read as 1000"
 run post --book "$book" --row-of north --ref N4 <<'EOT'
 2024-11-04 * "N4"
   Assets:North 0.3333 HOOL {101.1 USD, 2024-06-03}
@@ -82,9 +84,7 @@ step "the fraction by hand, the rest as a fee" 0 "1 accepted"
 
 import south south.csv --dry-run
 step "decimal commas" 1 $'1 accepted\n2 accepted\n3 refused B2 Ambiguous posting 1' "row 3 (S3): B2 Ambiguous" \
-    "row 1 (S1): warning: 111,64 is read as 11164: decimals stand behind a point" \
-    "row 2 (S2): warning: 120,10 is read as 12010: decimals stand behind a point" \
-    "row 3 (S3): warning: 130,00 is read as 13000: decimals stand behind a point"
+    "row 1 (S1): warning: price 111,64 is read as 11164: commas are skipped, decimals stand behind a point; 2 more rows have a comma there: S1,"
 sed 's/"\([0-9]*\),\([0-9]*\)"/\1.\2/' "$scratch/south.csv" >"$scratch/points.csv"
 import south points.csv
 step "a sale whose lot isn't named" 1 $'1 accepted\n2 accepted\n3 refused B2 Ambiguous posting 1' "row 3 (S3): B2 Ambiguous: several lots fit the braces, and STRICT doesn't choose among them: lots that fit now: 2, with 10 units; they differ in day, cost"
@@ -108,7 +108,7 @@ import south later.csv
 step "a file that overlaps, with the row by hand" 1 $'1 repeat\n2 repeat\n3 refused L1 KeyReused\n4 accepted' "row 3 (S3): L1 KeyReused: another command has this key already: entry 13, with the line \`Assets:South -5 WIDG {2024-02-01} @ 130 EUR\`"
 { cat "$scratch/oldest.csv" && echo "N6,2024-12-10,BUY,BOND,100,1.05,USD,"; } >"$scratch/further.csv"
 import north further.csv
-step "the other file that overlaps" 0 $'1 repeat\n2 repeat\n3 repeat\n4 repeat\n5 accepted'
+step "the other file that overlaps" 0 $'1 repeat\n2 repeat\n3 repeat\n4 repeat\n5 accepted' "row 2 (N2): warning: units 1,000 is read as 1000"
 run post --book "$book" --batch end <<'EOT'
 2024-12-31 close Assets:South
 EOT

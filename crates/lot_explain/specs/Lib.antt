@@ -1,3 +1,5 @@
 pub mod Codes
+pub mod Commas
+pub mod Commodity
 pub mod Residual
 pub mod Site

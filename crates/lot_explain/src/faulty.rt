@@ -1,5 +1,6 @@
 //! Each faulty line of a ledger text, and each faulty row of a broker file.
 
+use crate::commodity::nearest_commodity;
 use crate::culprit::{Culprit, Sense, before, culprit_of, judge};
 use crate::explained::find;
 use crate::fact::number_fault;
@@ -13,6 +14,10 @@ use lot_read::LineFault;
 use lot_token::Lines;
 use std::alloc::{AllocError, Global};
 use std::io::{self, Write};
+
+/// What a commodity is.
+const COMMODITY: &str =
+    "at most 24 of A-Z, 0-9 and ' . _ -, a letter first, a letter or a digit last";
 
 /// Notes each faulty line of a ledger text.
 pub(crate) fn faulty_lines<W: Write>(
@@ -122,38 +127,64 @@ pub(crate) fn faulty_rows<W: Write>(
         if !records.next_row()? {
             break;
         }
-        if let Some(cause) = records.cause()? {
-            note_row(notes, &records, cause)?;
+        let causes = records.causes()?;
+        if !causes.is_empty() {
+            note_row(alloc, notes, &records, &causes)?;
         }
     }
     Ok(())
 }
 
-/// Notes the last row, which is faulty.
+/// Notes the last row, which is faulty for these causes.
 fn note_row<W: Write>(
+    alloc: Global,
     notes: &mut Notebook<'_, W>,
     records: &Records<'_>,
-    cause: Cause,
+    causes: &[Cause],
 ) -> io::Result<()> {
     let Some(code) = find("C2") else {
         return Ok(());
     };
-    let (place, brief) = (records.place(), code.brief);
-    match column(cause) {
-        Some(column) if matches!(cause, Cause::Lot) && records.is_purchase() => {
-            let field = Shown(records.field(column));
-            notes.note(
-                place,
-                format_args!("{code}: {brief}: lot isn't the ref of the purchase: `{field}`"),
-            )
+    if !notes.has_room() {
+        notes.pass(1);
+        return Ok(());
+    }
+    let mut text = String::new(alloc);
+    for cause in causes {
+        text.push_str(if text.is_empty() { ": " } else { "; " })?;
+        text.push_str(told(alloc, records, *cause)?.as_str())?;
+    }
+    let brief = code.brief;
+    notes.note(records.place(), format_args!("{code}: {brief}{text}"))
+}
+
+/// Says for what cause the last row is faulty, and shows the field.
+fn told(alloc: Global, records: &Records<'_>, cause: Cause) -> Result<String, AllocError> {
+    let Some(column) = column(cause) else {
+        let count = records.record.len();
+        return format!(in alloc; "{cause}: {count}");
+    };
+    let field = records.field(column);
+    let shown = Shown(field);
+    match cause {
+        Cause::Symbol | Cause::Currency => {
+            let near = near(alloc, field)?;
+            format!(in alloc; "{cause} ({COMMODITY}): `{shown}`{near}")
         }
-        Some(column) => {
-            let field = Shown(records.field(column));
-            notes.note(place, format_args!("{code}: {brief}: {cause}: `{field}`"))
+        Cause::Lot if records.is_of_another_lot(field) => {
+            format!(in alloc; "lot isn't the ref of the purchase: `{shown}`")
         }
-        None => {
-            let count = records.record.len();
-            notes.note(place, format_args!("{code}: {brief}: {cause}: {count}"))
+        _ => format!(in alloc; "{cause}: `{shown}`"),
+    }
+}
+
+/// Says which commodity is near to a field, where one is.
+fn near(alloc: Global, field: &[u8]) -> Result<String, AllocError> {
+    match nearest_commodity(alloc, field)? {
+        Some(commodity) => {
+            let name = commodity.as_str();
+            format!(in alloc; ": the nearest is {name}")
         }
+        None => Ok(String::new(alloc)),
     }
 }

@@ -5,10 +5,12 @@
 //!   (`list`); `nearest`: which of some names is meant.
 //! - `call`: what there is to say of a call (`notes`), from what it read and said (`said`); a
 //!   `notebook` has as many lines as are wanted, each with its `place`.
-//! - `faulty`: lines and rows that are faulty, with the part that is at fault (`culprit`).
+//! - `faulty`: lines and rows that are faulty, with the part that is at fault (`culprit`), and the
+//!   name that may have been meant (`commodity`).
 //! - `refused`: commands and rows that are refused, with what is known of them (`fact`): from their
 //!   text (`residual`), and from the book once the run is over (`book`, `Known`).
-//! - `warning`: what may have been meant otherwise.
+//! - `warning`: what may have been meant otherwise. `commas`: which columns of a broker file have
+//!   numbers with a comma.
 //! - `reading`: the commands of an input. `site`: on which line a command stands; `records`: the
 //!   records of a broker file.
 //! - `shown`: how texts of the input are written on a line.
@@ -17,6 +19,8 @@
 mod book;
 mod call;
 mod codes;
+mod commas;
+mod commodity;
 mod culprit;
 mod explained;
 mod fact;

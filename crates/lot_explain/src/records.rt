@@ -2,14 +2,26 @@
 
 use crate::place::Place;
 use csv::{ByteRecord, ErrorKind, Reader, ReaderBuilder};
-use lot_import::{Cause, RowsFault, read_rows};
+use lot_import::{Cause, Version, causes_of, field};
 use std::alloc::{AllocError, Global};
 
 /// The byte order mark, which may stand at the start of a file.
 const MARK: &[u8] = b"\xef\xbb\xbf";
 
-/// The column of the action, counted from 0.
-const COLUMN_OF_ACTION: usize = 2;
+/// The column of the `ref`, counted from 0, as the others are.
+const REF: usize = 0;
+
+/// The column of the action.
+const ACTION: usize = 2;
+
+/// The column of the units.
+pub(crate) const UNITS: usize = 4;
+
+/// The column of the price.
+pub(crate) const PRICE: usize = 5;
+
+/// The column of the fee.
+pub(crate) const FEE: usize = 7;
 
 /// How far a broker file was read.
 #[derive(Drop)]
@@ -20,6 +32,8 @@ pub(crate) struct Records<'a> {
     reader: Reader<&'a [u8]>,
     /// The header, as it stands in the file, with its line end.
     pub(crate) header: &'a [u8],
+    /// The version of the file, where it has a header of one.
+    version: Option<Version>,
     /// The last record.
     pub(crate) record: ByteRecord,
     /// That record as it stands in the file.
@@ -41,12 +55,14 @@ impl<'a> Records<'a> {
             file,
             reader,
             header: b"",
+            version: None,
             record: ByteRecord::new(alloc),
             written: b"",
             row: 0,
         };
         if records.next_row()? {
             records.header = records.written;
+            records.version = Version::of(&records.record);
             records.row = 0;
         }
         Ok(records)
@@ -83,34 +99,30 @@ impl<'a> Records<'a> {
         })
     }
 
-    /// Returns why the last row is faulty, if it is, by the reader of broker files. The only error
-    /// is out of memory.
-    pub(crate) fn cause(&self) -> Result<Option<Cause>, AllocError> {
-        let mut file = Vec::new(self.alloc);
-        file.extend_from_slice(self.header)?;
-        file.extend_from_slice(self.written)?;
-        match read_rows(self.alloc, &file) {
-            Err(RowsFault::BadRow { cause, .. }) => Ok(Some(cause)),
-            Err(RowsFault::Memory) => Err(AllocError),
-            Ok(_) | Err(RowsFault::BadHeader | RowsFault::TooManyRows) => Ok(None),
+    /// Returns all causes for which the last row is faulty, by the reader of broker files. The only
+    /// error is out of memory.
+    pub(crate) fn causes(&self) -> Result<Vec<Cause>, AllocError> {
+        match self.version {
+            Some(version) => causes_of(self.alloc, version, &self.record),
+            None => Ok(Vec::new(self.alloc)),
         }
     }
 
     /// Returns a field of the last record, counted from 0; it is empty where the record is shorter.
     pub(crate) fn field(&self, column: usize) -> &[u8] {
-        self.record.get(column).unwrap_or(b"")
+        field(&self.record, column)
     }
 
-    /// Returns whether the last record is of a purchase, whose lot is its `ref`.
-    pub(crate) fn is_purchase(&self) -> bool {
-        self.field(COLUMN_OF_ACTION) == b"BUY".as_slice()
+    /// Returns whether the last record is of a purchase whose lot isn't its `ref`.
+    pub(crate) fn is_of_another_lot(&self, lot: &[u8]) -> bool {
+        self.field(ACTION) == b"BUY".as_slice() && lot != self.field(REF)
     }
 
     /// Returns the place of the last record.
     pub(crate) fn place(&self) -> Place<'_> {
         Place::Row {
             row: self.row,
-            name: self.field(0),
+            name: self.field(REF),
             line: self.written.trim_ascii(),
         }
     }
@@ -120,14 +132,14 @@ impl<'a> Records<'a> {
 pub(crate) fn column(cause: Cause) -> Option<usize> {
     match cause {
         Cause::Length => None,
-        Cause::Ref => Some(0),
+        Cause::Ref => Some(REF),
         Cause::Date => Some(1),
-        Cause::Action => Some(COLUMN_OF_ACTION),
+        Cause::Action => Some(ACTION),
         Cause::Symbol => Some(3),
-        Cause::Units => Some(4),
-        Cause::Price => Some(5),
+        Cause::Units => Some(UNITS),
+        Cause::Price => Some(PRICE),
         Cause::Currency => Some(6),
-        Cause::Fee => Some(7),
+        Cause::Fee => Some(FEE),
         Cause::Lot => Some(8),
     }
 }

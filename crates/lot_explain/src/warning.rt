@@ -2,9 +2,11 @@
 
 use crate::book::Known;
 use crate::call::Call;
+use crate::commas::Commas;
 use crate::notebook::Notebook;
 use crate::place::Place;
-use crate::records::Records;
+use crate::records::{FEE, PRICE, Records, UNITS};
+use crate::shown::Shown;
 use crate::site::{Kind, commands_in, is_indented, kind_of};
 use lot_command::{Command, Opening};
 use lot_cost::Method;
@@ -16,10 +18,7 @@ use memchr::memchr;
 use std::alloc::{AllocError, Global};
 use std::collections::BTreeMap;
 use std::io::{self, Write};
-use std::str;
-
-/// The columns of a broker file with numbers, counted from 0: units, price and fee.
-const COLUMNS_OF_NUMBERS: [usize; 3] = [4, 5, 7];
+use std::{fmt, str};
 
 /// Warns of lines of a ledger text, and of a start past its end.
 pub(crate) fn warn_of_text<W: Write, B: Known>(
@@ -184,32 +183,21 @@ fn warn_of_start<W: Write>(
     )
 }
 
-/// Warns of rows of a broker file, and of a start past its end; of a faulty file it says nothing.
+/// Warns of a broker file as a whole, of its columns, and then of its rows. Of a faulty file, and of
+/// one without rows, it says nothing.
 pub(crate) fn warn_of_rows<W: Write>(
     alloc: Global,
     notes: &mut Notebook<'_, W>,
     call: &Call<'_>,
     rows: &[Row],
 ) -> io::Result<()> {
-    warn_of_order(alloc, notes, rows)?;
-    let mut records = Records::new(alloc, call.input)?;
-    let mut seen = BTreeMap::new(alloc);
-    for row in rows {
-        records.next_row()?;
-        warn_of_fields(alloc, notes, &records)?;
-        if let Some(before) = seen.insert(row.name.as_str(), records.row)? {
-            notes.note(
-                records.place(),
-                format_args!(
-                    "warning: row {before} has this ref, too: a deal is known by it, so this one is a repeat or refused"
-                ),
-            )?;
-        }
-    }
     if rows.is_empty() {
         return Ok(());
     }
-    warn_of_start(notes, call.from, rows.len(), "rows")
+    warn_of_order(alloc, notes, rows)?;
+    warn_of_start(notes, call.from, rows.len(), "rows")?;
+    warn_of_commas(alloc, notes, call.input, rows.len())?;
+    warn_of_refs(alloc, notes, call.input, rows)
 }
 
 /// Warns of rows that are newest first.
@@ -234,17 +222,103 @@ fn warn_of_order<W: Write>(
     )
 }
 
-/// Warns of numbers of the last row with a comma that doesn't group their digits.
-fn warn_of_fields<W: Write>(
+/// Warns of each column of numbers in which a number has a comma, at the first such row.
+fn warn_of_commas<W: Write>(
+    alloc: Global,
+    notes: &mut Notebook<'_, W>,
+    file: &[u8],
+    rows: usize,
+) -> io::Result<()> {
+    // A field with a comma stands in quotes.
+    if memchr(b'"', file).is_none() {
+        return Ok(());
+    }
+    let commas = commas_in(alloc, file, rows)?;
+    for (name, place, column) in [
+        ("units", UNITS, commas.units),
+        ("price", PRICE, commas.price),
+        ("fee", FEE, commas.fee),
+    ] {
+        if let Some(first) = column.first {
+            let mut records = Records::new(alloc, file)?;
+            records.go_to(first)?;
+            warn_of_column(alloc, notes, &records, name, place, column.more)?;
+        }
+    }
+    Ok(())
+}
+
+/// Returns in which columns of a file with so many rows numbers have a comma. The only error is out
+/// of memory.
+fn commas_in(alloc: Global, file: &[u8], rows: usize) -> Result<Commas, AllocError> {
+    let mut records = Records::new(alloc, file)?;
+    let mut commas = Commas::NONE;
+    for _row in 0..rows {
+        records.next_row()?;
+        commas = commas.with(records.row, &records.record);
+    }
+    Ok(commas)
+}
+
+/// Warns of a column of numbers, of which the last row is the first with a comma, and so many more
+/// have one.
+fn warn_of_column<W: Write>(
     alloc: Global,
     notes: &mut Notebook<'_, W>,
     records: &Records<'_>,
+    name: &str,
+    place: usize,
+    more: usize,
 ) -> io::Result<()> {
-    for column in COLUMNS_OF_NUMBERS {
-        if let Ok(number) = str::from_utf8(records.field(column))
-            && is_odd(number)
-        {
-            warn_of_number(alloc, notes, records.place(), number)?;
+    let field = records.field(place);
+    let (shown, others) = (Shown(field), Others(more));
+    if let Ok(number) = str::from_utf8(field)
+        && let Ok(units) = Units::parse(number)
+    {
+        let value = units.text(alloc)?;
+        let value = value.as_str();
+        return notes.note(
+            records.place(),
+            format_args!(
+                "warning: {name} {shown} is read as {value}: commas are skipped, decimals stand behind a point{others}"
+            ),
+        );
+    }
+    Ok(())
+}
+
+/// How many more rows have a comma in a column, as it is written behind what is said of the first.
+#[derive(Clone, Copy)]
+struct Others(usize);
+
+impl fmt::Display for Others {
+    fn fmt<W: fmt::Write>(&self, f: &mut fmt::Formatter<W>) -> fmt::Result {
+        match self.0 {
+            0 => Ok(()),
+            1 => f.write_str("; 1 more row has a comma there"),
+            more => write!(f, "; {more} more rows have a comma there"),
+        }
+    }
+}
+
+/// Warns of each row whose `ref` an earlier row has.
+fn warn_of_refs<W: Write>(
+    alloc: Global,
+    notes: &mut Notebook<'_, W>,
+    file: &[u8],
+    rows: &[Row],
+) -> io::Result<()> {
+    let mut records = Records::new(alloc, file)?;
+    let mut seen = BTreeMap::new(alloc);
+    for row in rows {
+        records.next_row()?;
+        if let Some(before) = seen.insert(row.name.as_str(), records.row)? {
+            notes.note(
+                records.place(),
+                format_args!(
+                    "warning: row {before} has this ref, too: a deal is known by it, so this one is a repeat or refused"
+                ),
+            )?;
         }
     }
     Ok(())

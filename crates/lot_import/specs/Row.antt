@@ -114,3 +114,36 @@ FirstFailing Passing (c ∷ cs) cause = ((cause ≡ c) × (Passing c → ⊥)) �
 -- the record is faulty, by that cause
 abbrev pub IsFaulty : Version → List (List ℕ) → Cause → Type 0
 IsFaulty version written cause = FirstFailing (Passes version written) causes cause
+
+-- ---- All faulty columns of a record with as many fields as the header.
+
+-- the action that a field says; a sale where it says none
+abbrev pub IsMeant : List ℕ → Action → Type 0
+IsMeant field action = SaysAction field action ⊎ (((other : Action) → SaysAction field other → ⊥) × (action ≡ Sell))
+
+-- the column says something, whatever stands in the others: a lot goes by the action that is meant
+abbrev pub PassesAlone : Version → List (List ℕ) → Cause → Type 0
+PassesAlone version written Causes.Length = Passes version written Causes.Length
+PassesAlone version written Causes.Ref = Passes version written Causes.Ref
+PassesAlone version written Causes.Date = Passes version written Causes.Date
+PassesAlone version written Causes.Action = Passes version written Causes.Action
+PassesAlone version written Causes.Symbol = Passes version written Causes.Symbol
+PassesAlone version written Causes.Units = Passes version written Causes.Units
+PassesAlone version written Causes.Price = Passes version written Causes.Price
+PassesAlone version written Causes.Currency = Passes version written Causes.Currency
+PassesAlone version written Causes.Fee = Passes version written Causes.Fee
+PassesAlone version written Causes.Lot =
+    (action : Action) × IsMeant (at_column written 2) action × (lot : Option (List ℕ)) × HasLot version action written lot
+
+-- those of the causes that don't pass, in their order
+abbrev pub AreFailing : (Cause → Type 0) → List Cause → List Cause → Type 0
+AreFailing Passing [] failing = failing ≡ []
+AreFailing Passing (c ∷ cs) failing =
+    (Passing c × AreFailing Passing cs failing)
+    ⊎ ((Passing c → ⊥) × (others : List Cause) × (failing ≡ c ∷ others) × AreFailing Passing cs others)
+
+-- all causes for which the record is faulty: of another number of fields that one alone
+abbrev pub HasCauses : Version → List (List ℕ) → List Cause → Type 0
+HasCauses version written failing =
+    (Passes version written Causes.Length × AreFailing (PassesAlone version written) causes failing)
+    ⊎ ((Passes version written Causes.Length → ⊥) × (failing ≡ Causes.Length ∷ []))

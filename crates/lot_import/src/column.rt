@@ -11,7 +11,7 @@ use lot_base::{Commodity, Day, Label};
 use lot_num::{Rate, Units};
 
 /// Returns the field of a record at a column, counted from 0; it is empty where the record is shorter.
-pub(crate) fn field(written: &ByteRecord, column: usize) -> &[u8]
+pub fn field(written: &ByteRecord, column: usize) -> &[u8]
     ensures { result.now ≡ at_column (fields_of written.now) column }
 {
     match written.get(column) {

@@ -8,7 +8,7 @@ use csv::ByteRecord;
 
 /// The versions of a broker file. The header says which one it is.
 #[derive(Clone, Copy)]
-pub(crate) enum Version {
+pub enum Version {
     /// Without the column `lot`.
     First,
     /// With the column `lot`.
@@ -27,7 +27,7 @@ const SECOND: [&str; 9] = [
 
 impl Version {
     /// Returns the version that has this header, or `None` where none has it.
-    pub(crate) fn of(header: &ByteRecord) -> Option<Version>
+    pub fn of(header: &ByteRecord) -> Option<Version>
         ensures some { IfSome result (λ version. fields_of header.now ≡ columns version) }
         ensures none { IfNone result ((version : Version) → fields_of header.now ≡ columns version → ⊥) }
     {

@@ -58,7 +58,11 @@ pub(crate) fn said(version: Version, written: &ByteRecord) -> Result<SaidRow<'_>
 }
 
 /// Returns the label of the lot that a record says beside its action. The first version has none.
-fn lot_in(version: Version, deal: Action, written: &ByteRecord) -> Result<Option<&str>, Cause>
+pub(crate) fn lot_in(
+    version: Version,
+    deal: Action,
+    written: &ByteRecord,
+) -> Result<Option<&str>, Cause>
     ensures { GivesLot (HasLot version deal (fields_of written.now)) Cause.Lot result }
 {
     match version {
