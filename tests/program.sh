@@ -93,14 +93,12 @@ unusable "--book" init
 unusable "''" ''
 for value in 0 10000001 -1 x ''; do unusable "--from" post --book f --batch a "--from=$value"; done
 for word in post import init migrate holdings gains journal verify; do unusable "Example: lotbook $word --book" "$word"; done
-unusable "fault U2 BadValue --batch" --quiet post --book f
 unusable "fault U2 BadValue --batch" post --book f --batch a --row-of b --ref r
 unusable "fault U2 BadValue --row-of" post --book f --row-of a/b --ref r
 unusable "fault U2 BadValue --ref" post --book f --row-of a
 unusable "fault U2 BadValue --ref" post --book f --row-of a --ref 'r"'
 unusable "fault U2 BadValue --ref" post --book f --batch a --ref r
 unusable "fault U2 BadValue --from" post --book f --row-of a --ref r --from 2
-unusable "lotbook: one of --batch and --row-of has to be given" post --book f
 unusable "lotbook: --batch and --row-of can't stand together" post --book f --batch a --row-of b
 unusable "lotbook: --ref stands beside --row-of alone" post --book f --batch a --ref r
 unusable "lotbook: --ref wants the ref of a row" post --book f --row-of a
@@ -128,6 +126,26 @@ for word in holdings gains; do
     for format in json CSV ''; do unusable "fault U2 BadValue --format" "$word" --book f --format "$format"; done
 done
 unusable "--format" journal --book f --format csv
+
+# A post that names no batch, neither its own nor that of a row, lacks an option, whatever its others are. What `clap` refuses goes first.
+cat >"$scratch/lacks" <<'EOT'
+error: the following required arguments were not provided:
+  <--batch <NAME>|--row-of <NAME>>
+
+Usage: lotbook post --book <FILE> <--batch <NAME>|--row-of <NAME>>
+
+For more information, try '--help'.
+
+Example: lotbook post --book family.book --batch 2024 < 2024.ledger
+EOT
+for words in "" "--quiet" "--ref r" "--from 2" "--dry-run --all-or-none" "--ref r --from 2"; do
+    read -ra words <<<"$words"
+    unusable "--batch <NAME>|--row-of <NAME>" post --book f "${words[@]}"
+    cmp -s "$scratch/lacks" "$scratch/err" && pass "no batch: ${words[*]}" || fail "no batch: ${words[*]}" "$(head -c 200 "$scratch/err" | tr '\n' '|')"
+done
+unusable "Example: lotbook post" --quiet post --book f
+unusable "'0' for '--from <N>'" post --book f --from 0
+unusable "Usage: lotbook post --book <FILE>" post --ref r
 
 # Of the options of an import each has to be there, and the first one that is bad is named.
 good=(--batch a --invest Assets:A --cash Assets:B --fees Expenses:F --gains Income:G)
@@ -181,6 +199,19 @@ helps "it chooses prices alone" holdings -h
 for word in holdings gains; do helps "--format csv" "$word" -h; done
 helps "--first 2024-01-01" gains -h
 helps "--last 2024-12-31" gains -h
+
+# The help of the program has a line for each subcommand, and leaves a line of a screen of 24 lines and 80 columns.
+for word in help --help -h; do
+    run "$word" </dev/null
+    lines=$(wc -l <"$scratch/out") columns=$(wc -L <"$scratch/out")
+    if ((lines < 24 && columns <= 80)); then pass "the size of $word"; else fail "the size of $word" "$lines lines, $columns columns"; fi
+    [[ $word == help ]] && cp "$scratch/out" "$scratch/help"
+    cmp -s "$scratch/help" "$scratch/out" && pass "$word is the help" || fail "$word is the help" "other than help"
+done
+for word in init migrate post import holdings gains journal verify explain help; do
+    found=$(grep -cE "^  $word +[A-Z]" "$scratch/help")
+    ((found == 1)) && pass "the line of $word" || fail "the line of $word" "$found lines"
+done
 "$program" --help </dev/null 2>"$scratch/err" >/dev/full && status=0 || status=$?
 stops "help on a full disk"
 
@@ -190,6 +221,48 @@ for word in init post import holdings gains journal migrate verify; do
     example=$(sed -n 's/^Example: //p' "$scratch/err")
     helps "$example" "$word" --help
 done
+
+# Whatever the program's file is called, what it says of itself has its own name.
+cp "$program" "$scratch/not-its-name"
+while read -ra words; do
+    timeout 600 "$scratch/not-its-name" "${words[@]}" </dev/null >"$scratch/out" 2>&1
+    if grep -q not-its-name "$scratch/out"; then
+        fail "the name: ${words[*]}" "$(grep -m 1 not-its-name "$scratch/out")"
+    elif ! grep -qE '^Usage: lotbook |^lotbook [0-9.]+$|^error: (invalid value|a value is required)' "$scratch/out"; then
+        fail "the name: ${words[*]}" "no usage: $(head -c 120 "$scratch/out")"
+    else
+        pass "the name: ${words[*]}"
+    fi
+done < <(
+    printf '%s\n' help --help -h --version sell "help sell" "init --book" "post --book f" "post --book f --batch a --from 0" "verify --book f --day d" "explain B2 L1"
+    for word in init migrate post import holdings gains journal verify explain; do printf '%s\n' "help $word" "$word --help" "$word -h"; done
+    for word in init migrate post import holdings gains journal verify; do printf '%s\n' "$word"; done
+)
+
+# A hint is a call that a shell takes as it is: it makes a book at the path that was named, and nothing else.
+mkdir "$scratch/bin" && ln -s "$program" "$scratch/bin/lotbook"
+hints() {
+    local hint made
+    rm -rf "$scratch/hints" && mkdir "$scratch/hints" && cd "$scratch/hints" || exit 1
+    run holdings --book="$1" </dev/null
+    hint=$(<"$scratch/err")
+    hint=${hint#*"there is no such file: \`"} hint=${hint%"\` makes a book"}
+    made=$(PATH=$scratch/bin:$PATH sh -c "$hint" 2>&1 </dev/null)
+    if [[ $made == "book ready" && -f ./$1 ]] && rm -f "./$1" "./$1-wal" && [[ -z $(ls -A) ]]; then
+        pass "the hint for '${1//$'\n'/@}'"
+    else
+        fail "the hint for '${1//$'\n'/@}'" "${hint//$'\n'/@}: ${made//$'\n'/@}"
+    fi
+    cd - >/dev/null || exit 1
+}
+for path in family.book ./a_b-c.book "a b" " " "  two  " "a'b" "'" "''" 'a"b' '\' 'a\b' '$HOME' '$(touch x)' 'a`id`b' "a;b" "a&b" "a|b" "a>b" "(a)" \
+    "*" "?" "[a-z]" "{a,b}" "~" "~root" "a~" "#a" "!a" "a=b" "=a" "%1" "-x" "--book" "-a b" "-'" "--" "é" $'a\nb' $'\n' $'two\n\n'; do
+    hints "$path"
+done
+run holdings --book=$'a\tb' </dev/null
+says "no hint that a terminal doesn't show" $'lotbook: a\tb: there is no such file'
+run holdings --book "" </dev/null
+says "no hint for an empty path" "lotbook: [^\`]*empty[^\`]*"
 
 # The version: the program's name and its number, on standard output.
 helps "  -V, --version" --help

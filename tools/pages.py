@@ -608,7 +608,7 @@ def codes():
 def words():
     """The table of the words of the program: the options of each, and what its help begins with."""
     text = (CRATES / "lot_args/src/program.rt").read_text()
-    told = re.compile(r'((?:^ +//[^\n]*\n)+) +Word \{\s+name: "(\w+)",\s+about: "((?:[^"\\]|\\.)*)"', re.M)
+    told = re.compile(r'((?:^ +//[^\n]*\n)+) +Word \{\s+name: "(\w+)",\s+brief: "[^"]*",\s+about: "((?:[^"\\]|\\.)*)"', re.M)
     yield "| Subcommand and options | What it does |"
     yield "|---|---|"
     for comment, name, about in told.findall(text):

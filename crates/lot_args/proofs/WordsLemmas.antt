@@ -16,13 +16,12 @@ use Rattle.clap.specs.declared.error.ErrorKind.TheVariants as kind
 use Rattle.clap.specs.declared.parser.matches.ArgMatches.{ArgMatches}
 use Rattle.clap.proofs.WalkLemmas.{both}
 use Rattle.lot_args.specs.Faults.{Refuses}
-use Rattle.lot_args.specs.Options.{options_of}
 use Rattle.lot_args.specs.Steps.{JudgesOptions}
 use Rattle.lot_args.specs.From.{is_number, number_or_one}
-use Rattle.lot_args.specs.Words.{Ask, ChecksWith, WordRequests, bad_of}
+use Rattle.lot_args.specs.Words.{Ask, ChecksWith, WordRequests, bad_of, lacks_batch_in}
 use Rattle.lot_args.specs.declared.fault.BadOption.{BadOption}
 use Rattle.lot_args.specs.declared.fault.WordsFault.{WordsFault}
-use Rattle.lot_args.specs.declared.fault.WordsFault.TheVariants.{BadValue, Memory, Usage}
+use Rattle.lot_args.specs.declared.fault.WordsFault.TheVariants.{BadValue, Memory, MissingBatch, Usage}
 use Rattle.lot_args.specs.declared.request.Request.{Request}
 
 -- a text that is there, or else the empty one
@@ -99,7 +98,7 @@ ask_of_none o faults read before request met none same asks =
 
 -- what was matched asks for what its word does
 pub ask_of_word : (o : Option (Text × List Row)) (faults : Kinds) (read before : List Row) (r : Result Request WordsFault) (word : Text) (rows : List Row)
-    → o ≡ Some (word, rows) → faults ≡ [] → read ≡ before → IfOk r (WordRequests read word rows) → JudgesOptions rows (options_of word) r
+    → o ≡ Some (word, rows) → faults ≡ [] → read ≡ before → IfOk r (WordRequests read word rows) → JudgesOptions word rows r
     → IfOk r (λ request. (faults ≡ []) × Ask before o request × (bad_of o ≡ None))
 ask_of_word o faults read before (Ok request) word rows met none same asks judged =
     let Requests : List Row → Type 0 = λ rows-before. WordRequests rows-before word rows request in
@@ -107,13 +106,24 @@ ask_of_word o faults read before (Ok request) word rows met none same asks judge
 ask_of_word o faults read before (Err e) word rows met none same asks judged = tt
 
 pub bad_of_word : (o : Option (Text × List Row)) (faults : Kinds) (r : Result Request WordsFault) (bad : BadOption) (word : Text) (rows : List Row)
-    → o ≡ Some (word, rows) → faults ≡ [] → JudgesOptions rows (options_of word) r → r ≡ Err (BadValue bad) → (faults ≡ []) × (bad_of o ≡ Some bad)
+    → o ≡ Some (word, rows) → faults ≡ [] → JudgesOptions word rows r → r ≡ Err (BadValue bad)
+    → (faults ≡ []) × (lacks_batch_in o ≡ false) × (bad_of o ≡ Some bad)
 bad_of_word o faults (Ok request) bad word rows met none judged e = cc
 bad_of_word o faults (Err (Usage error)) bad word rows met none judged e = absurd judged
 bad_of_word o faults (Err Memory) bad word rows met none judged e = cc
+bad_of_word o faults (Err MissingBatch) bad word rows met none judged e = cc
 bad_of_word o faults (Err (BadValue told)) bad word rows met none judged e =
     let same : told ≡ bad = cc in
-    (none, rw met (judged ∙ ap Some same))
+    (none, rw met judged.0, rw met (judged.1 ∙ ap Some same))
+
+-- a post that names no batch
+pub lacking_word : (o : Option (Text × List Row)) (faults : Kinds) (r : Result Request WordsFault) (word : Text) (rows : List Row)
+    → o ≡ Some (word, rows) → faults ≡ [] → JudgesOptions word rows r → r ≡ Err MissingBatch → (faults ≡ []) × (lacks_batch_in o ≡ true)
+lacking_word o faults (Ok request) word rows met none judged e = cc
+lacking_word o faults (Err (Usage error)) word rows met none judged e = absurd judged
+lacking_word o faults (Err (BadValue bad)) word rows met none judged e = cc
+lacking_word o faults (Err Memory) word rows met none judged e = cc
+lacking_word o faults (Err MissingBatch) word rows met none judged e = (none, rw met judged)
 
 -- an error of `clap` that is out of memory is told as that
 pub no_usage : (error : Error) (r : Result Request WordsFault) → IsErrAnd r (Refuses error) → kind_of error ≡ kind.OutOfMemory
@@ -121,6 +131,7 @@ pub no_usage : (error : Error) (r : Result Request WordsFault) → IsErrAnd r (R
 no_usage error (Ok request) refused memory told e = cc
 no_usage error (Err (Usage other)) refused memory told e = refused.1 memory
 no_usage error (Err (BadValue bad)) refused memory told e = absurd refused
+no_usage error (Err MissingBatch) refused memory told e = absurd refused
 no_usage error (Err Memory) refused memory told e = cc
 
 -- of which kind the error is that is told
@@ -128,6 +139,7 @@ pub kind_told : (error : Error) (r : Result Request WordsFault) (known kinds : K
     → (told : Error) → r ≡ Err (Usage told) → IsAmong (kind_of told) kinds
 kind_told error (Ok request) known kinds refused has is told e = cc
 kind_told error (Err (BadValue bad)) known kinds refused has is told e = absurd refused
+kind_told error (Err MissingBatch) known kinds refused has is told e = absurd refused
 kind_told error (Err Memory) known kinds refused has is told e = cc
 kind_told error (Err (Usage other)) known kinds refused has is told e =
     let same : error ≡ told = let one : other ≡ told = cc in sym refused.0 ∙ one in

@@ -1,5 +1,5 @@
 -- The values of options, and which of them are outside their rules.
-use Rattle.std.specs.Prelude.{if◌then◌else◌, ◌||◌, ◌==◌, ℤ, Bool, true, not, is_some, List, [], ◌∷◌, Option, codes, find, option_and_then, unwrap_or}
+use Rattle.std.specs.Prelude.{if◌then◌else◌, ◌||◌, ◌&&◌, ◌==◌, ℤ, Bool, true, not, is_some, List, [], ◌∷◌, Option, codes, find, option_and_then, unwrap_or}
 use Rattle.std.specs.Str.{bytes_eq}
 use Rattle.std.specs.Option.{option_map_or}
 use Rattle.clap.specs.Words.{Row, Text, first_of}
@@ -57,6 +57,10 @@ is_given name rows = is_some (first_of name rows)
 -- whether a command is posted for the row of a broker file
 abbrev pub has_row : List Row → Bool
 has_row = is_given (codes "row-of")
+
+-- whether it is a post that names no batch, neither its own nor that of a row
+abbrev pub lacks_batch : Text → List Row → Bool
+lacks_batch word rows = bytes_eq word (codes "post") && (not (is_given (codes "batch") rows) && not (has_row rows))
 
 -- whether the value of the option is within its rule: of a post for a row `--batch` isn't given and `--from` is 1, and `--ref`
 -- is given with it alone

@@ -6,7 +6,7 @@ use Rattle.std.specs.String.{string_bytes}
 use Rattle.clap.specs.Words.{Row, Text, fault_of, first_of, matches_of, subcommand_of}
 use Rattle.lot_import.specs.declared.accounts.Accounts.{Accounts}
 use Rattle.lot_args.specs.From.{from_of}
-use Rattle.lot_args.specs.Options.{day_of, first_bad, has_row, options_of, value_of}
+use Rattle.lot_args.specs.Options.{day_of, first_bad, has_row, lacks_batch, options_of, value_of}
 use Rattle.lot_args.specs.Program.{program_app}
 use Rattle.lot_args.specs.declared.action.Action.{Action}
 use Rattle.lot_args.specs.declared.action.Action.TheVariants.{Check, Init, Migrate, Post, PostRow, Import, Holdings, Gains, Journal, Verify}
@@ -105,6 +105,12 @@ abbrev pub Ask : List Row → Option (Text × List Row) → Request → Type 0
 Ask before None request = ChecksWith before request
 Ask before (Some asked) request = WordRequests before asked.0 asked.1 request
 
+-- ---- a missing batch
+
+-- whether the word is a post that names no batch, neither its own nor that of a row
+abbrev pub lacks_batch_in : Option (Text × List Row) → Bool
+lacks_batch_in asked = option_map_or (λ asked. lacks_batch asked.0 asked.1) asked false
+
 -- ---- a bad value
 
 -- the first option of a word, in the order of the table of words in docs/RULES.md, whose value is outside its rule
@@ -119,6 +125,12 @@ AskFor words request =
     (fault_of program_app words ≡ []) × Ask (matches_of program_app words) (subcommand_of program_app words) request
     × (bad_of (subcommand_of program_app words) ≡ None)
 
--- `clap` takes the words, and this is the first option whose value is outside its rule
+-- `clap` takes the words, which are a post without a batch
+abbrev pub LackBatch : List Text → Type 0
+LackBatch words = (fault_of program_app words ≡ []) × (lacks_batch_in (subcommand_of program_app words) ≡ true)
+
+-- `clap` takes the words, which aren't such a post, and this is the first option whose value is outside its rule
 abbrev pub HaveBadIn : List Text → BadOption → Type 0
-HaveBadIn words bad = (fault_of program_app words ≡ []) × (bad_of (subcommand_of program_app words) ≡ Some bad)
+HaveBadIn words bad =
+    (fault_of program_app words ≡ []) × (lacks_batch_in (subcommand_of program_app words) ≡ false)
+    × (bad_of (subcommand_of program_app words) ≡ Some bad)

@@ -77,6 +77,8 @@ impl fmt::Display for BadOption {
 pub enum WordsFault {
     /// `clap` refuses the arguments, or help or the version is asked for. Its error says which, and has the text to show.
     Usage(Error),
+    /// A `post` names no batch: neither `--batch` nor `--row-of` is given.
+    MissingBatch,
     /// The value of the option is outside its rule.
     BadValue(BadOption),
     /// Out of memory.

@@ -14,6 +14,9 @@ const VERSION: &str = "1.0.0";
 /// A subcommand, or the program without one.
 struct Word {
     name: &'static str,
+    /// What it does, in one line: that of the subcommand in the help of the program.
+    brief: &'static str,
+    /// What its own help says. That of the program stands behind its options.
     about: &'static str,
     options: &'static [WordOption],
 }
@@ -21,8 +24,20 @@ struct Word {
 /// The program without a subcommand.
 const PROGRAM: Word = Word {
     name: "lotbook",
-    about: "A lot book: what an investor holds, what it cost, and what each sale earned.\n\nWithout a word it reads ledger text from standard input, judges it on a fresh book in memory, and prints a reply for each command and what is held then: lotbook < year.ledger",
-    options: &[QUIET, EXPLAIN_ALL],
+    brief: "A lot book: what an investor holds, what it cost, and what each sale earned.",
+    about: "Without a subcommand it judges ledger text in memory: lotbook < year.ledger",
+    options: &[
+        WordOption {
+            form: Form::LastFlag,
+            name: "quiet",
+            help: "Explains nothing on standard error",
+        },
+        WordOption {
+            form: Form::Flag,
+            name: "explain-all",
+            help: "Explains all that is refused, not the first ten alone",
+        },
+    ],
 };
 
 /// The subcommands, in the order in which the help lists them.
@@ -30,6 +45,7 @@ const WORDS: [Word; 9] = [
     // `init --book FILE [--dry-run]`
     Word {
         name: "init",
+        brief: "Makes a book in a file",
         about: "Makes a book in a file: lotbook init --book family.book\n\nA file that is a book already is left as it is, with the fault S1 NotABook.",
         options: &[
             BOOK,
@@ -44,6 +60,7 @@ const WORDS: [Word; 9] = [
     // `migrate --book FILE [--dry-run]`
     Word {
         name: "migrate",
+        brief: "Takes over a book of edition 1",
         about: "Takes over a book of edition 1, which this program doesn't use as it is: lotbook migrate --book family.book\n\nEntries, sales and gains stay as they are. Of lots that are alike the sales behind them take the one that was opened first. There is no way back: keep a copy of the file. A book of this edition is left as it is.",
         options: &[
             BOOK,
@@ -58,6 +75,7 @@ const WORDS: [Word; 9] = [
     // `post --book FILE (--batch NAME [--from N] | --row-of NAME --ref REF) [--dry-run] [--all-or-none] [--explain-all]`
     Word {
         name: "post",
+        brief: "Posts ledger text from standard input to a book",
         about: "Judges ledger text from standard input on a book and keeps what is accepted, a commit for each command: lotbook post --book family.book --batch 2024 < 2024.ledger\n\nA row of a broker file that was refused can be posted by hand, as one command that stands for it: lotbook post --book family.book --row-of broker --ref A17 < A17.ledger. When its file comes again the row is refused with L1 KeyReused, and doesn't act a second time.",
         options: &[
             BOOK,
@@ -91,6 +109,7 @@ const WORDS: [Word; 9] = [
     // [--from N] [--dry-run] [--all-or-none] [--explain-all]`
     Word {
         name: "import",
+        brief: "Posts the rows of a broker file from standard input to a book",
         about: "Posts the rows of a broker file (CSV) from standard input to a book and keeps what is accepted, a commit for each row: lotbook import --book family.book --batch broker --invest Assets:Broker --cash Assets:Cash --fees Expenses:Fees --gains Income:Gains < deals.csv\n\nThe first record is ref,date,action,symbol,units,price,currency,fee and optionally lot. The rows have to be in the order of their days, the oldest first: a deal of an earlier day than the last one that was accepted for the same account and symbol is refused.",
         options: &[
             BOOK,
@@ -133,6 +152,7 @@ const WORDS: [Word; 9] = [
     // `holdings --book FILE [--day DAY] [--format text|csv]`
     Word {
         name: "holdings",
+        brief: "Prints what a book holds now and what it cost",
         about: "Prints what a book holds now and what it cost: lotbook holdings --book family.book",
         options: &[
             BOOK,
@@ -148,6 +168,7 @@ const WORDS: [Word; 9] = [
     // `gains --book FILE [--first DAY] [--last DAY] [--format text|csv]`
     Word {
         name: "gains",
+        brief: "Prints what each sale of a book earned, lot by lot",
         about: "Prints what each sale of a book earned, lot by lot: lotbook gains --book family.book --first 2024-01-01 --last 2024-12-31",
         options: &[
             BOOK,
@@ -168,18 +189,21 @@ const WORDS: [Word; 9] = [
     // `journal --book FILE`
     Word {
         name: "journal",
+        brief: "Prints the accepted commands of a book as ledger text",
         about: "Prints the accepted commands of a book as ledger text: lotbook journal --book family.book > family.ledger",
         options: &[BOOK, QUIET],
     },
     // `verify --book FILE`
     Word {
         name: "verify",
+        brief: "Judges a book again from its entries and compares its tables",
         about: "Judges a book again from its entries, compares every table, and prints book verified where they are those of a book: lotbook verify --book family.book\n\nElse it prints fault S7 Damaged, and on standard error the first table that differs, or the first entry that isn't accepted again. It changes nothing.",
         options: &[BOOK, QUIET],
     },
     // `explain [CODE]`
     Word {
         name: "explain",
+        brief: "Says what a code means that the program prints, and what helps",
         about: "Says what a code means that the program prints, and what helps: lotbook explain B2\n\nWithout a code it prints all of them, a line each.",
         options: &[WordOption {
             form: Form::Place("CODE"),
@@ -231,11 +255,15 @@ const FORMAT: WordOption = WordOption {
     help: "How it is written: text, or csv for a spreadsheet, as in --format csv. Without it as text",
 };
 
-/// Returns the program with all its subcommands, each with its help.
+/// Returns the program with all its subcommands, each with its help. It goes by its own name there, whatever its file is called.
 pub(crate) fn program<'a>(alloc: Global) -> Result<Command<'a>, AllocError>
     ensures { IfOk result (λ command. app_of command ≡ program_app) }
 {
-    let bare = command(alloc, &PROGRAM)?.version(VERSION);
+    let whole = &PROGRAM;
+    let bare = command(alloc, whole)?
+        .after_help(whole.about)
+        .version(VERSION)
+        .bin_name(whole.name)?;
     add_words(alloc, bare, &WORDS)
 }
 
@@ -248,16 +276,17 @@ fn add_words<'a>(
     ensures { IfOk result (λ more. app_of more ≡ with_words (app_of program.entry) (map app_for words.now)) }
 {
     for word in words {
-        program = program.subcommand(command(alloc, word)?)?;
+        let command = command(alloc, word)?.long_about(word.about);
+        program = program.subcommand(command)?;
     }
     Ok(program)
 }
 
-/// Returns the subcommand, with its help and its options.
+/// Returns the subcommand, or the program, with its options and the line that says what it does.
 fn command<'a>(alloc: Global, word: &Word) -> Result<Command<'a>, AllocError>
     ensures { IfOk result (λ command. app_of command ≡ app_for word.now) }
 {
-    let mut command = Command::new(alloc, word.name).about(word.about);
+    let mut command = Command::new(alloc, word.name).about(word.brief);
     for given in word.options {
         command = command.arg(option(alloc, given))?;
     }

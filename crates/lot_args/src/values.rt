@@ -6,7 +6,7 @@ ghost use Rattle.lot_base.specs.Name.{is_label};
 ghost use Rattle.std.specs.String.{string_bytes};
 ghost use Rattle.clap.specs.Words.{first_of, found_of, rows_of};
 ghost use Rattle.lot_args.specs.Batch.{is_batch};
-ghost use Rattle.lot_args.specs.Options.{account_options, day_of, first_bad, has_account, has_row, is_format, is_good, is_given, name_of, options_of, value_of};
+ghost use Rattle.lot_args.specs.Options.{account_options, day_of, first_bad, has_account, has_row, is_format, is_good, is_given, lacks_batch, name_of, options_of, value_of};
 ghost use Rattle.lot_args.specs.From.{from_of};
 ghost use Rattle.lot_args.specs.Words.{IsCode, accounts_of, effect_of, format_of, is_set, notes_of};
 
@@ -86,6 +86,13 @@ fn is_good(options: &ArgMatches<'_>, option: BadOption) -> bool
             None => true,
         },
     }
+}
+
+/// Returns whether the subcommand is a `post` that names no batch, neither its own nor that of a row.
+pub(crate) fn lacks_batch(word: &str, options: &ArgMatches<'_>) -> bool
+    ensures { result ≡ lacks_batch word.now (rows_of (found_of options.now)) }
+{
+    word == "post" && !is_given(options, "batch") && !has_row(options)
 }
 
 /// Returns whether a command is posted for the row of a broker file.

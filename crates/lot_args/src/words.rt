@@ -5,15 +5,16 @@ ghost use Rattle.clap.specs.declared.error.ErrorKind.TheVariants.{OutOfMemory};
 ghost use Rattle.lot_args.specs.Options.{first_bad, options_of};
 ghost use Rattle.lot_args.specs.Program.{program_app};
 ghost use Rattle.lot_args.specs.Steps.{IsBookWord, IsWord, JudgesOptions};
-ghost use Rattle.lot_args.specs.Words.{AskFor, HaveBadIn, WordAsks, WordRequests};
-ghost use Rattle.lot_args.specs.declared.fault.WordsFault.TheVariants.{BadValue, Usage};
+ghost use Rattle.lot_args.specs.Words.{AskFor, HaveBadIn, LackBatch, WordAsks, WordRequests};
+ghost use Rattle.lot_args.specs.declared.fault.WordsFault.TheVariants.{BadValue, MissingBatch, Usage};
 
 use crate::action::Action;
 use crate::fault::{BadOption, WordsFault};
 use crate::program::program;
 use crate::request::{Effect, Request};
 use crate::values::{
-    accounts, batch, code, day, effect, first_bad, format, from, has_row, notes, reference, value,
+    accounts, batch, code, day, effect, first_bad, format, from, has_row, lacks_batch, notes,
+    reference, value,
 };
 use clap::ArgMatches;
 use std::alloc::{AllocError, Global};
@@ -23,11 +24,13 @@ use std::alloc::{AllocError, Global};
 /// The error is one of these:
 ///
 /// - `Usage`: `clap` refuses the arguments, or help or the version is asked for;
-/// - `BadValue`: `clap` accepts them, but the value of an option is outside its rule. Of several such options it is the first
-///   in the order of the table in docs/RULES.md;
+/// - `MissingBatch`: `clap` accepts them, but they are a `post` with neither `--batch` nor `--row-of`;
+/// - `BadValue`: they aren't such a `post`, but the value of an option is outside its rule. Of several such options it is the
+///   first in the order of the table in docs/RULES.md;
 /// - `Memory`: out of memory, before `clap` has accepted the arguments, or where all values are within their rules.
 pub fn parse_words(alloc: Global, words: &[String]) -> Result<Request, WordsFault>
     ensures request { IfOk result (AskFor (map string_bytes words.now)) }
+    ensures missing { result ≡ Err MissingBatch → LackBatch (map string_bytes words.now) }
     ensures bad { (bad : BadOption) → result ≡ Err (BadValue bad) → HaveBadIn (map string_bytes words.now) bad }
     ensures kind { (error : _) → result ≡ Err (Usage error) → IsAmong (kind_of error) (fault_of program_app (map string_bytes words.now)) }
     ensures memory { (error : _) → result ≡ Err (Usage error) → kind_of error ≢ OutOfMemory }
@@ -54,9 +57,12 @@ fn asked(
     requires { IsWord word.now }
     ensures request { IfOk result (WordRequests (rows_of (found_of before.now))
         word.now (rows_of (found_of options.now))) }
-    ensures judges { JudgesOptions (rows_of (found_of options.now)) (options_of word.now) result }
+    ensures judges { JudgesOptions word.now (rows_of (found_of options.now)) result }
     ensures usage { (error : _) → result ≢ Err (Usage error) }
 {
+    if lacks_batch(word, options) {
+        return Err(WordsFault::MissingBatch);
+    }
     match first_bad(word, options) {
         Some(bad) => Err(WordsFault::BadValue(bad)),
         None => Ok(requested(alloc, before, word, options)?),

@@ -6,6 +6,10 @@ use lot_args::{BadOption, Request, WordsFault, parse_words};
 use std::env;
 use std::io::{self, ErrorKind};
 
+/// What is said of a `post` that names no batch, in the form in which `clap` tells of a missing option.
+const NO_BATCH: &str =
+    "error: the following required arguments were not provided:\n  <--batch <NAME>|--row-of <NAME>>\n\nUsage: lotbook post --book <FILE> <--batch <NAME>|--row-of <NAME>>\n\nFor more information, try '--help'.";
+
 /// The longest value of an option that is shown where it is bad, in bytes.
 const LONGEST_SHOWN: usize = 80;
 
@@ -43,6 +47,11 @@ fn answer(rt: &HostRuntime, words: &[String], fault: &WordsFault) -> u8 {
             Ok(()) => DONE,
             Err(_) => STOPPED,
         },
+        WordsFault::MissingBatch => {
+            let _ = eprintln!(rt; "{NO_BATCH}");
+            show_example(rt, words);
+            UNUSABLE
+        }
         WordsFault::BadValue(option) => {
             let _ = eprintln!(rt; "fault U2 BadValue {option}");
             show_form(rt, words, *option);
@@ -97,15 +106,11 @@ fn show_form(rt: &HostRuntime, words: &[String], option: BadOption) {
     }
 }
 
-/// Returns what is to be said of a `post` whose batch, or whose row, isn't given as it has to be, where that is why an
-/// option is bad.
+/// Returns what is to be said of a `post` with options that can't stand together, where that is why an option is bad.
 fn pair(words: &[String], option: BadOption) -> Option<&'static str> {
     let has_row = value_of(words, "row-of").is_some();
     match option {
         BadOption::PostBatch if has_row => Some("--batch and --row-of can't stand together"),
-        BadOption::PostBatch if value_of(words, "batch").is_none() => {
-            Some("one of --batch and --row-of has to be given, as in --batch 2024")
-        }
         BadOption::Ref if !has_row => {
             Some("--ref stands beside --row-of alone, as in --row-of broker --ref A17")
         }

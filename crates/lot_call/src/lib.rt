@@ -5,12 +5,15 @@
 //! - `call`: what the program is called for; `status`: how a call ends.
 //! - `told`: why commands were refused, and what the codes mean; `facts`: what the book says of it.
 //! - `notes`: what else is said of a call; `standing`: what stands in the place of its book.
+//! - `quoted`: a path as it is written for a shell; `laws`: what holds of the definitions that the contracts cite.
 #![tactic(auto)]
 
 mod arguments;
 mod call;
 mod facts;
+pub mod laws;
 mod notes;
+mod quoted;
 mod standing;
 mod status;
 mod told;

@@ -1,5 +1,6 @@
 //! What stands in the place of the book that a call is on.
 
+use crate::quoted::{BookOption, is_shown};
 use lot_files::is_missing;
 use sqlite::{Alter, Connection, Error};
 
@@ -41,7 +42,7 @@ impl Standing {
         })
     }
 
-    /// Says on standard error what stands at a path, and what helps.
+    /// Says on standard error what stands at a path, and the call that helps, unless it can't be copied from a terminal.
     pub fn say(self, rt: &HostRuntime, path: &str) {
         let (what, help) = match self {
             Standing::Nothing => (": there is no such file", Some(("init", "makes a book"))),
@@ -57,10 +58,11 @@ impl Standing {
             ),
         };
         let _ = match help {
-            Some((word, does)) => {
-                eprintln!(rt; "lotbook: {path}{what}: `lotbook {word} --book {path}` {does}")
+            Some((word, does)) if is_shown(path) => {
+                let book = BookOption(path);
+                eprintln!(rt; "lotbook: {path}{what}: `lotbook {word} {book}` {does}")
             }
-            None => eprintln!(rt; "lotbook: {path}{what}"),
+            _ => eprintln!(rt; "lotbook: {path}{what}"),
         };
     }
 }

@@ -2,7 +2,7 @@ use Rattle.std.proofs.Common.{ap, refl, sym, ◌∙◌, List, map}
 use Rattle.std.specs.String.{string_bytes}
 use Rattle.clap.specs.Words.{App, Text, fault_of, is_simple, is_simple_and_free, matches_of, subcommand_of, takes}
 use Rattle.lot_args.proofs.ProgramLemmas.{is_plain, is_told, met_is_word}
-use Rattle.lot_args.proofs.WordsLemmas.{ask_of_none, ask_of_word, bad_of_word, kind_told, met_none, met_word, no_usage}
+use Rattle.lot_args.proofs.WordsLemmas.{ask_of_none, ask_of_word, bad_of_word, kind_told, lacking_word, met_none, met_word, no_usage}
 use Rattle.lot_args.proofs.words.parse_words.Goals as goal
 
 pub returns-in_err-matches-clause-taken : goal.returns-in_err-matches-clause-taken
@@ -39,6 +39,14 @@ returns-clause-bad c bad e =
     let met = sym (c.in_ok-matches.ensures.matches (ap is_simple same ∙ is_plain)).1 ∙ met_word c.in_ok-matches.matches _ _ (sym c.in-Some.ensures.name) (sym c.in-Some.ensures.rows) in
     let none = c.in_ok-matches.ensures.kinds (ap is_simple_and_free same ∙ is_told) in
     bad_of_word _ _ _ bad _ _ (ap (λ (a : App). subcommand_of a words) (sym same) ∙ met) (ap (λ (a : App). fault_of a words) (sym same) ∙ none) c.asked.ensures.judges e
+
+pub returns-clause-missing : goal.returns-clause-missing
+returns-clause-missing c e =
+    let words : List Text = map string_bytes c.args.words.now in
+    let same = c.in_ok-program.ensures in
+    let met = sym (c.in_ok-matches.ensures.matches (ap is_simple same ∙ is_plain)).1 ∙ met_word c.in_ok-matches.matches _ _ (sym c.in-Some.ensures.name) (sym c.in-Some.ensures.rows) in
+    let none = c.in_ok-matches.ensures.kinds (ap is_simple_and_free same ∙ is_told) in
+    lacking_word _ _ _ _ _ (ap (λ (a : App). subcommand_of a words) (sym same) ∙ met) (ap (λ (a : App). fault_of a words) (sym same) ∙ none) c.asked.ensures.judges e
 
 pub returns-in_err-matches-clause-kind : goal.returns-in_err-matches-clause-kind
 returns-in_err-matches-clause-kind c error e =
