@@ -1,5 +1,6 @@
 //! The arguments of the program.
 
+use crate::remains::say_cut_short;
 use crate::status::{DONE, STOPPED, UNUSABLE, out_of_memory};
 use clap::error::ErrorKind as UsageKind;
 use lot_args::{BadOption, Request, WordsFault, parse_words};
@@ -41,7 +42,10 @@ fn answer(rt: &HostRuntime, words: &[String], fault: &WordsFault) -> u8 {
                 UNUSABLE
             }
             Ok(()) => DONE,
-            Err(_) => STOPPED,
+            Err(error) => {
+                say_cut_short(rt, error);
+                STOPPED
+            }
         },
         WordsFault::BadValue(option) => {
             let _ = eprintln!(rt; "fault U2 BadValue {option}");

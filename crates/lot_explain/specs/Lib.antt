@@ -1,3 +1,4 @@
+pub mod Cause
 pub mod Codes
 pub mod Residual
 pub mod Site
