@@ -111,12 +111,17 @@ fi
 # ---- output that can't be written, and stops
 
 "$program" post --book "$book" --batch f --all-or-none <"$scratch/mixed" >/dev/full 2>"$scratch/err" && status=0 || status=$?
-if ((status == 4)) && [[ $(entries "$book") == 2010 ]]; then pass "refused, with a full disk"; else fail "refused, with a full disk" "status $status"; fi
+if ((status == 4)) && [[ $(entries "$book") == 2010 && $(tail -n 2 "$scratch/err") == "lotbook: $book: nothing is kept, since not all was accepted
+lotbook: standard output: No space left on device (os error 28): the output is cut short" ]]; then
+    pass "refused, with a full disk"
+else
+    fail "refused, with a full disk" "status $status, $(tail -n 1 "$scratch/err")"
+fi
 printf '2020-03-01 open Assets:Gold\n2020-03-01 open Assets:Silver\n' >"$scratch/metals"
 "$program" post --book "$book" --batch metals --all-or-none <"$scratch/metals" >/dev/full 2>"$scratch/err" && status=0 || status=$?
-stops "accepted, with a full disk"
+stops "accepted, with a full disk" "command 1 is the last of this call in the book; --from 1 goes on"
 prints "the command whose reply couldn't be written stands" 0 $'1 repeat\n2 accepted' \
-    post --book "$book" --batch metals --all-or-none <"$scratch/metals"
+    post --book "$book" --batch metals --from 1 --all-or-none <"$scratch/metals"
 
 rm -f "$book"*
 "$program" init --book "$book" </dev/null >/dev/null

@@ -323,6 +323,7 @@ if ((status == 4)) && [[ $last == "$at fault S4 Device" || $last == "$at fault S
 else
     fail "a disk without room" "status $status, last line '$last'"
 fi
+says "it says which the system named" "lotbook: line $at, command $at: S[45] [A-Za-z]+: .*: File too large \(os error 27\): 2020-01-01 open Assets:A$((at - 1))"
 run post --book "$scratch/full.book" --batch a --from "$at" <"$scratch/many"
 if ((status == 0)) && [[ $(wc -l <"$scratch/out") == $((2001 - at)) ]] && grep -qx "$at accepted\|$at repeat" "$scratch/out"; then
     pass "sent on with room"
@@ -337,7 +338,7 @@ for room in {0..200..20}; do
     rm -f "$scratch/roomless.book"*
     said=$( (trap '' XFSZ && ulimit -f "$room" && exec "$program" init --book "$scratch/roomless.book") </dev/null 2>&1)
     status=$? size=$(stat -c %s "$scratch/roomless.book" 2>/dev/null || echo none)
-    if ((status == 4)) && [[ $said == *"fault open"* && $said == *"lotbook: $scratch/roomless.book: "* && $size =~ ^(none|0|4096)$ ]]; then
+    if ((status == 4)) && [[ $said == *"fault open"* && $said == *"lotbook: $scratch/roomless.book: File too large (os error 27)" && $size =~ ^(none|0|4096)$ ]]; then
         pass "init with room for $room KiB"
     else
         fail "init with room for $room KiB" "status $status, a file of $size bytes, $(tr '\n' '|' <<<"$said")"
@@ -350,21 +351,23 @@ done
 
 makes "$scratch/unheard.book"
 "$program" post --book "$scratch/unheard.book" --batch a <"$first" >/dev/full 2>"$scratch/err" && status=0 || status=$?
-if ((status == 4)) && [[ ! -s $scratch/err ]]; then pass "output to a full disk"; else fail "output to a full disk" "status $status"; fi
+stops "output to a full disk" "command 1 is the last of this call in the book; --from 1 goes on"
 prints "the command whose reply couldn't be written stands, and no other" 0 $'1 repeat\n2 accepted\n3 accepted' \
     post --book "$scratch/unheard.book" --batch a <"$first"
 "$program" init --book "$scratch/unsaid.book" </dev/null >/dev/full 2>"$scratch/err" && status=0 || status=$?
-if ((status == 4)); then pass "making a book with output to a full disk"; else fail "making a book with output to a full disk" "status $status"; fi
+stops "making a book with output to a full disk" "the book is made"
 prints "it was made" 4 "fault S1 NotABook" init --book "$scratch/unsaid.book" </dev/null
 
-makes "$scratch/cut.book"
+rm -f "$scratch/cut.book"* && makes "$scratch/cut.book"
 { "$program" post --book "$scratch/cut.book" --batch a <"$scratch/many" 2>"$scratch/err" && echo 0 >"$scratch/status" || echo $? >"$scratch/status"; } |
     head -n 20 >"$scratch/taken"
 seq -f '%g accepted' 20 >"$scratch/expected"
-if [[ $(<"$scratch/status") == 4 && ! -s $scratch/err ]] && cmp -s "$scratch/taken" "$scratch/expected"; then
-    pass "a pipe that is closed in the middle"
+status=$(<"$scratch/status")
+stops "a pipe that is closed in the middle" "command ([0-9]+) is the last of this call in the book; --from \1 goes on"
+if cmp -s "$scratch/taken" "$scratch/expected"; then
+    pass "its first lines"
 else
-    fail "a pipe that is closed in the middle" "status $(<"$scratch/status"), $(tail -n 1 "$scratch/taken")"
+    fail "its first lines" "$(tail -n 1 "$scratch/taken")"
 fi
 run post --book "$scratch/cut.book" --batch a <"$scratch/many"
 if ((status == 0)) && [[ $(head -n 20 "$scratch/out" | grep -c ' repeat$') == 20 && $(wc -l <"$scratch/out") == 2000 ]]; then
@@ -372,6 +375,51 @@ if ((status == 0)) && [[ $(head -n 20 "$scratch/out" | grep -c ' repeat$') == 20
 else
     fail "sent again after it" "status $status, $(wc -l <"$scratch/out") lines"
 fi
+
+# What was told completes the book: it is that of a post that wasn't disturbed.
+"$program" journal --book "$scratch/cut.book" >"$scratch/whole"
+rm -f "$scratch/cut.book"* && makes "$scratch/cut.book"
+{ "$program" post --book "$scratch/cut.book" --batch a <"$scratch/many" 2>"$scratch/err" && echo 0 >"$scratch/status" || echo $? >"$scratch/status"; } |
+    grep -q accepted
+status=$(<"$scratch/status")
+stops "a search that ends at the first reply" "command ([0-9]+) is the last of this call in the book; --from \1 goes on"
+from=$(sed -E 's/.* --from ([0-9]+) goes on/\1/' "$scratch/err")
+run post --book "$scratch/cut.book" --batch a --from "$from" <"$scratch/many"
+if ((status == 0)) && [[ $(head -n 1 "$scratch/out") == "$from repeat" && $(tail -n 1 "$scratch/out") == "2000 accepted" ]]; then
+    pass "sent on behind it"
+else
+    fail "sent on behind it" "status $status, $(head -n 1 "$scratch/out")"
+fi
+prints "the book is whole" 0 "$(<"$scratch/whole")" journal --book "$scratch/cut.book" </dev/null
+"$program" post --book "$scratch/unheard.book" --batch b --quiet <"$first" >/dev/full 2>"$scratch/err" && status=0 || status=$?
+if ((status == 4)) && [[ ! -s $scratch/err ]]; then pass "nothing is said with --quiet"; else fail "nothing is said with --quiet" "status $status, $(head -n 1 "$scratch/err")"; fi
+
+# ends NAME COUNT INPUT REMAINS LAST WORDS..: the call on a new book, whose output is a file that takes COUNT bytes more; standard error
+# says REMAINS in its last line, and the output ends with the text LAST.
+room=67108864
+ends() {
+    rm -f "$scratch/ended.book"* && makes "$scratch/ended.book"
+    "$program" post --book "$scratch/ended.book" --batch accounts <"$examples/broker/accounts.ledger" >/dev/null
+    rm -f "$scratch/limited" && truncate -s $((room - $2)) "$scratch/limited"
+    (trap '' XFSZ && ulimit -f $((room / 1024)) && exec "$program" "${@:6}" --book "$scratch/ended.book" <"$3" >>"$scratch/limited") 2>"$scratch/err"
+    status=$?
+    sed -i '$!d' "$scratch/err"
+    stops "$1" "$4"
+    if [[ $(tail -c "${#5}" "$scratch/limited") == "$5" && $(stat -c %s "$scratch/limited") -le $room ]]; then pass "$1: its end"; else fail "$1: its end" "$(tail -c 20 "$scratch/limited")"; fi
+}
+reached() { echo "$1 $2 is the last of this call in the book; --from $3 goes on"; }
+{ seq -f '2020-01-01 open Assets:A%g' 9 && echo '2020-01-01 open Assets:A1' && echo '2020-01-01 open Assets:B'; } >"$scratch/twelve"
+ends "a reply cut in its middle" 100 "$scratch/many" "$(reached command 10 10)" $'9 accepted\n1' post --batch a
+ends "a reply of which nothing is written" 99 "$scratch/many" "$(reached command 10 10)" $'9 accepted\n' post --batch a
+ends "a reply but for its line end" 110 "$scratch/many" "$(reached command 10 10)" $'10 accepted' post --batch a
+ends "a refusal cut in its middle" 105 "$scratch/twelve" "$(reached command 9 10)" $'9 accepted\n10 ref' post --batch a
+ends "the reply behind a refusal" 125 "$scratch/twelve" "$(reached command 11 11)" $'10 refused L2 AlreadyOpen\n' post --batch a
+ends "nothing stands" 5 "$examples/broker/accounts.ledger" "no command of this call is in the book; --from 1 goes on" '1 ref' post --batch a
+ends "a repeat" 5 "$examples/broker/accounts.ledger" "$(reached command 1 1)" '1 rep' post --batch accounts
+ends "from a later command on" 3 "$scratch/twelve" "$(reached command 5 5)" '5 a' post --batch a --from 5
+accounts=(--invest Assets:Broker --cash Assets:Cash --fees Expenses:Fees --gains Income:Gains)
+{ echo ref,date,action,symbol,units,price,currency,fee && seq -f 'R-%g,2024-01-15,BUY,HOOL,1,100,USD,' 20; } >"$scratch/rows.csv"
+ends "rows" 105 "$scratch/rows.csv" "$(reached row 10 10)" $'9 accepted\n10 acc' import --batch deals "${accounts[@]}"
 
 # ---- progress
 

@@ -210,13 +210,13 @@ place output
 "$program" init --book "$book" </dev/null >/dev/null
 before=$(state "$home")
 "$program" post --book "$book" --batch a --dry-run <"$first" >/dev/full 2>"$scratch/err" && status=0 || status=$?
-stops "a full disk"
+stops "a full disk" "the output of a dry run is cut short"
 "$program" init --book "$home/other.book" --dry-run </dev/null >/dev/full 2>"$scratch/err" && status=0 || status=$?
-stops "making a book, with output to a full disk"
+stops "making a book, with output to a full disk" "the output of a dry run is cut short"
 { "$program" post --book "$book" --batch many --dry-run <"$scratch/many" 2>"$scratch/err" && echo 0 >"$scratch/status" || echo $? >"$scratch/status"; } |
     head -n 20 >"$scratch/taken"
 status=$(<"$scratch/status")
-stops "a pipe that is closed in the middle"
+stops "a pipe that is closed in the middle" "the output of a dry run is cut short"
 "$program" post --book "$book" --batch slow --dry-run <"$scratch/slow" >"$scratch/out" 2>&1 &
 exec 8>"$scratch/slow"
 cat "$first" >&8

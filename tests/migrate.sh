@@ -237,7 +237,7 @@ expect "its input isn't waited for" 0 "$scratch/expected"
 
 # migrated NAME: the call before ended with status 4 and no message, and the book is migrated.
 migrated() {
-    stops "$1"
+    stops "$1" "the book is migrated"
     shows "$1: it is of edition 2" <(echo 2) rows "$book" "SELECT edition FROM book"
     shows "$1: the opening numbers" "$scratch/numbers" openings "$book"
     prints "$1: migrate again" 0 "book migrated" migrate --book "$book" </dev/null

@@ -1,5 +1,5 @@
 #!/usr/bin/env bash
-# Reports of books that may not be written: a file or a folder without that right, a file system that is read-only, another program that
+# Reports of books that may not be written: a file or a folder without that right, a file system that is read-only or full, another program that
 # writes the book meanwhile. And what standard error says where a file can't be opened or holds no book.
 source "$(dirname "$(readlink -f "${BASH_SOURCE[0]}")")/lib/cases.sh"
 need_program
@@ -77,6 +77,31 @@ END
     says "a post says so" "lotbook: $book: the file system is read-only"
 else
     echo "skipped: a file system that is read-only can't be mounted here"
+fi
+
+# ---- a file system without room: standard error says which the system named
+
+full="No space left on device \\(os error 28\\)"
+cat >"$scratch/roomless" <<END
+#!/usr/bin/env bash
+mkdir -p "$scratch/room" && mount -t tmpfs -o size=1m lotbook "$scratch/room" && cp "$scratch/whole" "$scratch/room/family.book" || exit 9
+exec "$program" "\$@"
+END
+chmod +x "$scratch/roomless"
+cat >"$scratch/alone" <<END
+#!/usr/bin/env bash
+exec unshare -m "$scratch/roomless" "\$@"
+END
+chmod +x "$scratch/alone"
+if unshare -m mount -t tmpfs -o size=1m lotbook /tmp 2>/dev/null; then
+    program=$scratch/alone run post --book "$scratch/room/family.book" --batch many < <(seq -f '2020-01-01 open Assets:A%g' 2000)
+    if ((status == 4)) && [[ $(tail -n 1 "$scratch/out") =~ ^[0-9]+' fault S'[45] ]]; then
+        says "a post says that there is no room" "lotbook: line ([0-9]+), command \\1: S[45] [A-Za-z]+: .*: $full: 2020-01-01 open .*"
+    else
+        fail "a post without room" "status $status, $(tail -n 1 "$scratch/out")"
+    fi
+else
+    echo "skipped: a file system without room can't be mounted here"
 fi
 
 # ---- another program that writes the book meanwhile: each journal is a part of the last one, from its start on

@@ -289,8 +289,14 @@ def limited(ground, words, text, count):
 
 
 def begun(output, count):
-    """The lines of an output of which the first byte was among so many."""
-    return output[: output.index(b"\n", count - 1) + 1] if count else b""
+    """The lines of an output of which so many bytes can be written, the one that can't be written whole among them."""
+    return output[: output.index(b"\n", count) + 1] if count < len(output) else output
+
+
+def untold(got):
+    """What is wrong where the output can't be written and standard error doesn't say so, or the other way round."""
+    is_told = b"lotbook: standard output: " in got.errors
+    return "" if is_told == (got.status == 4) else f"status {got.status}, messages {got.errors[-200:]}"
 
 
 def stands_after(ground, words, text):
@@ -322,6 +328,7 @@ def limited_replies(ground, all_of_them):
             got = limited(ground, words, text, count)
             wanted = whole[:count], 4 if count < len(whole) else 1
             done.compare(f"{name}, {count} bytes", f"{name} to so many bytes", wanted, got, warns(words), begun(whole, count))
+            done.also(untold(got))
             written = whole[:count].count(b"\n")
             stands = held[min(written, len(held) - 1)]
             done.also("" if tables.contents(ground.book) == stands else f"{name}, {count} bytes: the book holds something else")
@@ -343,6 +350,7 @@ def limited_faults(ground, all_of_them):
             got = limited(ground, words, faulty, count)
             wanted = whole[:count], 4 if count < len(whole) else 3
             done.compare(f"{name}, {count} bytes", f"{name} of a faulty input", wanted, got, said=begun(whole, count))
+            done.also(untold(got))
             done.also(ground.applied_nothing())
     ground = ground.changed("damaged.book", damage)
     damaged = ground.held
@@ -378,6 +386,7 @@ def limited_reports(ground, whole):
             got = limited(full, words, text, count)
             status = 4 if count < len(report) else 0
             done.compare(f"{words}, {count} bytes", words[0] if words else "without words", (report[:count], status), got)
+            done.also(untold(got))
             done.also("" if sweep.bytes_of(full.book) == held else f"{words}, {count} bytes: the book changed")
     held = tables.contents(sweep.made(ground.program, os.path.join(ground.scratch, "empty.book")))
     ready, none = b"book ready\n", ground.on("none.book")

@@ -15,6 +15,11 @@ MEMORY = re.compile(rf"({A_PLACE.format('[1-9][0-9]*')})?(Memory )?Memory: memor
 OF_LINES = re.compile(r"line [1-9][0-9]*: X[1-7] [A-Za-z0-9]+: .+")
 OF_DAMAGE = r".+: (entry|table|a row) .+"  # of `verify`
 OF_ROWS = re.compile(r"row [1-9][0-9]* \(.*\): C2 BadRow: .+")
+REPLY = re.compile(r"([1-9][0-9]*) (accepted|repeat|refused|fault)( .*)?")
+UNWRITTEN = re.compile(
+    r"standard output: [A-Z].+ \(os error [0-9]+\): (the output( of a dry run)? is cut short|the book is (made|migrated)"
+    r"|((command|row) (?P<last>[1-9][0-9]*) is the last|no (command|row)) of this call (is )?in the book; --from (?P<start>[1-9][0-9]*) goes on)"
+)
 # What the book says at the end of a run, which another run ends otherwise with, or that can't be read.
 OF_THE_BOOK = re.compile(
     r": (entry [1-9][0-9]*(, with(out)? the line `[^`]*`)?|the nearest is [^ ]+(?=: )|it is opened further down"
@@ -67,6 +72,10 @@ def wrong(errors, status=None, output=None, may_warn=True):
         if not line.encode().startswith(FIRST) or any(ord(letter) < 32 or 127 <= ord(letter) < 160 for letter in line):
             return f"the message {line[:200]!r}"
     lines = [line[len(FIRST) :] for line in lines]
+    if lines and status in (4, None) and (unwritten := UNWRITTEN.fullmatch(lines[-1])):
+        if found := misleads(unwritten, [] if output is None else output.decode().split("\n")[:-1]):
+            return found
+        lines.pop()
     first = next((at for at, line in enumerate(lines) if WARNING.fullmatch(line)), len(lines))
     noted, warned = lines[:first], lines[first:]
     if warned and not may_warn:
@@ -78,6 +87,18 @@ def wrong(errors, status=None, output=None, may_warn=True):
     if status == 0 and noted:
         return f"no warning: {noted[0][:200]!r}"
     return "" if output is None else missing(noted, output.decode().split("\n")[:-1])
+
+
+def misleads(unwritten, said):
+    """What is wrong with the numbers that are told where output can't be written, or nothing: said are the lines that were handed over, of
+    which the last isn't written whole. They are none where that isn't known."""
+    replies = [reply for line in said if (reply := REPLY.fullmatch(line))]
+    if not replies or not unwritten["start"]:
+        return ""
+    stands = [reply[1] for reply in replies if reply[2] in ("accepted", "repeat")]
+    due = replies[-1][1], stands[-1] if stands else None
+    told = unwritten["start"], unwritten["last"]
+    return "" if told == due else f"{told} is told behind {said[-1]!r}, where {due} is due"
 
 
 def wrong_where_memory_ended(errors, ample, output):

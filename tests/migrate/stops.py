@@ -116,6 +116,8 @@ def roomless(ground, room):
         return f"{said[:80]!r}, status {status}, messages {done.stderr[:80]!r}", said
     if (said, status) != ("book migrated\n", 0) and (said.rstrip("\n") not in FAULTS or status != 4):
         return f"{said[:80]!r}, status {status}, '{done.stderr.decode()[:80]}'", said
+    if status == 4 and b"File too large (os error 27)\n" not in done.stderr:
+        return f"{said[:80]!r} without the cause: {done.stderr[:80]!r}", said
     return ground.fault_then(said == "book migrated\n")[1], said
 
 

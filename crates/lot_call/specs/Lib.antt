@@ -1,1 +1,2 @@
+pub mod Remains
 pub mod Shell

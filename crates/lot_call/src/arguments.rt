@@ -1,5 +1,6 @@
 //! The arguments of the program.
 
+use crate::remains::say_cut_short;
 use crate::status::{DONE, STOPPED, UNUSABLE, out_of_memory};
 use clap::error::ErrorKind as UsageKind;
 use lot_args::{BadOption, Request, WordsFault, parse_words};
@@ -45,7 +46,10 @@ fn answer(rt: &HostRuntime, words: &[String], fault: &WordsFault) -> u8 {
                 UNUSABLE
             }
             Ok(()) => DONE,
-            Err(_) => STOPPED,
+            Err(error) => {
+                say_cut_short(rt, error);
+                STOPPED
+            }
         },
         WordsFault::MissingBatch => {
             let _ = eprintln!(rt; "{NO_BATCH}");

@@ -1,6 +1,7 @@
 //! What the program is called for.
 
 use lot_args::{Action, Effect, Notes};
+use lot_files::Failure;
 use std::time::Instant;
 
 /// How many refusals are explained where not all are.
@@ -17,6 +18,8 @@ pub struct Call<'a> {
     pub notes: Notes,
     /// When it began, where the clock could be read.
     pub begun: Option<Instant>,
+    /// Why a call of the book's files failed, where one did.
+    pub failure: &'a Failure,
 }
 
 impl Call<'_> {

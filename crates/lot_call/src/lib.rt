@@ -4,7 +4,8 @@
 //! - `arguments`: what they ask for, and what is said of those that can't be used.
 //! - `call`: what the program is called for; `status`: how a call ends.
 //! - `told`: why commands were refused, and what the codes mean; `facts`: what the book says of it.
-//! - `notes`: what else is said of a call; `standing`: what stands in the place of its book.
+//! - `notes`: what else is said of a call; `remains`: what remains of one whose output can't be
+//!   written; `standing`: what stands in the place of its book.
 //! - `quoted`: a path as it is written for a shell; `laws`: what holds of the definitions that the contracts cite.
 #![tactic(auto)]
 
@@ -14,6 +15,7 @@ mod facts;
 pub mod laws;
 mod notes;
 mod quoted;
+mod remains;
 mod standing;
 mod status;
 mod told;
@@ -21,6 +23,7 @@ mod told;
 pub use arguments::understand;
 pub use call::{Call, path_of};
 pub use notes::{say_why, sum_up, withdraw};
+pub use remains::{say_cut_short, say_unwritten};
 pub use standing::Standing;
 pub use status::{DONE, REFUSED, STOPPED, UNUSABLE, out_of_memory};
 pub use told::{explain, tell};

@@ -3,7 +3,7 @@
 use crate::call::Call;
 use lot_args::Effect;
 use lot_files::Cause;
-use lot_output::Heard;
+use lot_output::Course;
 use std::io::IsTerminal;
 
 /// Says why the book of that path can't be opened.
@@ -20,17 +20,17 @@ pub fn say_why(call: &Call<'_>, path: &str, cause: Cause) {
 
 /// Says, on a terminal, how many of the commands of a run were accepted, stood already and were
 /// refused, and how long the call took.
-pub fn sum_up(call: &Call<'_>, heard: &Heard) {
+pub fn sum_up(call: &Call<'_>, course: &Course) {
     let rt = call.rt;
     if call.runs().is_none() || !rt.stderr().is_terminal() {
         return;
     }
-    let Heard {
+    let Course {
         accepted,
         repeated,
         refused,
         ..
-    } = heard;
+    } = course;
     let _ = eprint!(rt; "{accepted} accepted, {repeated} repeated, {refused} refused");
     if let Some(begun) = call.begun
         && let Ok(took) = begun.elapsed(rt)

@@ -2,6 +2,7 @@
 
 use crate::call::Call;
 use crate::facts::Facts;
+use crate::remains::say_cut_short;
 use crate::status::{DONE, STOPPED, UNUSABLE};
 use lot_args::Action;
 use lot_explain::{Source, list, nearest_code, notes};
@@ -19,7 +20,10 @@ pub fn tell(rt: &HostRuntime, code: Option<&str>) -> u8 {
     match told {
         Ok(is_told) if is_told => DONE,
         Ok(_) => unknown(rt, code.unwrap_or("")),
-        Err(_) => STOPPED,
+        Err(error) => {
+            say_cut_short(rt, error);
+            STOPPED
+        }
     }
 }
 
@@ -36,9 +40,19 @@ fn unknown(rt: &HostRuntime, word: &str) -> u8 {
 
 /// Says on standard error why commands were refused, what a fault means, and what was perhaps read
 /// otherwise than it was meant. Where memory ends or that can't be written, less is said.
-pub fn explain<S: Alter>(call: &Call<'_>, read: &Kept, heard: &Heard, conn: &mut Connection<S>) {
+pub fn explain<'a, S: Alter>(
+    call: &'a Call<'a>,
+    read: &'a Kept,
+    heard: &'a Heard,
+    conn: &mut Connection<S>,
+) {
     let (Some(input), Some(lines)) = (&read.bytes, &heard.lines.bytes) else {
         return;
+    };
+    let alloc = call.rt.alloc();
+    let cause = match call.failure.cause() {
+        Some(cause) => format!(in alloc; "{cause}").ok(),
+        None => None,
     };
     let most = call.most();
     let (source, from) = source_of(call.action);
@@ -47,9 +61,9 @@ pub fn explain<S: Alter>(call: &Call<'_>, read: &Kept, heard: &Heard, conn: &mut
         input: input.as_slice(),
         from,
         lines: lines.as_slice(),
-        left_out: heard.refused.saturating_sub(most),
+        left_out: heard.course.refused.saturating_sub(most),
+        cause: cause.as_deref(),
     };
-    let alloc = call.rt.alloc();
     let mut errors = call.rt.stderr();
     let _ = notes(alloc, &mut errors, &mut Facts { alloc, conn }, &asked, most);
 }

@@ -1,3 +1,4 @@
+pub mod Cause
 pub mod Codes
 pub mod Commas
 pub mod Commodity

@@ -50,6 +50,8 @@ pub struct Call<'a> {
     pub lines: &'a [u8],
     /// How many more commands were refused than `lines` says.
     pub left_out: u64,
+    /// Why the system refused a call of the book's files, where it did.
+    pub cause: Option<&'a str>,
 }
 
 impl<'a> Call<'a> {

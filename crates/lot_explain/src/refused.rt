@@ -1,6 +1,9 @@
 //! Each refused command of a ledger text, each refused row of a broker file, and what a run stopped
 //! at.
 
+ghost use Rattle.std.specs.Prelude.{◌≡◌, option_map};
+ghost use Rattle.lot_explain.specs.Cause.{cause_behind, is_of_disk};
+
 use crate::book::Known;
 use crate::call::{Call, Key};
 use crate::explained::find;
@@ -70,12 +73,28 @@ fn note_said<W: Write, B: Known>(
                 format_args!("{code}: {brief}: the file begins with `{header}`"),
             )
         }
-        None => notes.note(Place::Whole, format_args!("{code}: {brief}")),
+        None => {
+            let (colon, cause) = cause_behind(said.code, call.cause);
+            notes.note(Place::Whole, format_args!("{code}: {brief}{colon}{cause}"))
+        }
         Some(number) => {
+            let (colon, cause) = cause_behind(said.code, call.cause);
             let fact = known(alloc, book, &*call, reading, number, &*said)?;
             let place = reading.go_to(number, said.posting)?;
-            notes.note(place, format_args!("{code}: {brief}{fact}"))
+            notes.note(place, format_args!("{code}: {brief}{colon}{cause}{fact}"))
         }
+    }
+}
+
+/// Returns what stands behind what is said of a code: of a fault of the disk why the system refused,
+/// where that is known, and of any other nothing.
+fn cause_behind<'a>(code: &str, cause: Option<&'a str>) -> (&'static str, &'a str)
+    ensures { (result.0.now, result.1.now)
+        ≡ cause_behind (is_of_disk code.now) (option_map (λ text. text.now) cause.entry) }
+{
+    match cause {
+        Some(cause) if matches!(code, "S4" | "S5") => (": ", cause),
+        _ => ("", ""),
     }
 }
 

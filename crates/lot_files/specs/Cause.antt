@@ -39,6 +39,12 @@ abbrev pub copy_cause : Error → Cause
 copy_cause (SqliteFailure code.SystemIoFailure) = Memory
 copy_cause error = library_cause error
 
+-- why the system refused, where an error of the library says no more than that the disk did
+abbrev pub cause_or : Cause → Option Cause → Cause
+cause_or (Library code.SystemIoFailure) refusal = unwrap_or refusal (Library code.SystemIoFailure)
+cause_or (Library code.DiskFull) refusal = unwrap_or refusal (Library code.DiskFull)
+cause_or cause refusal = cause
+
 -- what an error of the system says by its kind, where the kind says enough
 abbrev pub cause_of_kind : ErrorKind → Option Cause
 cause_of_kind kind.OutOfMemory = Some Memory

@@ -1,5 +1,6 @@
 pub mod Cause
 pub mod Image
 pub mod Medium
+pub mod Noted
 pub mod Opened
 pub mod Path

@@ -1,7 +1,7 @@
 //! Why the book in a file can't be opened.
 
 ghost use Rattle.std.specs.Prelude.{◌≡◌, ◌≢◌};
-ghost use Rattle.lot_files.specs.Cause.{copy_cause, library_cause};
+ghost use Rattle.lot_files.specs.Cause.{cause_or, copy_cause, library_cause};
 
 use crate::files::{is_missing, locate};
 use sqlite::{Error, ErrorCode};
@@ -70,6 +70,18 @@ impl Cause {
         match error {
             Error::SqliteFailure(ErrorCode::SystemIoFailure) => Cause::Memory,
             _ => Cause::of_library(error),
+        }
+    }
+
+    /// Returns it, or why the system refused, where it says no more than that the disk did.
+    pub(crate) fn or_of(self, refusal: Option<Cause>) -> Cause
+        ensures { result ≡ cause_or self refusal }
+    {
+        match self {
+            Cause::Library(ErrorCode::SystemIoFailure | ErrorCode::DiskFull) => {
+                refusal.unwrap_or(self)
+            }
+            _ => self,
         }
     }
 }

@@ -33,7 +33,10 @@ const FEW: usize = 16;
 
 /// Opens a copy of the database in the file of that path. A file that isn't there is copied as an
 /// empty one. Nothing is written but the copy, which is in memory.
-pub fn open_copy(rt: &HostRuntime, path: &str) -> Result<Connection<FileStore<BookFile>>, Cause>
+pub fn open_copy<'a>(
+    rt: &HostRuntime,
+    path: &str,
+) -> Result<Connection<FileStore<BookFile<'a>>>, Cause>
     ensures outside { IfOk result (λ conn. conn.in_transaction ≡ false) }
     ensures unlimited { IfOk result (λ conn. conn.step_limit ≡ None) }
 {
@@ -47,7 +50,7 @@ pub fn open_copy(rt: &HostRuntime, path: &str) -> Result<Connection<FileStore<Bo
 }
 
 /// Opens an empty database in memory.
-pub fn open_nothing(alloc: Global) -> Result<Connection<FileStore<BookFile>>, Cause>
+pub fn open_nothing<'a>(alloc: Global) -> Result<Connection<FileStore<BookFile<'a>>>, Cause>
     ensures outside { IfOk result (λ conn. conn.in_transaction ≡ false) }
     ensures unlimited { IfOk result (λ conn. conn.step_limit ≡ None) }
 {
@@ -64,11 +67,11 @@ pub fn open_nothing(alloc: Global) -> Result<Connection<FileStore<BookFile>>, Ca
 }
 
 /// Opens the database in files in memory.
-fn open_images(
+fn open_images<'a>(
     alloc: Global,
     files: Files<Image>,
     options: Options,
-) -> Result<Connection<FileStore<BookFile>>, Cause>
+) -> Result<Connection<FileStore<BookFile<'a>>>, Cause>
     ensures outside { IfOk result (λ conn. conn.in_transaction ≡ false) }
     ensures unlimited { IfOk result (λ conn. conn.step_limit ≡ None) }
     ensures found { IfOk result (λ conn. HasCleanDisk (file_state conn)

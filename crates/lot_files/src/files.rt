@@ -7,6 +7,7 @@ ghost use Rattle.lot_files.specs.Path.{HasLongName, library_path, names_file, na
 
 use crate::cause::{Cause, why};
 use crate::medium::Medium;
+use crate::noted::{Failure, Noted};
 use crate::opened::BookFile;
 use sqlite::{Connection, Error, ErrorCode, FileStore, Files, Options, Unknown};
 use sqlite_std_file::OpenError;
@@ -25,15 +26,20 @@ const NO_MEMORY: Error = Error::SqliteFailure(ErrorCode::OutOfMemory);
 
 const CANNOT_OPEN: Error = Error::SqliteFailure(ErrorCode::CannotOpen);
 
-/// Opens the database in the file of that path, and makes one where there is none.
-pub fn open(rt: &HostRuntime, path: &str) -> Result<Connection<FileStore<BookFile>>, Cause>
+/// Opens the database in the file of that path, and makes one where there is none. The files keep
+/// there why a call of them failed.
+pub fn open<'a>(
+    rt: &HostRuntime,
+    path: &str,
+    failure: &'a Failure,
+) -> Result<Connection<FileStore<BookFile<'a>>>, Cause>
     ensures outside { IfOk result (λ conn. conn.in_transaction ≡ false) }
     ensures unlimited { IfOk result (λ conn. conn.step_limit ≡ None) }
 {
     let files = match sqlite_std_file::open(rt, path, Unknown) {
         Ok(Files { log, db }) => Files {
-            log: Medium::System(log),
-            db: Medium::System(db),
+            log: Medium::System(Noted::new(log, failure)),
+            db: Medium::System(Noted::new(db, failure)),
         },
         Err(error) => return Err(why(rt, path, opening_error(error))),
     };
@@ -42,7 +48,7 @@ pub fn open(rt: &HostRuntime, path: &str) -> Result<Connection<FileStore<BookFil
     };
     match Connection::open_files(rt.alloc(), files, Options::new(seed.hash_one(&0u8))) {
         Ok(conn) => Ok(conn),
-        Err((error, _left)) => Err(why(rt, path, error)),
+        Err((error, _left)) => Err(why(rt, path, error).or_of(failure.cause())),
     }
 }
 

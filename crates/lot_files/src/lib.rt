@@ -3,6 +3,7 @@
 //! - `files`: a book's file and its log, and what may stand there in their place.
 //! - `cause`: why a book can't be opened.
 //! - `copy`: a copy of a book in memory; `image`: a file in memory; `medium`: a file there or of the system.
+//! - `noted`: a file of the system that keeps why its last call failed.
 //! - `opened`: a book that is opened: its file, or a copy of it.
 #![tactic(auto)]
 
@@ -11,6 +12,7 @@ mod copy;
 mod files;
 mod image;
 mod medium;
+mod noted;
 mod opened;
 
 pub use cause::Cause;
@@ -18,4 +20,5 @@ pub use copy::{open_copy, open_nothing};
 pub use files::{ensure_openable, is_missing, library_path, open};
 pub use image::Image;
 pub use medium::Medium;
+pub use noted::{Failure, Noted};
 pub use opened::{Access, BookFile, Opened, open_book};

@@ -1,1 +1,3 @@
+pub mod Course
+pub mod Heard
 pub mod Record

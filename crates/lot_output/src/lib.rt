@@ -2,15 +2,20 @@
 //! it afterwards.
 //!
 //! - `input`: standard input; `output`: standard output; `meter`: how far a run is, on standard error.
-//! - `record`: bytes that are kept, a writer that keeps lines, and what was heard of a call.
+//! - `record`: bytes that are kept. `heard`: what was heard of a call, and a writer that hears it;
+//!   `course`: how far a run came, by its replies.
 #![tactic(auto)]
 
+mod course;
+mod heard;
 mod input;
 mod meter;
 mod output;
 mod record;
 
+pub use course::Course;
+pub use heard::{Heard, Witness};
 pub use input::Input;
 pub use meter::Meter;
 pub use output::Output;
-pub use record::{Heard, Kept, Witness};
+pub use record::Kept;

@@ -3,7 +3,7 @@
 ghost use Rattle.std.specs.Prelude.{◌≡◌, None, false};
 
 use crate::keeper::{Keep, Keeper};
-use lot_call::{Call, Standing, explain, sum_up};
+use lot_call::{Call, Standing, explain, say_unwritten, sum_up};
 use lot_cli::{
     AdoptFault, CountedWriter, CreateFault, Halt, MigrateFault, Progress, Served, VerifyFault,
     serve,
@@ -76,8 +76,9 @@ pub fn speak<S: Alter>(
     explain(call, read, heard, conn);
     match halt {
         Some(halt) => advise(call, halt, conn),
-        None => sum_up(call, heard),
+        None => sum_up(call, &heard.course),
     }
+    say_unwritten(call, heard);
 }
 
 /// Says what helps where an action ended before its first command, since the file holds no book, or

@@ -4,7 +4,9 @@ ghost use Rattle.std.specs.Prelude.{◌≡◌, None, false};
 
 use crate::answer::{answer, do_quietly, speak};
 use crate::keeper::{Keep, Keeper};
-use lot_call::{Call, DONE, REFUSED, STOPPED, UNUSABLE, out_of_memory, say_why, withdraw};
+use lot_call::{
+    Call, DONE, REFUSED, STOPPED, UNUSABLE, out_of_memory, say_cut_short, say_why, withdraw,
+};
 use lot_cli::{Action, Effect, Served};
 use lot_files::{
     Access, BookFile, Cause, Opened, ensure_openable, is_missing, library_path, open, open_book,
@@ -67,14 +69,14 @@ fn on_path(call: &Call<'_>, path: &str) -> Result<u8, Cause> {
         (_, Effect::DryRun) => Access::Copy,
         (_, Effect::AllOrNone) => return all_or_none(call, path),
     };
-    match open_book(rt, path, access)? {
+    match open_book(rt, path, access, call.failure)? {
         Opened::File(file) => Ok(on_file(call, Input::Standard(rt.reader()), file)),
         Opened::Copy(copy) => Ok(on_copy(call, copy)),
     }
 }
 
 /// Does it on the file, with that input, and closes it where the action ran to its end.
-fn on_file(call: &Call<'_>, input: Input<'_>, file: Connection<FileStore<BookFile>>) -> u8
+fn on_file(call: &Call<'_>, input: Input<'_>, file: Connection<FileStore<BookFile<'_>>>) -> u8
     requires outside { file.in_transaction ≡ false }
     requires unlimited { file.step_limit ≡ None }
 {
@@ -91,7 +93,7 @@ fn on_file(call: &Call<'_>, input: Input<'_>, file: Connection<FileStore<BookFil
 }
 
 /// Does it on a database of which nothing stays.
-fn on_copy(call: &Call<'_>, copy: Connection<FileStore<BookFile>>) -> u8
+fn on_copy(call: &Call<'_>, copy: Connection<FileStore<BookFile<'_>>>) -> u8
     requires outside { copy.in_transaction ≡ false }
     requires unlimited { copy.step_limit ≡ None }
 {
@@ -106,7 +108,7 @@ fn on_copy(call: &Call<'_>, copy: Connection<FileStore<BookFile>>) -> u8
 /// Does it on a copy, and where that accepted every command, on the file, with the same input.
 fn all_or_none(call: &Call<'_>, path: &str) -> Result<u8, Cause> {
     // The file is open meanwhile, so no other program writes it in between.
-    let file = open(call.rt, path)?;
+    let file = open(call.rt, path, call.failure)?;
     Ok(match try_on_copy(call, open_copy(call.rt, path)?)? {
         Tried::Accepted(input) => on_file(call, Input::Again(&input), file),
         Tried::Ended(status) => status,
@@ -124,7 +126,7 @@ enum Tried {
 
 /// Does it on a copy, with the replies held back. Unless the copy accepted every command, its
 /// replies are those of the call.
-fn try_on_copy(call: &Call<'_>, copy: Connection<FileStore<BookFile>>) -> Result<Tried, Cause>
+fn try_on_copy(call: &Call<'_>, copy: Connection<FileStore<BookFile<'_>>>) -> Result<Tried, Cause>
     requires outside { copy.in_transaction ≡ false }
     requires unlimited { copy.step_limit ≡ None }
 {
@@ -142,10 +144,16 @@ fn try_on_copy(call: &Call<'_>, copy: Connection<FileStore<BookFile>>) -> Result
     if status == DONE {
         return reader.kept.bytes.map(Tried::Accepted).ok_or(Cause::Memory);
     }
-    let is_written = io::writer(rt).write_all(replies).is_ok();
+    let written = io::writer(rt).write_all(replies);
     speak(call, &reader.kept, &writer.heard, halt, &mut conn);
     if halt.is_none() {
         withdraw(call);
     }
-    Ok(Tried::Ended(if is_written { status } else { STOPPED }))
+    let Err(error) = written else {
+        return Ok(Tried::Ended(status));
+    };
+    if !call.is_quiet() {
+        say_cut_short(rt, error);
+    }
+    Ok(Tried::Ended(STOPPED))
 }

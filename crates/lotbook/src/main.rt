@@ -12,11 +12,13 @@ mod keeper;
 use crate::book::act;
 use lot_call::{Call, path_of, tell, understand};
 use lot_cli::Request;
+use lot_files::Failure;
 use std::process::ExitCode;
 use std::time::Instant;
 
 fn main(rt: HostRuntime) -> ExitCode {
     let begun = Instant::now(&rt).ok();
+    let failure = Failure::none();
     ExitCode::from(match understand(&rt) {
         Ok(
             Request::Act {
@@ -31,6 +33,7 @@ fn main(rt: HostRuntime) -> ExitCode {
             effect,
             notes,
             begun,
+            failure: &failure,
         }),
         Ok(Request::Explain { code }) => tell(&rt, code.as_deref()),
         Err(status) => status,

@@ -105,7 +105,8 @@ $ lotbook holdings --book family.book
         code: "P2",
         name: "Write",
         brief: "the output can't be written",
-        rule: "Standard output can't be written, so no line can say so: the status is 4.",
+        rule: "Standard output can't be written, so no line there can say so: standard error says why, \
+            and the status is 4.",
         examples: Examples::Absent,
         help: "Make room, or see what reads the output.",
         page: "docs/RULES.md, The program",

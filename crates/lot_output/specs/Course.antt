@@ -1,0 +1,35 @@
+-- How far a run came, by its replies.
+use Rattle.std.specs.Prelude.{◌≡◌, ◌<◌, ◌+◌, ◌++◌, ◌∷◌, ◌^◌, ◌-◌, IsUtf8, List, ℕ, Option, None, Some, codes, if◌then◌else◌, min, nat_eq}
+use Rattle.std.specs.Fmt.{decimal}
+use Rattle.std.specs.List.{starts_with}
+use Rattle.lot_output.specs.declared.course.Course.{Course}
+use Rattle.lot_output.specs.declared.course.Said.{Said}
+use Rattle.lot_output.specs.declared.course.Said.TheVariants.{Accepted, Fault, Refused, Repeated, Stopped}
+
+-- what a line says whose number this is, by what stands behind it
+abbrev pub said_of : ℕ → List ℕ → Option Said
+said_of number rest =
+    if starts_with nat_eq rest (codes "accepted\n") then Some (Accepted number)
+    else if starts_with nat_eq rest (codes "repeat\n") then Some (Repeated number)
+    else if starts_with nat_eq rest (codes "refused ") then Some (Refused number)
+    else if starts_with nat_eq rest (codes "fault ") then Some (Stopped number)
+    else None
+
+-- a line that begins with a number says what stands behind it
+abbrev pub Says : List ℕ → Option Said → Type 0
+Says line said = (number : ℕ) (rest : List ℕ) → number < 2 ^ 64 → IsUtf8 line
+    → line ≡ decimal number ++ 32 ∷ rest → said ≡ said_of number rest
+
+-- one more, as far as a number of 64 bits goes
+abbrev pub one_more : ℕ → ℕ
+one_more count = min (count + 1) (2 ^ 64 - 1)
+
+-- a command that was accepted, or stood already, stands; one that was refused, or at which the run stopped, doesn't
+abbrev pub course_after : Said → Course → Course
+course_after (Accepted number) course =
+    record course { accepted = one_more course.accepted; standing = Some number; last = Some number }
+course_after (Repeated number) course =
+    record course { repeated = one_more course.repeated; standing = Some number; last = Some number }
+course_after (Refused number) course = record course { refused = one_more course.refused; last = Some number }
+course_after (Stopped number) course = record course { faults = one_more course.faults; last = Some number }
+course_after Fault course = record course { faults = one_more course.faults }
