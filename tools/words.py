@@ -98,8 +98,7 @@ def word(said):
     options = sorted(((kind == "LastFlag", it) for kind, it in options if kind != "Place"), key=lambda it: it[0])
     options = [*(it for _, it in options), Option("help", "", "Prints the help")]
     about = said["about"].split("\n\n")
-    brief = said.get("brief") or about[0].split(": lotbook")[0]
-    return Word(said["name"], said["above"], brief.rstrip("."), about, options)
+    return Word(said["name"], said["above"], said["brief"].rstrip("."), about, options)
 
 
 def program():
