@@ -313,6 +313,7 @@ fi
 # belongs NAME: makes a folder of that user's.
 belongs() { "${other[@]}" mkdir -p "$1"; }
 place=$scratch/others
+their_home=$place/home their_temporary=$place/tmp
 belongs "$place/home" && belongs "$place/tmp"
 settings=(HOME="$place/home" TMPDIR="$place/tmp")
 around=() # what the call is made in
@@ -347,11 +348,11 @@ called "a checkout that can't be written" 7 a "b c"
 unpacked "its program is in the cache" "$cached "
 is_private=$(stat -c '%a %u' "$place/home/.cache/lotbook")
 if [[ $is_private == "700 $own" ]]; then pass "the folder is the user's alone"; else fail "the folder is the user's alone" "$is_private"; fi
-was=$(stat -c '%i %y' "$place"/home/.cache/lotbook/*)
+was=$(stat -c '%i %y' "$their_home"/.cache/lotbook/*)
 called "again" 7 x
-if [[ $(stat -c '%i %y' "$place"/home/.cache/lotbook/*) == "$was" ]]; then pass "it is unpacked once"; else fail "it is unpacked once" "$was"; fi
+if [[ $(stat -c '%i %y' "$their_home"/.cache/lotbook/*) == "$was" ]]; then pass "it is unpacked once"; else fail "it is unpacked once" "$was"; fi
 path=$with called "with a kit" 7 x
-for kept in "$place"/home/.cache/lotbook/*; do printf 'echo changed\n' >>"$kept"; done
+for kept in "$their_home"/.cache/lotbook/*; do printf 'echo changed\n' >>"$kept"; done
 called "one that was changed there isn't run" 7 x
 printf '#!/bin/sh\necho evil\n' >"$scratch/evil" && chmod 755 "$scratch/evil"
 cp "$kept" "$scratch/same" && chmod 755 "$scratch/same" && "${other[@]}" ln -sf "$scratch/same" "$kept"
@@ -383,9 +384,9 @@ unpacked "the home's is taken" "$cached "
 rm -r "$place/home/.cache"
 settings=(TMPDIR="$place/tmp")
 called "no HOME" 7 x
-was=$(stat -c '%i %y' "$place"/tmp/*/*)
+was=$(stat -c '%i %y' "$their_temporary"/*/*)
 called "again without it" 7 y
-if [[ $(stat -c '%i %y' "$place"/tmp/*/*) == "$was" ]]; then pass "it is unpacked once there, too"; else fail "it is unpacked once there, too" "$was"; fi
+if [[ $(stat -c '%i %y' "$their_temporary"/*/*) == "$was" ]]; then pass "it is unpacked once there, too"; else fail "it is unpacked once there, too" "$was"; fi
 unpacked "one among the temporary files" "$temporary "
 settings=(HOME=/nowhere TMPDIR="$place/tmp")
 called "a HOME that isn't there" 7 x
@@ -397,7 +398,7 @@ settings=(HOME="$place/home" TMPDIR="$place/tmp")
 left="./tmp/*"
 # passed_by NAME: the folder in the cache isn't used, though there is no other yet.
 passed_by() {
-    rm -rf "$place"/tmp/*
+    rm -rf "$their_temporary"/*
     called "$1" 7 x
     unpacked "$1: it isn't used" ""
     rm -rf "$place/home/.cache"
@@ -414,7 +415,7 @@ if ((own != EUID)); then
     mkdir -p "$place/home/.cache/lotbook" && chmod -R 700 "$place/home/.cache/lotbook" && chmod 755 "$place/home/.cache"
     passed_by "another user's folder in the cache"
     settings=(TMPDIR="$place/tmp")
-    rm -r "$place"/tmp/* && chmod 1777 "$place/tmp" && mkdir -m 755 "$place/tmp/lotbook-$own.AAAAAAAAAA"
+    rm -r "$their_temporary"/* && chmod 1777 "$place/tmp" && mkdir -m 755 "$place/tmp/lotbook-$own.AAAAAAAAAA"
     cp "$scratch/evil" "$place/tmp/lotbook-$own.AAAAAAAAAA/released-$(sed -n 's/^program //p' "$repo/release/sums")"
     called "another user's folder among the temporary files" 7 x
     rm -r "$place/tmp/lotbook-$own.AAAAAAAAAA"
@@ -422,7 +423,7 @@ if ((own != EUID)); then
 else
     echo "skipped: this user may not call as another one"
 fi
-rm -r "$place"/tmp/* && chmod 777 "$place/tmp"
+rm -r "$their_temporary"/* && chmod 777 "$place/tmp"
 settings=(HOME="$place/home" TMPDIR="$place/tmp")
 called "the cache again" 7 x
 rm -r "$place/home/.cache"
@@ -482,7 +483,7 @@ if "${mounts[@]}" mount -t tmpfs tmpfs "$scratch/mount" 2>/dev/null; then
     mounting "$place/home/.cache/lotbook" "mode=700,$whose,noexec"
     called "a cache where no program runs" 7 x
     mounting "$place/home/.cache/lotbook" "mode=700,$whose,size=4k"
-    rm -rf "$place"/tmp/*
+    rm -rf "$their_temporary"/*
     called "a full cache" 7 x
     left=none unpacked "one among the temporary files in its place" "$temporary "
     settings=(HOME="$place/home" TMPDIR=/nowhere)
