@@ -1,7 +1,8 @@
 -- How far a run came, by its replies.
-use Rattle.std.specs.Prelude.{◌≡◌, ◌<◌, ◌+◌, ◌++◌, ◌∷◌, ◌^◌, ◌-◌, IsUtf8, List, ℕ, Option, None, Some, codes, if◌then◌else◌, min, nat_eq}
+use Rattle.std.specs.Prelude.{◌≡◌, ◌<◌, ◌+◌, ◌++◌, ◌∷◌, ◌^◌, ◌-◌, ◌⊎◌, IsUtf8, List, ℕ, Option, None, Some, codes, if◌then◌else◌, min, nat_eq}
 use Rattle.std.specs.Fmt.{decimal}
 use Rattle.std.specs.List.{starts_with}
+use Rattle.std.specs.Str.Parse.{IsNumeral, digits_value, without_leading_plus}
 use Rattle.lot_output.specs.declared.course.Course.{Course}
 use Rattle.lot_output.specs.declared.course.Said.{Said}
 use Rattle.lot_output.specs.declared.course.Said.TheVariants.{Accepted, Fault, Refused, Repeated, Stopped}
@@ -15,10 +16,21 @@ said_of number rest =
     else if starts_with nat_eq rest (codes "fault ") then Some (Stopped number)
     else None
 
--- a line that begins with a number says what stands behind it
-abbrev pub Says : List ℕ → Option Said → Type 0
-Says line said = (number : ℕ) (rest : List ℕ) → number < 2 ^ 64 → IsUtf8 line
-    → line ≡ decimal number ++ 32 ∷ rest → said ≡ said_of number rest
+-- a word says so: it is `fault`, or a number, and what stands behind it says so of the command of that number
+abbrev pub IsToldBy : List ℕ → List ℕ → Said → Type 0
+IsToldBy word rest said =
+    ((word ≡ codes "fault") × (said ≡ Fault))
+    ⊎ (IsNumeral 10 (without_leading_plus word)
+    × (said_of (digits_value 10 (without_leading_plus word)) rest ≡ Some said))
+
+-- A line that begins with a number says what stands behind it, and one that begins with the word `fault` says a fault. No other says
+-- anything.
+pub record Says (line : List ℕ) (said : Option Said) : Type 0 where
+  pub numbered : (number : ℕ) (rest : List ℕ) → number < 2 ^ 64 → IsUtf8 line → line ≡ decimal number ++ 32 ∷ rest
+      → said ≡ said_of number rest
+  pub fault : (rest : List ℕ) → IsUtf8 line → line ≡ codes "fault" ++ 32 ∷ rest → said ≡ Some Fault
+  pub other : (found : Said) → said ≡ Some found
+      → (word : List ℕ) × (rest : List ℕ) × (line ≡ word ++ 32 ∷ rest) × IsToldBy word rest found
 
 -- one more, as far as a number of 64 bits goes
 abbrev pub one_more : ℕ → ℕ

@@ -1,10 +1,10 @@
 //! What was heard of a call, and a writer that hears it.
 
-ghost use Rattle.std.specs.Prelude.{◌≡◌, ◌≢◌, ◌<◌, IfErr, IfOk, IsSome, None, OnErr, Some, false, length, true};
+ghost use Rattle.std.specs.Prelude.{◌≡◌, ◌≢◌, ◌<◌, IfErr, IfOk, IsOk, IsSome, None, OnErr, Some, false, length, take, true};
 ghost use Rattle.std.specs.Io.{WritesAtMost};
 ghost use Rattle.std.specs.IoError.{error_kind};
-ghost use Rattle.std.specs.Io.KnownBytes.{WriteAppends};
-ghost use Rattle.lot_output.specs.Heard.{Hears, told_by};
+ghost use Rattle.std.specs.Io.KnownBytes.{Keeps, WriteAppends};
+ghost use Rattle.lot_output.specs.Heard.{Hears, ends_line, told_by};
 
 use crate::course::{Course, Said, said_in};
 use crate::record::Kept;
@@ -50,9 +50,10 @@ impl<W> Witness<W> {
 
     /// Hears a line, and keeps it where it says that something wasn't done.
     fn hear(&mut self, line: &[u8])
-        ensures course { Hears line.now self.old.heard.course self.new.heard.course }
+        ensures heard { Hears self.old.most line.now self.old.heard self.new.heard }
         ensures failure { self.new.heard.failure ≡ self.old.heard.failure }
         ensures begins { self.new.begins ≡ self.old.begins }
+        ensures most { self.new.most ≡ self.old.most }
     {
         let Some(said) = said_in(line) else {
             return;
@@ -80,9 +81,12 @@ impl<W: Write> Write for Witness<W> {
         ensures written { IfOk result (λ count. 0 < count
             → self.new.heard.failure ≡ self.old.heard.failure) }
         ensures heard { self.old.begins ≡ true
-            → Hears buf.now self.old.heard.course self.new.heard.course }
+            → Hears self.old.most buf.now self.old.heard self.new.heard }
         ensures once { self.old.begins ≡ false
             → self.new.heard.course ≡ self.old.heard.course }
+        ensures kept { self.old.begins ≡ false
+            → self.new.heard.lines ≡ self.old.heard.lines }
+        ensures begins { IfOk result (λ count. self.new.begins ≡ ends_line (take count buf.now)) }
         ensures failed { OnErr result (self.new.begins ≡ false) }
     {
         if self.begins {
@@ -97,7 +101,14 @@ impl<W: Write> Write for Witness<W> {
         outcome
     }
 
-    fn flush(&mut self) -> io::Result<()> {
+    fn flush(&mut self) -> io::Result<()>
+        ensures bytes { Keeps None None }
+        ensures failure { IfErr result (λ error. self.new.heard.failure ≡ Some error) }
+        ensures flushed { IsOk result → self.new.heard.failure ≡ self.old.heard.failure }
+        ensures course { self.new.heard.course ≡ self.old.heard.course }
+        ensures lines { self.new.heard.lines ≡ self.old.heard.lines }
+        ensures begins { self.new.begins ≡ self.old.begins }
+    {
         let outcome = self.writer.flush();
         self.heard.failure = outcome.err().or(self.heard.failure);
         outcome

@@ -1,35 +1,28 @@
--- A line that begins with a number and a blank is cut there, and the number is read.
-use Rattle.std.proofs.Common.{rules, sym}
-use Rattle.std.proofs.lemmas.Fmt.{parse-decimal}
-use Rattle.lot_output.proofs.NumberedLemmas.{parts}
+-- A line is cut at its first blank, and its first word is read.
+use Rattle.std.proofs.Common.{rules, refl, inl, inr, None, Some}
+use Rattle.lot_output.specs.declared.course.Said.TheVariants.{Fault}
+use Rattle.lot_output.proofs.NumberedLemmas.{one_word, told}
 use Rattle.lot_output.proofs.course.said_in.Goals as goal
 
 pub returns-in_default-split_once : goal.returns-in_default-split_once
-returns-in_default-split_once c = λ number rest small utf8 is.
-    let halves = parts number rest c.in-Ok.text.now c.split_once.result small
-    (rw (sym c.in-Ok.ensures.cases.0) at is) c.split_once.ensures.cases in
-    search (rules, halves)
+returns-in_default-split_once c =
+    let says = one_word c.in-Ok.text.now c.split_once.result c.split_once.ensures.cases (search rules) in
+    rw c.in-Ok.ensures.cases.0 at says
 
 pub returns-in-Ok-parse : goal.returns-in-Ok-parse
-returns-in-Ok-parse c = λ number rest small utf8 is.
-    let halves = parts number rest c.in-Ok.text.now c.split_once.result small
-    (rw (sym c.in-Ok.ensures.cases.0) at is) c.split_once.ensures.cases in
-    let here = rw c.in-Some.is at halves in
-    let read = parse-decimal 64 number c.in-Some.first.now c.parse.result small small here.0 c.parse.ensures.value.0 in
-    search (rules, here, read)
+returns-in-Ok-parse c =
+    let says = told _ c.in-Ok.text.now c.split_once.result c.in-Some.first c.in-Some.rest c.parse.result c.said_of.result
+    c.split_once.ensures.cases c.in-Some.is c.parse.ensures.value.0 (search rules) in
+    rw c.in-Ok.ensures.cases.0 at says
 
 pub returns-in-Err : goal.returns-in-Err
-returns-in-Err c = λ number rest small utf8 is.
-    let halves = parts number rest c.in-Ok.text.now c.split_once.result small
-    (rw (sym c.in-Ok.ensures.cases.0) at is) c.split_once.ensures.cases in
-    let here = rw c.in-Some.is at halves in
-    let read = parse-decimal 64 number c.in-Some.first.now c.parse.result small small here.0 c.parse.ensures.value.0 in
-    search (rules, read)
+returns-in-Err c =
+    let says = told _ c.in-Ok.text.now c.split_once.result c.in-Some.first c.in-Some.rest c.parse.result (Some Fault)
+    c.split_once.ensures.cases c.in-Some.is c.parse.ensures.value.0 (rw c.in-Err.is (inl (search (rules, c.eq.ensures, c.if-eq.true), refl))) in
+    rw c.in-Ok.ensures.cases.0 at says
 
 pub returns-in-Err-2 : goal.returns-in-Err-2
-returns-in-Err-2 c = λ number rest small utf8 is.
-    let halves = parts number rest c.in-Ok.text.now c.split_once.result small
-    (rw (sym c.in-Ok.ensures.cases.0) at is) c.split_once.ensures.cases in
-    let here = rw c.in-Some.is at halves in
-    let read = parse-decimal 64 number c.in-Some.first.now c.parse.result small small here.0 c.parse.ensures.value.0 in
-    search (rules, read)
+returns-in-Err-2 c =
+    let says = told _ c.in-Ok.text.now c.split_once.result c.in-Some.first c.in-Some.rest c.parse.result None
+    c.split_once.ensures.cases c.in-Some.is c.parse.ensures.value.0 (rw c.in-Err-2.is (inr (search (rules, c.eq.ensures, c.if-eq.false), refl))) in
+    rw c.in-Ok.ensures.cases.0 at says
