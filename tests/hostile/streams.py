@@ -454,13 +454,16 @@ def closed(ground):
 
             got = ground.call(words, text, preexec_fn=close)
             unreadable = text and 0 in streams
+            said = b"" if 2 in streams else None
             if 1 in streams:
                 wanted, stands = (b"", 4), ground.held if unreadable or not text else held[0]
+                if 2 not in streams:
+                    said = sweep.lines("fault K1 Read") if unreadable else begun(whole.output, 0)
             elif unreadable:
                 wanted, stands = (sweep.lines("fault K1 Read"), 3), ground.held
             else:
                 wanted, stands = (whole.output, whole.status), held[-1]
-            done.compare(f"{word} without {streams}", word, wanted, got, warns(words), b"" if 2 in streams else None)
+            done.compare(f"{word} without {streams}", word, wanted, got, warns(words), said)
             done.also(f"{word} without {streams}: messages {got.errors}" if 2 in streams and got.errors else "")
             with tables.connect(ground.book) as db:
                 is_sound = db.execute("PRAGMA integrity_check").fetchone() == ("ok",)

@@ -30,12 +30,14 @@ HELD = re.compile(r".*: warning: the account is closed, and still holds .+")
 
 
 NOTHING_KEPT = b": nothing is kept, since not all was accepted\n"
+TAKES_OVER = b"` takes it over\n"
 
 
 def before_the_end(errors, ample):
-    """The messages but for the last line of those with ample memory, where that says that nothing is kept and ends these, too."""
+    """The messages but for the last line of those with ample memory, where that says that nothing is kept, or what helps with a book of
+    edition 1, and ends these, too."""
     last = ample[ample.rfind(b"\n", 0, -1) + 1 :]
-    return errors[: -len(last)] if last.endswith(NOTHING_KEPT) and errors.endswith(last) else errors
+    return errors[: -len(last)] if last.endswith((NOTHING_KEPT, TAKES_OVER)) and errors.endswith(last) else errors
 
 
 def is_note(line, begin=""):

@@ -14,7 +14,7 @@ use std::io::{self, Read};
 
 /// How many bytes of memory are set aside for what is said of a call: where memory has ended, the
 /// stack couldn't grow for it.
-const ROOM: usize = 524_288;
+const ROOM: usize = 1_048_576;
 
 /// What a reader keeps.
 #[derive(Clone, Copy, PartialEq, Eq)]
