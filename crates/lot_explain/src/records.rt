@@ -115,14 +115,14 @@ impl<'a> Records<'a> {
 
     /// Returns a field of the last record, counted from 0; it is empty where the record is shorter.
     pub(crate) fn field(&self, column: usize) -> &[u8]
-        ensures { result.now ≡ at_column (fields_of self.now.record) column }
+        ensures { result.now ≡ at_column (fields_of self.now.«record») column }
     {
         field(&self.record, column)
     }
 
     /// Returns whether the last record is of a purchase whose lot isn't its `ref`.
     pub(crate) fn is_of_another_lot(&self, lot: &[u8]) -> bool
-        ensures { result ≡ is_of_another_lot (fields_of self.now.record) lot.now }
+        ensures { result ≡ is_of_another_lot (fields_of self.now.«record») lot.now }
     {
         self.field(ACTION) == b"BUY".as_slice() && lot != self.field(REF)
     }
