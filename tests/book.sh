@@ -405,7 +405,7 @@ ends() {
     status=$?
     sed -i '$!d' "$scratch/err"
     stops "$1" "$4"
-    if [[ $(tail -c "${#5}" "$scratch/limited") == "$5" && $(stat -c %s "$scratch/limited") -le $room ]]; then pass "$1: its end"; else fail "$1: its end" "$(tail -c 20 "$scratch/limited")"; fi
+    if [[ $(tail -c "${#5}" "$scratch/limited" && echo .) == "$5." && $(stat -c %s "$scratch/limited") -le $room ]]; then pass "$1: its end"; else fail "$1: its end" "$(tail -c 20 "$scratch/limited")"; fi
 }
 reached() { echo "$1 $2 is the last of this call in the book; --from $3 goes on"; }
 { seq -f '2020-01-01 open Assets:A%g' 9 && echo '2020-01-01 open Assets:A1' && echo '2020-01-01 open Assets:B'; } >"$scratch/twelve"

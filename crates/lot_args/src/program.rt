@@ -245,7 +245,7 @@ const DRY_RUN: WordOption = WordOption {
 const ALL_OR_NONE: WordOption = WordOption {
     form: Form::Flag,
     name: "all-or-none",
-    help: "Keeps all or nothing: where one is refused, or a fault comes, the replies are printed and nothing is in the book. A call that is killed in the middle leaves a part, and the same call again completes it",
+    help: "Keeps all or nothing: where one is refused, the replies are printed and nothing is in the book. A call that stops in the middle, as where it is killed or the disk is full, leaves a part, and the same call again completes it",
 };
 
 /// `--format`

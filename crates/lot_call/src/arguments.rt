@@ -125,9 +125,8 @@ fn pair(words: &[String], option: BadOption) -> Option<&'static str> {
 /// Returns the form that the value of an option has.
 fn form(option: BadOption) -> &'static str {
     match option {
-        BadOption::Batch | BadOption::PostBatch => {
-            "1 to 32 letters, digits, '.', '_' or '-', as in --batch 2024"
-        }
+        BadOption::Batch => "1 to 32 letters, digits, '.', '_' or '-', as in --batch broker",
+        BadOption::PostBatch => "1 to 32 letters, digits, '.', '_' or '-', as in --batch 2024",
         BadOption::RowOf => "the batch of a broker file, as in --row-of broker --ref A17",
         BadOption::Ref => "the ref of a row, as in --row-of broker --ref A17",
         BadOption::From => "1 beside --row-of, whose text has one command",

@@ -79,7 +79,8 @@ fn mark_for(byte: u8) -> u8
 fn push(name: &mut String, before: Option<u8>, byte: u8) -> Result<(), AllocError>
     requires before { IfSome before (λ b. b < 128) }
     requires byte { byte < 128 }
-    ensures { IfOk result (λ u. string_bytes name.new ≡ string_bytes name.old ++ option_to_list before ++ to_ascii_uppercase byte ∷ []) }
+    ensures { IfOk result (λ u. string_bytes name.new
+        ≡ string_bytes name.old ++ option_to_list before ++ to_ascii_uppercase byte ∷ []) }
 {
     if let Some(before) = before {
         name.push(char::from(before))?;

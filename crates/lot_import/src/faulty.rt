@@ -35,7 +35,8 @@ pub fn causes_of(
     written: &ByteRecord,
 ) -> Result<Vec<Cause>, AllocError>
     ensures all { IfOk result (λ causes. HasCauses version (fields_of written.now) causes.items) }
-    ensures first { IfOk result (λ causes. (cause : Cause) → IsFaulty version (fields_of written.now) cause
+    ensures first { IfOk result (λ causes. (cause : Cause)
+        → IsFaulty version (fields_of written.now) cause
         → (others : List Cause) × (causes.items ≡ cause ∷ others)) }
 {
     if passes(version, written, Cause::Length) {
@@ -54,7 +55,8 @@ fn failing(
     written: &ByteRecord,
     causes: &[Cause],
 ) -> Result<Vec<Cause>, AllocError>
-    ensures { IfOk result (λ failing. AreFailing (PassesAlone version (fields_of written.now)) causes.now failing.items) }
+    ensures { IfOk result (λ failing. AreFailing
+        (PassesAlone version (fields_of written.now)) causes.now failing.items) }
 {
     let mut failing = Vec::new(alloc);
     for cause in causes {
