@@ -1,5 +1,6 @@
 -- What remains of a call whose output can't be written.
-use Rattle.std.specs.Prelude.{◌==◌, ℕ, Option, None, Some, if◌then◌else◌}
+use Rattle.std.specs.Prelude.{◌==◌, ◌++◌, ℕ, List, Option, None, Some, codes, if◌then◌else◌}
+use Rattle.std.specs.Fmt.{decimal}
 use Rattle.lot_args.specs.declared.action.Action.{Action}
 use Rattle.lot_args.specs.declared.action.Action.TheVariants.{Import, Init, Migrate, Post, PostRow}
 use Rattle.lot_args.specs.declared.request.Effect.{Effect}
@@ -30,3 +31,23 @@ kept_of _ course = remains.Output
 abbrev pub remains_of : Action → Effect → Course → Remains
 remains_of action DryRun course = remains.DryRun
 remains_of action _ course = kept_of action course
+
+-- ---- What is said of it.
+
+-- how a run goes on
+abbrev pub goes_on : ℕ → List ℕ
+goes_on from = codes "; --from " ++ (decimal from ++ codes " goes on")
+
+-- how far a run came, by the number of the last command or row in the book, and how it goes on
+abbrev pub reached_text : List ℕ → Option ℕ → ℕ → List ℕ
+reached_text what (Some last) from =
+    what ++ (codes " " ++ (decimal last ++ (codes " is the last of this call in the book" ++ goes_on from)))
+reached_text what None from = codes "no " ++ (what ++ (codes " of this call is in the book" ++ goes_on from))
+
+abbrev pub text_of : Remains → List ℕ
+text_of remains.Output = codes "the output is cut short"
+text_of remains.DryRun = codes "the output of a dry run is cut short"
+text_of remains.Made = codes "the book is made"
+text_of remains.Migrated = codes "the book is migrated"
+text_of (remains.Commands last from) = reached_text (codes "command") last from
+text_of (remains.Rows last from) = reached_text (codes "row") last from

@@ -76,28 +76,63 @@ fn kept_of(action: &Action, course: &Course) -> Remains
 }
 
 impl fmt::Display for Remains {
-    fn fmt<W: fmt::Write>(&self, f: &mut fmt::Formatter<W>) -> fmt::Result {
+    ghost use Rattle.std.specs.Prelude.{Some};
+    ghost use Rattle.lot_call.specs.Remains.{text_of};
+
+    ghost output = { λ remains. Some (text_of remains) };
+
+    fn fmt<W: fmt::Write>(&self, f: &mut fmt::Formatter<W>) -> Result<(), fmt::Error> {
         match *self {
             Remains::Output => f.write_str("the output is cut short"),
             Remains::DryRun => f.write_str("the output of a dry run is cut short"),
             Remains::Made => f.write_str("the book is made"),
             Remains::Migrated => f.write_str("the book is migrated"),
-            Remains::Commands { last, from } => write_reached(f, "command", last, from),
-            Remains::Rows { last, from } => write_reached(f, "row", last, from),
+            Remains::Commands { last, from } => {
+                let reached = Reached {
+                    what: "command",
+                    last,
+                    from,
+                };
+                write!(f, "{reached}")
+            }
+            Remains::Rows { last, from } => {
+                let reached = Reached {
+                    what: "row",
+                    last,
+                    from,
+                };
+                write!(f, "{reached}")
+            }
         }
     }
 }
 
-/// Writes how far a run came, and how it goes on.
-fn write_reached<W: fmt::Write>(
-    f: &mut fmt::Formatter<W>,
-    what: &str,
+/// How far a run came, by the last of what it posts that is in the book, and how it goes on.
+#[derive(Clone, Copy)]
+struct Reached<'a> {
+    /// What it posts, in the singular.
+    what: &'a str,
     last: Option<u64>,
     from: u64,
-) -> fmt::Result {
-    match last {
-        Some(last) => write!(f, "{what} {last} is the last of this call in the book")?,
-        None => write!(f, "no {what} of this call is in the book")?,
+}
+
+impl fmt::Display for Reached<'_> {
+    ghost use Rattle.std.specs.Prelude.{Some};
+    ghost use Rattle.lot_call.specs.Remains.{reached_text};
+
+    ghost output = { λ reached. Some (reached_text reached.what.now reached.last reached.from) };
+
+    fn fmt<W: fmt::Write>(&self, f: &mut fmt::Formatter<W>) -> Result<(), fmt::Error> {
+        let (what, from) = (self.what, self.from);
+        match self.last {
+            Some(last) => write!(
+                f,
+                "{what} {last} is the last of this call in the book; --from {from} goes on"
+            ),
+            None => write!(
+                f,
+                "no {what} of this call is in the book; --from {from} goes on"
+            ),
+        }
     }
-    write!(f, "; --from {from} goes on")
 }

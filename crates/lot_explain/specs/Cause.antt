@@ -1,5 +1,5 @@
 -- What stands behind what is said of a fault.
-use Rattle.std.specs.Prelude.{◌||◌, [], Bool, List, ℕ, Option, None, Some, codes, true}
+use Rattle.std.specs.Prelude.{◌||◌, [], Bool, List, ℕ, Option, Some, codes, true}
 use Rattle.std.specs.Str.{bytes_eq}
 
 -- the disk refused, before a commit or in one

@@ -1,5 +1,10 @@
 //! The records of a broker file, one after another.
 
+ghost use Rattle.std.specs.Prelude.{◌≡◌};
+ghost use Rattle.csv.specs.Records.{fields_of};
+ghost use Rattle.lot_import.specs.Row.{at_column};
+ghost use Rattle.lot_explain.specs.Records.{column_of, is_of_another_lot};
+
 use crate::place::Place;
 use csv::{ByteRecord, ErrorKind, Reader, ReaderBuilder};
 use lot_import::{Cause, Version, causes_of, field};
@@ -109,12 +114,16 @@ impl<'a> Records<'a> {
     }
 
     /// Returns a field of the last record, counted from 0; it is empty where the record is shorter.
-    pub(crate) fn field(&self, column: usize) -> &[u8] {
+    pub(crate) fn field(&self, column: usize) -> &[u8]
+        ensures { result.now ≡ at_column (fields_of self.now.«record») column }
+    {
         field(&self.record, column)
     }
 
     /// Returns whether the last record is of a purchase whose lot isn't its `ref`.
-    pub(crate) fn is_of_another_lot(&self, lot: &[u8]) -> bool {
+    pub(crate) fn is_of_another_lot(&self, lot: &[u8]) -> bool
+        ensures { result ≡ is_of_another_lot (fields_of self.now.«record») lot.now }
+    {
         self.field(ACTION) == b"BUY".as_slice() && lot != self.field(REF)
     }
 
@@ -129,7 +138,9 @@ impl<'a> Records<'a> {
 }
 
 /// Returns the column that is at fault, counted from 0, if it is one alone.
-pub(crate) fn column(cause: Cause) -> Option<usize> {
+pub(crate) fn column(cause: Cause) -> Option<usize>
+    ensures { result ≡ column_of cause }
+{
     match cause {
         Cause::Length => None,
         Cause::Ref => Some(REF),

@@ -26,8 +26,12 @@ impl Model for Decimals {
 }
 
 impl Decimals {
-    /// All that units have.
-    pub const ALL: Decimals = Decimals { count: 8 };
+    /// Returns as many as units have.
+    pub fn of_units() -> Decimals
+        ensures { result ≡ most_decimals }
+    {
+        Decimals { count: 8 }
+    }
 
     /// Returns so many decimals, or `None` where they are more than 8.
     pub fn new(count: u32) -> Option<Decimals>
