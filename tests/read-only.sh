@@ -110,11 +110,7 @@ mkfifo "$scratch/slow"
 "$program" post --book "$book" --batch more <"$scratch/slow" >"$scratch/posted" 2>&1 &
 writer=$!
 exec 8>"$scratch/slow"
-for _ in {1..1200}; do # it has the file once nobody else can open it
-    run init --book "$book" </dev/null
-    if [[ $(<"$scratch/out") == "fault open" ]]; then break; fi
-    sleep 0.05
-done
+until_open "$book"
 seq -f '2020-01-01 open Assets:B%g' 3000 >&8 && exec 8>&-
 count=0
 while kill -0 "$writer" 2>/dev/null; do
