@@ -61,8 +61,8 @@ pub record IsCrumbOf (fill : Option ℕ) (rated : List RatedPosting) (residual c
 
 -- ---- Completions.
 
--- A transaction completes another on what a book says, with an account for the crumbs and so many decimals of the fill. Its
--- costs are rates, its other amounts are as they were written, and the postings of the account stand behind all others.
+-- A transaction completes another on what a book says, with an account for the crumbs and so many decimals of the fill. A total
+-- that no rate comes to is a rate there, all else is as it was written, and the postings of the account stand behind.
 pub record IsCompletion (ties : TieRule) (facts : Facts) (account : List ℕ) (decimals : ℕ) (t completed : TransactionOf) : Type 0 where
   pub rated : List RatedPosting
   pub rates : RatesAll t.postings rated
