@@ -2,8 +2,8 @@
 # The journals of books, read by Beancount 2: it finds no error in them, and holds the same lots and the same plain units
 # (tests/lib/by_beancount.py says what is compared). This is compared only where the machine has Beancount; elsewhere the script says
 # that it is skipped, and its last line is `0 passed, 0 failed`. Each text of tests/cases/ and of examples/ that has no fault, the texts
-# of each session of tests/reports/ and a book of 1,000 trades are posted, and the journal is read as it stands. Left out are books
-# with HIFO, which Beancount 2 doesn't know; tests/beancount.differs names the journals that it judges otherwise, with the reason.
+# of each session of tests/reports/, a book of 1,000 trades, and years with crumbs, which an account takes (tests/rounding/made.py), are
+# posted, and the journal is read as it stands, without a tolerance. Left out are books with HIFO, which Beancount 2 doesn't know; tests/beancount.differs names the journals that it judges otherwise, with the reason.
 # The books lie in memory where the machine has room for files there.
 if [[ -d /dev/shm && -w /dev/shm ]]; then export TMPDIR=/dev/shm; fi
 source "$(dirname "$(readlink -f "${BASH_SOURCE[0]}")")/lib/cases.sh"
@@ -31,14 +31,14 @@ is_faulty() {
     if [[ -f $1 ]]; then IFS= read -r line <"$1"; fi
     [[ $line == fault* ]]
 }
-# keep NAME: posts this call's standard input to a copy of a new book, and keeps its journal and its holdings, unless the text is faulty
-# or an account of it has the method HIFO.
+# keep NAME OPTIONS..: posts this call's standard input to a copy of a new book, and keeps its journal and its holdings, unless the text
+# is faulty or an account of it has the method HIFO.
 "$program" init --book "$scratch/new" </dev/null >/dev/null || fail "a new book" "it can't be made"
 keep() {
     local journal
     rm -f "$book"*
     cp "$scratch/new" "$book"
-    "$program" post --book "$book" --batch a >"$scratch/out" 2>"$scratch/err"
+    "$program" post --book "$book" --batch a "${@:2}" >"$scratch/out" 2>"$scratch/err"
     if is_faulty "$scratch/out"; then return; fi
     "$program" journal --book "$book" </dev/null >"$scratch/journal" || fail "$1" "it has no journal"
     IFS= read -rd '' journal <"$scratch/journal"
@@ -83,6 +83,16 @@ trades() {
     }'
 }
 trades | keep trades
+
+if takes_crumbs; then years=({59..68}); else years=(); fi
+for seed in "${years[@]}"; do
+    mkdir -p "$scratch/made"
+    python3 -B "$root/tests/rounding/made.py" "$scratch/made" "$seed" || fail "years with crumbs" "they can't be made"
+    for name in south moved; do
+        cat "$scratch/made/accounts.ledger" "$scratch/made/$name.ledger" | keep "crumbs/$name-$seed" --rounding Equity:Rounding --decimals $((seed % 2 ? 8 : 2))
+        if [[ $(grep -c accepted "$scratch/out") != $(wc -l <"$scratch/out") ]]; then fail "$name-$seed" "$(grep -m 1 -v accepted "$scratch/out")"; fi
+    done
+done
 run_python tests/lib/by_beancount.py "$journals" "$root/tests/beancount.differs"
 
 # The command itself, on one of them.

@@ -437,4 +437,8 @@ watched "progress of an import on a terminal" "$scratch/out" "$scratch/rows.csv"
 # ---- stops
 
 run_python tests/book/stops.py "$program" "$scratch" --kills 30
+if takes_crumbs; then
+    mkdir "$scratch/crumbs"
+    run_python tests/book/stops.py "$program" "$scratch/crumbs" --kills 15 --crumbs
+fi
 finish

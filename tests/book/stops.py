@@ -1,9 +1,10 @@
 """Kills the program at random moments, and sends what it had not replied to again.
 
-    stops.py PROGRAM SCRATCH [--commands N] [--kills N] [--seed N]
+    stops.py PROGRAM SCRATCH [--commands N] [--kills N] [--seed N] [--crumbs]
 
 The book that is left in the end has the rows of one that was posted to without a stop, and after each stop it has every
-command that was acknowledged. Twice as often it is killed while a book is made. A line `ok NAME` or `FAILED NAME: ..` for each case.
+command that was acknowledged. Twice as often it is killed while a book is made. With --crumbs each post has a rounding account, which
+most commands need, and no making is stopped. A line `ok NAME` or `FAILED NAME: ..` for each case.
 """
 
 import argparse
@@ -18,25 +19,31 @@ CASES = (
     "2020-01-01 open Assets:Broker \"FIFO\"\n",
     "2020-01-01 open Assets:Cash\n",
     "2020-01-01 open Income:Gains\n",
+    "2020-01-01 open Equity:Rounding\n",
 )
+ROUNDING = ["--rounding", "Equity:Rounding", "--decimals", "2"]
 
 
-def ledger(count):
-    """Purchases, and sales of the oldest lots."""
+def ledger(count, has_crumbs):
+    """Purchases, and sales of the oldest lots. With crumbs the purchases have whole costs, and the sales fractions of a unit."""
     text = list(CASES)
     for number in range(count - len(CASES)):
         day = f"2020-{1 + number // 28 % 12:02}-{1 + number % 28:02}"
-        if number % 3 == 2:
+        if has_crumbs and number % 3 == 2:
+            text.append(f"{day} *\n  Assets:Broker -3.3333 HOOL {{}} @ 130 USD\n  Assets:Cash 433.33 USD\n  Income:Gains\n")
+        elif has_crumbs:
+            text.append(f"{day} *\n  Assets:Broker 2.{number:04} HOOL {{{{{200 + number % 7}.99 USD}}}}\n  Assets:Cash\n")
+        elif number % 3 == 2:
             text.append(f"{day} *\n  Assets:Broker -3 HOOL {{}} @ 130 USD\n  Assets:Cash 390 USD\n  Income:Gains\n")
         else:
             text.append(f"{day} *\n  Assets:Broker 2 HOOL {{{100 + number % 7} USD}}\n  Assets:Cash\n")
     return "".join(text)
 
 
-def post(program, book, path, first):
+def post(program, book, path, first, options):
     with open(path, "rb") as text:
         return subprocess.Popen(
-            [program, "post", "--book", book, "--batch", "a", "--from", str(first)],
+            [program, "post", "--book", book, "--batch", "a", "--from", str(first), *options],
             stdin=text, stdout=subprocess.PIPE, stderr=subprocess.PIPE,
         )
 
@@ -52,11 +59,15 @@ def entries(book):
     return len(tables.of_copy(book, tables.contents)["entry"])
 
 
-def uninterrupted(program, scratch, path):
+def journal(program, book):
+    return subprocess.run([program, "journal", "--book", book], check=True, stdout=subprocess.PIPE).stdout
+
+
+def uninterrupted(program, scratch, path, options):
     book = os.path.join(scratch, "whole.book")
     subprocess.run([program, "init", "--book", book], check=True, stdout=subprocess.DEVNULL)
     begun = time.monotonic()
-    run = post(program, book, path, 1)
+    run = post(program, book, path, 1, options)
     output, _ = run.communicate(timeout=600)
     return book, answered(output), time.monotonic() - begun
 
@@ -68,7 +79,7 @@ def kill_at(rng, run, most):
     return run.communicate(timeout=600)[0]
 
 
-def stopped_posts(program, scratch, path, rng, kills, count, took):
+def stopped_posts(program, scratch, path, rng, kills, count, took, options):
     """One book after another is posted to, killed and sent on, until there were so many stops."""
     stops = books = 0
     while stops < kills:
@@ -77,7 +88,7 @@ def stopped_posts(program, scratch, path, rng, kills, count, took):
         subprocess.run([program, "init", "--book", book], check=True, stdout=subprocess.DEVNULL)
         first, standing = 1, 0
         while first <= count:
-            run = post(program, book, path, first)
+            run = post(program, book, path, first, options)
             is_last = stops >= kills
             output = run.communicate(timeout=600)[0] if is_last else kill_at(rng, run, took / 4)
             stops += run.returncode < 0
@@ -132,17 +143,23 @@ def main():
     parser.add_argument("--commands", type=int, default=300)
     parser.add_argument("--kills", type=int, default=100)
     parser.add_argument("--seed", type=int, default=1)
+    parser.add_argument("--crumbs", action="store_true")
     words = parser.parse_args()
     rng = random.Random(words.seed)
+    options, kind = (ROUNDING, ", with crumbs") if words.crumbs else ([], "")
     path = os.path.join(words.scratch, "stops.ledger")
     with open(path, "w", encoding="ascii") as text:
-        text.write(ledger(words.commands))
-    book, (lines, stood), took = uninterrupted(words.program, words.scratch, path)
+        text.write(ledger(words.commands, words.crumbs))
+    book, (lines, stood), took = uninterrupted(words.program, words.scratch, path, options)
     fault = "" if len(lines) == words.commands and entries(book) == stood else f"{len(lines)} replies, {entries(book)} entries"
-    print(f"FAILED a run without a stop: {fault}" if fault else "ok a run without a stop")
-    fault = stopped_posts(words.program, words.scratch, path, rng, words.kills, words.commands, took)
-    name = f"killed {words.kills} times, no acknowledged command is lost, and the rows are those of one run"
+    if words.crumbs and b"Equity:Rounding" not in b"".join(journal(words.program, book).split(b"\n")[8:]):
+        fault = "no crumb"
+    print(f"FAILED a run without a stop{kind}: {fault}" if fault else f"ok a run without a stop{kind}")
+    fault = stopped_posts(words.program, words.scratch, path, rng, words.kills, words.commands, took, options)
+    name = f"killed {words.kills} times{kind}, no acknowledged command is lost, and the rows are those of one run"
     print(f"FAILED {name}: {fault}" if fault else f"ok {name}")
+    if words.crumbs:
+        return
     fault = stopped_inits(words.program, words.scratch, rng, 2 * words.kills)
     print(f"FAILED killed while a book is made: {fault}" if fault else "ok killed while a book is made")
 

@@ -1,4 +1,5 @@
-"""Draws broker files from seeds: a book to begin with, files whose rows partly come again, and files that are changed at random."""
+"""Draws broker files from seeds: a book to begin with, files whose rows partly come again, and files that are changed at random. Those of
+`with_crumbs` are for calls with a rounding account."""
 
 import random
 from typing import NamedTuple
@@ -25,10 +26,16 @@ ODD = {
 }
 
 
+ROUNDING = "Equity:Rounding"
+WITHIN = tuple(int(within * model.ONE) for within in (0.005, 0.005, 0.005, 0.005, 0.01, 0.002, 0.00000001, 0.05, 1))
+DECIMALS = (2, 2, 2, 2, 2, 8, 8, 0, 1, 3, 4, 5, 6, 7)
+
+
 class Drawing(NamedTuple):
     rng: random.Random
     openings: list
     files: list  # bytes
+    roundings: list  # of each file, the rounding of its call, or none
 
 
 def openings(rng):
@@ -131,4 +138,37 @@ def small(seed):
     files = [first, file_of(rng, rng.randrange(2), again(rng, rows))]
     files += [file_of(rng, rng.randrange(2), with_odd_field(rng, rows)) for _ in range(3)]
     files += [changed(rng, first) for _ in range(3)]
-    return Drawing(rng, openings(rng), files)
+    return Drawing(rng, openings(rng), files, [None] * len(files))
+
+
+def decimal(rng, most, *decimals):
+    """The text of a number above zero and up to this whole one, with some of these numbers of decimals."""
+    count = rng.choice(decimals)
+    return model.number_text(rng.randint(1, most * 10**count), count)
+
+
+def crumbled(rng, fields):
+    """The row with units of some decimals and a price of few, as brokers have them, or with cash that ends in half a cent."""
+    ref, date, action, symbol, _, _, currency, fee, lot = fields
+    units, price = decimal(rng, 20, 4, 6, 8, 8), decimal(rng, 200, 2, 2, 2, 4, 5, 8)
+    if rng.random() < 0.1:
+        units, price = rng.choice(("0.5", "1.5", "2.5")), rng.choice(("0.01", "0.03", "10.25"))
+    if action == b"SELL" and rng.random() < 0.5:
+        units = decimal(rng, 1, 2, 4, 8)
+    if rng.random() < 0.03:
+        units, price = "9999999999.99999999", rng.choice(("1", "0.1", "0.99999999"))
+    return [ref, date, action, symbol, units.encode(), price.encode(), currency, rng.choice((b"", b"0.99", b"4.95", b"0.125", fee)), lot]
+
+
+def with_crumbs(seed):
+    rng = random.Random(seed)
+    rows = [crumbled(rng, fields) for fields in drawn_rows(rng, rng.randint(2, 10))]
+    more = [crumbled(rng, fields) if fields[0].startswith(b"N") else fields for fields in again(rng, rows)]
+    files = [file_of(rng, rng.randrange(2), them) for them in (rows, more, rows, with_odd_field(rng, rows), rows)]
+    account = ROUNDING if rng.random() < 0.9 else rng.choice(ACCOUNTS)
+    first = model.Rounding(account, rng.choice(WITHIN), rng.choice(DECIMALS))
+    other = model.Rounding(rng.choice((account, account, *ACCOUNTS)), rng.choice(WITHIN), rng.choice(DECIMALS))
+    opened = openings(rng)
+    if rng.random() < 0.95:
+        opened.append(model.Opening((2019, 1, 1), ROUNDING, rng.choice(((), (), ("USD", "EUR"), ("EUR",))), "STRICT"))
+    return Drawing(rng, opened, files, [first, rng.choice((first, first, other)), other, first, None])

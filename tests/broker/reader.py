@@ -1,6 +1,6 @@
 """Reads broker files, written from docs/FORMATS.md, 'Broker files', alone: the commands of their rows, or the first fault.
 
-Records are cut by Python's own `csv`.
+Records are cut by Python's own `csv`. With a rounding account the cash of a row has so many decimals as its call says.
 """
 
 import csv
@@ -153,10 +153,17 @@ def rows(data):
 # Commands.
 
 
-def cash_of(place, row):
-    """The cash that a row moves."""
+def exact_cash(row):
+    """The cash that a row moves, at scale 16."""
     worth, paid = row.units * row.price, row.fee * model.ONE
-    moved = -(worth + paid) if row.action == "BUY" else worth - paid
+    return -(worth + paid) if row.action == "BUY" else worth - paid
+
+
+def cash_of(place, row, decimals):
+    """The cash that a row moves, with so many decimals where a number is given."""
+    moved = exact_cash(row)
+    if decimals is not None:
+        moved = model.rounded(moved, decimals)
     if moved % model.ONE or abs(moved) // model.ONE >= model.UNITS_LIMIT:
         raise Fault(f"fault row {place} C4 InexactAmount")
     return moved // model.ONE
@@ -166,8 +173,8 @@ def plain(account, units, commodity):
     return model.Posting(account, model.Amount(units, commodity, None, None))
 
 
-def command(place, row, accounts):
-    """The transaction that a row stands for."""
+def asked(place, row, accounts, decimals):
+    """The transaction that a row stands for, with its cash."""
     if row.action == "BUY":
         cost = model.Cost(False, row.price, row.currency, None, row.lot)
         deal = model.Amount(row.units, row.symbol, cost, None)
@@ -177,12 +184,14 @@ def command(place, row, accounts):
     postings = [model.Posting(accounts.invest, deal)]
     if row.fee:
         postings.append(plain(accounts.fees, row.fee, row.currency))
-    postings.append(plain(accounts.cash, cash_of(place, row), row.currency))
+    postings.append(plain(accounts.cash, cash_of(place, row, decimals), row.currency))
+    cash = model.Cash(len(postings), exact_cash(row))
     if row.action == "SELL":
         postings.append(model.Posting(accounts.gains, None))
-    return model.Transaction(row.date, "*", None, row.ref, tuple(postings))
+    return model.Asked(model.Transaction(row.date, "*", None, row.ref, tuple(postings)), cash)
 
 
-def commands(data, accounts):
-    """The commands of the rows of a file, each with the row's reference. Raises the file's fault."""
-    return [(row.ref, command(place, row, accounts)) for place, row in enumerate(rows(data), 1)]
+def commands(data, accounts, decimals=None):
+    """The commands of the rows of a file, each with the row's reference. Raises the file's fault. Decimals are given with a rounding
+    account alone."""
+    return [(row.ref, asked(place, row, accounts, decimals)) for place, row in enumerate(rows(data), 1)]

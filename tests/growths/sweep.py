@@ -203,7 +203,7 @@ class Sweep:
         self.lines = self.ample[1].decode().splitlines()
         after = held(self.other)
         self.stages = [self.tables_of(self.start)]
-        word = self.call.words[0] if self.call.words else "check"
+        word = next((word for word in self.call.words[:1] if not word.startswith("--")), "check")
         self.replies = sum(line[:1].isdigit() for line in self.lines) if word in ("check", "post", "import") else 0
         self.is_run = word != "check" and self.replies > 0 and not KEEPS_NOTHING & {*self.call.words}
         if self.is_run:
@@ -355,6 +355,7 @@ INIT = ["init", "--book", BOOK]
 POST = ["post", "--book", BOOK, "--batch", "a"]
 IMPORT = ["import", "--book", BOOK, "--batch", "broker", "--invest", "Assets:Broker", "--cash", "Assets:Cash"]
 IMPORT += ["--fees", "Expenses:Fees", "--gains", "Income:Gains"]
+ROUNDING = ["--rounding", "Equity:Rounding"]
 MAKE = INIT, b""
 MIGRATE = ["migrate", "--book", BOOK]
 
@@ -372,11 +373,17 @@ def journal_of(program, scratch, before):
     return run(program, ["journal", "--book", BOOK], book)[1]
 
 
-def short_calls(texts):
+def takes_crumbs(program):
+    """Whether the program has the option of a rounding account."""
+    return b"--rounding" in subprocess.run([program, "post", "--help"], check=True, stdout=subprocess.PIPE, timeout=60).stdout
+
+
+def short_calls(texts, crumbs):
     """Those of which each growth is refused."""
     yield Call("no words, no input", [])
     for name, text in texts.items():
         yield Call(f"no words, {name}", [], text)
+    yield Call("no words but a rounding account", ROUNDING, crumbs)
     yield Call("no words, a faulty text", [], texts["a sale"] + b"2020-13-01 open Assets:A\n")
     yield Call("help", ["--help"])
     yield Call("help of a word", ["import", "--help"])
@@ -406,7 +413,7 @@ def calls_on_a_book(texts, older):
     yield Call("migrate a book of edition 2", MIGRATE, before=[MAKE])
 
 
-def longer_calls(texts, broker, older):
+def longer_calls(texts, crumbs, broker, older):
     """Those that do more with a book."""
     filled = [MAKE, (POST, texts["a sale"])]
     accounts = [MAKE, (["post", "--book", BOOK, "--batch", "accounts"], broker["accounts.ledger"])]
@@ -418,6 +425,11 @@ def longer_calls(texts, broker, older):
     yield Call("post of a sale again", POST, texts["a sale"], filled)
     yield Call("post of other texts under the same keys", POST, texts["every kind"], filled)
     yield Call("post of a faulty text", POST, texts["a sale"] + b"2020-13-01 open Assets:A\n", [MAKE])
+    with_account = [*accounts, (["post", "--book", BOOK, "--batch", "rounding"], b"2023-12-01 open Equity:Rounding\n")]
+    yield Call("post of crumbs", [*POST, *ROUNDING], crumbs, [MAKE])
+    yield Call("post of crumbs again, without the account", POST, crumbs, [MAKE, ([*POST, *ROUNDING], crumbs)])
+    yield Call("post of crumbs again, at other decimals", [*POST, *ROUNDING, "--decimals", "2"], crumbs, [MAKE, ([*POST, *ROUNDING], crumbs)])
+    yield Call("import of crumbs", [*IMPORT, *ROUNDING, "--decimals", "1", "--within", "0.05"], broker["2024.csv"], with_account)
     yield Call("import", IMPORT, broker["2024.csv"], accounts)
     yield Call("import of a faulty file", IMPORT, broker["2024.csv"] + b"D-1006,2024-13-01,BUY,HOOL,1,1,USD,\n", accounts)
     yield Call("import again", IMPORT, broker["2024.csv"], [*accounts, (IMPORT, broker["2024.csv"])])
@@ -455,9 +467,12 @@ def sweep_all(words, scratch):
     }
     broker = {name: content(EXAMPLES, "broker", name) for name in ("accounts.ledger", "2024.csv", "2025.csv")}
     older = older_book(scratch)
-    calls = [(call, 1) for call in short_calls(texts)]
+    crumbs = content(HERE, "crumbs.ledger")
+    calls = [(call, 1) for call in short_calls(texts, crumbs)]
     calls += [(call, 1 if words.whole else STEP) for call in calls_on_a_book(texts, older)]
-    calls += [(call, 1 if words.whole else LONGER_STEP) for call in longer_calls(texts, broker, older)]
+    calls += [(call, 1 if words.whole else LONGER_STEP) for call in longer_calls(texts, crumbs, broker, older)]
+    if not takes_crumbs(words.program):
+        calls = [(call, step) for call, step in calls if not any("--rounding" in words for words in (call.words, *(made for made, _ in call.before)))]
     total = Found()
     with concurrent.futures.ProcessPoolExecutor(len(os.sched_getaffinity(0))) as pool:
         jobs = [

@@ -54,7 +54,7 @@ class Imports:
     def see(self, done, case, file):
         """A case of the sweep: the file's answer and its holdings."""
         judge = compare.Book(openings())
-        wanted = judge.answer(file)
+        wanted = judge.answer(file, None)
         outcome = " ".join(word for word in wanted[0].decode().split("\n")[0].split() if not word.isdigit())
         done.compare(f"{case}: {file!r}", outcome or "no rows", wanted, self.get(file), may_warn=True)
         if wanted[1] == 3:

@@ -44,6 +44,13 @@ need_program() {
     fi
 }
 
+# takes_crumbs: whether the program has the option of a rounding account. What tests it isn't run where it hasn't, and says so.
+takes_crumbs() {
+    if "$program" post --help </dev/null 2>/dev/null | grep -q -- '--rounding'; then return; fi
+    echo "the program has no --rounding: what goes with it isn't run"
+    return 1
+}
+
 # run WORDS..: runs the program on this call's standard input. Keeps its output, its messages and its status.
 run() {
     timeout 600 "$program" "$@" >"$scratch/out" 2>"$scratch/err"

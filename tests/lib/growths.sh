@@ -3,6 +3,7 @@
 # sweep_growths WORDS..: compiles tests/growths/refuse.c and runs tests/growths/sweep.py with these words. The counts follow the cases.
 # Where there is no C compiler nothing is counted, and a line says so.
 sweep_growths() {
+    takes_crumbs || :
     local library=$scratch/refuse.so
     if ! command -v cc >/dev/null; then
         echo "skipped: there is no command 'cc' on the PATH to compile tests/growths/refuse.c with"

@@ -10,6 +10,8 @@ REFUSED = re.compile(r"([1-9][0-9]*) (?:refused|fault) ([A-Z][0-9]+ [A-Za-z]+)(?
 FAULTY = re.compile(r"fault (line|row) ([1-9][0-9]*) ([A-Z][0-9] [A-Za-z0-9]+)(?: .*)?")
 FAULT = re.compile(r"fault (?:header )?([A-Z][0-9] [A-Za-z0-9]+)")
 WARNING = re.compile(r"(?:line [1-9][0-9]*: |row [1-9][0-9]* \(.*\): )?warning: .+")
+CRUMB = re.compile(r"(?:command|row) ([1-9][0-9]*): \S+ takes -?[0-9.]+ \S+(?:, -?[0-9.]+ \S+)*")  # what an account took
+SUM_OF_CRUMBS = re.compile(r"\S+ takes -?[0-9.]+ \S+(?:, -?[0-9.]+ \S+)*, of [1-9][0-9]* (?:commands?|rows?)")
 MORE = re.compile(r"\.\.\. and [1-9][0-9]* more")
 MEMORY = re.compile(rf"({A_PLACE.format('[1-9][0-9]*')})?(Memory )?Memory: memory ended(: .+)?")
 OF_LINES = re.compile(r"line [1-9][0-9]*: X[1-7] [A-Za-z0-9]+: .+")
@@ -25,6 +27,12 @@ OF_THE_BOOK = re.compile(
     r": (entry [1-9][0-9]*(, with(out)? the line `[^`]*`)?|the nearest is [^ ]+(?=: )|it is opened further down"
     r"|the latest is [0-9]{4}-[0-9]{2}-[0-9]{2}, of entry [1-9][0-9]*"
     r"|lots that fit now: [0-9]+(, with [0-9.]+ units)?(; they differ in [a-z, ]+)?|held now: [0-9.]+; wanted: [0-9.]+)"
+)
+# What was found as a command was judged, which a copy without memory for it leaves out.
+OF_ITS_CRUMBS = re.compile(
+    r"; (it would balance with `[^`]*`( in its place)?(, `[^`]*`( in its place)?)*(: --rounding ACCOUNT( --within [0-9.]+)? adds that)?"
+    r"|its crumb is -?[0-9.]+ [^ ]+, [0-9.]+ more than --within allows|with its crumbs it is refused: [A-Z][0-9]+ [A-Za-z]+( [^ ]+)?(?=: )"
+    r"|if --rounding completed it, it repeats with that option alone)"
 )
 HELD = re.compile(r".*: warning: the account is closed, and still holds .+")
 
@@ -61,6 +69,17 @@ def are(errors, *begins):
     return not rest and len(lines) == len(begins) and all(map(is_note, lines, begins))
 
 
+def without_crumbs(lines):
+    """The messages but for the last ones, which say what an account took, and these."""
+    first = len(lines)
+    while first and (SUM_OF_CRUMBS if first == len(lines) else CRUMB).fullmatch(lines[first - 1]):
+        first -= 1
+    if first == len(lines):  # where memory ended before the sum
+        while first and CRUMB.fullmatch(lines[first - 1]):
+            first -= 1
+    return lines[:first], lines[first:]
+
+
 def wrong(errors, status=None, output=None, may_warn=True):
     """What is wrong with these messages, or nothing. They are lines of the program's own. Where the status is known they are warnings alone
     if it is 0, and where the output is, all that was written or should have been, they say of each refusal and of the fault what is due."""
@@ -78,6 +97,9 @@ def wrong(errors, status=None, output=None, may_warn=True):
         if found := misleads(unwritten, [] if output is None else output.decode().split("\n")[:-1]):
             return found
         lines.pop()
+    lines, of_crumbs = without_crumbs(lines)
+    if len(of_crumbs) > MOST + 1:
+        return f"{len(of_crumbs)} messages of what an account took"
     first = next((at for at, line in enumerate(lines) if WARNING.fullmatch(line)), len(lines))
     noted, warned = lines[:first], lines[first:]
     if warned and not may_warn:
@@ -109,9 +131,12 @@ def wrong_where_memory_ended(errors, ample, output):
     if found := wrong(errors):
         return found
     lines, whole = (
-        [OF_THE_BOOK.sub("", line[len(FIRST) :], count=1) for line in text.decode().split("\n")[:-1] if not HELD.fullmatch(line)]
+        [OF_ITS_CRUMBS.sub("", OF_THE_BOOK.sub("", line[len(FIRST) :], count=1), count=1) for line in text.decode().split("\n")[:-1] if not HELD.fullmatch(line)]
         for text in (errors, ample)
     )
+    (lines, some), (whole, all_of_them) = without_crumbs(lines), without_crumbs(whole)
+    if not are_first_crumbs(some, all_of_them):
+        return f"messages {some[:3]} of what an account took, where these are due: {all_of_them[:3]}"
     of_warnings = [line for line in whole if WARNING.fullmatch(line)]
     of_refusals = [line for line in whole if not WARNING.fullmatch(line)]
     refused = sum(" refused " in line for line in output.decode().split("\n"))
@@ -121,6 +146,13 @@ def wrong_where_memory_ended(errors, ample, output):
         rest = rest[1:]
     is_told = count <= refused and rest == of_warnings[: len(rest)]
     return "" if is_told else f"messages {lines[-3:]} where memory ended behind {refused} refusals"
+
+
+def are_first_crumbs(lines, whole):
+    """Whether these messages of what an account took are some of the first of these, and perhaps a sum, which may be of fewer commands."""
+    while lines and SUM_OF_CRUMBS.fullmatch(lines[-1]):
+        lines = lines[:-1]
+    return lines == whole[: len(lines)]
 
 
 def missing(noted, said):

@@ -1,7 +1,8 @@
 """Draws small ledgers from a seed: few accounts and commodities, so that commands meet each other often.
 
 The drawing follows the book by the plain judge: a sale can then be drawn to take exactly what is held, and postings to
-balance.
+balance. `small` draws what any call takes; `with_crumbs` draws ledgers for a call with a rounding account, whose amounts have
+few decimals.
 """
 
 import datetime
@@ -38,6 +39,7 @@ def whole_key(key):
 class Drawing:
     def __init__(self, seed):
         self.rng = random.Random(seed)
+        self.rounding = None
         self.book = []
         self.judged = []
         self.day = datetime.date.fromisoformat(self.rng.choice(STARTS))
@@ -62,7 +64,7 @@ class Drawing:
     def judge(self, command):
         """Adds a command to the list, and to the book where it is accepted."""
         try:
-            self.book.append(model.judge(self.book, command))
+            self.book.append(model.judge_with(self.book, command, self.rounding))
             self.judged.append(model.Judged(command, self.book[-1], None))
         except model.Refused as refused:
             self.judged.append(model.Judged(command, None, refused))
@@ -367,6 +369,215 @@ class Drawing:
             self.judge(paid(postings))
 
 
+ROUNDING = "Equity:Rounding"
+WITHIN = tuple(int(within * model.ONE) for within in (0.005, 0.005, 0.005, 0.01, 0.05, 1, 0.00000001)) + (0,)
+DECIMALS = (8, 8, 8, 2, 2, 2, 0, 1, 3, 4, 5, 6, 7)
+
+
+class CrumbDrawing(Drawing):
+    """Deals as brokers and other books have them: units of some decimals, prices and cash of few, and whole costs."""
+
+    def __init__(self, seed):
+        super().__init__(seed)
+        account = ROUNDING if self.chance(0.9) else self.pick(self.accounts)
+        self.rounding = model.Rounding(account, self.pick(WITHIN), self.pick(DECIMALS))
+        self.tied = 0
+        self.general = self.pick((0, 0.1, 0.1, 0.5))  # how often a transaction is drawn as for any call
+
+    def decimals(self, most, *decimals):
+        """A number above zero and up to this whole one, with some of these numbers of decimals."""
+        count = self.pick(decimals)
+        return self.rng.randint(1, most * 10**count) * 10 ** (8 - count)
+
+    def cents(self, weight, decimals=2):
+        """The nearest units with so many decimals, of a weight."""
+        units = model.rounded(weight, decimals) // model.ONE
+        return units if abs(units) < model.UNITS_LIMIT else 0
+
+    def currency(self):
+        return self.pick(self.names[1:3])
+
+    def priced(self, units, price):
+        """A price at this rate, of each unit or as a total in cents."""
+        if self.chance(0.7):
+            return Price(False, price, self.currency())
+        return Price(True, self.cents(abs(units) * price, self.pick((2, 2, 4))), self.currency())
+
+    def bought(self):
+        units, price = self.decimals(20, 4, 6, 8, 8, 2, 0), self.decimals(200, 2, 2, 4, 6, 8)
+        day = self.today() if self.chance(0.1) else None
+        label, whole, currency = self.pick(LABELS), self.chance(0.6), self.currency()
+        number = price
+        if whole:
+            number = self.cents(units * price) + self.pick((0, 0, 99, 495)) * model.ONE // 100
+            if self.chance(0.04):
+                units, number = self.pick((
+                    (1, model.UNITS_LIMIT - 1), (1, model.ONE), (2 * model.ONE + 1, (2 * model.ONE + 1) * model.ONE - 1),
+                    (units, 0), (0, number), (self.pick(GREAT_UNITS), number),
+                ))  # fmt: skip
+            if self.chance(0.05):
+                currency = None
+        return Posting(self.account(), Amount(self.side * units, self.names[0], Cost(whole, number, currency, day, label), None))
+
+    def sold(self):
+        held = model.Held(self.book)
+        pairs = [pair for pair in held.pairs() if held.lots_of(pair)]
+        if not pairs:
+            return self.bought()
+        account, commodity = pair = self.pick(pairs)
+        lots = held.lots_of(pair)
+        key = self.pick(sorted(lots, key=model.key_order))
+        cost = self.pick((EVERY, EVERY, whole_key(key)._replace(label=None), Cost(False, None, key.currency, None, None)))
+        units = lots[key]
+        if self.chance(0.7):
+            part = 10 ** self.pick((0, 2, 4, 8))
+            units = units * self.rng.randint(1, 9) // 10 // part * part or units
+        if self.chance(0.2):
+            cost = Cost(True, self.cents(abs(units) * key.number, self.pick((2, 8, 8))), key.currency, None, None)
+        price = self.priced(units, min(max(1, key.number * self.rng.randint(8, 12) // 10), model.RATE_LIMIT - 1)) if self.chance(0.8) else None
+        return Posting(account, Amount(-units, commodity, cost, price))
+
+    def changed_money(self):
+        units, rate = self.decimals(500, 2, 2, 4, 8), self.decimals(3, 4, 5, 6, 8)
+        return Posting(self.account(), Amount(self.pick((units, -units)), self.currency(), None, self.priced(units, rate)))
+
+    def fee(self):
+        return Posting(self.pick(self.accounts), Amount(self.decimals(5, 2), self.currency(), None, None))
+
+    def crowd(self, postings):
+        """Postings of nothing, so that there are about as many as there may be."""
+        nothing = Posting(self.accounts[0], Amount(0, self.names[1], None, None))
+        return [nothing] * (self.pick((60, 61, 62, 62, 63, 63, 64)) - len(postings)) + postings
+
+    def cash(self, command):
+        """Postings that balance it but for crumbs, or a little more, as its totals say."""
+        changed = model.with_rates(command)
+        try:
+            found = model.balance(self.book, changed or command)
+        except (model.Refused, AttributeError):
+            return [self.fee()]
+        said = model.stated(command, changed or command, found.residuals)
+        decimals = self.pick((2, 2, 2, 2, 0, 3, 4, 8))
+        if self.chance(0.15):  # as what the rates come to
+            said, decimals = found.residuals, 8
+        postings = []
+        for currency, weight in said.items():
+            units = -self.cents(weight, decimals) + self.pick((0,) * 12 + (-1, 1, 10**6, -(10**6), 10**5))
+            postings.append(Posting(self.account(), Amount(units, currency, None, None)))
+        return postings
+
+    def transaction(self):
+        if self.chance(self.general):
+            return super().transaction()
+        draws = [self.pick((self.bought, self.bought, self.sold, self.sold, self.changed_money)) for _ in range(self.pick((1, 1, 1, 2, 2, 3)))]
+        postings = [draw() for draw in draws]
+        if self.chance(0.3):
+            postings.append(self.fee())
+        command = model.Transaction(self.next_day(), self.pick("*!"), None, self.pick((None, "Deal", "é")), tuple(postings))
+        elided = Posting(self.account(), None)
+        ending = self.pick(("cash", "cash", "elided", "cash and elided", "nothing", "two") if self.chance(0.1) else ("cash", "elided", "cash and elided"))
+        if ending.startswith("cash"):
+            postings += self.cash(command)
+        if ending == "cash and elided" and self.chance(0.5):
+            postings.pop()
+        if self.chance(0.03):
+            postings = self.crowd(postings)
+        if ending in ("elided", "cash and elided", "two"):
+            postings.insert(self.rng.randint(0, len(postings)) if self.chance(0.3) else len(postings), elided)
+        if ending == "two":
+            postings.append(elided)
+        command = command._replace(postings=tuple(postings))
+        if self.chance(0.05):
+            command = self.at_the_bound(command)
+        return command
+
+    def at_the_bound(self, command):
+        """The transaction with a bound for its call that its crumb just meets, or just doesn't."""
+        try:
+            found = model.completion(self.book, command, self.rounding)
+        except AttributeError:  # an account isn't open
+            return command
+        if found and found.crumbs and not any(it.refused or it.entry.command != it.command for it in self.judged):
+            greatest = max(map(abs, found.crumbs.values()))
+            within = -(-greatest // model.ONE) - self.pick((0, 0, 1))
+            if within <= model.ONE:
+                self.rounding = self.rounding._replace(within=within)
+        return command
+
+    def small(self):
+        if self.rounding.account == ROUNDING and self.chance(0.95):
+            currencies = () if self.chance(0.7) else tuple(self.names[1:3]) if self.chance(0.7) else (self.names[1],)
+            self.judge(self.opening(ROUNDING)._replace(currencies=currencies))
+        for account in self.accounts:
+            opening = self.opening(account)
+            self.judge(opening if self.chance(0.3) else opening._replace(currencies=()))
+        if self.chance(0.05):
+            self.judge(model.Closing(self.next_day(), self.rounding.account))
+        for turn in range(self.rng.randint(4, 16)):
+            self.sales = 0.2 if turn < 6 else 0.8
+            self.judge(self.command())
+
+    # What is sent again.
+
+    def near(self):
+        """A transaction, and one with postings behind it that look like those for a crumb, and may be so or not."""
+        currency, others = self.names[1], self.accounts[0]
+        cost = self.pick((EVERY, Cost(False, model.ONE, currency, None, None), Cost(True, 5 * model.ONE, currency, None, None), None))
+        price = Price(False, 3 * model.ONE, currency) if cost is None else None
+        units = -model.ONE if cost == EVERY else 3 * model.ONE if cost and cost.whole else model.ONE
+        postings = (Posting(others, Amount(units, self.names[0], cost, price)), Posting(self.pick(self.accounts), None))
+        command = model.Transaction(self.today(), "*", None, "near", postings)
+        return command, command._replace(postings=(*postings, *self.near_tail(currency)))
+
+    def near_tail(self, currency):
+        one, speck = model.ONE, 1
+        at = self.rounding.account
+        sign = self.pick((1, -1))
+
+        def plain(units, currency=currency):
+            return Posting(at, Amount(sign * units, currency, None, None))
+
+        def at_rate(units, rate, account=at, whole=False, of=currency):
+            return Posting(account, Amount(sign * units, currency, None, Price(whole, rate, of)))
+
+        other = self.pick([name for name in self.names if name != currency])
+        return self.pick((
+            [plain(one)], [plain(one), at_rate(speck, 1)], [plain(one - 1), at_rate(speck, one - 1)], [plain(one + 1)], [plain(5)],
+            [at_rate(speck, one // 2)], [plain(7), at_rate(speck, one // 3)], [at_rate(speck, one)], [at_rate(speck, 0)],
+            [at_rate(2, one // 2)], [at_rate(speck, one, whole=True)], [at_rate(speck, one, of=other)], [plain(7, other)], [plain(0)],
+            [plain(7), at_rate(speck, one // 2, account=self.pick(self.accounts))], [plain(3), plain(4, other)],
+        ))  # fmt: skip
+
+    def sent_again(self, asked, stored):
+        """What is sent under the key of a command that stands, or was refused: that again, mostly, or something near it."""
+        if stored is None or not isinstance(asked, model.Transaction) or self.chance(0.5):
+            return asked
+        kind = self.rng.random()
+        if kind < 0.3:
+            return stored
+        if kind < 0.5 and stored.postings:
+            return stored._replace(postings=stored.postings[:-1])
+        if kind < 0.6:
+            return asked._replace(flag="!" if asked.flag == "*" else "*")
+        if kind < 0.7:
+            return asked._replace(narration="another")
+        postings = list(asked.postings)
+        places = [place for place, posting in enumerate(postings) if posting.amount]
+        if not places:
+            return asked
+        place = self.pick(places)
+        account, amount = postings[place]
+        units = amount.units + self.pick((1, -1, 10**6))
+        cost = amount.cost
+        if cost and cost.number is not None and self.chance(0.7):
+            most = (model.UNITS_LIMIT if cost.whole else model.RATE_LIMIT) - 1
+            number = min(max(0, cost.number + self.pick((1, -1, 2, 10**6))), most)
+            cost, units = cost._replace(number=number), amount.units
+        if abs(units) < model.UNITS_LIMIT:
+            postings[place] = Posting(account, amount._replace(units=units, cost=cost))
+        return asked._replace(postings=tuple(postings))
+
+
 def small(seed):
     """The drawing of this seed: its `judged` commands and its `book`."""
     drawing = Drawing(seed)
@@ -378,4 +589,11 @@ def crowded(seed, method):
     """Likewise, of an account of this method that holds some 10,000 lots."""
     drawing = Drawing(seed)
     drawing.crowded(method)
+    return drawing
+
+
+def with_crumbs(seed):
+    """Likewise, for a call with the `rounding` of the drawing."""
+    drawing = CrumbDrawing(seed)
+    drawing.small()
     return drawing

@@ -3,6 +3,8 @@
 A book is the list of its entries, and an entry is a command with its legs. What is held is summed anew for each command,
 over all legs of the book; each condition of a refusal looks over all entries. Numbers are mantissas: of units, totals and
 rates at scale 8, of weights at scale 16. Days are triples (year, month, day). Entries and postings count from 1.
+
+With a rounding account, which the program is to get, a command that doesn't balance by a crumb is judged once more, as its completion.
 """
 
 from typing import NamedTuple, Optional, Tuple, Union
@@ -86,6 +88,26 @@ class Transaction(NamedTuple):
 
 
 Command = Union[Opening, Closing, Declaring, Quoting, Transaction]
+
+
+class Rounding(NamedTuple):
+    account: str  # which takes the crumbs
+    within: int  # the most that one may be, at scale 8
+    decimals: int  # of the fill, and of the cash of a row
+
+
+class Cash(NamedTuple):
+    """The cash of a row: the place of its posting, and how much it is exactly, at scale 16."""
+
+    place: int
+    exact: int
+
+
+class Asked(NamedTuple):
+    """A command as it is handed in."""
+
+    command: Command
+    cash: Optional[Cash] = None  # none: it isn't of a row
 
 
 class LotKey(NamedTuple):
@@ -331,6 +353,42 @@ def judge(book, command):
     return judge_transaction(book, command)
 
 
+def allowed(opening, commodity):
+    return not opening.currencies or commodity in opening.currencies
+
+
+class Balance(NamedTuple):
+    """What the postings with amounts of a transaction come to."""
+
+    held: Held
+    booked: dict  # by place
+    residuals: dict  # by currency, in the order in which these appear
+
+    def keep(self, book, legs, place):
+        for leg in legs:
+            if abs(self.held.add(leg, opening_number(len(book) + 1, place))) >= UNITS_LIMIT:
+                raise Refused("L11 Range", at(place))
+
+
+def balance(book, command):
+    """Books the postings with amounts, one after another, on what the book holds. Raises the refusal of the first that can't be booked."""
+    found = Balance(Held(book), {}, {})
+    for place, posting in enumerate(command.postings, 1):
+        if posting.amount is None:
+            continue
+        if posting.braces:
+            method = opening_of(book, posting.account).method
+            lots, opened = found.held.lots_of(posting.pair), found.held.openings_of(posting.pair)
+            booked = book_at_cost(method, command.day, posting, lots, opened, place)
+        else:
+            booked = Booked(False, (Leg(*posting.pair, None, posting.amount.units),))
+        found.booked[place] = booked
+        found.keep(book, booked.legs, place)
+        for currency, weight in weights(posting, booked):
+            found.residuals[currency] = found.residuals.get(currency, 0) + weight
+    return found
+
+
 def judge_transaction(book, command):
     day = command.day
     places = list(enumerate(command.postings, 1))
@@ -346,12 +404,8 @@ def judge_transaction(book, command):
         if closing is not None and day > closing.day:
             raise Refused("L5 Closed", at(place))
 
-    def allowed(account, commodity):
-        currencies = openings[account].currencies
-        return not currencies or commodity in currencies
-
     for place, posting in places:
-        if posting.amount is not None and not allowed(*posting.pair):
+        if posting.amount is not None and not allowed(openings[posting.account], posting.amount.commodity):
             raise Refused("L7 CurrencyNotAllowed", at(place))
     if len(places) > MOST_POSTINGS:
         raise Refused("L8 TooManyPostings")
@@ -363,28 +417,8 @@ def judge_transaction(book, command):
         if posting.braces and latest[posting.pair] is not None and day < latest[posting.pair]:
             raise Refused("L10 BackDated", at(place))
 
-    held = Held(book)
-    residuals = {}  # a dict keeps the order in which its keys came
-    booked = {}
-
-    def keep(legs, place):
-        for leg in legs:
-            if abs(held.add(leg, opening_number(len(book) + 1, place))) >= UNITS_LIMIT:
-                raise Refused("L11 Range", at(place))
-
-    for place, posting in places:
-        if posting.amount is None:
-            continue
-        if posting.braces:
-            method = openings[posting.account].method
-            lots, opened = held.lots_of(posting.pair), held.openings_of(posting.pair)
-            booked[place] = book_at_cost(method, day, posting, lots, opened, place)
-        else:
-            booked[place] = Booked(False, (Leg(*posting.pair, None, posting.amount.units),))
-        keep(booked[place].legs, place)
-        for currency, weight in weights(posting, booked[place]):
-            residuals[currency] = residuals.get(currency, 0) + weight
-
+    found = balance(book, command)
+    held, booked, residuals = found
     if elided:
         place, posting = elided[0]
         for currency, residual in residuals.items():
@@ -392,10 +426,10 @@ def judge_transaction(book, command):
                 raise Refused("L12 InexactFill", currency)
         fill = [(currency, -residual // ONE) for currency, residual in residuals.items() if residual != 0]
         for currency, _ in fill:
-            if not allowed(posting.account, currency):
+            if not allowed(openings[posting.account], currency):
                 raise Refused("L13 FillNotAllowed", currency)
         booked[place] = Booked(False, tuple(Leg(posting.account, currency, None, units) for currency, units in fill))
-        keep(booked[place].legs, place)
+        found.keep(book, booked[place].legs, place)
     else:
         for currency, residual in residuals.items():
             if residual != 0:
@@ -404,6 +438,236 @@ def judge_transaction(book, command):
         if posting.braces and len(held.lots_of(posting.pair)) > MOST_LOTS:
             raise Refused("L15 TooManyLots", at(place))
     return Entry(command, tuple(booked[place] for place, _ in places))
+
+
+# The rounding account.
+
+COMPLETED = ("B5 InexactCost", "L12 InexactFill", "L14 NotBalanced")  # refusals for which the completion is judged
+MOST_OF_A_REPEAT = ONE * ONE  # a crumb of a completion by form is at most 1
+
+
+def nearest(dividend, divisor):
+    """The nearest whole number to a quotient, of two that are equally near the even one."""
+    quotient, rest = divmod(dividend, divisor)
+    return quotient + (2 * rest > divisor or (2 * rest == divisor and quotient % 2 == 1))
+
+
+def rounded(weight, decimals):
+    """The nearest weight with so many decimals."""
+    step = 10 ** (16 - decimals)
+    return nearest(weight, step) * step
+
+
+def with_rates(command):
+    """The transaction with a rate in the place of each whole cost that has no exact one, or none where one has no such rate."""
+    postings = []
+    for posting in command.postings:
+        if posting.braces and posting.amount.cost.whole:
+            units, cost = posting.amount.units, posting.amount.cost
+            if units == 0 or rate_of(cost.number, units) is None:
+                number = nearest(cost.number * ONE, abs(units)) if units else RATE_LIMIT
+                if number >= RATE_LIMIT or cost.currency is None:
+                    return None
+                posting = posting._replace(amount=posting.amount._replace(cost=cost._replace(whole=False, number=number)))
+        postings.append(posting)
+    return command._replace(postings=tuple(postings))
+
+
+def currencies_of_products(command, booked):
+    """The currencies in which a leg at cost, or a posting with a price, weighs."""
+    found = set()
+    for place, posting in enumerate(command.postings, 1):
+        if posting.braces:
+            found |= {leg.key.currency for leg in booked[place].legs}
+        elif posting.amount is not None and posting.amount.price is not None:
+            found.add(posting.amount.price.currency)
+    return found
+
+
+def stated(command, changed, residuals):
+    """The residuals with each total in the place of what its units cost at the rate."""
+    found = dict(residuals)
+    for written, posting in zip(command.postings, changed.postings):
+        if written != posting:
+            units, cost = written.amount.units, written.amount.cost
+            total = cost.number if units > 0 else -cost.number
+            found[cost.currency] += total * ONE - units * posting.amount.cost.number
+    return found
+
+
+def crumb_postings(account, currency, crumb):
+    """The postings that make up for a crumb, at scale 16."""
+    sign = 1 if crumb > 0 else -1
+    whole, rest = divmod(abs(crumb), ONE)
+    postings = []
+    if whole:
+        postings.append(Posting(account, Amount(sign * whole, currency, None, None)))
+    if rest:
+        postings.append(Posting(account, Amount(sign, currency, None, Price(False, rest, currency))))
+    return postings
+
+
+class Completion(NamedTuple):
+    command: Transaction
+    crumbs: dict  # by currency, at scale 16, each not zero
+
+
+def completion(book, command, rounding):
+    """The completion of a transaction on what the book says, or none. Its accounts are open, and at most one posting is elided."""
+    changed = with_rates(command)
+    if changed is None:
+        return None
+    try:
+        _, booked, residuals = balance(book, changed)
+    except Refused:
+        return None
+    said = stated(command, changed, residuals)
+    is_elided = any(posting.amount is None for posting in command.postings)
+    crumbs = {}
+    for currency in residuals:
+        if currency in currencies_of_products(changed, booked):
+            wanted = rounded(said[currency], rounding.decimals) if is_elided else 0
+            if wanted != residuals[currency]:
+                crumbs[currency] = wanted - residuals[currency]
+    if any(abs(crumb) // ONE >= UNITS_LIMIT for crumb in crumbs.values()):
+        return None
+    behind = [posting for currency, crumb in crumbs.items() for posting in crumb_postings(rounding.account, currency, crumb)]
+    return Completion(changed._replace(postings=(*changed.postings, *behind)), crumbs)
+
+
+def judge_completion(book, command, rounding):
+    """The entry of the completion, or none where there is none, or it isn't accepted."""
+    found = completion(book, command, rounding)
+    if found is None or any(abs(crumb) > rounding.within * ONE for crumb in found.crumbs.values()):
+        return None
+    try:
+        return judge(book, found.command)
+    except Refused:
+        return None
+
+
+def has_long_fill(entry, decimals):
+    """Whether the fill in a currency of products has more decimals."""
+    if not isinstance(entry.command, Transaction):
+        return False
+    currencies = currencies_of_products(entry.command, dict(enumerate(entry.booked, 1)))
+    return any(
+        leg.commodity in currencies and leg.units % 10 ** (8 - decimals) != 0
+        for posting, booked in zip(entry.command.postings, entry.booked)
+        if posting.amount is None
+        for leg in booked.legs
+    )
+
+
+def judge_with(book, command, rounding):
+    """The entry of an accepted command, which may be its completion where there is a rounding account. Raises its refusal."""
+    try:
+        entry = judge(book, command)
+    except Refused as refused:
+        if rounding is not None and refused.code in COMPLETED:
+            completed = judge_completion(book, command, rounding)
+            if completed is not None:
+                return completed
+        raise
+    if rounding is not None and has_long_fill(entry, rounding.decimals):
+        return judge_completion(book, command, rounding) or entry
+    return entry
+
+
+# Keys and repeats.
+
+
+def writings(asked):
+    """The command, with the cash of its row rounded to each number of decimals."""
+    if asked.cash is None:
+        yield asked.command
+        return
+    at_place = asked.cash.place - 1
+    for decimals in range(9):
+        units = rounded(asked.cash.exact, decimals) // ONE
+        if abs(units) < UNITS_LIMIT:
+            postings = list(asked.command.postings)
+            postings[at_place] = postings[at_place]._replace(amount=postings[at_place].amount._replace(units=units))
+            yield asked.command._replace(postings=tuple(postings))
+
+
+def is_of_products_by_form(command, currency):
+    """Whether a price of a posting without braces names the currency, or braces do, or there are braces that name none."""
+    for posting in command.postings:
+        if posting.braces:
+            if posting.amount.cost.currency in (None, currency):
+                return True
+        elif posting.amount is not None and posting.amount.price is not None and posting.amount.price.currency == currency:
+            return True
+    return False
+
+
+def crumbs_by_form(postings):
+    """The crumbs, at scale 16, of which these are the postings of one account, each with its currency. None where they aren't such."""
+    found, left = [], list(postings)
+    while left:
+        account, amount = left[0]
+        if account != postings[0].account or amount is None or amount.cost is not None or amount.units == 0:
+            return None
+        sign = 1 if amount.units > 0 else -1
+        crumb = 0
+        if amount.price is None:
+            crumb = amount.units * ONE
+            left.pop(0)
+        speck = left[0].amount if left and left[0].account == account else None
+        if speck and (speck.units, speck.commodity, speck.cost) == (sign, amount.commodity, None) and speck.price:
+            if speck.price.whole or speck.price.currency != amount.commodity or not 0 < speck.price.amount < ONE:
+                return None
+            crumb += sign * speck.price.amount
+            left.pop(0)
+        if crumb == 0:
+            return None
+        found.append((amount.commodity, crumb))
+    return found
+
+
+def is_completion_by_form(asked, stored):
+    """Whether a command that stands is, by its form, the completion of one that is asked for."""
+    if not isinstance(asked.command, Transaction) or not isinstance(stored, Transaction):
+        return False
+    for written in writings(asked):
+        changed = with_rates(written)
+        count = len(written.postings)
+        if changed is None or changed != stored._replace(postings=stored.postings[:count]):
+            continue
+        crumbs = crumbs_by_form(stored.postings[count:])
+        if crumbs is not None and all(
+            abs(crumb) <= MOST_OF_A_REPEAT and is_of_products_by_form(written, currency) for currency, crumb in crumbs
+        ):
+            return True
+    return False
+
+
+class Kept:
+    """A book whose entries have keys."""
+
+    def __init__(self, book=()):
+        self.book = list(book)
+        self.keys = {}
+
+    def take(self, key, asked, rounding=None):
+        """Takes a command under a key. Returns its entry, or none where it is a repeat. Raises its refusal."""
+        stored = self.keys.get(key)
+        if stored is not None:
+            if stored == asked.command or (rounding is not None and is_completion_by_form(asked, stored)):
+                return None
+            raise Refused("L1 KeyReused")
+        entry = judge_with(self.book, asked.command, rounding)
+        self.book.append(entry)
+        self.keys[key] = entry.command
+        return entry
+
+    def reply(self, key, asked, rounding=None):
+        """What becomes of it, as the line of its reply says behind the number."""
+        try:
+            return "repeat" if self.take(key, asked, rounding) is None else "accepted"
+        except Refused as refused:
+            return refusal(refused)
 
 
 # Printing.
@@ -424,11 +688,13 @@ def day_text(day):
     return "%04d-%02d-%02d" % day
 
 
+def refusal(refused):
+    return " ".join(filter(None, ("refused", refused.code, refused.argument)))
+
+
 def reply(number, refused):
     """The line of a command's reply, without its end."""
-    if refused is None:
-        return f"{number} accepted"
-    return " ".join(filter(None, (str(number), "refused", refused.code, refused.argument)))
+    return f"{number} accepted" if refused is None else f"{number} {refusal(refused)}"
 
 
 def holdings(book):
@@ -457,13 +723,13 @@ class Judged(NamedTuple):
     refused: Optional[Refused]
 
 
-def run(commands):
+def run(commands, rounding=None):
     """The book after these commands, and what became of each."""
     book = []
     judged = []
     for command in commands:
         try:
-            book.append(judge(book, command))
+            book.append(judge_with(book, command, rounding))
             judged.append(Judged(command, book[-1], None))
         except Refused as refused:
             judged.append(Judged(command, None, refused))

@@ -10,6 +10,10 @@ need_program
 times=${1:-10}
 run_python tests/random/compare.py "$program" --first 100001 --count $((2000 * times)) --changed 4 --crowded NONE FIFO LIFO HIFO
 run_python tests/broker/compare.py "$program" --first 100001 --count $((400 * times))
+if takes_crumbs; then
+    run_python tests/broker/compare.py "$program" --crumbs --first 100001 --count $((200 * times))
+    run_python tests/random/rounding.py "$program" "$scratch" --first 100001 --count $((300 * times))
+fi
 run_python tests/random/reports.py "$program" "$scratch" --first 100001 --count $((400 * times))
 run_python tests/csv/compare.py "$program" "$scratch" --first 100001 --count $((200 * times))
 run_python tests/book/batches.py "$program" "$root/tests/cases" "$scratch" --whole
@@ -17,6 +21,10 @@ run_python tests/migrate/stops.py "$program" "$scratch" --seed 2 --kills $((100 
 for ((seed = 2; seed < 2 + times; seed++)); do
     mkdir "$scratch/stops-$seed"
     run_python tests/book/stops.py "$program" "$scratch/stops-$seed" --seed "$seed"
+    if takes_crumbs; then
+        mkdir "$scratch/stops-$seed/crumbs"
+        run_python tests/book/stops.py "$program" "$scratch/stops-$seed/crumbs" --seed "$seed" --crumbs
+    fi
     rm -rf "$scratch/stops-$seed"
 done
 finish

@@ -3,8 +3,8 @@ ghost use Rattle.lot_command.specs.declared.command.Command.{Command as CommandO
 ghost use Rattle.lot_command.specs.declared.key.Key.{Key as KeyOf};
 ghost use Rattle.lot_audit.specs.Entries.{IsEntryOf};
 
-use crate::text::command_of;
 use lot_command::{Command, Key};
+use lot_print::command_of;
 use lot_rows::entry::EntryRow;
 use std::alloc::{AllocError, Global};
 

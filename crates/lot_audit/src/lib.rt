@@ -4,7 +4,7 @@
 //! - `pass`: all entries are judged again, one after another, each with the rows of its own.
 //! - `compare`: whether the tables agree with what is known of all entries.
 //! - `replay`: a command is judged again, on all that the entries before it say.
-//! - `entry`: what the row of an entry says; `text`: the command of a canonical text.
+//! - `entry`: what the row of an entry says.
 //! - `legs`, `sales`: whether the rows of an entry are those of its legs, and of its sales.
 //! - `rows`: statements: the row of the migration, the legs of an entry, a price, a lot.
 //! - `has`: whether the rows are there of an entry's command, and of what is held.
@@ -24,7 +24,6 @@ mod rates;
 mod replay;
 mod rows;
 mod sales;
-mod text;
 mod watch;
 
 pub use judge::judge_book;

@@ -250,7 +250,7 @@ fn take_up(
 
 /// Books the postings with amounts, each on the legs of those before it. The error is the refusal of the first that can't
 /// be booked, or out of memory.
-fn book_amounts(
+pub fn book_amounts(
     alloc: Global,
     edition: Edition,
     view: &View,
@@ -260,6 +260,7 @@ fn book_amounts(
     ensures drafts { IfOk result (λ draft.
         DraftsAll (ties_for edition (known_with_openings view.now))
         (known view.now) transaction.now draft) }
+    ensures within { IfOk result (λ draft. AreWithin most_postings draft.residuals) }
     ensures lists { IfOk result (λ draft.
         ListsTally (known_with_openings view.now) draft.tally) }
     ensures stops { IfErr result (λ stop.

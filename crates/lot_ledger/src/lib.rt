@@ -13,7 +13,7 @@ mod fill;
 mod heads;
 mod opening_numbers;
 
-pub use decision::{Outcome, decide};
+pub use decision::{Outcome, book_amounts, decide};
 pub use lot_book::{
     Change, Edition, Gain, Holding, Leg, LotKey, Pair, Position, Refusal, Sale, Standing, Stop,
     Verdict,

@@ -9,7 +9,7 @@ ghost use Rattle.lot_book.specs.Refusals.{bars, first_currency, most_postings, n
 use indexmap::IndexMap;
 use lot_base::Commodity;
 use lot_book::{Leg, Refusal, Standing};
-use lot_command::{Amount, Price};
+use lot_command::{Amount, Items, Price};
 use lot_num::{Units, Wide, weight};
 use std::alloc::{AllocError, Global};
 use std::marker::Model;
@@ -115,6 +115,21 @@ impl Residuals {
             }
         }
         Ok(())
+    }
+
+    /// Returns the currencies, each beside its residual. The only error is out of memory.
+    pub fn into_items(self, alloc: Global) -> Result<Items<(Commodity, Wide)>, AllocError>
+        ensures { IfOk result (λ items. items ≡ self) }
+    {
+        let Residuals { first, others } = self;
+        let mut items = Items::new(alloc);
+        if let Some(residual) = first {
+            items.push(residual)?;
+        }
+        for residual in others {
+            items.push(residual)?;
+        }
+        Ok(items)
     }
 
     /// Returns whether each residual is that of units.

@@ -1,4 +1,4 @@
--- Which texts are canonical: those that say one command, whose canonical text they are.
+-- Where memory ends behind a text that was read.
 use Rattle.std.proofs.Common.{◌≡◌, ◌∙◌, ◌≤◌, ℕ, List, [], ◌∷◌, None, Some, Ok, Err, IfErr, Option, Result, Bor, length, slice_get, refl, sym, ap, subst, arith}
 use Rattle.std.specs.List.{AllZip, flat_map}
 use Rattle.std.specs.Option.{option_copied}
@@ -8,19 +8,6 @@ use Rattle.lot_command.specs.declared.command.Command.TheVariants as Commands
 use Rattle.lot_read.specs.Line.{SaysStatement}
 use Rattle.lot_read.specs.Text.{LinesSay, Reads, RunsOutAt, present, statements_of}
 use Rattle.lot_token.specs.Line.{AreLines}
-
--- ---- the commands of a text, and the first of them
-
-module _ (commands : List Command) (first : Option (Bor Command)) (value : option_copied first ≡ slice_get commands 0) where
-  -- a text that says one command says no list without a first
-  pub no_command : (command : Command) → first ≡ None → commands ≡ command ∷ [] → ⊥
-  no_command command none one =
-      let got : slice_get (command ∷ []) 0 ≡ None = ap (λ (cs : List Command). slice_get cs 0) (sym one) ∙ sym value ∙ ap option_copied none in cc
-
-  -- and the first is that command
-  pub the_command : (command : Command) (found : Bor Command) → first ≡ Some found → commands ≡ command ∷ [] → found.now ≡ command
-  the_command command found some one =
-      let got : slice_get (command ∷ []) 0 ≡ Some found.now = ap (λ (cs : List Command). slice_get cs 0) (sym one) ∙ sym value ∙ ap option_copied some in cc
 
 -- ---- out of memory behind a text that was read
 
@@ -46,10 +33,10 @@ on_error (Ok x) P it = tt
 on_error (Err e) P it = it
 
 -- all lines of a text that says a command say commands
-pub runs_out : (commands : List Command) (text : List ℕ) (first : Option (Bor Command)) (found : Bor Command) → option_copied first ≡ slice_get commands 0 → first ≡ Some found
+pub runs_out : (commands : List Command) (text : List ℕ) (first : Option Command) (found : Command) → first ≡ slice_get commands 0 → first ≡ Some found
     → Reads text commands → (number : ℕ) × RunsOutAt text number
 runs_out [] text first found value some reads =
-    let got : slice_get [] 0 ≡ Some found.now = sym value ∙ ap option_copied some in absurd cc
+    let got : slice_get [] 0 ≡ Some found = sym value ∙ some in absurd cc
 runs_out (command ∷ rest) text first found value some (lines, whole, says) = (
   length lines,
   record {

@@ -1,4 +1,1 @@
-mod NearestLemmas
-mod RateLemmas
-mod CrumbLemmas
-mod OneLemmas
+pub mod NearestLemmas

@@ -1,4 +1,3 @@
 pub mod Nearest
-pub mod Rates
-pub mod Crumbs
-pub mod Completion
+pub mod Rounding
+pub mod Asked

@@ -1,17 +1,17 @@
-//! Rounding: which transaction stands for one whose amounts have few decimals, where an account takes
-//! the crumbs. No crate stands on it yet.
+//! Rounding: amounts with few decimals, the account that takes what they leave, and commands as they are
+//! handed in.
 //!
 //! - `nearest`: the nearest amount with so many decimals, and the nearest rate for a total.
-//! - `rates`: whole costs that no rate comes to, each replaced by the nearest rate.
-//! - `crumbs`: the postings of an account that make up for a crumb.
-//! - `laws`: there is at most one nearest amount, and at most one completion of a transaction.
+//! - `rounding`: where crumbs go, how large each may be, and how many decimals there are.
+//! - `asked`: a command before its turn comes, with the exact cash of its row.
+//! - `laws`: there is at most one nearest amount.
 #![tactic(auto)]
 
-mod crumbs;
+mod asked;
 pub mod laws;
 mod nearest;
-mod rates;
+mod rounding;
 
-pub use crumbs::push_crumb;
+pub use asked::{Asked, RowCash};
 pub use nearest::{Decimals, nearest_rate, rounded};
-pub use rates::{RatedPostings, rate_all};
+pub use rounding::{Bound, Rounding};

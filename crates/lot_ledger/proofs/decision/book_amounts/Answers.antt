@@ -1,5 +1,5 @@
 -- Each posting is booked on the draft of those before it, and what the others come to decides.
-use Rattle.std.proofs.Common.{Err, Result, inl, ◌≡◌, ◌<◌, ◌+◌, ◌-◌, ◌∷◌, [], ℕ, suc, List, length, drop, refl, sym, ap, subst, ◌∙◌, arith, add-one, ℤ, append-nil, slice_index_or}
+use Rattle.std.proofs.Common.{Err, Result, inl, ◌≡◌, ◌<◌, ◌≤◌, ◌+◌, ◌-◌, ◌∷◌, [], ℕ, suc, List, length, drop, refl, sym, ap, subst, ◌∙◌, arith, add-one, ℤ, append-nil, slice_index_or}
 use Rattle.std.specs.Result.{IsErrAnd}
 use Rattle.lot_command.specs.declared.transaction.Posting.{Posting}
 use Rattle.lot_posting.specs.declared.draft.Draft.{Draft}
@@ -112,3 +112,8 @@ returns-in_err-book_next-clause-memory c = λ lacks.
     let memory : Memory ≡ stop = subst (λ (r : Result _ Stop). IsErrAnd r (λ e. e ≡ stop)) lacks c.from_residual.ensures.1 in
     first_lacks ties facts t.day t.postings draft (index + 1) posting.account posting.amount (drop (index + 1) t.postings) so.first
     (c.in_err-book_next.ensures.memory (ap Err (sym memory)))
+
+pub returns-clause-within : goal.returns-clause-within
+returns-clause-within c =
+    let most : c.loop-index.index ≤ length c.args.transaction.now.postings = rw c.as_slice-posting-items.ensures at c.loop-index.auto.index-end in
+    AreWithin-more c.loop-index.index most_postings c.loop-index.draft.residuals (omega (arith, most)) c.loop-index.invariant.booking.within

@@ -1,0 +1,11 @@
+mod RateLemmas
+mod CrumbLemmas
+mod OneLemmas
+pub mod AgreeLemmas
+mod FewLemmas
+mod CompletionLemmas
+mod BalanceLemmas
+mod TakenUpLemmas
+mod GetsLemmas
+mod FormLemmas
+mod TurnLemmas

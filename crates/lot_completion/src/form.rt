@@ -1,0 +1,293 @@
+//! Completions by form.
+ghost use Rattle.std.specs.Prelude.{◌≡◌, ◌↔◌, ◌++◌, None, Some, IfOk, IfSome, IsTrue, OnOk};
+ghost use Rattle.std.specs.List.{list_all};
+ghost use Rattle.lot_command.specs.Canonical.{canonical};
+ghost use Rattle.lot_command.specs.Sayable.{IsSayable};
+ghost use Rattle.lot_command.specs.declared.command.Command.TheVariants.{Transaction as AsCommand};
+ghost use Rattle.lot_command.specs.declared.transaction.Transaction.{Transaction as TransactionOf};
+ghost use Rattle.lot_completion.specs.Form.{IsByForm, is_part, is_part_amount, is_part_posting, may_cost_in, may_have_products_in, may_weigh_in};
+ghost use Rattle.lot_completion.specs.Formed.{IsFormed, IsFormedAt, IsFormedAtSome, are_parts};
+ghost use Rattle.lot_completion.specs.Turn.{StandsByForm};
+ghost use Rattle.lot_rounding.specs.Asked.{with_units, with_units_at};
+
+use crate::completion::{weighs_at_price, with_postings};
+use crate::rates::{RatedPostings, rate_all};
+use lot_base::{Account, Commodity};
+use lot_command::{Amount, Command, Items, Posting, Price, Transaction, canonical, is_sayable};
+use lot_cost::Cost;
+use lot_num::Units;
+use lot_print::command_of;
+use lot_print::laws::canonical_texts_tell_commands_apart;
+use lot_rounding::{Decimals, RowCash, rounded};
+use std::alloc::{AllocError, Global};
+
+/// Returns the transaction whose canonical text this is, if it is a completion of another by form, with
+/// the cash of a row at any decimals. The only error is out of memory.
+pub(crate) fn standing_completion(
+    alloc: Global,
+    text: &str,
+    cash: Option<RowCash>,
+    transaction: &Transaction,
+) -> Result<Option<Transaction>, AllocError>
+    ensures some { IfOk result (λ found. IfSome found
+        (StandsByForm (Some text.now) cash transaction.now)) }
+    ensures none { IfOk result (λ found. found ≡ None → (stands : TransactionOf)
+        → StandsByForm (Some text.now) cash transaction.now stands → ⊥) }
+{
+    canonical_texts_tell_commands_apart();
+    let Some(command) = command_of(alloc, text)? else {
+        return Ok(None);
+    };
+    let Command::Transaction(stands) = &command else {
+        return Ok(None);
+    };
+    if is_by_form(alloc, text, cash, transaction, stands)? {
+        Ok(Some(stands.copy(alloc)?))
+    } else {
+        Ok(None)
+    }
+}
+
+/// Returns whether a transaction with that text is a completion of another by form. The only error is
+/// out of memory.
+fn is_by_form(
+    alloc: Global,
+    text: &str,
+    cash: Option<RowCash>,
+    transaction: &Transaction,
+    stands: &Transaction,
+) -> Result<bool, AllocError>
+    requires says { text.now ≡ canonical (AsCommand stands.now) }
+    requires sayable { IsSayable (AsCommand stands.now) }
+    ensures { IfOk result (λ is. IsTrue is ↔ IsByForm cash transaction.now stands.now) }
+{
+    canonical_texts_tell_commands_apart();
+    let count = transaction.postings.as_slice().len();
+    let postings = stands.postings.as_slice();
+    if postings.len() < count {
+        return Ok(false);
+    }
+    let (first, crumbs) = postings.split_at(count);
+    if are_parts(first, crumbs) {
+        is_formed_at_some(alloc, text, cash, transaction, crumbs)
+    } else {
+        Ok(false)
+    }
+}
+
+/// Returns whether a completion by form has that text, of a transaction with the cash of a row at any
+/// decimals, and these postings behind. The only error is out of memory.
+fn is_formed_at_some(
+    alloc: Global,
+    text: &str,
+    cash: Option<RowCash>,
+    transaction: &Transaction,
+    crumbs: &[Posting],
+) -> Result<bool, AllocError>
+    ensures { IfOk result (λ is. IsTrue is
+        ↔ IsFormedAtSome text.now cash transaction.now crumbs.now) }
+{
+    match cash {
+        None => is_formed(alloc, text, transaction, crumbs),
+        Some(cash) => is_formed_at_any(alloc, text, &cash, transaction, crumbs),
+    }
+}
+
+/// Returns the same of a transaction of a row. The only error is out of memory.
+fn is_formed_at_any(
+    alloc: Global,
+    text: &str,
+    cash: &RowCash,
+    transaction: &Transaction,
+    crumbs: &[Posting],
+) -> Result<bool, AllocError>
+    ensures { IfOk result (λ is. IsTrue is
+        ↔ IsFormedAtSome text.now (Some cash.now) transaction.now crumbs.now) }
+{
+    for count in 0..=8 {
+        let Some(decimals) = Decimals::new(count) else {
+            unreachable!();
+        };
+        if is_formed_at(alloc, text, cash, decimals, transaction, crumbs)? {
+            return Ok(true);
+        }
+    }
+    Ok(false)
+}
+
+/// Returns whether a completion by form has that text, of a transaction with the cash of a row at so
+/// many decimals, and these postings behind. The only error is out of memory.
+fn is_formed_at(
+    alloc: Global,
+    text: &str,
+    cash: &RowCash,
+    decimals: Decimals,
+    transaction: &Transaction,
+    crumbs: &[Posting],
+) -> Result<bool, AllocError>
+    ensures { IfOk result (λ is. IsTrue is
+        ↔ IsFormedAt text.now cash.now decimals transaction.now crumbs.now) }
+{
+    let Some(units) = rounded(cash.exact, decimals).to_units() else {
+        return Ok(false);
+    };
+    let _in_range = units.mantissa();
+    let postings = with_units_at(alloc, cash.place, units, transaction.postings.as_slice())?;
+    let written = with_postings(transaction, postings)?;
+    is_formed(alloc, text, &written, crumbs)
+}
+
+/// Returns postings with other units at a place, from 0. The only error is out of memory.
+fn with_units_at(
+    alloc: Global,
+    place: usize,
+    units: Units,
+    postings: &[Posting],
+) -> Result<Items<Posting>, AllocError>
+    ensures { IfOk result (λ changed. changed ≡ with_units_at place units postings.now) }
+{
+    let mut changed = Items::new(alloc);
+    for (index, posting) in postings.iter().enumerate() {
+        let posting = if index == place {
+            with_units(units, posting)?
+        } else {
+            posting.copy()?
+        };
+        changed.push(posting)?;
+    }
+    Ok(changed)
+}
+
+/// Returns a posting with other units, if it has an amount. The only error is out of memory.
+fn with_units(units: Units, posting: &Posting) -> Result<Posting, AllocError>
+    ensures { IfOk result (λ changed. changed ≡ with_units units posting.now) }
+{
+    let mut posting = posting.copy()?;
+    if let Some(amount) = &mut posting.amount {
+        amount.units = units;
+    }
+    Ok(posting)
+}
+
+/// Returns whether a completion by form has that text, of a transaction, and these postings behind. The
+/// only error is out of memory.
+fn is_formed(
+    alloc: Global,
+    text: &str,
+    written: &Transaction,
+    crumbs: &[Posting],
+) -> Result<bool, AllocError>
+    ensures { IfOk result (λ is. IsTrue is ↔ IsFormed text.now written.now crumbs.now) }
+{
+    let Some(RatedPostings { mut postings, .. }) = rate_all(alloc, written.postings.as_slice())?
+    else {
+        return Ok(false);
+    };
+    push_all(&mut postings, crumbs)?;
+    let command = Command::Transaction(with_postings(written, postings)?);
+    is_sayable(&command);
+    Ok(canonical::body(alloc, &command)?.as_str() == text)
+}
+
+/// Appends copies of postings. The only error is out of memory.
+fn push_all(postings: &mut Items<Posting>, more: &[Posting]) -> Result<(), AllocError>
+    ensures { OnOk result (postings.new ≡ postings.old ++ more.now) }
+{
+    for posting in more {
+        postings.push(posting.copy()?)?;
+    }
+    Ok(())
+}
+
+/// Returns whether postings make up for crumbs of one account, behind the first ones.
+fn are_parts(first: &[Posting], crumbs: &[Posting]) -> bool
+    ensures { result ≡ are_parts first.now crumbs.now }
+{
+    match crumbs.first() {
+        Some(one) => are_parts_of(first, &one.account, crumbs),
+        None => true,
+    }
+}
+
+/// Returns whether postings make up for crumbs of that account, behind the first ones.
+fn are_parts_of(first: &[Posting], account: &Account, crumbs: &[Posting]) -> bool
+    ensures { result ≡ list_all (is_part_posting first.now account.now) crumbs.now }
+{
+    crumbs
+        .iter()
+        .all(|posting| is_part_posting(first, account, posting))
+}
+
+/// Returns whether a posting of that account makes up for a crumb, or a part of one, behind the first
+/// ones.
+fn is_part_posting(first: &[Posting], account: &Account, posting: &Posting) -> bool
+    ensures { result ≡ is_part_posting first.now account.now posting.now }
+{
+    *account == posting.account && is_part_amount(first, &posting.amount)
+}
+
+/// Returns whether a posting with that amount does.
+fn is_part_amount(first: &[Posting], amount: &Option<Amount>) -> bool
+    ensures { result ≡ is_part_amount first.now amount.now }
+{
+    match amount {
+        Some(amount) => {
+            amount.cost.is_none()
+                && is_part(&amount.commodity, amount.units, &amount.price)
+                && may_have_products_in(first, &amount.commodity)
+        }
+        None => false,
+    }
+}
+
+/// Returns whether units of a currency at a price make up for a crumb, or a part of one.
+fn is_part(currency: &Commodity, units: Units, price: &Option<Price>) -> bool
+    ensures { result ≡ is_part currency.now units price.now }
+{
+    let size = units.mantissa().unsigned_abs();
+    match price {
+        None => (1..=100_000_000).contains(&size),
+        Some(Price::Each(price)) => {
+            *currency == price.currency
+                && (1..100_000_000).contains(&price.rate.mantissa())
+                && size == 1
+        }
+        Some(Price::Whole(_)) => false,
+    }
+}
+
+/// Returns whether a product may weigh in a currency.
+fn may_have_products_in(postings: &[Posting], currency: &Commodity) -> bool
+    ensures { result ≡ may_have_products_in postings.now currency.now }
+{
+    postings
+        .iter()
+        .any(|posting| may_weigh_in(currency, &posting.amount))
+}
+
+/// Returns whether a posting with that amount may weigh in a currency by a product.
+fn may_weigh_in(currency: &Commodity, amount: &Option<Amount>) -> bool
+    ensures { result ≡ may_weigh_in currency.now amount.now }
+{
+    match amount {
+        Some(written) => {
+            may_cost_in(currency, &written.cost) || weighs_at_price(currency, amount)
+        }
+        None => false,
+    }
+}
+
+/// Returns whether a cost may be in a currency: it names that, or none.
+fn may_cost_in(currency: &Commodity, cost: &Option<Cost>) -> bool
+    ensures { result ≡ may_cost_in currency.now cost.now }
+{
+    let named = match cost {
+        Some(Cost::Each(spec)) => &spec.currency,
+        Some(Cost::Whole(whole)) => &whole.spec().currency,
+        None => return false,
+    };
+    match named {
+        Some(named) => *currency == *named,
+        None => true,
+    }
+}

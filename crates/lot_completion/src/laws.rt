@@ -1,0 +1,71 @@
+//! Laws of the definitions, each the contract of a function that does nothing.
+ghost use Rattle.std.specs.Prelude.{◌≡◌, ◌+ℤ◌, [], ℕ, ℤ, pos, List, None, Some, length, map, take};
+ghost use Rattle.std.specs.List.{AllByRecursion};
+ghost use Rattle.lot_num.specs.Amount.{IsRate, IsUnits};
+ghost use Rattle.lot_book.specs.Balance.{weights_in};
+ghost use Rattle.lot_book.specs.Booking.{All, Booked, BooksAllUnder, TieRule};
+ghost use Rattle.lot_book.specs.Currencies.{sum_in};
+ghost use Rattle.lot_book.specs.Facts.{Facts};
+ghost use Rattle.lot_command.specs.declared.transaction.Transaction.{Transaction as TransactionOf};
+ghost use Rattle.lot_completion.specs.Completion.{IsCompletion, fill_decimals, gets};
+ghost use Rattle.lot_completion.specs.Crumbs.{IsCrumb, IsTakenUp, MakeUp, crumb_postings, rest_of, speck_of};
+ghost use Rattle.lot_rounding.specs.Nearest.{IsRounded};
+
+/// The postings that make up for a crumb weigh in its currency alone, and as much as it. Where its
+/// whole units are in range, so are the amounts of the postings.
+pub fn crumbs_are_made_up_for()
+    ensures weight { (account currency : List ℕ) (crumb : ℤ)
+        → MakeUp (currency, crumb) (crumb_postings account (currency, crumb)) }
+    ensures in_range { (crumb : ℤ) → IsUnits (speck_of crumb) × IsRate (rest_of crumb) }
+{}
+
+/// With its crumb a currency balances: nothing is left, or, where a posting is elided, the stated
+/// residual rounded, which the fill takes up.
+pub fn a_crumb_balances()
+    ensures whole { (stated residual crumb : ℤ)
+        → IsCrumb None stated residual crumb → residual +ℤ crumb ≡ pos 0 }
+    ensures filled { (decimals : ℕ) (stated residual crumb : ℤ)
+        → IsCrumb (Some decimals) stated residual crumb
+        → IsRounded decimals stated (residual +ℤ crumb) }
+{}
+
+/// At most one transaction completes another on what a book says, with an account and decimals, and its
+/// crumbs are determined.
+pub fn there_is_one_completion()
+    ensures { (ties : TieRule) (facts : Facts) (account : List ℕ) (decimals : ℕ)
+        (t : TransactionOf) (cs ds : List (List ℕ × ℤ)) (one other : TransactionOf)
+        → IsCompletion ties facts account decimals t cs one
+        → IsCompletion ties facts account decimals t ds other → (cs ≡ ds) × (one ≡ other) }
+{}
+
+/// In each currency the postings of the account add the crumb there to what the other postings leave.
+pub fn a_completion_adds_its_crumbs()
+    ensures { (ties : TieRule) (facts : Facts) (account : List ℕ) (decimals : ℕ)
+        (t : TransactionOf) (crumbs : List (List ℕ × ℤ)) (completed : TransactionOf)
+        (is : IsCompletion ties facts account decimals t crumbs completed)
+        (booked : List Booked) (currency : List ℕ)
+        → BooksAllUnder ties facts completed.day [] 1 completed.postings (All booked)
+        → sum_in (weights_in booked) currency
+        ≡ sum_in (weights_in is.booked) currency +ℤ sum_in crumbs currency }
+{}
+
+/// A completion balances: in each currency with a crumb its postings leave nothing, or, where one is
+/// elided, what a fill of so many decimals takes up.
+pub fn a_completion_balances()
+    ensures { (ties : TieRule) (facts : Facts) (account : List ℕ) (decimals : ℕ)
+        (t : TransactionOf) (crumbs : List (List ℕ × ℤ)) (completed : TransactionOf)
+        (booked : List Booked)
+        → IsCompletion ties facts account decimals t crumbs completed
+        → BooksAllUnder ties facts completed.day [] 1 completed.postings (All booked)
+        → AllByRecursion (λ (c : List ℕ × ℤ).
+        IsTakenUp (fill_decimals decimals t.postings) (sum_in (weights_in booked) c.0)) crumbs }
+{}
+
+/// The postings of a transaction stand first in its completion, with their accounts, units and
+/// commodities: what each account gets as it was written is what it gets there.
+pub fn accounts_get_what_was_written()
+    ensures { (ties : TieRule) (facts : Facts) (account : List ℕ) (decimals : ℕ)
+        (t : TransactionOf) (crumbs : List (List ℕ × ℤ)) (completed : TransactionOf)
+        → IsCompletion ties facts account decimals t crumbs completed
+        → map gets (take (length t.postings) completed.postings) ≡ map gets t.postings }
+{}

@@ -1,0 +1,23 @@
+//! Completions: which transaction stands for one whose amounts have few decimals, where an account takes
+//! the crumbs. No crate stands on it yet.
+//!
+//! - `rates`: whole costs that no rate comes to, each replaced by the nearest rate.
+//! - `crumbs`: the postings of an account that make up for crumbs.
+//! - `completion`: the transaction that completes another on what is known of a book.
+//! - `form`: whether a text is a completion of a transaction, as far as that can be seen.
+//! - `turn`: which command is tried in the place of one that was handed in.
+//! - `watch`: who is told what becomes of crumbs.
+//! - `laws`: there is at most one completion of a transaction, and it balances.
+#![tactic(auto)]
+
+mod completion;
+mod crumbs;
+mod form;
+pub mod laws;
+mod rates;
+mod turn;
+mod watch;
+
+pub use completion::{Completion, complete};
+pub use turn::{Proposal, is_for_crumbs, propose};
+pub use watch::{Note, Watch};

@@ -1,5 +1,0 @@
-use Rattle.lot_rounding.proofs.CrumbLemmas.{made_up}
-use Rattle.lot_rounding.proofs.laws.crumbs_are_made_up_for.Goals as goal
-
-pub returns-clause-weight : goal.returns-clause-weight
-returns-clause-weight c account currency crumb = made_up account currency crumb

@@ -1,5 +1,0 @@
-use Rattle.lot_rounding.proofs.OneLemmas.{completion_one}
-use Rattle.lot_rounding.proofs.laws.there_is_one_completion.Goals as goal
-
-pub returns : goal.returns
-returns c ties facts account decimals t a b first second = completion_one ties facts account decimals t a b first second
