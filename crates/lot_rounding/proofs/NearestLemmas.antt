@@ -128,6 +128,33 @@ rate_every units total t d m rate found sum size some nearest is other =
     where_rate None none equal = absurd (none (rw equal other.in_range))
     where_rate (Some x) is equal = ap Some (is.1 ∙ equal)
 
+-- ---- A rounded amount is units, and units are rounded already.
+
+-- a step is so many times the least units
+step_units : (decimals : ℕ) → decimals ≤ most_decimals → step decimals ≡ 10 ^ (8 - decimals) * one
+step_units decimals few =
+    let sum : 16 - decimals ≡ (8 - decimals) + 8 = omega arith in
+    ap (λ e. 10 ^ e) sum ∙ pow-add 10 (8 - decimals) 8
+
+regroup : (steps : ℤ) (m : ℕ) → steps *ℤ pos (m * one) ≡ (steps *ℤ pos m) *ℤ pos one
+regroup steps m = omega (arith, ints)
+
+-- an amount that is rounded to so many decimals comes to units
+pub rounded_units : (decimals : ℕ) (amount rounded : ℤ) → decimals ≤ most_decimals → IsRounded decimals amount rounded
+    → (units : ℤ) × (rounded ≡ units *ℤ pos one)
+rounded_units decimals amount rounded few is = (
+  is.steps *ℤ pos (10 ^ (8 - decimals)),
+  is.is_steps ∙ ap (λ s. is.steps *ℤ pos s) (step_units decimals few) ∙ regroup is.steps (10 ^ (8 - decimals)),
+)
+
+-- units have no more than eight decimals
+pub units_are_rounded : (units : ℤ) → IsRounded most_decimals (units *ℤ pos one) (units *ℤ pos one)
+units_are_rounded units = record {
+  steps = units;
+  is_steps = refl;
+  nearest = record { near = omega (arith, ints); even = λ half. absurd (omega (arith, ints, half)) };
+}
+
 -- ---- One rounded amount, and one nearest rate.
 
 pub one_rounded : (decimals : ℕ) (amount a b : ℤ) → IsRounded decimals amount a → IsRounded decimals amount b → a ≡ b

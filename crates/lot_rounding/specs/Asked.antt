@@ -1,12 +1,27 @@
--- What a row's command says at other decimals: its cash is rounded to those.
+-- Commands as they are handed in, and what a row's command says at other decimals: its cash is rounded to those.
 use Rattle.std.specs.Prelude.{◌≡◌, ℕ, suc, ◌≤◌, List, map, take, drop, ◌++◌, Option, None, Some, ℤ, pos, ◌*ℤ◌}
 use Rattle.std.specs.Option.{option_map}
 use Rattle.lot_num.specs.Amount.{IsUnits, one}
+use Rattle.lot_command.specs.declared.command.Command.{Command}
+use Rattle.lot_command.specs.declared.key.Key.{Key}
 use Rattle.lot_command.specs.declared.transaction.Amount.{Amount}
 use Rattle.lot_command.specs.declared.transaction.Posting.{Posting}
 use Rattle.lot_command.specs.declared.transaction.Transaction.{Transaction as TransactionOf}
 use Rattle.lot_rounding.specs.Nearest.{IsRounded, most_decimals}
+use Rattle.lot_rounding.specs.declared.asked.Asked.{Asked}
 use Rattle.lot_rounding.specs.declared.asked.RowCash.{RowCash}
+
+-- ---- Commands as they are handed in.
+
+-- a command of which nothing was rounded
+abbrev pub plain : Command → Asked
+plain command = record { command = command; cash = None }
+
+-- such commands under their keys
+abbrev pub all_plain : List (Key × Command) → List (Key × Asked)
+all_plain = map (λ (keyed : Key × Command). (keyed.0, plain keyed.1))
+
+-- ---- The cash of a row.
 
 -- a posting with other units, if it has an amount
 abbrev pub with_units : ℤ → Posting → Posting

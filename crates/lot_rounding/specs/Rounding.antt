@@ -1,5 +1,5 @@
 -- How large a crumb may be.
-use Rattle.std.specs.Prelude.{ℕ, ◌*◌, ◌≤◌, ℤ, pos, ◌≤ℤ◌, unsigned_abs}
+use Rattle.std.specs.Prelude.{◌*◌, ◌≤◌, ℤ, pos, ◌≤ℤ◌, unsigned_abs}
 use Rattle.lot_num.specs.Amount.{one}
 
 -- the bound where none is given, at scale 8

@@ -1,5 +1,6 @@
 //! A command before its turn comes.
-ghost use Rattle.std.specs.Prelude.{◌≡◌, None};
+ghost use Rattle.std.specs.Prelude.{◌≡◌};
+ghost use Rattle.lot_rounding.specs.Asked.{plain};
 
 use lot_command::Command;
 use lot_num::Wide;
@@ -24,7 +25,7 @@ pub struct RowCash {
 impl Asked {
     /// Returns a command of which nothing was rounded.
     pub fn plain(command: Command) -> Asked
-        ensures { (result.command ≡ command) × (result.cash ≡ None) }
+        ensures { result ≡ plain command }
     {
         Asked {
             command,
