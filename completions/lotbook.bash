@@ -14,11 +14,12 @@ _lotbook_options() {
         init) echo --book --dry-run --quiet --help ;;
         migrate) echo --book --dry-run --quiet --help ;;
         post)
-            echo --book --batch --row-of --ref --from --dry-run --all-or-none --explain-all --quiet --help
+            echo --book --batch --row-of --ref --from --rounding --within --decimals --dry-run --all-or-none
+            echo --explain-all --quiet --help
             ;;
         import)
-            echo --book --batch --invest --cash --fees --gains --from --dry-run --all-or-none --explain-all --quiet
-            echo --help
+            echo --book --batch --invest --cash --fees --gains --from --rounding --within --decimals --dry-run
+            echo --all-or-none --explain-all --quiet --help
             ;;
         holdings) echo --book --day --format --quiet --help ;;
         gains) echo --book --first --last --format --quiet --help ;;
@@ -26,7 +27,7 @@ _lotbook_options() {
         verify) echo --book --quiet --help ;;
         explain) echo --help ;;
         help) ;;
-        *) echo --explain-all --quiet --help --version ;;
+        *) echo --rounding --within --decimals --explain-all --quiet --help --version ;;
     esac
 }
 
@@ -60,7 +61,7 @@ _lotbook() {
             _lotbook_offer -W "text csv"
             return
             ;;
-        --batch | --cash | --day | --fees | --first | --from | --gains | --invest | --last | --ref | --row-of) return ;;
+        --batch | --cash | --day | --decimals | --fees | --first | --from | --gains | --invest | --last | --ref | --rounding | --row-of | --within) return ;;
     esac
     if [[ $current == -* ]]; then
         _lotbook_offer -W "$(_lotbook_options "$word")"

@@ -72,7 +72,7 @@ cases <<'CASES'
 2024-01-02 * "Buy"
   Assets:Broker 10 HOOL {502.12 USD}
   Assets:Cash -5031.19830 USD
-lotbook: line 1, command 1: L14 NotBalanced: the postings don't balance: they leave -9.9983 USD: 2024-01-02 * "Buy"
+lotbook: line 1, command 1: L14 NotBalanced: the postings don't balance: they leave -9.9983 USD; it would balance with `ACCOUNT 9.9983 USD`: 2024-01-02 * "Buy"
 == 1 post what postings leave, by price and by whole cost
 2024-01-02 * "Exchange"
   Assets:Cash 100 EUR @ 1.1 USD
@@ -86,9 +86,9 @@ lotbook: line 1, command 1: L14 NotBalanced: the postings don't balance: they le
 2024-01-02 * "Two currencies"
   Assets:Cash 1 EUR
   Assets:Cash -1 USD
-lotbook: line 1, command 1: L14 NotBalanced: the postings don't balance: they leave 1.00 USD: 2024-01-02 * "Exchange"
-lotbook: line 4, command 2: L14 NotBalanced: the postings don't balance: they leave -0.50 USD: 2024-01-02 * "Exchange"
-lotbook: line 7, command 3: L14 NotBalanced: the postings don't balance: they leave -0.01 USD: 2024-01-02 * "Buy"
+lotbook: line 1, command 1: L14 NotBalanced: the postings don't balance: they leave 1.00 USD; it would balance with `ACCOUNT -1 USD`: --rounding ACCOUNT --within 1 adds that: 2024-01-02 * "Exchange"
+lotbook: line 4, command 2: L14 NotBalanced: the postings don't balance: they leave -0.50 USD; it would balance with `ACCOUNT 0.5 USD`: --rounding ACCOUNT --within 0.5 adds that: 2024-01-02 * "Exchange"
+lotbook: line 7, command 3: L14 NotBalanced: the postings don't balance: they leave -0.01 USD; it would balance with `ACCOUNT 0.01 USD`: --rounding ACCOUNT --within 0.01 adds that: 2024-01-02 * "Buy"
 lotbook: line 10, command 4: L14 NotBalanced: the postings don't balance: they leave 1.00 EUR: 2024-01-02 * "Two currencies"
 == 1 post what lots weigh isn't in the text
 2024-01-02 * "Buy"
@@ -97,7 +97,7 @@ lotbook: line 10, command 4: L14 NotBalanced: the postings don't balance: they l
 2024-01-03 * "Sell"
   Assets:Broker -10 HOOL {} @ 510 USD
   Assets:Cash 5100 USD
-lotbook: line 4, command 2: L14 NotBalanced: the postings don't balance: 2024-01-03 * "Sell"
+lotbook: line 4, command 2: L14 NotBalanced: the postings don't balance; it would balance with `ACCOUNT -78.8 USD`: 2024-01-03 * "Sell"
 == 1 post digits that don't fit
 2024-01-02 * "Buy"
   Assets:Broker 0.3170215 HOOL {78.8594 USD}
@@ -105,8 +105,8 @@ lotbook: line 4, command 2: L14 NotBalanced: the postings don't balance: 2024-01
 2024-01-02 * "Buy"
   Assets:Broker 3 HOOL {{1000 USD}}
   Assets:Cash
-lotbook: line 1, command 1: L12 InexactFill: what the others leave has more than eight decimals, or is too large: they leave 25.0001252771 USD, which has 10 decimals: 2024-01-02 * "Buy"
-lotbook: line 5, command 2: B5 InexactCost: the whole cost can't be divided by the units: 1000 / 3 = 333.33333333..: Assets:Broker 3 HOOL {{1000 USD}}
+lotbook: line 1, command 1: L12 InexactFill: what the others leave has more than eight decimals, or is too large: they leave 25.0001252771 USD, which has 10 decimals; it would balance with `ACCOUNT 0.00000001 USD @ 0.29 USD`: --rounding ACCOUNT adds that: 2024-01-02 * "Buy"
+lotbook: line 5, command 2: B5 InexactCost: the whole cost can't be divided by the units: 1000 / 3 = 333.33333333..; it would balance with `Assets:Broker 3 HOOL {333.33333333 USD}` in its place, `ACCOUNT 0.00000001 USD`: --rounding ACCOUNT adds that: Assets:Broker 3 HOOL {{1000 USD}}
 == 1 post whole costs that are too large for a unit
 2024-01-02 * "Buy"
   Assets:Broker 7 HOOL {{9999999999.99999999 USD}}
@@ -385,7 +385,7 @@ lotbook: row 2 (D-2): C2 BadRow: a field is outside the rule of its column: lot 
 ref,date,action,symbol,units,price,currency,fee
 D-1,2024-01-15,BUY,HOOL,10,102.50,USD,4.95
 D-2,2024-01-15,BUY,HOOL,0.3170215,78.8594,USD,1
-lotbook: row 2 (D-2): C4 InexactAmount: the cash of the row has more than eight decimals, or is too large: 26.0001252771 USD, which has 10 decimals: D-2,2024-01-15,BUY,HOOL,0.3170215,78.8594,USD,1
+lotbook: row 2 (D-2): C4 InexactAmount: the cash of the row has more than eight decimals, or is too large: 26.0001252771 USD, which has 10 decimals; --rounding ACCOUNT rounds it: D-2,2024-01-15,BUY,HOOL,0.3170215,78.8594,USD,1
 == 3 rows another header
 ref,date,action,symbol,units,price,currency,Fee
 lotbook: C1 BadHeader: the first record isn't the header of a broker file: the file begins with `ref,date,action,symbol,units,price,currency,Fee`
@@ -606,6 +606,26 @@ echo "lotbook: $fact" >"$scratch/told"
 notes "facts of a dry run" 1 "${post[@]}" --dry-run
 echo "lotbook: $book: nothing is kept, since not all was accepted" >>"$scratch/told"
 notes "facts of a call that keeps all or nothing" 1 "${post[@]}" --all-or-none
+
+# What an account took, or why it takes nothing. An entry that it completed is one of the same text where the account is named.
+rounding=(--rounding Income:Gains)
+printf '2024-01-02 * "Buy"\n  Assets:Broker 0.3333 HOOL {101.12345 USD}\n  Assets:Cash -33.70 USD\n' >"$scratch/in"
+printf 'lotbook: %s\n' "command 1: Income:Gains takes -0.004445885 USD" "Income:Gains takes -0.004445885 USD, of 1 command" >"$scratch/told"
+notes "a crumb that an account takes" 0 "${post[@]}" "${rounding[@]}"
+notes "the same of a call that keeps all or nothing" 0 "${post[@]}" "${rounding[@]}" --all-or-none
+left="line 1, command 1: L14 NotBalanced: the postings don't balance: they leave 0.004445885 USD, which has 9 decimals"
+echo "lotbook: $left; its crumb is -0.004445885 USD, 0.003445885 more than --within allows: 2024-01-02 * \"Buy\"" >"$scratch/told"
+notes "a crumb that is too large" 1 "${post[@]}" "${rounding[@]}" --within 0.001
+echo "lotbook: $left; with its crumbs it is refused: L3 UnknownAccount Equity:Other: 2024-01-02 * \"Buy\"" >"$scratch/told"
+notes "an account for crumbs that isn't open" 1 "${post[@]}" --rounding Equity:Other
+opened
+"$program" "${post[@]}" "${rounding[@]}" <"$scratch/in" >/dev/null 2>&1
+run "${post[@]}" <"$scratch/in"
+echo "lotbook: line 1, command 1: $key the line \`Income:Gains -0.00444588 USD\`; if --rounding completed it, it repeats with that option alone: 2024-01-02 * \"Buy\"" >"$scratch/told"
+if ((status == 1)) && cmp -s "$scratch/told" "$scratch/err"; then pass "an entry that was completed"; else fail "an entry that was completed" "status $status, and $(head -n 1 "$scratch/err")"; fi
+printf 'ref,date,action,symbol,units,price,currency,fee\nD-1,2024-01-15,BUY,HOOL,0.3333,101.12345,USD,\nD-2,2024-01-15,BUY,HOOL,2,10.002,USD,\n' >"$scratch/in"
+printf 'lotbook: %s\n' "row 1: Income:Gains takes -0.004445885 USD" "row 2: Income:Gains takes -0.004 USD" "Income:Gains takes -0.008445885 USD, of 2 rows" >"$scratch/told"
+notes "crumbs of rows" 0 "${import[@]}" "${rounding[@]}" --decimals 2
 
 # Standard error that can't be written changes nothing.
 printf '2020-01-01 open Assets:Cash\n' >"$scratch/in"

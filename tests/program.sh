@@ -102,6 +102,15 @@ unusable "fault U2 BadValue --from" post --book f --row-of a --ref r --from 2
 unusable "lotbook: --batch and --row-of can't stand together" post --book f --batch a --row-of b
 unusable "lotbook: --ref stands beside --row-of alone" post --book f --batch a --ref r
 unusable "lotbook: --ref wants the ref of a row" post --book f --row-of a
+unusable "lotbook: --within stands beside --rounding alone" post --book f --batch a --within 0.01
+unusable "lotbook: --decimals stands beside --rounding alone" post --book f --batch a --decimals 2
+unusable "lotbook: --within stands beside --rounding alone" --within 0.01 --decimals 2
+unusable "\"1.01\" isn't an amount from 0 to 1" --rounding Equity:Rounding --within 1.01
+unusable "\"Rounding\" isn't an account, as in --rounding" --rounding=Rounding
+unusable "'9' for '--decimals <N>'" --rounding Equity:Rounding --decimals 9
+unusable "--decimals" --decimals 9
+unusable "--rounding" --rounding Equity:Rounding --rounding Equity:Other
+unusable "--rounding" holdings --book f --rounding Equity:Rounding
 unusable "--quiet" post --book f --batch a --quiet --quiet
 unusable "--all-or-none" init --book f --all-or-none
 unusable "--dry-run" holdings --book f --dry-run
@@ -147,13 +156,37 @@ unusable "Example: lotbook post" --quiet post --book f
 unusable "'0' for '--from <N>'" post --book f --from 0
 unusable "Usage: lotbook post --book <FILE>" post --ref r
 
+# Of several bad values the first option in the order of the help decides, of a post `--from` comes last.
+crumbs=(--rounding Rounding --within 2)
+unusable "fault U2 BadValue --rounding" "${crumbs[@]}"
+unusable "fault U2 BadValue --within" --rounding Equity:Rounding "${crumbs[@]:2}"
+unusable "fault U2 BadValue --within" "${crumbs[@]:2}" --decimals 2
+unusable "fault U2 BadValue --batch" post --book f --batch / "${crumbs[@]}"
+unusable "fault U2 BadValue --ref" post --book f --row-of a "${crumbs[@]}"
+unusable "fault U2 BadValue --rounding" post --book f --row-of a --ref r --from 2 "${crumbs[@]}"
+unusable "fault U2 BadValue --from" post --book f --row-of a --ref r --from 2 --rounding Equity:Rounding
+
+# The options of a rounding account stand behind a subcommand, or in a call without one: `clap` and that go before all values.
+for word in post holdings "post --book f" "explain B2" "post --book f --batch /"; do
+    read -ra words <<<"$word"
+    case $word in
+        post | holdings) unusable "Example: lotbook $word" --rounding Rounding "${words[@]}" ;;
+        *) unusable "error: the argument '--rounding' cannot be used before a subcommand" --rounding Rounding "${words[@]}" ;;
+    esac
+done
+unusable "tip: it stands behind 'post' or 'import'" --rounding Equity:Rounding post --book f --batch a
+unusable "error: the argument '--within' cannot be used before a subcommand" --within 0 post --book f --batch a --rounding Equity:Rounding
+unusable "error: the argument '--decimals' cannot be used before a subcommand" --decimals 2 --quiet init --book f
+
 # Of the options of an import each has to be there, and the first one that is bad is named.
 good=(--batch a --invest Assets:A --cash Assets:B --fees Expenses:F --gains Income:G)
 bad=(--batch / --invest Assets --cash assets:B --fees '' --gains Income:)
 for ((at = 0; at < 10; at += 2)); do
     unusable "${good[at]}" import --book f "${good[@]:0:at}" "${good[@]:at+2}"
-    unusable "fault U2 BadValue ${good[at]}" import --book f "${bad[@]:at}" "${good[@]:0:at}"
+    unusable "fault U2 BadValue ${good[at]}" import --book f "${bad[@]:at}" "${good[@]:0:at}" "${crumbs[@]}"
 done
+unusable "fault U2 BadValue --rounding" import --book f "${good[@]}" "${crumbs[@]}"
+unusable "fault U2 BadValue --decimals" import --book f "${good[@]}" --decimals 2
 unusable "--from" import --book f "${bad[@]}" --from 0
 unusable "--row-of" import --book f --row-of a "${good[@]}"
 
@@ -185,6 +218,12 @@ helps "--row-of broker --ref A17" post -h
 for word in post import init migrate; do helps "--dry-run" "$word" -h; done
 for word in post import; do helps "--all-or-none" "$word" -h && helps "--explain-all" "$word" -h; done
 for word in init post import holdings gains journal migrate verify; do helps "--quiet" "$word" -h; done
+for word in post import; do
+    helps "--rounding Equity:Rounding" "$word" -h
+    helps "--within 0.01" "$word" -h
+    helps "--decimals 2" "$word" -h
+done
+for option in "--rounding <ACCOUNT>" "--within <AMOUNT>" "--decimals <N>"; do helps "$option" -h; done
 helps "--quiet" -h
 helps "--explain-all" -h
 helps "--from 120" post -h
@@ -200,11 +239,11 @@ for word in holdings gains; do helps "--format csv" "$word" -h; done
 helps "--first 2024-01-01" gains -h
 helps "--last 2024-12-31" gains -h
 
-# The help of the program has a line for each subcommand, and leaves a line of a screen of 24 lines and 80 columns.
+# The help of the program has a line for each subcommand and for each option, none wider than a screen of 80 columns.
 for word in help --help -h; do
     run "$word" </dev/null
     lines=$(wc -l <"$scratch/out") columns=$(wc -L <"$scratch/out")
-    if ((lines < 24 && columns <= 80)); then pass "the size of $word"; else fail "the size of $word" "$lines lines, $columns columns"; fi
+    if ((lines == 26 && columns <= 80)); then pass "the size of $word"; else fail "the size of $word" "$lines lines, $columns columns"; fi
     [[ $word == help ]] && cp "$scratch/out" "$scratch/help"
     cmp -s "$scratch/help" "$scratch/out" && pass "$word is the help" || fail "$word is the help" "other than help"
 done

@@ -316,19 +316,20 @@ answers "all or none of rows of which one isn't completed" 1 $'1 refused L14 Not
 # pastes NAME TEXT PATTERN: refused without the options; with what its line on standard error says it is accepted without them.
 pastes() {
     local text
-    one "$1" "$2"
-    if ! grep -q "^5 refused $3" "$scratch/out"; then
-        fail "$1" "$(grep '^5' "$scratch/out")"
+    fresh pasted "$scratch/accounts.ledger"
+    printf '%b' "$2" | run post --book "$book" --batch p
+    if ! grep -q "^1 refused $3" "$scratch/out"; then
+        fail "$1" "$(<"$scratch/out")"
         return
     fi
     text=$(printf '%b' "$2" | look pasted "$scratch/err" "$3") || { fail "$1" "no postings: $(head -c 500 "$scratch/err")" && return; }
-    one "$1" "$text"
-    if grep -qx "5 accepted" "$scratch/out"; then pass "$1"; else fail "$1" "$(grep '^5' "$scratch/out"): $text"; fi
+    printf '%s\n' "$text" | run post --book "$book" --batch p
+    if grep -qx "1 accepted" "$scratch/out"; then pass "$1"; else fail "$1" "$(<"$scratch/out"): $text"; fi
 }
 pastes "L14 with its postings" '2024-01-02 *\n  Assets:Depot 0.3333 FUND {101.12345 USD}\n  Assets:Cash -33.70 USD\n' L14
 pastes "L12 with its postings" '2024-01-02 *\n  Assets:Depot 0.3333 FUND {101.12345 USD}\n  Assets:Cash\n' L12
 pastes "B5 with its postings" '2024-01-02 *\n  Assets:Depot 3 FUND {{100.99 EUR}}\n  Assets:Cash\n' B5
-pastes "B5 with cash" '2024-01-02 *\n  Assets:Depot -3 FUND {{100.99 EUR, 2024-01-01, "a"}}\n  Assets:Depot 7 FUND {{10 USD}}\n  Assets:Cash 100.99 EUR\n  Assets:Cash -10 USD\n' B5
+pastes "B5 with cash" '2024-01-02 *\n  Assets:Depot 3 FUND {{100.99 EUR, 2024-01-01, "a"}}\n  Assets:Depot 7 FUND {{10 USD}}\n  Assets:Cash -100.99 EUR\n  Assets:Cash -10 USD\n' B5
 # Of a sale the residual goes by the lots that are held.
 sold='2024-01-02 *\n  Assets:Depot 3.333333 FUND {33.66333333 EUR}\n  Assets:Cash\n'
 fresh sale "$scratch/accounts.ledger"

@@ -88,7 +88,7 @@ class Reader:
 def option(said):
     form, *value = said["form"]
     kind = form.rpartition("::")[2]
-    value = value[0] if value else "N" if kind == "Start" else ""
+    value = value[0] if value else "N" if kind in ("Start", "Decimals") else ""
     return kind, Option(said["name"], value, said["help"])
 
 
@@ -341,7 +341,7 @@ def manual(whole, version, words):
     yield ".SH NAME"
     yield "lotbook \\- a lot book for investments"
     yield ".SH SYNOPSIS"
-    yield "\\fBlotbook\\fR [\\-\\-quiet] [\\-\\-explain\\-all] < \\fILEDGER\\fR"
+    yield "\\fBlotbook\\fR " + roff("[--rounding ACCOUNT [--within AMOUNT] [--decimals N]] [--quiet] [--explain-all] < ") + "\\fILEDGER\\fR"
     for it in words:
         yield ".br"
         yield "\\fBlotbook\\fR " + roff(it.usage)

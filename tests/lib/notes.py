@@ -155,6 +155,16 @@ def are_first_crumbs(lines, whole):
     return lines == whole[: len(lines)]
 
 
+def are_first_but_for_crumbs(errors, ample):
+    """Whether these messages are the first of those with ample memory, but that some of what was found of crumbs may be left out."""
+    lines, whole = (
+        [OF_ITS_CRUMBS.sub("", line.removeprefix(FIRST.decode()), count=1) for line in text.decode().split("\n")[:-1]] for text in (errors, ample)
+    )
+    (lines, some), (whole, all_of_them) = without_crumbs(lines), without_crumbs(whole)
+    left = iter(all_of_them)
+    return lines == whole[: len(lines)] and all(line in left for line in some if not SUM_OF_CRUMBS.fullmatch(line))
+
+
 def missing(noted, said):
     """What is wrong with the messages, without warnings, beside this output, or nothing."""
     last = said[-1] if said else ""

@@ -603,8 +603,8 @@ def is_of_products_by_form(command, currency):
 
 
 def crumbs_by_form(postings):
-    """The crumbs, at scale 16, of which these are the postings of one account, each with its currency. None where they aren't such."""
-    found, left = [], list(postings)
+    """The crumbs, at scale 16, of which these are the postings of one account, by currency. None where they aren't such."""
+    found, left = {}, list(postings)
     while left:
         account, amount = left[0]
         if account != postings[0].account or amount is None or amount.cost is not None or amount.units == 0:
@@ -620,9 +620,9 @@ def crumbs_by_form(postings):
                 return None
             crumb += sign * speck.price.amount
             left.pop(0)
-        if crumb == 0:
+        if crumb == 0 or amount.commodity in found:
             return None
-        found.append((amount.commodity, crumb))
+        found[amount.commodity] = crumb
     return found
 
 
@@ -637,7 +637,7 @@ def is_completion_by_form(asked, stored):
             continue
         crumbs = crumbs_by_form(stored.postings[count:])
         if crumbs is not None and all(
-            abs(crumb) <= MOST_OF_A_REPEAT and is_of_products_by_form(written, currency) for currency, crumb in crumbs
+            abs(crumb) <= MOST_OF_A_REPEAT and is_of_products_by_form(written, currency) for currency, crumb in crumbs.items()
         ):
             return True
     return False

@@ -176,14 +176,6 @@ def kinds_sent_again(how, commands, before, replies):
             yield f"sent again {how}, {reply}" + (", of a completion" if command == first != stood else "")
 
 
-def is_doubtful(command, stored):
-    """Whether postings for crumbs of one currency come twice: docs/RULES.md doesn't say whether that is a completion by form."""
-    if stored is None:
-        return False
-    crumbs = model.crumbs_by_form(stored.postings[len(command.postings) :]) or []
-    return len({currency for currency, _ in crumbs}) < len(crumbs)
-
-
 # Comparing.
 
 
@@ -244,13 +236,11 @@ def compare(program, scratch, seed):
     pairs = [drawing.near() for _ in range(4)]
     sent = [longer for _, longer in pairs]
     cases.call([*to_near, *options], lines_of(near.send(sent, rounding)), spelled(sent))
-    sent = [longer if is_doubtful(short, near.stored(number)) else short for number, (short, longer) in enumerate(pairs, 1)]
-    stands = [near.stored(number) is not None for number in range(1, len(pairs) + 1)]
+    sent = [short for short, _ in pairs]
     replies = near.send(sent, rounding)
-    seen.update(f"near a completion, {reply}" for (short, _), one, (reply, _), is_there in zip(pairs, sent, replies, stands) if one == short and is_there)
+    seen.update(f"near a completion, {reply}" for reply, stood in replies if stood is not None)
     cases.call([*to_near, *options], lines_of(replies), spelled(sent))
     again = [drawing.sent_again(command, ledger.stored(number)) for number, command in enumerate(commands, 1)]
-    again = [commands[at] if is_doubtful_at(one, ledger, at) else one for at, one in enumerate(again)]
     replies = ledger.send(again, rounding)
     seen.update(kinds_sent_again("with the options", again, commands, replies))
     cases.call([*to_ledger, *options], lines_of(replies), spelled(again))
@@ -279,11 +269,6 @@ def compare(program, scratch, seed):
             if os.path.exists(name + end):
                 os.remove(name + end)
     return cases.found and f"{' '.join(options)}\n{cases.found}", seen
-
-
-def is_doubtful_at(command, batch, at):
-    stored = batch.stored(at + 1)
-    return isinstance(command, model.Transaction) and isinstance(stored, model.Transaction) and is_doubtful(command, stored)
 
 
 def compare_seeds(program, scratch, seeds):

@@ -1,10 +1,18 @@
 -- What the values of options say, and which of them is outside its rule.
-use Rattle.std.proofs.Common.{◌≡◌, ℕ, zero, suc, ◌<◌, ◌≤◌, Bool, true, false, List, [], ◌∷◌, length, get_or, drop, Option, Some, None, refl, arith}
-use Rattle.std.specs.Prelude.{SomeIff, unwrap_or}
+use Rattle.std.proofs.Common.{◌≡◌, ℕ, zero, suc, ◌<◌, ◌≤◌, Bool, true, false, List, [], ◌∷◌, ◌++◌, ◌∙◌, ap, sym, length, get_or, drop, Option, Some, None, Err, Ok, ℤ, pos, refl, arith}
+use Rattle.std.specs.Prelude.{Result, SomeIff, nat_le, option_and_then, unwrap_or}
+use Rattle.std.specs.Result.{result_ok}
 use Rattle.std.proofs.lemmas.Bool.{le-leb, leb-true}
+use Rattle.std.proofs.lemmas.Int.{ints}
 use Rattle.clap.specs.Words.{Row}
 use Rattle.clap.proofs.WalkLemmas.{both}
+use Rattle.lot_num.specs.Amount.{one, units_limit}
+use Rattle.lot_num.specs.NumberText.{as_units, read_below, total_of, with_no_sign}
+use Rattle.lot_num.specs.declared.number_text.NumberFault.{NumberFault}
+use Rattle.lot_rounding.specs.Nearest.{most_decimals}
+use Rattle.lot_rounding.specs.Rounding.{IsBound}
 use Rattle.lot_args.specs.Options.{first_bad, is_good}
+use Rattle.lot_args.specs.Rounding.{as_bound, decimals_at, named_bound}
 use Rattle.lot_args.specs.Start.{IsStart, greatest_start, is_start, start_at}
 use Rattle.lot_args.specs.declared.fault.BadOption.{BadOption}
 
@@ -20,7 +28,50 @@ start_from None number first h one = go (is_start number) refl
         let tests = both _ _ e in
         absurd (h (leb-true 1 number tests.0, leb-true number greatest_start tests.1))
 
+-- ---- a rounding account
+
+pub decimals_from : (o : Option ℕ) (number all : ℕ) → SomeIff o (number ≤ most_decimals) number → all ≡ most_decimals → unwrap_or o all ≡ decimals_at number
+decimals_from (Some decimals) number all h is = rw (le-leb number most_decimals h.0) h.1
+decimals_from None number all h is = go (nat_le number most_decimals) refl
+  where
+    go : (b : Bool) → nat_le number most_decimals ≡ b → all ≡ decimals_at number
+    go false e = rw e is
+    go true e = absurd (h (leb-true number most_decimals e))
+
+-- a total that is a bound where it is small enough
+as_bound_of : (o : Option ℤ) (n : ℕ) → SomeIff o (IsBound (pos n)) (pos n) → o ≡ as_bound (pos n)
+as_bound_of (Some bound) n h =
+    let most : n ≤ one = omega (arith, ints, h.0.most) in
+    rw (le-leb n one most) (ap Some h.1)
+as_bound_of None n h = go (nat_le n one) refl
+  where
+    go : (b : Bool) → nat_le n one ≡ b → None ≡ as_bound (pos n)
+    go false e = rw e refl
+    go true e = absurd (h (record { least = omega (arith, ints); most = omega (arith, ints, leb-true n one e) }))
+
+bound_from : (o : Option ℤ) (total : ℤ) (r : Result ℕ NumberFault) → result_ok (as_units r) ≡ Some total → SomeIff o (IsBound total) total
+    → o ≡ as_bound total
+bound_from o total (Ok n) e h = let same : pos n ≡ total = cc in rw (← same) (as_bound_of o n (rw (← same) at h))
+bound_from o total (Err fault) e h = cc
+
+-- a total that a text says is the bound that it names, or no bound
+pub bound_named : (o : Option ℤ) (text : List ℕ) (total : ℤ) → result_ok (total_of text) ≡ Some total → SomeIff o (IsBound total) total
+    → o ≡ named_bound text
+bound_named o text total e h = bound_from o total (with_no_sign (read_below units_limit text)) e h ∙ sym (ap (option_and_then as_bound) e)
+
 -- ---- options
+
+-- where none of two lists is bad, none of either is
+pub none_of_both : (rows : List Row) (options others : List BadOption) → first_bad rows (options ++ others) ≡ None
+    → (first_bad rows options ≡ None) × (first_bad rows others ≡ None)
+none_of_both rows [] others e = (refl, e)
+none_of_both rows (option ∷ options) others e = go (is_good rows option) refl (none_of_both rows options others)
+  where
+    go : (b : Bool) → is_good rows option ≡ b
+        → (first_bad rows (options ++ others) ≡ None → (first_bad rows options ≡ None) × (first_bad rows others ≡ None))
+        → (first_bad rows (option ∷ options) ≡ None) × (first_bad rows others ≡ None)
+    go true is more = rw is (more (rw is at e))
+    go false is more = let bad : Some option ≡ None = rw is at e in cc
 
 -- the option at a place, and those from there on
 pub bad_here : (rows : List Row) (options : List BadOption) (i : ℕ) (none : BadOption) → i < length options

@@ -1,5 +1,5 @@
 -- What is read of the values that `clap` matched, and what it says of the words of the program.
-use Rattle.std.proofs.Common.{◌≡◌, ◌≢◌, ◌∙◌, ap, subst, sym, inl, inr, lt-ltb, ltb-true, refl, ℕ, Bool, true, false, List, [], ◌∷◌, Option, Some, None, Err, Ok, length, option_map}
+use Rattle.std.proofs.Common.{◌≡◌, ◌≢◌, ◌∙◌, subst, sym, inl, inr, lt-ltb, ltb-true, refl, ℕ, Bool, true, false, List, [], ◌∷◌, Option, Some, None, Err, Ok, length, option_map}
 use Rattle.std.specs.Prelude.{Result, unwrap_or, ◌^◌, nat_lt}
 use Rattle.std.specs.Char.{digit_value}
 use Rattle.std.specs.List.{list_all}
@@ -17,11 +17,11 @@ use Rattle.clap.specs.declared.parser.matches.ArgMatches.{ArgMatches}
 use Rattle.clap.proofs.WalkLemmas.{both}
 use Rattle.lot_args.specs.Faults.{Refuses}
 use Rattle.lot_args.specs.Steps.{JudgesOptions}
-use Rattle.lot_args.specs.From.{is_number, number_or_one}
-use Rattle.lot_args.specs.Words.{Ask, ChecksWith, WordRequests, bad_of, lacks_batch_in}
+use Rattle.lot_args.specs.Number.{is_number, number_or}
+use Rattle.lot_args.specs.Words.{Ask, bad_of, lacks_batch_in, misplaced_in}
 use Rattle.lot_args.specs.declared.fault.BadOption.{BadOption}
 use Rattle.lot_args.specs.declared.fault.WordsFault.{WordsFault}
-use Rattle.lot_args.specs.declared.fault.WordsFault.TheVariants.{BadValue, Memory, MissingBatch, Usage}
+use Rattle.lot_args.specs.declared.fault.WordsFault.TheVariants.{BadValue, Memory, Misplaced, MissingBatch, Usage}
 use Rattle.lot_args.specs.declared.request.Request.{Request}
 
 -- a text that is there, or else the empty one
@@ -40,31 +40,32 @@ of_digits (d ∷ ds) e =
     let parts = both _ _ e in
     (ltb-true _ _ parts.0, of_digits ds parts.1)
 
--- the number that `u32` reads, or else 1
-number_read : {E : Type 0} (text : Text) (r : Result ℕ E) → ParsesUnsigned 32 10 text r → result_unwrap_or r 1 ≡ number_or_one text
-number_read text (Ok n) h =
+-- the number that `u32` reads, or else the other one
+number_read : {E : Type 0} (other : ℕ) (text : Text) (r : Result ℕ E) → ParsesUnsigned 32 10 text r
+    → result_unwrap_or r other ≡ number_or other text
+number_read other text (Ok n) h =
     let ds = without_leading_plus text in
     rw (lt-ltb 0 (length ds) h.0.0.0, digits_of ds h.0.0.1, lt-ltb (digits_value 10 ds) (2 ^ 32) h.0.1) h.1
-number_read text (Err e) h = go (is_number (without_leading_plus text)) refl
+number_read other text (Err e) h = go (is_number (without_leading_plus text)) refl
   where
-    go : (b : Bool) → is_number (without_leading_plus text) ≡ b → 1 ≡ number_or_one text
+    go : (b : Bool) → is_number (without_leading_plus text) ≡ b → other ≡ number_or other text
     go false t = rw t refl
     go true t =
         let outer = both _ _ t in
         let inner = both _ _ outer.0 in
         absurd (h ((ltb-true _ _ inner.0, of_digits (without_leading_plus text) inner.1), ltb-true _ _ outer.1))
 
-one_read : {E : Type 0} (G : List ℕ → Result ℕ E → Type 0) (text : Text) (o : Option ℕ)
-    → ((x : Result ℕ E) → G text x → ParsesUnsigned 32 10 text x) → ReadsOne G text o → unwrap_or o 1 ≡ number_or_one text
-one_read {E} G text (Some n) only h = number_read {E = E} text (Ok n) (only (Ok n) h)
-one_read {E} G text None only h = number_read {E = E} text (Err h.0) (only (Err h.0) h.1)
+one_read : {E : Type 0} (other : ℕ) (G : List ℕ → Result ℕ E → Type 0) (text : Text) (o : Option ℕ)
+    → ((x : Result ℕ E) → G text x → ParsesUnsigned 32 10 text x) → ReadsOne G text o → unwrap_or o other ≡ number_or other text
+one_read {E} other G text (Some n) only h = number_read {E = E} other text (Ok n) (only (Ok n) h)
+one_read {E} other G text None only h = number_read {E = E} other text (Err h.0) (only (Err h.0) h.1)
 
--- the number that is read of a value, 1 where there is none
-pub number_from : {E : Type 0} (G : List ℕ → Result ℕ E → Type 0) (o : Option ℕ) (v : Option Text)
+-- the number that is read of a value, the other one where there is none
+pub number_from : {E : Type 0} (other : ℕ) (G : List ℕ → Result ℕ E → Type 0) (o : Option ℕ) (v : Option Text)
     → ((text : Text) (x : Result ℕ E) → G text x → ParsesUnsigned 32 10 text x) → (v ≡ None → o ≡ None)
-    → ((text : Text) → v ≡ Some text → ReadsOne G text o) → unwrap_or o 1 ≡ option_map_or number_or_one v 1
-number_from G o None only none value = rw (none refl) refl
-number_from G o (Some text) only none value = one_read G text o (only text) (value text refl)
+    → ((text : Text) → v ≡ Some text → ReadsOne G text o) → unwrap_or o other ≡ option_map_or (number_or other) v other
+number_from other G o None only none value = rw (none refl) refl
+number_from other G o (Some text) only none value = one_read other G text o (only text) (value text refl)
 
 module _ {B X Y : Type 0} (f : B → X) (g : B → Y) where
   -- a value by its two parts
@@ -89,41 +90,40 @@ met_word m word rows named values = pair_of_parts _ _ _ word rows named values
 pub met_none : (m : ArgMatches) → subcommand_name_of m ≡ None → subcommand_rows_of m ≡ None
 met_none m named = no_parts _ _ _ named
 
--- where no word was met, a check is asked for
-pub ask_of_none : (o : Option (Text × List Row)) (faults : Kinds) (read before : List Row) (request : Request)
-    → o ≡ None → faults ≡ [] → read ≡ before → ChecksWith read request → (faults ≡ []) × Ask before o request × (bad_of o ≡ None)
-ask_of_none o faults read before request met none same asks =
-    let Checks : List Row → Type 0 = λ rows. ChecksWith rows request in
-    (none, rw met (subst Checks same asks), rw met refl)
+-- ---- words of which each option was looked at
 
--- what was matched asks for what its word does
-pub ask_of_word : (o : Option (Text × List Row)) (faults : Kinds) (read before : List Row) (r : Result Request WordsFault) (word : Text) (rows : List Row)
-    → o ≡ Some (word, rows) → faults ≡ [] → read ≡ before → IfOk r (WordRequests read word rows) → JudgesOptions word rows r
-    → IfOk r (λ request. (faults ≡ []) × Ask before o request × (bad_of o ≡ None))
-ask_of_word o faults read before (Ok request) word rows met none same asks judged =
-    let Requests : List Row → Type 0 = λ rows-before. WordRequests rows-before word rows request in
-    (none, rw met (subst Requests same asks), rw met judged)
-ask_of_word o faults read before (Err e) word rows met none same asks judged = tt
+-- what was matched asks for this
+pub ask_of : (asked o : Option (Text × List Row)) (faults : Kinds) (read before : List Row) (r : Result Request WordsFault)
+    → o ≡ asked → faults ≡ [] → read ≡ before → IfOk r (Ask read asked) → JudgesOptions read asked r
+    → IfOk r (λ request. (faults ≡ []) × Ask before o request × (misplaced_in before o ≡ None) × (bad_of before o ≡ None))
+ask_of asked o faults read before (Ok request) met none same asks judged = rw (met, ← same) (none, asks, judged.0, judged.1)
+ask_of asked o faults read before (Err e) met none same asks judged = tt
 
-pub bad_of_word : (o : Option (Text × List Row)) (faults : Kinds) (r : Result Request WordsFault) (bad : BadOption) (word : Text) (rows : List Row)
-    → o ≡ Some (word, rows) → faults ≡ [] → JudgesOptions word rows r → r ≡ Err (BadValue bad)
-    → (faults ≡ []) × (lacks_batch_in o ≡ false) × (bad_of o ≡ Some bad)
-bad_of_word o faults (Ok request) bad word rows met none judged e = cc
-bad_of_word o faults (Err (Usage error)) bad word rows met none judged e = absurd judged
-bad_of_word o faults (Err Memory) bad word rows met none judged e = cc
-bad_of_word o faults (Err MissingBatch) bad word rows met none judged e = cc
-bad_of_word o faults (Err (BadValue told)) bad word rows met none judged e =
-    let same : told ≡ bad = cc in
-    (none, rw met judged.0, rw met (judged.1 ∙ ap Some same))
+-- an option that stands before a word
+pub misplaced_words : (asked o : Option (Text × List Row)) (faults : Kinds) (read before : List Row) (r : Result Request WordsFault) (option : BadOption)
+    → o ≡ asked → faults ≡ [] → read ≡ before → JudgesOptions read asked r → r ≡ Err (Misplaced option)
+    → (faults ≡ []) × (misplaced_in before o ≡ Some option)
+misplaced_words asked o faults read before r option met none same judged e =
+    let told = subst (λ (r : Result Request WordsFault). JudgesOptions read asked r) e judged in
+    rw (met, ← same) (none, told)
 
 -- a post that names no batch
-pub lacking_word : (o : Option (Text × List Row)) (faults : Kinds) (r : Result Request WordsFault) (word : Text) (rows : List Row)
-    → o ≡ Some (word, rows) → faults ≡ [] → JudgesOptions word rows r → r ≡ Err MissingBatch → (faults ≡ []) × (lacks_batch_in o ≡ true)
-lacking_word o faults (Ok request) word rows met none judged e = cc
-lacking_word o faults (Err (Usage error)) word rows met none judged e = absurd judged
-lacking_word o faults (Err (BadValue bad)) word rows met none judged e = cc
-lacking_word o faults (Err Memory) word rows met none judged e = cc
-lacking_word o faults (Err MissingBatch) word rows met none judged e = (none, rw met judged)
+pub lacking_words : (asked o : Option (Text × List Row)) (faults : Kinds) (read before : List Row) (r : Result Request WordsFault)
+    → o ≡ asked → faults ≡ [] → read ≡ before → JudgesOptions read asked r → r ≡ Err MissingBatch
+    → (faults ≡ []) × (misplaced_in before o ≡ None) × (lacks_batch_in o ≡ true)
+lacking_words asked o faults read before r met none same judged e =
+    let told = subst (λ (r : Result Request WordsFault). JudgesOptions read asked r) e judged in
+    rw (met, ← same) (none, told.0, told.1)
+
+-- an option whose value is outside its rule
+pub bad_words : (asked o : Option (Text × List Row)) (faults : Kinds) (read before : List Row) (r : Result Request WordsFault) (bad : BadOption)
+    → o ≡ asked → faults ≡ [] → read ≡ before → JudgesOptions read asked r → r ≡ Err (BadValue bad)
+    → (faults ≡ []) × (misplaced_in before o ≡ None) × (lacks_batch_in o ≡ false) × (bad_of before o ≡ Some bad)
+bad_words asked o faults read before r bad met none same judged e =
+    let told = subst (λ (r : Result Request WordsFault). JudgesOptions read asked r) e judged in
+    rw (met, ← same) (none, told.0, told.1, told.2)
+
+-- ---- errors of `clap`
 
 -- an error of `clap` that is out of memory is told as that
 pub no_usage : (error : Error) (r : Result Request WordsFault) → IsErrAnd r (Refuses error) → kind_of error ≡ kind.OutOfMemory
@@ -131,6 +131,7 @@ pub no_usage : (error : Error) (r : Result Request WordsFault) → IsErrAnd r (R
 no_usage error (Ok request) refused memory told e = cc
 no_usage error (Err (Usage other)) refused memory told e = refused.1 memory
 no_usage error (Err (BadValue bad)) refused memory told e = absurd refused
+no_usage error (Err (Misplaced option)) refused memory told e = absurd refused
 no_usage error (Err MissingBatch) refused memory told e = absurd refused
 no_usage error (Err Memory) refused memory told e = cc
 
@@ -139,6 +140,7 @@ pub kind_told : (error : Error) (r : Result Request WordsFault) (known kinds : K
     → (told : Error) → r ≡ Err (Usage told) → IsAmong (kind_of told) kinds
 kind_told error (Ok request) known kinds refused has is told e = cc
 kind_told error (Err (BadValue bad)) known kinds refused has is told e = absurd refused
+kind_told error (Err (Misplaced option)) known kinds refused has is told e = absurd refused
 kind_told error (Err MissingBatch) known kinds refused has is told e = absurd refused
 kind_told error (Err Memory) known kinds refused has is told e = cc
 kind_told error (Err (Usage other)) known kinds refused has is told e =

@@ -1,9 +1,11 @@
 -- Words that the laws speak of.
-use Rattle.std.specs.Prelude.{Bool, ℕ, List, [], ◌∷◌, Option, codes, option_map}
+use Rattle.std.specs.Prelude.{Bool, ℕ, ℤ, List, [], ◌∷◌, Option, codes, option_and_then, option_map}
 use Rattle.clap.specs.Words.{Row, Text, first_of, matches_of, subcommand_of}
 use Rattle.lot_args.specs.Options.{has_row, value_of}
 use Rattle.lot_args.specs.Program.{program_app}
 use Rattle.lot_args.specs.From.{from_of}
+use Rattle.lot_args.specs.Rounding.{rounding_of}
+use Rattle.lot_rounding.specs.declared.rounding.Rounding.{Rounding}
 use Rattle.lot_args.specs.Words.{effect_of, notes_of}
 use Rattle.lot_args.specs.declared.request.Effect.{Effect}
 use Rattle.lot_args.specs.declared.request.Notes.{Notes}
@@ -30,6 +32,21 @@ abbrev pub a_row : List Text
 a_row =
     codes "lotbook" ∷ codes "post" ∷ codes "--book" ∷ codes "f" ∷ codes "--row-of" ∷ codes "a" ∷ codes "--ref" ∷ codes "r" ∷ []
 
+-- lotbook post --book f --batch a --rounding Equity:R --within 0.02 --decimals 2
+abbrev pub a_rounded_post : List Text
+a_rounded_post =
+    codes "lotbook" ∷ codes "post" ∷ codes "--book" ∷ codes "f" ∷ codes "--batch" ∷ codes "a" ∷ codes "--rounding" ∷ codes "Equity:R"
+    ∷ codes "--within" ∷ codes "0.02" ∷ codes "--decimals" ∷ codes "2" ∷ []
+
+-- lotbook --rounding Equity:R
+abbrev pub a_rounded_check : List Text
+a_rounded_check = codes "lotbook" ∷ codes "--rounding" ∷ codes "Equity:R" ∷ []
+
+-- lotbook --rounding Equity:R post --book f --batch a
+abbrev pub a_misplaced_rounding : List Text
+a_misplaced_rounding =
+    codes "lotbook" ∷ codes "--rounding" ∷ codes "Equity:R" ∷ codes "post" ∷ codes "--book" ∷ codes "f" ∷ codes "--batch" ∷ codes "a" ∷ []
+
 -- lotbook explain B2
 abbrev pub a_question : List Text
 a_question = codes "lotbook" ∷ codes "explain" ∷ codes "B2" ∷ []
@@ -42,6 +59,14 @@ flags_of words =
 -- a word for a row, with its batch and its reference
 abbrev pub row_of : Option (Text × List Row) → Option (Bool × Text × Text)
 row_of = option_map (λ asked. (has_row asked.1, value_of (codes "row-of") asked.1, value_of (codes "ref") asked.1))
+
+-- a rounding account with the greatest crumb that it takes, at scale 8, and the decimals
+abbrev pub crumbs_of : Option Rounding → Option (Text × ℤ × ℕ)
+crumbs_of = option_map (λ rounding. (rounding.account, rounding.within, rounding.decimals))
+
+-- those of a word
+abbrev pub word_crumbs_of : Option (Text × List Row) → Option (Text × ℤ × ℕ)
+word_crumbs_of = option_and_then (λ asked. crumbs_of (rounding_of asked.1))
 
 -- a word with the code that stands behind it
 abbrev pub code_of : Option (Text × List Row) → Option (Text × Option Text)

@@ -1,20 +1,9 @@
 -- The number of the first command or row to run, of the values matched by `clap`.
-use Rattle.std.specs.Prelude.{◌&&◌, ◌^◌, if◌then◌else◌, ℕ, Bool, List, codes, length, nat_lt}
-use Rattle.std.specs.Char.{digit_value}
-use Rattle.std.specs.List.{list_all}
-use Rattle.std.specs.Option.{option_map_or}
-use Rattle.std.specs.Str.Parse.{digits_value, without_leading_plus}
-use Rattle.clap.specs.Words.{Row, Text, one_of}
+use Rattle.std.specs.Prelude.{ℕ, List, codes}
+use Rattle.clap.specs.Words.{Row}
+use Rattle.lot_args.specs.Number.{number_of}
 use Rattle.lot_args.specs.Start.{start_at}
-
--- whether the digits are those of a number of 32 bits
-abbrev pub is_number : Text → Bool
-is_number digits = nat_lt 0 (length digits) && list_all (λ d. nat_lt (digit_value d) 10) digits && nat_lt (digits_value 10 digits) (2 ^ 32)
-
--- the number that a text is, as `u32` reads it: a plus sign may stand first; 1 where it is none
-abbrev pub number_or_one : Text → ℕ
-number_or_one text = let digits = without_leading_plus text in if is_number digits then digits_value 10 digits else 1
 
 -- the number of the first command or row to run
 abbrev pub from_of : List Row → ℕ
-from_of rows = start_at (option_map_or number_or_one (one_of (codes "from") rows) 1)
+from_of rows = start_at (number_of (codes "from") 1 rows)

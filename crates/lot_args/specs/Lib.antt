@@ -1,6 +1,8 @@
 pub mod Batch
 pub mod Start
+pub mod Number
 pub mod From
+pub mod Rounding
 pub mod Program
 pub mod Table
 pub mod Options

@@ -1,5 +1,5 @@
 -- The values of options, and which of them are outside their rules.
-use Rattle.std.specs.Prelude.{if◌then◌else◌, ◌||◌, ◌&&◌, ◌==◌, ℤ, Bool, true, not, is_some, List, [], ◌∷◌, Option, codes, find, option_and_then, unwrap_or}
+use Rattle.std.specs.Prelude.{if◌then◌else◌, ◌||◌, ◌&&◌, ◌==◌, ℤ, Bool, true, not, is_some, List, [], ◌∷◌, ◌++◌, Option, codes, find, option_and_then, unwrap_or}
 use Rattle.std.specs.Str.{bytes_eq}
 use Rattle.std.specs.Option.{option_map_or}
 use Rattle.clap.specs.Words.{Row, Text, first_of}
@@ -7,8 +7,9 @@ use Rattle.lot_base.specs.Day.{named_day}
 use Rattle.lot_base.specs.Name.{is_account, is_label}
 use Rattle.lot_args.specs.Batch.{is_batch}
 use Rattle.lot_args.specs.From.{from_of}
+use Rattle.lot_args.specs.Rounding.{named_bound}
 use Rattle.lot_args.specs.declared.fault.BadOption.{BadOption}
-use Rattle.lot_args.specs.declared.fault.BadOption.TheVariants.{Batch, PostBatch, RowOf, Ref, From, Invest, Cash, Fees, Gains, Day, First, Last, Format}
+use Rattle.lot_args.specs.declared.fault.BadOption.TheVariants.{Batch, PostBatch, RowOf, Ref, From, Invest, Cash, Fees, Gains, Rounding, Within, Decimals, Day, First, Last, Format}
 
 -- ---- values
 
@@ -33,6 +34,9 @@ name_of Invest = codes "invest"
 name_of Cash = codes "cash"
 name_of Fees = codes "fees"
 name_of Gains = codes "gains"
+name_of Rounding = codes "rounding"
+name_of Within = codes "within"
+name_of Decimals = codes "decimals"
 name_of Day = codes "day"
 name_of First = codes "first"
 name_of Last = codes "last"
@@ -46,6 +50,10 @@ has_account name rows = is_account (value_of name rows)
 abbrev pub has_day : Text → List Row → Bool
 has_day name rows = option_map_or (λ text. is_some (named_day text)) (first_of name rows) true
 
+-- whether that of `--within` is, which need not be given
+abbrev pub has_bound : List Row → Bool
+has_bound rows = option_map_or (λ text. is_some (named_bound text)) (first_of (codes "within") rows) true
+
 -- whether the text says how a report is written
 abbrev pub is_format : Text → Bool
 is_format text = bytes_eq text (codes "text") || bytes_eq text (codes "csv")
@@ -58,12 +66,16 @@ is_given name rows = is_some (first_of name rows)
 abbrev pub has_row : List Row → Bool
 has_row = is_given (codes "row-of")
 
+-- whether there is a rounding account
+abbrev pub has_rounding : List Row → Bool
+has_rounding = is_given (codes "rounding")
+
 -- whether it is a post that names no batch, neither its own nor that of a row
 abbrev pub lacks_batch : Text → List Row → Bool
 lacks_batch word rows = bytes_eq word (codes "post") && (not (is_given (codes "batch") rows) && not (has_row rows))
 
--- whether the value of the option is within its rule: of a post for a row `--batch` isn't given and `--from` is 1, and `--ref`
--- is given with it alone
+-- whether the value of the option is within its rule: of a post for a row `--batch` isn't given and `--from` is 1; `--ref` is
+-- given with `--row-of` alone, `--within` and `--decimals` with `--rounding` alone
 abbrev pub is_good : List Row → BadOption → Bool
 is_good rows Batch = is_batch (value_of (codes "batch") rows)
 is_good rows PostBatch = if has_row rows then not (is_given (codes "batch") rows) else is_batch (value_of (codes "batch") rows)
@@ -74,6 +86,9 @@ is_good rows Invest = has_account (codes "invest") rows
 is_good rows Cash = has_account (codes "cash") rows
 is_good rows Fees = has_account (codes "fees") rows
 is_good rows Gains = has_account (codes "gains") rows
+is_good rows Rounding = not (has_rounding rows) || has_account (codes "rounding") rows
+is_good rows Within = if has_rounding rows then has_bound rows else not (is_given (codes "within") rows)
+is_good rows Decimals = has_rounding rows || not (is_given (codes "decimals") rows)
 is_good rows Day = has_day (codes "day") rows
 is_good rows First = has_day (codes "first") rows
 is_good rows Last = has_day (codes "last") rows
@@ -84,14 +99,24 @@ is_good rows Format = option_map_or is_format (first_of (codes "format") rows) t
 abbrev pub account_options : List BadOption
 account_options = Invest ∷ Cash ∷ Fees ∷ Gains ∷ []
 
+-- the options of a rounding account: the account, and what goes with it
+abbrev pub rounding_options : List BadOption
+rounding_options = Rounding ∷ Within ∷ Decimals ∷ []
+
 -- the options of a word whose values have a rule of ours, in the order of the table of words in docs/RULES.md
 abbrev pub options_of : Text → List BadOption
 options_of word =
-    if bytes_eq word (codes "post") then PostBatch ∷ RowOf ∷ Ref ∷ From ∷ []
-    else (if bytes_eq word (codes "import") then Batch ∷ account_options
+    if bytes_eq word (codes "post") then PostBatch ∷ RowOf ∷ Ref ∷ (rounding_options ++ From ∷ [])
+    else (if bytes_eq word (codes "import") then Batch ∷ (account_options ++ rounding_options)
     else (if bytes_eq word (codes "holdings") then Day ∷ Format ∷ []
     else (if bytes_eq word (codes "gains") then First ∷ Last ∷ Format ∷ [] else [])))
 
 -- the first of the options whose value is outside its rule
 abbrev pub first_bad : List Row → List BadOption → Option BadOption
 first_bad rows = find (λ option. not (is_good rows option))
+
+-- ---- before a word
+
+-- the first option of a rounding account that is given: before a word, where it doesn't belong
+abbrev pub misplaced : List Row → Option BadOption
+misplaced rows = find (λ option. is_given (name_of option) rows) rounding_options

@@ -1,9 +1,10 @@
 -- The words that the program takes, as `clap` keeps them.
-use Rattle.std.specs.Prelude.{pos, true, List, [], ◌∷◌, codes, Some}
+use Rattle.std.specs.Prelude.{pos, true, List, [], ◌∷◌, ◌++◌, codes, Some}
 use Rattle.clap.specs.Words.{App, Rule, Text, new_app, new_rule, with_rule, with_subcommand}
 use Rattle.clap.specs.declared.builder.ArgAction.TheVariants.{Set, SetTrue}
 use Rattle.clap.specs.declared.builder.value_parser.ValueParser.TheVariants.{Signed}
 use Rattle.lot_args.specs.Start.{greatest_start}
+use Rattle.lot_rounding.specs.Nearest.{most_decimals}
 
 -- an option with one value
 abbrev pub option_rule : Text → Rule
@@ -16,6 +17,10 @@ required_rule name = record (option_rule name) { required = true }
 -- `--from N`, 1 where it isn't given
 abbrev pub from_rule : Rule
 from_rule = record (option_rule (codes "from")) { parser = Some (Signed (pos 1) (pos greatest_start)); defaults = codes "1" ∷ [] }
+
+-- `--decimals N`
+abbrev pub decimals_rule : Rule
+decimals_rule = record (option_rule (codes "decimals")) { parser = Some (Signed (pos 0) (pos most_decimals)) }
 
 -- one without a value
 abbrev pub flag_rule : Text → Rule
@@ -43,9 +48,14 @@ init_app = book_app (codes "init") (flag_rule (codes "dry-run") ∷ [])
 abbrev pub migrate_app : App
 migrate_app = book_app (codes "migrate") (flag_rule (codes "dry-run") ∷ [])
 
+-- the options of a rounding account
+abbrev pub rounding_rules : List Rule
+rounding_rules = option_rule (codes "rounding") ∷ option_rule (codes "within") ∷ decimals_rule ∷ []
+
 -- the options of a word whose commands are judged one after another
 abbrev pub run_rules : List Rule
-run_rules = from_rule ∷ flag_rule (codes "dry-run") ∷ flag_rule (codes "all-or-none") ∷ flag_rule (codes "explain-all") ∷ []
+run_rules =
+    from_rule ∷ (rounding_rules ++ flag_rule (codes "dry-run") ∷ flag_rule (codes "all-or-none") ∷ flag_rule (codes "explain-all") ∷ [])
 
 abbrev pub run_app : Text → List Rule → App
 run_app name rules = with_rules (book_app name rules) run_rules
@@ -88,7 +98,7 @@ named_app =
 
 -- the program without a word, with the options of a check
 abbrev pub bare_app : App
-bare_app = with_rules named_app (flag_rule (codes "quiet") ∷ flag_rule (codes "explain-all") ∷ [])
+bare_app = with_rules named_app (flag_rule (codes "quiet") ∷ (rounding_rules ++ flag_rule (codes "explain-all") ∷ []))
 
 -- the program
 abbrev pub program_app : App

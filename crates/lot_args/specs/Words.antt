@@ -6,8 +6,9 @@ use Rattle.std.specs.String.{string_bytes}
 use Rattle.clap.specs.Words.{Row, Text, fault_of, first_of, matches_of, subcommand_of}
 use Rattle.lot_import.specs.declared.accounts.Accounts.{Accounts}
 use Rattle.lot_args.specs.From.{from_of}
-use Rattle.lot_args.specs.Options.{day_of, first_bad, has_row, lacks_batch, options_of, value_of}
+use Rattle.lot_args.specs.Options.{day_of, first_bad, has_row, lacks_batch, misplaced, options_of, rounding_options, value_of}
 use Rattle.lot_args.specs.Program.{program_app}
+use Rattle.lot_args.specs.Rounding.{rounding_of}
 use Rattle.lot_args.specs.declared.action.Action.{Action}
 use Rattle.lot_args.specs.declared.action.Action.TheVariants.{Check, Init, Migrate, Post, PostRow, Import, Holdings, Gains, Journal, Verify}
 use Rattle.lot_args.specs.declared.action.Format.{Format}
@@ -64,18 +65,18 @@ IsBook rows path = path ≡ value_of (codes "book") rows
 
 -- a word with the values of its options asks for the action
 abbrev pub WordAsks : Text → List Row → Action → Type 0
-WordAsks word rows Check = ⊥
+WordAsks word rows (Check rounding) = ⊥
 WordAsks word rows (Init book) = (word ≡ codes "init") × IsBook rows (string_bytes book)
 WordAsks word rows (Migrate book) = (word ≡ codes "migrate") × IsBook rows (string_bytes book)
-WordAsks word rows (Post book batch from) =
+WordAsks word rows (Post book batch from rounding) =
     (word ≡ codes "post") × (has_row rows ≡ false) × IsBook rows (string_bytes book)
-    × (batch ≡ value_of (codes "batch") rows) × (from ≡ from_of rows)
-WordAsks word rows (PostRow book batch reference) =
+    × (batch ≡ value_of (codes "batch") rows) × (from ≡ from_of rows) × (rounding ≡ rounding_of rows)
+WordAsks word rows (PostRow book batch reference rounding) =
     (word ≡ codes "post") × (has_row rows ≡ true) × IsBook rows (string_bytes book)
-    × (batch ≡ value_of (codes "row-of") rows) × (reference ≡ value_of (codes "ref") rows)
-WordAsks word rows (Import book batch accounts from) =
+    × (batch ≡ value_of (codes "row-of") rows) × (reference ≡ value_of (codes "ref") rows) × (rounding ≡ rounding_of rows)
+WordAsks word rows (Import book batch accounts from rounding) =
     (word ≡ codes "import") × IsBook rows (string_bytes book) × (batch ≡ value_of (codes "batch") rows)
-    × (accounts ≡ accounts_of rows) × (from ≡ from_of rows)
+    × (accounts ≡ accounts_of rows) × (from ≡ from_of rows) × (rounding ≡ rounding_of rows)
 WordAsks word rows (Holdings book day format) =
     (word ≡ codes "holdings") × IsBook rows (string_bytes book) × (day ≡ day_of (codes "day") rows) × (format ≡ format_of rows)
 WordAsks word rows (Gains book first last format) =
@@ -98,12 +99,19 @@ WordRequests before word rows (Explain code) = (word ≡ codes "explain") × IsC
 
 -- no word asks for a check, of which nothing is left
 abbrev pub ChecksWith : List Row → Request → Type 0
-ChecksWith rows (Act action effect notes) = (action ≡ Check) × (effect ≡ Keep) × (notes ≡ notes_of rows rows)
+ChecksWith rows (Act action effect notes) =
+    (action ≡ Check (rounding_of rows)) × (effect ≡ Keep) × (notes ≡ notes_of rows rows)
 ChecksWith rows (Explain code) = ⊥
 
 abbrev pub Ask : List Row → Option (Text × List Row) → Request → Type 0
 Ask before None request = ChecksWith before request
 Ask before (Some asked) request = WordRequests before asked.0 asked.1 request
+
+-- ---- an option before a word
+
+-- the first option of a rounding account that stands before a word: it belongs behind one, or to a call without one
+abbrev pub misplaced_in : List Row → Option (Text × List Row) → Option BadOption
+misplaced_in before asked = option_and_then (λ asked. misplaced before) asked
 
 -- ---- a missing batch
 
@@ -113,24 +121,40 @@ lacks_batch_in asked = option_map_or (λ asked. lacks_batch asked.0 asked.1) ask
 
 -- ---- a bad value
 
--- the first option of a word, in the order of the table of words in docs/RULES.md, whose value is outside its rule
-abbrev pub bad_of : Option (Text × List Row) → Option BadOption
-bad_of = option_and_then (λ asked. first_bad asked.1 (options_of asked.0))
+-- the first option of a word, in the order of the table of words in docs/RULES.md, whose value is outside its rule; without a
+-- word the first option of a rounding account
+abbrev pub bad_of : List Row → Option (Text × List Row) → Option BadOption
+bad_of before None = first_bad before rounding_options
+bad_of before (Some asked) = first_bad asked.1 (options_of asked.0)
 
 -- ---- all words
 
--- `clap` takes the words, of which the first is the program's name, no value is outside its rule, and they ask for this
+-- the option that stands before a word, and the one whose value is outside its rule, of words as `clap` matches them
+abbrev pub misplaced_by : List Text → Option BadOption
+misplaced_by words = misplaced_in (matches_of program_app words) (subcommand_of program_app words)
+
+abbrev pub bad_by : List Text → Option BadOption
+bad_by words = bad_of (matches_of program_app words) (subcommand_of program_app words)
+
+-- `clap` takes the words, of which the first is the program's name, no option is misplaced, no value is outside its rule, and
+-- they ask for this
 abbrev pub AskFor : List Text → Request → Type 0
 AskFor words request =
     (fault_of program_app words ≡ []) × Ask (matches_of program_app words) (subcommand_of program_app words) request
-    × (bad_of (subcommand_of program_app words) ≡ None)
+    × (misplaced_by words ≡ None) × (bad_by words ≡ None)
 
--- `clap` takes the words, which are a post without a batch
+-- `clap` takes the words, and this is the first option that stands before a word and belongs behind one
+abbrev pub HaveMisplaced : List Text → BadOption → Type 0
+HaveMisplaced words option = (fault_of program_app words ≡ []) × (misplaced_by words ≡ Some option)
+
+-- `clap` takes the words, none is misplaced, and they are a post without a batch
 abbrev pub LackBatch : List Text → Type 0
-LackBatch words = (fault_of program_app words ≡ []) × (lacks_batch_in (subcommand_of program_app words) ≡ true)
+LackBatch words =
+    (fault_of program_app words ≡ []) × (misplaced_by words ≡ None) × (lacks_batch_in (subcommand_of program_app words) ≡ true)
 
--- `clap` takes the words, which aren't such a post, and this is the first option whose value is outside its rule
+-- `clap` takes the words, none is misplaced, they aren't such a post, and this is the first option whose value is outside its
+-- rule
 abbrev pub HaveBadIn : List Text → BadOption → Type 0
 HaveBadIn words bad =
-    (fault_of program_app words ≡ []) × (lacks_batch_in (subcommand_of program_app words) ≡ false)
-    × (bad_of (subcommand_of program_app words) ≡ Some bad)
+    (fault_of program_app words ≡ []) × (misplaced_by words ≡ None)
+    × (lacks_batch_in (subcommand_of program_app words) ≡ false) × (bad_by words ≡ Some bad)

@@ -2,6 +2,7 @@ use crate::batch::Batch;
 use crate::start::Start;
 use lot_base::{Day, Label};
 use lot_import::Accounts;
+use lot_rounding::Rounding;
 
 /// How a report is written.
 #[derive(Clone, Copy)]
@@ -12,11 +13,14 @@ pub enum Format {
     Csv,
 }
 
-/// What the program is asked to do. A book is named by the path of its file.
+/// What the program is asked to do. A book is named by the path of its file. Where a rounding account is named, commands are
+/// completed with it.
 #[derive(Drop)]
 pub enum Action {
     /// No subcommand is given: ledger text is judged on an empty book in memory.
-    Check,
+    Check {
+        rounding: Option<Rounding>,
+    },
     /// A book is made in a file.
     Init {
         book: String,
@@ -30,12 +34,14 @@ pub enum Action {
         book: String,
         batch: Batch,
         from: Start,
+        rounding: Option<Rounding>,
     },
     /// Ledger text of one command is posted to a book, in place of the row with that `ref` of a broker file.
     PostRow {
         book: String,
         batch: Batch,
         reference: Label,
+        rounding: Option<Rounding>,
     },
     /// The rows of a broker file are posted to accounts of a book.
     Import {
@@ -43,6 +49,7 @@ pub enum Action {
         batch: Batch,
         accounts: Accounts,
         from: Start,
+        rounding: Option<Rounding>,
     },
     /// What a book holds is written. With a day, what its lots are worth on it is written, too.
     Holdings {

@@ -27,6 +27,12 @@ pub enum BadOption {
     Fees,
     /// `--gains`: its value isn't an account.
     Gains,
+    /// `--rounding`: its value isn't an account.
+    Rounding,
+    /// `--within`: its value isn't an amount from 0 to 1, or `--rounding` isn't given.
+    Within,
+    /// `--decimals`: `--rounding` isn't given.
+    Decimals,
     /// `--day`: its value isn't a day.
     Day,
     /// `--first`: its value isn't a day.
@@ -51,6 +57,9 @@ impl BadOption {
             BadOption::Cash => "cash",
             BadOption::Fees => "fees",
             BadOption::Gains => "gains",
+            BadOption::Rounding => "rounding",
+            BadOption::Within => "within",
+            BadOption::Decimals => "decimals",
             BadOption::Day => "day",
             BadOption::First => "first",
             BadOption::Last => "last",
@@ -77,6 +86,8 @@ impl fmt::Display for BadOption {
 pub enum WordsFault {
     /// `clap` refuses the arguments, or help or the version is asked for. Its error says which, and has the text to show.
     Usage(Error),
+    /// An option of a rounding account stands before a subcommand.
+    Misplaced(BadOption),
     /// A `post` names no batch: neither `--batch` nor `--row-of` is given.
     MissingBatch,
     /// The value of the option is outside its rule.

@@ -1,10 +1,14 @@
 //! What holds of the definitions that the contracts of this crate cite. Each law is a function that does nothing.
-ghost use Rattle.std.specs.Prelude.{◌≡◌, None, Some, codes, true};
-ghost use Rattle.clap.specs.Words.{subcommand_of, takes};
-ghost use Rattle.lot_args.specs.Example.{a_dry_run, a_post, a_question, a_whole_post};
-ghost use Rattle.lot_args.specs.Example.{a_row, code_of, flags_of, parts_of, row_of};
+ghost use Rattle.std.specs.Prelude.{◌≡◌, None, Some, codes, pos, true};
+ghost use Rattle.clap.specs.Words.{matches_of, subcommand_of, takes};
+ghost use Rattle.lot_args.specs.Example.{a_dry_run, a_misplaced_rounding, a_post, a_question, a_whole_post};
+ghost use Rattle.lot_args.specs.Example.{a_rounded_check, a_rounded_post, a_row, code_of, crumbs_of};
+ghost use Rattle.lot_args.specs.Example.{flags_of, parts_of, row_of, word_crumbs_of};
 ghost use Rattle.lot_args.specs.Program.{program_app};
-ghost use Rattle.lot_args.specs.Words.{bad_of};
+ghost use Rattle.lot_args.specs.Rounding.{rounding_of};
+ghost use Rattle.lot_args.specs.Words.{bad_by, misplaced_by};
+ghost use Rattle.lot_args.specs.declared.fault.BadOption.TheVariants.{Rounding};
+ghost use Rattle.lot_rounding.specs.Rounding.{half_a_cent};
 ghost use Rattle.lot_args.specs.declared.request.Effect.TheVariants.{AllOrNone, DryRun, Keep};
 ghost use Rattle.lot_args.specs.declared.request.Notes.TheVariants.{All, Quiet, Ten};
 
@@ -28,8 +32,27 @@ pub fn options_without_a_value_are_met()
 /// this reference.
 pub fn a_post_for_a_row_names_it()
     ensures taken { takes program_app a_row ≡ true }
-    ensures good { bad_of (subcommand_of program_app a_row) ≡ None }
+    ensures good { bad_by a_row ≡ None }
     ensures row { row_of (subcommand_of program_app a_row) ≡ Some (true, codes "a", codes "r") }
+{}
+
+/// `clap` accepts two calls with a rounding account, and this is what they say. The first one is a `post` with `--within 0.02` and
+/// `--decimals 2`, and the other has no subcommand.
+pub fn a_rounding_account_is_met()
+    ensures taken { takes program_app a_rounded_post ≡ true }
+    ensures good { bad_by a_rounded_post ≡ None }
+    ensures post { word_crumbs_of (subcommand_of program_app a_rounded_post)
+        ≡ Some (codes "Equity:R", pos 2000000, 2) }
+    ensures check_taken { takes program_app a_rounded_check ≡ true }
+    ensures check_good { bad_by a_rounded_check ≡ None }
+    ensures check { crumbs_of (rounding_of (matches_of program_app a_rounded_check))
+        ≡ Some (codes "Equity:R", half_a_cent, 8) }
+{}
+
+/// `clap` accepts a call with `--rounding` before its subcommand, and it is the option that is misplaced.
+pub fn a_rounding_account_before_a_subcommand_is_misplaced()
+    ensures taken { takes program_app a_misplaced_rounding ≡ true }
+    ensures misplaced { misplaced_by a_misplaced_rounding ≡ Some Rounding }
 {}
 
 /// `clap` accepts the arguments `explain B2`, and this is the code.

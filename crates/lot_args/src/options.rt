@@ -9,6 +9,9 @@ use clap::builder::ValueParser;
 use clap::{Arg, ArgAction};
 use std::alloc::Global;
 
+/// The most decimals that units have (`most_decimals` of the definitions).
+pub(crate) const MOST_DECIMALS: u32 = 8;
+
 /// Where the help lists an option that stands behind the others of its subcommand.
 const LAST: usize = 100;
 
@@ -20,6 +23,8 @@ pub(crate) enum Form {
     Optional(&'static str),
     /// It has the number at which a run starts, 1 where it isn't given.
     Start,
+    /// It has a number of decimals and need not be given.
+    Decimals,
     /// It has no value.
     Flag,
     /// It has no value and stands behind the others in the help.
@@ -56,6 +61,11 @@ pub(crate) fn option<'a>(alloc: Global, given: &WordOption) -> Arg<'a>
             .action(ArgAction::Set)
             .value_parser(ValueParser::signed(1, i64::from(GREATEST_START)))
             .default_value("1"),
+        Form::Decimals => arg
+            .long(name)
+            .value_name("N")
+            .action(ArgAction::Set)
+            .value_parser(ValueParser::signed(0, i64::from(MOST_DECIMALS))),
         Form::Flag => arg.long(name).action(ArgAction::SetTrue),
         Form::LastFlag => arg
             .long(name)

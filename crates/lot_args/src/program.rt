@@ -33,9 +33,24 @@ const PROGRAM: Word = Word {
             help: "Explains nothing on standard error",
         },
         WordOption {
+            form: Form::Optional("ACCOUNT"),
+            name: "rounding",
+            help: "The account that takes what a command is off by",
+        },
+        WordOption {
+            form: Form::Optional("AMOUNT"),
+            name: "within",
+            help: "The most that it takes, 0.005 where not given",
+        },
+        WordOption {
+            form: Form::Decimals,
+            name: "decimals",
+            help: "Decimals of an amount left out, 8 where not given",
+        },
+        WordOption {
             form: Form::Flag,
             name: "explain-all",
-            help: "Explains all that is refused, not the first ten alone",
+            help: "Explains all that is refused, not only the first ten",
         },
     ],
 };
@@ -72,7 +87,8 @@ const WORDS: [Word; 9] = [
             },
         ],
     },
-    // `post --book FILE (--batch NAME [--from N] | --row-of NAME --ref REF) [--dry-run] [--all-or-none] [--explain-all]`
+    // `post --book FILE (--batch NAME [--from N] | --row-of NAME --ref REF)
+    // [--rounding ACCOUNT [--within AMOUNT] [--decimals N]] [--dry-run] [--all-or-none] [--explain-all]`
     Word {
         name: "post",
         brief: "Posts ledger text from standard input to a book",
@@ -100,13 +116,16 @@ const WORDS: [Word; 9] = [
                 name: "from",
                 help: "The number of the first command to run, as in --from 120: those before it are read but not run, and a fault in one of them still stops the call. It doesn't go with --row-of",
             },
+            ROUNDING,
+            WITHIN,
+            DECIMALS,
             DRY_RUN,
             ALL_OR_NONE,
             EXPLAIN_ALL,
         ],
     },
     // `import --book FILE --batch NAME --invest ACCOUNT --cash ACCOUNT --fees ACCOUNT --gains ACCOUNT
-    // [--from N] [--dry-run] [--all-or-none] [--explain-all]`
+    // [--from N] [--rounding ACCOUNT [--within AMOUNT] [--decimals N]] [--dry-run] [--all-or-none] [--explain-all]`
     Word {
         name: "import",
         brief: "Posts the rows of a broker file from standard input to a book",
@@ -144,6 +163,9 @@ const WORDS: [Word; 9] = [
                 name: "from",
                 help: "The number of the first row to run, as in --from 120: those before it are read but not run, and a fault in one of them still stops the call",
             },
+            ROUNDING,
+            WITHIN,
+            DECIMALS,
             DRY_RUN,
             ALL_OR_NONE,
             EXPLAIN_ALL,
@@ -225,6 +247,27 @@ const QUIET: WordOption = WordOption {
     form: Form::LastFlag,
     name: "quiet",
     help: "Explains nothing on standard error, also where --explain-all is given: what is on standard output stays the same",
+};
+
+/// `--rounding`
+const ROUNDING: WordOption = WordOption {
+    form: Form::Optional("ACCOUNT"),
+    name: "rounding",
+    help: "The account that takes what a command is off by, as in --rounding Equity:Rounding: one that is refused with B5, L12 or L14 is kept with postings to this account that make it balance exactly, if it is off by a crumb alone. The account has to be open. Give the same option when the command comes again",
+};
+
+/// `--within`
+const WITHIN: WordOption = WordOption {
+    form: Form::Optional("AMOUNT"),
+    name: "within",
+    help: "The most that the account takes in a currency of one command, as in --within 0.01: 1 at most, and 0.005 where it isn't given. It goes with --rounding",
+};
+
+/// `--decimals`
+const DECIMALS: WordOption = WordOption {
+    form: Form::Decimals,
+    name: "decimals",
+    help: "How many decimals the cash of a row has, and what a posting without an amount takes, as in --decimals 2: 0 to 8, and 8 where it isn't given. The account takes the rest. It goes with --rounding",
 };
 
 /// `--explain-all`

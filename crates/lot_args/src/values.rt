@@ -6,29 +6,32 @@ ghost use Rattle.lot_base.specs.Name.{is_label};
 ghost use Rattle.std.specs.String.{string_bytes};
 ghost use Rattle.clap.specs.Words.{first_of, found_of, rows_of};
 ghost use Rattle.lot_args.specs.Batch.{is_batch};
-ghost use Rattle.lot_args.specs.Options.{account_options, day_of, first_bad, has_account, has_row, is_format, is_good, is_given, lacks_batch, name_of, options_of, value_of};
+ghost use Rattle.lot_args.specs.Options.{account_options, day_of, first_bad, has_account, has_row, has_rounding, is_format, is_good, is_given, lacks_batch, misplaced, name_of, options_of, rounding_options, value_of};
 ghost use Rattle.lot_args.specs.From.{from_of};
+ghost use Rattle.lot_args.specs.Number.{number_of};
+ghost use Rattle.lot_args.specs.Rounding.{decimals_of, named_bound, rounding_of, within_of};
 ghost use Rattle.lot_args.specs.Words.{IsCode, accounts_of, effect_of, format_of, is_set, notes_of};
 
 use crate::action::Format;
 use crate::batch::{Batch, BatchFault};
 use crate::fault::BadOption;
+use crate::options::MOST_DECIMALS;
 use crate::request::{Effect, Notes};
 use crate::start::Start;
 use clap::ArgMatches;
 use lot_base::{Account, Day, Label};
 use lot_import::Accounts;
+use lot_num::Units;
+use lot_rounding::{Bound, Decimals, Rounding};
 use std::alloc::{AllocError, Global};
 
 /// The number of the first command or row to run where none is given.
 const FIRST: u32 = 1;
 
-/// Returns the first option of a subcommand whose value is outside its rule, in the order of the table in
-/// docs/RULES.md.
-pub(crate) fn first_bad(word: &str, options: &ArgMatches<'_>) -> Option<BadOption>
-    ensures { result ≡ first_bad (rows_of (found_of options.now)) (options_of word.now) }
+/// Returns the first option of these whose value is outside its rule.
+pub(crate) fn first_bad(all: &[BadOption], options: &ArgMatches<'_>) -> Option<BadOption>
+    ensures { result ≡ first_bad (rows_of (found_of options.now)) all.now }
 {
-    let all = options_of(word);
     for option in all.iter() {
         if !is_good(options, *option) {
             return Some(*option);
@@ -37,8 +40,8 @@ pub(crate) fn first_bad(word: &str, options: &ArgMatches<'_>) -> Option<BadOptio
     None
 }
 
-/// Returns the options of a subcommand whose values this project tests, in the order of the tests.
-fn options_of(word: &str) -> &'static [BadOption]
+/// Returns the options of a subcommand whose values this project tests, in the order of the table in docs/RULES.md.
+pub(crate) fn options_of(word: &str) -> &'static [BadOption]
     ensures { result.now ≡ options_of word.now }
 {
     match word {
@@ -46,6 +49,9 @@ fn options_of(word: &str) -> &'static [BadOption]
             BadOption::PostBatch,
             BadOption::RowOf,
             BadOption::Ref,
+            BadOption::Rounding,
+            BadOption::Within,
+            BadOption::Decimals,
             BadOption::From,
         ],
         "import" => &[
@@ -54,11 +60,31 @@ fn options_of(word: &str) -> &'static [BadOption]
             BadOption::Cash,
             BadOption::Fees,
             BadOption::Gains,
+            BadOption::Rounding,
+            BadOption::Within,
+            BadOption::Decimals,
         ],
         "holdings" => &[BadOption::Day, BadOption::Format],
         "gains" => &[BadOption::First, BadOption::Last, BadOption::Format],
         _ => &[],
     }
+}
+
+/// Returns the options of a rounding account: the account, and what goes with it.
+pub(crate) fn rounding_options() -> &'static [BadOption]
+    ensures { result.now ≡ rounding_options }
+{
+    &[BadOption::Rounding, BadOption::Within, BadOption::Decimals]
+}
+
+/// Returns the first option of a rounding account that is given before a subcommand.
+pub(crate) fn misplaced(before: &ArgMatches<'_>) -> Option<BadOption>
+    ensures { result ≡ misplaced (rows_of (found_of before.now)) }
+{
+    rounding_options()
+        .iter()
+        .copied()
+        .find(|option| is_given(before, option.name()))
 }
 
 /// Returns whether the value of an option is within its rule.
@@ -77,6 +103,13 @@ fn is_good(options: &ArgMatches<'_>, option: BadOption) -> bool
         BadOption::Invest | BadOption::Cash | BadOption::Fees | BadOption::Gains => {
             Account::is_name(value(options, name))
         }
+        BadOption::Rounding => !has_rounding(options) || Account::is_name(value(options, name)),
+        BadOption::Within if has_rounding(options) => match given(options, name) {
+            Some(text) => bound_of(text).is_some(),
+            None => true,
+        },
+        BadOption::Decimals if has_rounding(options) => true,
+        BadOption::Within | BadOption::Decimals => !is_given(options, name),
         BadOption::Day | BadOption::First | BadOption::Last => match given(options, name) {
             Some(text) => Day::parse(text).is_ok(),
             None => true,
@@ -100,6 +133,13 @@ pub(crate) fn has_row(options: &ArgMatches<'_>) -> bool
     ensures { result ≡ has_row (rows_of (found_of options.now)) }
 {
     is_given(options, "row-of")
+}
+
+/// Returns whether a rounding account is named.
+fn has_rounding(options: &ArgMatches<'_>) -> bool
+    ensures { result ≡ has_rounding (rows_of (found_of options.now)) }
+{
+    is_given(options, "rounding")
 }
 
 /// Returns the batch that the value of an option names, which is within its rule. The only error is out of memory.
@@ -158,6 +198,50 @@ fn account(
     }
 }
 
+/// Returns the rounding account that the options name, if they do, with what goes with it. Their values are within their rules.
+/// The only error is out of memory.
+pub(crate) fn rounding(
+    alloc: Global,
+    options: &ArgMatches<'_>,
+) -> Result<Option<Rounding>, AllocError>
+    requires { first_bad (rows_of (found_of options.now)) rounding_options ≡ None }
+    ensures { IfOk result (λ rounding. rounding ≡ rounding_of (rows_of (found_of options.now))) }
+{
+    if !has_rounding(options) {
+        return Ok(None);
+    }
+    Ok(Some(Rounding {
+        account: account(alloc, options, BadOption::Rounding)?,
+        within: within(options),
+        decimals: decimals(options),
+    }))
+}
+
+/// Returns the most that a rounding account takes: half a cent where the option isn't given, or names no bound.
+fn within(options: &ArgMatches<'_>) -> Bound
+    ensures { result ≡ within_of (rows_of (found_of options.now)) }
+{
+    match given(options, "within") {
+        Some(text) => bound_of(text).unwrap_or(Bound::half_a_cent()),
+        None => Bound::half_a_cent(),
+    }
+}
+
+/// Returns the bound that a text names, or `None` where it names none.
+fn bound_of(text: &str) -> Option<Bound>
+    ensures { result ≡ named_bound text.now }
+{
+    Bound::new(Units::parse_total(text).ok()?)
+}
+
+/// Returns how many decimals are kept.
+fn decimals(options: &ArgMatches<'_>) -> Decimals
+    ensures { result ≡ decimals_of (rows_of (found_of options.now)) }
+{
+    let number = number_or(options, "decimals", MOST_DECIMALS);
+    Decimals::new(number).unwrap_or(Decimals::of_units())
+}
+
 /// Returns the day that the value of an option names, or `None` where the option isn't given or names none.
 pub(crate) fn day(options: &ArgMatches<'_>, option: BadOption) -> Option<Day>
     ensures { result ≡ day_of (name_of option) (rows_of (found_of options.now)) }
@@ -187,8 +271,14 @@ pub(crate) fn format(options: &ArgMatches<'_>) -> Format
 pub(crate) fn from(options: &ArgMatches<'_>) -> Start
     ensures { result ≡ from_of (rows_of (found_of options.now)) }
 {
-    let number = options.get_one::<u32>("from").unwrap_or(FIRST);
-    Start::new(number).unwrap_or(Start::at_first())
+    Start::new(number_or(options, "from", FIRST)).unwrap_or(Start::at_first())
+}
+
+/// Returns the number that the value of an option is, and the other number where it isn't given or is none.
+fn number_or(options: &ArgMatches<'_>, name: &str, other: u32) -> u32
+    ensures { result ≡ number_of name.now other (rows_of (found_of options.now)) }
+{
+    options.get_one::<u32>(name).unwrap_or(other)
 }
 
 /// Returns what a call may leave in the book. Where a dry run is asked for, `--all-or-none` changes nothing.

@@ -1,20 +1,20 @@
-ghost use Rattle.std.specs.Prelude.{◌≡◌, ◌≢◌, true, Err, IfOk, None, map};
+ghost use Rattle.std.specs.Prelude.{◌≡◌, ◌≢◌, true, Err, IfOk, None, Some, map};
 ghost use Rattle.std.specs.String.{string_bytes};
 ghost use Rattle.clap.specs.Words.{IsAmong, fault_of, found_of, kind_of, rows_of, takes};
 ghost use Rattle.clap.specs.declared.error.ErrorKind.TheVariants.{OutOfMemory};
 ghost use Rattle.lot_args.specs.Options.{first_bad, options_of};
 ghost use Rattle.lot_args.specs.Program.{program_app};
 ghost use Rattle.lot_args.specs.Steps.{IsBookWord, IsWord, JudgesOptions};
-ghost use Rattle.lot_args.specs.Words.{AskFor, HaveBadIn, LackBatch, WordAsks, WordRequests};
-ghost use Rattle.lot_args.specs.declared.fault.WordsFault.TheVariants.{BadValue, MissingBatch, Usage};
+ghost use Rattle.lot_args.specs.Words.{Ask, AskFor, HaveBadIn, HaveMisplaced, LackBatch, WordAsks, WordRequests};
+ghost use Rattle.lot_args.specs.declared.fault.WordsFault.TheVariants.{BadValue, Misplaced, MissingBatch, Usage};
 
 use crate::action::Action;
 use crate::fault::{BadOption, WordsFault};
 use crate::program::program;
 use crate::request::{Effect, Request};
 use crate::values::{
-    accounts, batch, code, day, effect, first_bad, format, from, has_row, lacks_batch, notes,
-    reference, value,
+    accounts, batch, code, day, effect, first_bad, format, from, has_row, lacks_batch, misplaced,
+    notes, options_of, reference, rounding, rounding_options, value,
 };
 use clap::ArgMatches;
 use std::alloc::{AllocError, Global};
@@ -24,12 +24,16 @@ use std::alloc::{AllocError, Global};
 /// The error is one of these:
 ///
 /// - `Usage`: `clap` refuses the arguments, or help or the version is asked for;
-/// - `MissingBatch`: `clap` accepts them, but they are a `post` with neither `--batch` nor `--row-of`;
+/// - `Misplaced`: `clap` accepts them, but an option of a rounding account stands before the subcommand. Of several such options
+///   it is the first in the order of the table in docs/RULES.md;
+/// - `MissingBatch`: none does, but they are a `post` with neither `--batch` nor `--row-of`;
 /// - `BadValue`: they aren't such a `post`, but the value of an option is outside its rule. Of several such options it is the
-///   first in the order of the table in docs/RULES.md;
+///   first in that order;
 /// - `Memory`: out of memory, before `clap` has accepted the arguments, or where all values are within their rules.
 pub fn parse_words(alloc: Global, words: &[String]) -> Result<Request, WordsFault>
     ensures request { IfOk result (AskFor (map string_bytes words.now)) }
+    ensures misplaced { (option : BadOption) → result ≡ Err (Misplaced option)
+        → HaveMisplaced (map string_bytes words.now) option }
     ensures missing { result ≡ Err MissingBatch → LackBatch (map string_bytes words.now) }
     ensures bad { (bad : BadOption) → result ≡ Err (BadValue bad) → HaveBadIn (map string_bytes words.now) bad }
     ensures kind { (error : _) → result ≡ Err (Usage error) → IsAmong (kind_of error) (fault_of program_app (map string_bytes words.now)) }
@@ -38,12 +42,26 @@ pub fn parse_words(alloc: Global, words: &[String]) -> Result<Request, WordsFaul
 {
     let matches = program(alloc)?.try_get_matches_from(words)?;
     match matches.subcommand() {
-        None => Ok(Request::Act {
-            action: Action::Check,
-            effect: Effect::Keep,
-            notes: notes(&matches, &matches),
-        }),
+        None => checked(alloc, &matches),
         Some((word, options)) => asked(alloc, &matches, word, options),
+    }
+}
+
+/// Returns what a call without a subcommand asks for with the values of its options. All values are tested before one is kept.
+fn checked(alloc: Global, options: &ArgMatches<'_>) -> Result<Request, WordsFault>
+    ensures request { IfOk result (Ask (rows_of (found_of options.now)) None) }
+    ensures judges { JudgesOptions (rows_of (found_of options.now)) None result }
+    ensures usage { (error : _) → result ≢ Err (Usage error) }
+{
+    match first_bad(rounding_options(), options) {
+        Some(bad) => Err(WordsFault::BadValue(bad)),
+        None => Ok(Request::Act {
+            action: Action::Check {
+                rounding: rounding(alloc, options)?,
+            },
+            effect: Effect::Keep,
+            notes: notes(options, options),
+        }),
     }
 }
 
@@ -55,15 +73,19 @@ fn asked(
     options: &ArgMatches<'_>,
 ) -> Result<Request, WordsFault>
     requires { IsWord word.now }
-    ensures request { IfOk result (WordRequests (rows_of (found_of before.now))
-        word.now (rows_of (found_of options.now))) }
-    ensures judges { JudgesOptions word.now (rows_of (found_of options.now)) result }
+    ensures request { IfOk result (Ask (rows_of (found_of before.now))
+        (Some (word.now, rows_of (found_of options.now)))) }
+    ensures judges { JudgesOptions (rows_of (found_of before.now))
+        (Some (word.now, rows_of (found_of options.now))) result }
     ensures usage { (error : _) → result ≢ Err (Usage error) }
 {
+    if let Some(option) = misplaced(before) {
+        return Err(WordsFault::Misplaced(option));
+    }
     if lacks_batch(word, options) {
         return Err(WordsFault::MissingBatch);
     }
-    match first_bad(word, options) {
+    match first_bad(options_of(word), options) {
         Some(bad) => Err(WordsFault::BadValue(bad)),
         None => Ok(requested(alloc, before, word, options)?),
     }
@@ -108,17 +130,20 @@ fn action(alloc: Global, word: &str, options: &ArgMatches<'_>) -> Result<Action,
             book,
             batch: batch(alloc, options, "row-of")?,
             reference: reference(alloc, options)?,
+            rounding: rounding(alloc, options)?,
         }),
         "post" => Ok(Action::Post {
             book,
             batch: batch(alloc, options, "batch")?,
             from: from(options),
+            rounding: rounding(alloc, options)?,
         }),
         "import" => Ok(Action::Import {
             book,
             batch: batch(alloc, options, "batch")?,
             accounts: accounts(alloc, options)?,
             from: from(options),
+            rounding: rounding(alloc, options)?,
         }),
         "holdings" => Ok(Action::Holdings {
             book,

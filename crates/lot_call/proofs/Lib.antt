@@ -1,1 +1,2 @@
 mod ShellLemmas
+pub mod SumsLemmas

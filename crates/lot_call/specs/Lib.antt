@@ -1,2 +1,4 @@
 pub mod Remains
+pub mod Rounding
 pub mod Shell
+pub mod Sums

@@ -20,9 +20,9 @@ of_run reached course None = remains.Output
 
 -- where what is done is kept
 abbrev pub kept_of : Action → Course → Remains
-kept_of (Post book batch from) course = of_run remains.Commands course course.last
-kept_of (PostRow book batch reference) course = of_run remains.Commands course course.last
-kept_of (Import book batch accounts from) course = of_run remains.Rows course course.last
+kept_of (Post book batch from rounding) course = of_run remains.Commands course course.last
+kept_of (PostRow book batch reference rounding) course = of_run remains.Commands course course.last
+kept_of (Import book batch accounts from rounding) course = of_run remains.Rows course course.last
 kept_of (Init book) course = unless_fault course remains.Made
 kept_of (Migrate book) course = unless_fault course remains.Migrated
 kept_of _ course = remains.Output

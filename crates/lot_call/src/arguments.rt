@@ -11,6 +11,11 @@ use std::io::{self, ErrorKind};
 const NO_BATCH: &str =
     "error: the following required arguments were not provided:\n  <--batch <NAME>|--row-of <NAME>>\n\nUsage: lotbook post --book <FILE> <--batch <NAME>|--row-of <NAME>>\n\nFor more information, try '--help'.";
 
+/// What is said, behind its name, of an option of a rounding account that stands before a subcommand, in the form in which `clap`
+/// tells of options that can't stand together.
+const MISPLACED: &str =
+    "cannot be used before a subcommand\n\n  tip: it stands behind 'post' or 'import'\n\nUsage: lotbook [OPTIONS] [COMMAND]\n\nFor more information, try '--help'.";
+
 /// The longest value of an option that is shown where it is bad, in bytes.
 const LONGEST_SHOWN: usize = 80;
 
@@ -51,6 +56,10 @@ fn answer(rt: &HostRuntime, words: &[String], fault: &WordsFault) -> u8 {
                 STOPPED
             }
         },
+        WordsFault::Misplaced(option) => {
+            let _ = eprintln!(rt; "error: the argument '{option}' {MISPLACED}");
+            UNUSABLE
+        }
         WordsFault::MissingBatch => {
             let _ = eprintln!(rt; "{NO_BATCH}");
             show_example(rt, words);
@@ -92,8 +101,8 @@ fn example_of(word: &str) -> Option<&'static str> {
     }
 }
 
-/// Shows on standard error which options can't stand together, or the value of one that is outside its rule, unless it is
-/// long, and the form that it should have.
+/// Shows on standard error which options can't stand together, or not alone. Else it shows the value of one that is outside its
+/// rule, unless it is long, and the form that it should have.
 fn show_form(rt: &HostRuntime, words: &[String], option: BadOption) {
     if let Some(pair) = pair(words, option) {
         let _ = eprintln!(rt; "lotbook: {pair}");
@@ -110,13 +119,22 @@ fn show_form(rt: &HostRuntime, words: &[String], option: BadOption) {
     }
 }
 
-/// Returns what is to be said of a `post` with options that can't stand together, where that is why an option is bad.
+/// Returns what is to be said of options that can't stand together, or not alone, where that is why an option is bad.
 fn pair(words: &[String], option: BadOption) -> Option<&'static str> {
     let has_row = value_of(words, "row-of").is_some();
+    let has_rounding = value_of(words, "rounding").is_some();
     match option {
         BadOption::PostBatch if has_row => Some("--batch and --row-of can't stand together"),
         BadOption::Ref if !has_row => {
             Some("--ref stands beside --row-of alone, as in --row-of broker --ref A17")
+        }
+        BadOption::Within if !has_rounding => {
+            Some("--within stands beside --rounding alone, as in --rounding Equity:R --within 0.01")
+        }
+        BadOption::Decimals if !has_rounding => {
+            Some(
+                "--decimals stands beside --rounding alone, as in --rounding Equity:R --decimals 2",
+            )
         }
         _ => None,
     }
@@ -134,6 +152,9 @@ fn form(option: BadOption) -> &'static str {
         BadOption::Cash => "an account, as in --cash Assets:Cash",
         BadOption::Fees => "an account, as in --fees Expenses:Fees",
         BadOption::Gains => "an account, as in --gains Income:Gains",
+        BadOption::Rounding => "an account, as in --rounding Equity:Rounding",
+        BadOption::Within => "an amount from 0 to 1, as in --within 0.01",
+        BadOption::Decimals => "0 to 8, as in --decimals 2",
         BadOption::Day => "a day, as in --day 2024-12-31",
         BadOption::First => "a day, as in --first 2024-01-01",
         BadOption::Last => "a day, as in --last 2024-12-31",

@@ -1,7 +1,12 @@
 //! What the program is called for.
 
+ghost use Rattle.std.specs.Prelude.{◌≡◌};
+ghost use Rattle.std.specs.Option.{option_copied};
+ghost use Rattle.lot_call.specs.Rounding.{rounding_of};
+
 use lot_args::{Action, Effect, Notes};
 use lot_files::Failure;
+use lot_rounding::Rounding;
 use std::time::Instant;
 
 /// How many refusals are explained where not all are.
@@ -49,7 +54,7 @@ impl Call<'_> {
 /// Returns the path of the book that an action names, or nothing.
 pub fn path_of(action: &Action) -> &str {
     match action {
-        Action::Check => "",
+        Action::Check { .. } => "",
         Action::Init { book }
         | Action::Migrate { book }
         | Action::Post { book, .. }
@@ -59,5 +64,18 @@ pub fn path_of(action: &Action) -> &str {
         | Action::Gains { book, .. }
         | Action::Journal { book }
         | Action::Verify { book } => book.as_str(),
+    }
+}
+
+/// Returns the account that takes the crumbs of an action, where one does.
+pub fn rounding_of(action: &Action) -> Option<&Rounding>
+    ensures { option_copied result ≡ rounding_of action.now }
+{
+    match action {
+        Action::Check { rounding }
+        | Action::Post { rounding, .. }
+        | Action::PostRow { rounding, .. }
+        | Action::Import { rounding, .. } => rounding.as_ref(),
+        _ => None,
     }
 }

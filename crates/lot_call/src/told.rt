@@ -1,6 +1,7 @@
 //! What the codes mean, and why the commands of a call were refused.
 
-use crate::call::Call;
+use crate::call::{Call, rounding_of};
+use crate::crumbs::Crumbs;
 use crate::facts::Facts;
 use crate::remains::say_cut_short;
 use crate::status::{DONE, STOPPED, UNUSABLE};
@@ -44,6 +45,7 @@ pub fn explain<'a, S: Alter>(
     call: &'a Call<'a>,
     read: &'a Kept,
     heard: &'a Heard,
+    crumbs: &'a Crumbs,
     conn: &mut Connection<S>,
 ) {
     let (Some(input), Some(lines)) = (&read.bytes, &heard.lines.bytes) else {
@@ -63,6 +65,8 @@ pub fn explain<'a, S: Alter>(
         lines: lines.as_slice(),
         left_out: heard.course.refused.saturating_sub(most),
         cause: cause.as_deref(),
+        rounding: rounding_of(call.action),
+        findings: &crumbs.findings,
     };
     let mut errors = call.rt.stderr();
     let _ = notes(alloc, &mut errors, &mut Facts { alloc, conn }, &asked, most);

@@ -6,7 +6,7 @@ use Rattle.sqlite.specs.State.{HasCleanDisk, IsUnchanged, State, Survives}
 use Rattle.sqlite.specs.Store.{Ghosts}
 use Rattle.lot_page.specs.Cursor.{Stays}
 use Rattle.lot_rows.specs.Tables.{Has, Tables}
-use Rattle.lot_cli.specs.Reports.{Concludes, IsRead, Reports, ShowsReport, ShowsAllRows, ShowsSome}
+use Rattle.lot_cli.specs.Reports.{Concludes, IsRead, Reports, ShowsAllRows, ShowsBook, ShowsReport, ShowsSome}
 use Rattle.lot_report.specs.Output.{HasFailed, WriteCalls, WritesMade}
 use Rattle.lot_cli.specs.Says.{Halts, Told}
 use Rattle.lot_cli.specs.declared.halt.Halt.TheVariants as halt
@@ -65,18 +65,51 @@ reported g report old book later shown before mid written first between last sta
     let taken = state g book.conn in
     let calm : HasCleanDisk (state g later.conn) → HasCleanDisk taken = early taken (state g later.conn) reads.crash in
     inl (
-      shown,
-      mid,
-      between,
       (λ clean. found (calm clean)),
-      reads_on g old book later shown same look ready reads,
-      (λ clean entries stands. shows.holds clean entries (stands_along old taken entries (same (calm clean)).0.now_is stands)),
-      some,
-      (λ clean tables has. rows.holds clean tables (has_still old taken tables (unchanged_stays old taken (same (calm clean))) has)),
-      cause,
-      concludes,
+      record {
+        shown = shown;
+        mid = mid;
+        between = between;
+        read = reads_on g old book later shown same look ready reads;
+        of_book = λ clean entries stands. shows.holds clean entries (stands_along old taken entries (same (calm clean)).0.now_is stands);
+        some = some;
+        rows = λ clean tables has. rows.holds clean tables (has_still old taken tables (unchanged_stays old taken (same (calm clean))) has);
+        cause = cause;
+        concludes = concludes;
+      },
       refl,
     )
+
+-- a report of a book that can be used
+pub shows_book : {S : Type 0} (g : Ghosts S) (report : Report) (book later : Book S g) (shown : Result (Unit {0}) ShowFault)
+    (before mid written : Option (List ℕ)) (first between last : Option WriteCalls) (status : ℕ) → book.condition ≡ Ready
+    → ReadsBook g book later shown
+    → HoldsOfBook g book later (λ entries. ShowsReport report entries before mid shown)
+    → ShowsSome report before mid shown
+    → HoldsOfTables g book later (λ tables. ShowsAllRows report tables before mid shown)
+    → HasCause shown (record { before = first; after = between }) → Concludes shown mid written (record { before = between; after = last }) status
+    → ShowsBook report (state g book.conn) (state g later.conn) before written (record { before = first; after = last }) status
+shows_book g report book later shown before mid written first between last status ready reads shows some rows cause concludes = record {
+  shown = shown;
+  mid = mid;
+  between = between;
+  read = record {
+    device = reads.failed;
+    damaged = reads.damaged;
+    reopened = λ is. let none : Ready ≡ Unusable = sym ready ∙ reads.reopen.0 is in absurd cc;
+    sure = reads.sure;
+    going = reads.going;
+    unspent = reads.unspent;
+    same = reads.same;
+    left = reads.left;
+    crash = reads.crash;
+  };
+  of_book = shows.holds;
+  some = some;
+  rows = rows.holds;
+  cause = cause;
+  concludes = concludes;
+}
 
 -- a report that ends for the writer ends so where a call of it failed
 pub failed_writer : (fault : ShowFault) (calls : WritesMade) → HasCause (Err fault) calls → IsTrue (is_of_writer fault) → HasFailed calls.after

@@ -18,7 +18,10 @@ use Rattle.lot_store.proofs.ApplyLemmas.{stands_along}
 use Rattle.lot_store.proofs.ByTextLemmas.{has_along, runs_by_text_since}
 use Rattle.lot_store.specs.Create.{IsHandedBack, IsTaken, TellsBook, TellsOf}
 use Rattle.lot_report.specs.Output.{IsFlushed, WritesMade}
-use Rattle.lot_store.specs.Run.{IsWrittenOut, LeavesAfter, LeavesAtAnswer, LeavesAtFault, LeavesAtVerdict, RunsSession, RunsBook}
+use Rattle.lot_rounding.specs.declared.asked.Asked.{Asked}
+use Rattle.lot_rounding.specs.declared.rounding.Rounding.{Rounding}
+use Rattle.lot_store.specs.Run.{IsWrittenOut, LeavesAfter, LeavesAtAnswer, LeavesAtFault, LeavesAtVerdict, RunsSession}
+use Rattle.lot_store.specs.Turned.{RunsTurned}
 use Rattle.lot_store.specs.Session.{LeavesFirst, LeavesJudged, LeavesNext}
 use Rattle.lot_store.specs.declared.book.Ack.{Ack}
 use Rattle.lot_store.specs.declared.book.Ack.TheVariants as ack
@@ -107,28 +110,31 @@ runs_after_look commands from old mid new before written answer end same look ra
 }
 
 -- commands are run on the book that was taken up
-pub runs_on : (commands : List (Key × Command)) (from : ℕ) (old mid new : State) (before written : Option (List ℕ)) (calls : WritesMade) (was condition : Condition) (end : RunEnd) (status : ℕ)
+pub runs_on : (rounding : Option Rounding) (asked : List (Key × Asked)) (from : ℕ) (old mid new : State) (before written : Option (List ℕ)) (calls : WritesMade) (was condition : Condition) (end : RunEnd) (status : ℕ)
     → (HasCleanDisk mid → IsTaken old) → (HasCleanDisk mid → IsUnchanged old mid) → Survives old mid (λ _. ⊥) → was ≡ Ready
-    → RunsBook commands from mid new before written was condition end → (was ≡ Ready → end.ending ≢ Stopped NeedsReopen)
+    → RunsTurned rounding asked from mid new before written was condition end → (was ≡ Ready → end.ending ≢ Stopped NeedsReopen)
     → status ≡ code_of (status_of_run end) → (IsFlushed calls.before → IsWrittenOut end.ending calls)
-    → RunsOn commands from old new before written calls (record { status = status; halt = None })
-runs_on commands from old mid new before written calls was condition end status found same look ready (answer, ran, usable, known) stops is flushed =
-    inl (
-      answer,
-      end,
-      (λ clean. found (omega (arith, clean, ran.crash.clean))),
-      runs_after_look commands from old mid new before written answer end same look ran,
-      (usable ready, stops ready),
-      is,
-      refl,
-      flushed,
-    )
+    → RunsOn rounding asked from old new before written calls (record { status = status; halt = None })
+runs_on rounding asked from old mid new before written calls was condition end status found same look ready (turned, (answer, ran, usable, known), are) stops is flushed =
+    inl (record {
+      taken = λ clean. found (omega (arith, clean, ran.crash.clean));
+      turned = turned;
+      answer = answer;
+      end = end;
+      session = runs_after_look turned from old mid new before written answer end same look ran;
+      are_turned = λ clean entries stands.
+          are clean entries (stands_along old mid entries (same (omega (arith, clean, ran.crash.clean))).0.now_is stands);
+      never_reopens = (usable ready, stops ready);
+      status = is;
+      goes_on = refl;
+      output = flushed;
+    })
 
 -- the book isn't taken up
-pub left_alone : (commands : List (Key × Command)) (from : ℕ) (old new : State) (before written : Option (List ℕ)) (calls : WritesMade) (fault : AdoptFault) (told : Told)
+pub left_alone : (rounding : Option Rounding) (asked : List (Key × Asked)) (from : ℕ) (old new : State) (before written : Option (List ℕ)) (calls : WritesMade) (fault : AdoptFault) (told : Told)
     → (HasCleanDisk new → TellsOf old new (Err fault))
     → (HasCleanDisk new → fault ≢ adopt.Device → (tables : Tables) → Has old tables → TellsBook tables.book (Err fault)) → (HasCleanDisk new → IsHandedBack old new)
     → (HasCleanDisk new → IsUndone old new) → Survives old new (λ _. ⊥) → Halts (halt.Adopt fault) before written calls told
-    → RunsOn commands from old new before written calls told
-left_alone commands from old new before written calls fault told tells book back undone crash said =
+    → RunsOn rounding asked from old new before written calls told
+left_alone rounding asked from old new before written calls fault told tells book back undone crash said =
     inr (fault, record { tells = tells; told = book; handed_back = back; undone = undone; crash = crash }, said)

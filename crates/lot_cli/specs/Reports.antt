@@ -95,15 +95,21 @@ ShowsAllRows (Gains first last Text) tables = ShowsAllSales tables (first, last)
 ShowsAllRows (Gains first last Csv) tables = ShowsAllSalesCsv tables (first, last)
 ShowsAllRows Journal tables = ShowsAllEntries tables
 
--- a report of the book that is there is written, as far as its fault lets it, and concluded; or the database isn't taken up
+-- a report of a book is written, as far as its fault lets it, and concluded with that status
+pub record ShowsBook (report : Report) (old new : State) (before written : Option (List ℕ)) (calls : WritesMade) (status : ℕ) : Type 0 where
+  pub shown : Result (Unit {0}) ShowFault
+  pub mid : Option (List ℕ)
+  pub between : Option WriteCalls
+  pub read : IsRead old new shown
+  pub of_book : HasCleanDisk new → (entries : List Entry) → Stands old entries → ShowsReport report entries before mid shown
+  pub some : ShowsSome report before mid shown
+  pub rows : HasCleanDisk new → (tables : Tables) → Has old tables → ShowsAllRows report tables before mid shown
+  pub cause : HasCause shown (record { before = calls.before; after = between })
+  pub concludes : Concludes shown mid written (record { before = between; after = calls.after }) status
+
+-- a report of the book that is there is written; or the database isn't taken up
 abbrev pub Reports : Report → State → State → Option (List ℕ) → Option (List ℕ) → WritesMade → Told
     → Type 0
 Reports report old new before written calls told =
-    ((shown : Result (Unit {0}) ShowFault) × (mid : Option (List ℕ)) × (between : Option WriteCalls) × (HasCleanDisk new → IsTaken old) × IsRead old new shown
-    × (HasCleanDisk new → (entries : List Entry) → Stands old entries → ShowsReport report entries before mid shown)
-    × ShowsSome report before mid shown
-    × (HasCleanDisk new → (tables : Tables) → Has old tables → ShowsAllRows report tables before mid shown)
-    × HasCause shown (record { before = calls.before; after = between })
-    × Concludes shown mid written (record { before = between; after = calls.after }) told.status
-    × (told.halt ≡ None))
+    ((HasCleanDisk new → IsTaken old) × ShowsBook report old new before written calls told.status × (told.halt ≡ None))
     ⊎ ((fault : AdoptFault) × IsLeft old new fault × Halts (halt.Adopt fault) before written calls told)

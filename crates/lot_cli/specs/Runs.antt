@@ -1,12 +1,16 @@
 -- What is run of an input on the book that is there (docs/RULES.md, The program).
-use Rattle.std.specs.Prelude.{◌≡◌, ◌≢◌, ◌⊎◌, ℕ, zero, suc, List, [], ◌∷◌, None, Option, Result, Err, Some}
+use Rattle.std.specs.Prelude.{◌≡◌, ◌≢◌, ◌⊎◌, ℕ, zero, suc, List, [], ◌∷◌, None, Option, Result, Err, Some, option_map}
 use Rattle.sqlite.specs.State.{HasCleanDisk, State, Survives}
 use Rattle.lot_stream.specs.Status.{code_of}
 use Rattle.lot_stream.specs.declared.status.Status.{Status}
 use Rattle.lot_stream.specs.declared.status.Status.TheVariants.{Accepted, Refused, Stopped}
 use Rattle.lot_command.specs.declared.command.Command.{Command}
 use Rattle.lot_command.specs.declared.key.Key.{Key}
+use Rattle.lot_book.specs.Facts.{Entry}
+use Rattle.lot_rounding.specs.declared.asked.Asked.{Asked}
+use Rattle.lot_rounding.specs.declared.rounding.Rounding.{Rounding}
 use Rattle.lot_rows.specs.Tables.{Has, Tables}
+use Rattle.lot_stored.specs.StandFor.{Stands}
 use Rattle.lot_import.specs.declared.accounts.Accounts.{Accounts}
 use Rattle.lot_input.specs.Input.{Gives, GivesNone, Reading}
 use Rattle.lot_input.specs.Rows.{FileMeans, IsFaultyFile}
@@ -17,6 +21,7 @@ use Rattle.lot_report.specs.Output.{IsFlushed, WritesMade}
 use Rattle.lot_cli.specs.declared.halt.Halt.TheVariants as halt
 use Rattle.lot_store.specs.Create.{IsHandedBack, IsTaken, TellsBook, TellsOf}
 use Rattle.lot_store.specs.Run.{IsWrittenOut, RunsSession}
+use Rattle.lot_store.specs.Turned.{AreTurned}
 use Rattle.lot_store.specs.declared.book.Ack.{Ack}
 use Rattle.lot_store.specs.declared.fault.AdoptFault.{AdoptFault}
 use Rattle.lot_store.specs.declared.fault.AdoptFault.TheVariants as adopt
@@ -62,35 +67,53 @@ status_of_run end = status_ending end.ending end.refused
 abbrev pub NeverReopens : Result Ack ApplyFault → Ending → Type 0
 NeverReopens answer end = (answer ≢ Err (apply.Failed NeedsReopen)) × (end ≢ ending.Stopped NeedsReopen)
 
--- Commands, of which the first has that number, are run on the book that is there; or it isn't taken up. The answer is that to
--- the command at which the writer failed. Where all was flushed before, all is then and no call of the writer failed, or one did.
-abbrev pub RunsOn : List (Key × Command) → ℕ → State → State → Option (List ℕ) → Option (List ℕ)
+-- Commands are run on the book that is there: each that was handed in, or another in its place where an account takes crumbs.
+-- The first has that number, and the answer is that to the command at which the writer failed. Where all was flushed before, all
+-- is then and no call of the writer failed, or one did.
+pub record Runs (rounding : Option Rounding) (asked : List (Key × Asked)) (from : ℕ) (old new : State)
+    (before written : Option (List ℕ)) (calls : WritesMade) (told : Told) : Type 0 where
+  pub taken : HasCleanDisk new → IsTaken old
+  pub turned : List (Key × Command)
+  pub answer : Result Ack ApplyFault
+  pub end : RunEnd
+  pub session : RunsSession turned from old new before written answer end
+  pub are_turned : HasCleanDisk new → (entries : List Entry) → Stands old entries
+      → AreTurned rounding entries asked turned end.replied answer
+  pub never_reopens : NeverReopens answer end.ending
+  pub status : told.status ≡ code_of (status_of_run end)
+  pub goes_on : told.halt ≡ None
+  pub output : IsFlushed calls.before → IsWrittenOut end.ending calls
+
+-- so they are, or the book isn't taken up
+abbrev pub RunsOn : Option Rounding → List (Key × Asked) → ℕ → State → State → Option (List ℕ) → Option (List ℕ)
     → WritesMade → Told → Type 0
-RunsOn commands from old new before written calls told =
-    ((answer : Result Ack ApplyFault) × (end : RunEnd) × (HasCleanDisk new → IsTaken old) × RunsSession commands from old new before written answer end
-    × NeverReopens answer end.ending
-    × (told.status ≡ code_of (status_of_run end)) × (told.halt ≡ None)
-    × (IsFlushed calls.before → IsWrittenOut end.ending calls))
+RunsOn rounding asked from old new before written calls told =
+    Runs rounding asked from old new before written calls told
     ⊎ ((fault : AdoptFault) × IsLeft old new fault × Halts (halt.Adopt fault) before written calls told)
 
 -- ---- an input
 
 -- What is read gives no commands, and nothing is done to the book; or those that it gives are run. `Means` tells which
 -- commands an input gives, and `IsFaulty` which fault it has. The first of the commands has that number.
-abbrev pub RunsInput : (List ℕ → List (Key × Command) → Type 0) → (List ℕ → InputFault → Type 0)
+abbrev pub RunsInput : (List ℕ → List (Key × Asked) → Type 0) → (List ℕ → InputFault → Type 0) → Option Rounding
     → ℕ → Reading → State → State → Option (List ℕ) → Option (List ℕ) → WritesMade → Told → Type 0
-RunsInput Means IsFaulty from reading old new before written calls told =
+RunsInput Means IsFaulty rounding from reading old new before written calls told =
     ((fault : InputFault) × GivesNone IsFaulty reading fault × IsUntouched old new × Halts (halt.Input fault) before written calls told)
-    ⊎ ((keyed : List (Key × Command)) × Gives Means reading keyed × RunsOn keyed from old new before written calls told)
+    ⊎ ((keyed : List (Key × Asked)) × Gives Means reading keyed × RunsOn rounding keyed from old new before written calls told)
 
 -- ledger text that is posted, and a broker file that is imported (docs/RULES.md, The program)
-abbrev pub Posts : List ℕ → ℕ → Reading → State → State → Option (List ℕ) → Option (List ℕ)
+abbrev pub Posts : List ℕ → Option Rounding → ℕ → Reading → State → State → Option (List ℕ) → Option (List ℕ)
     → WritesMade → Told → Type 0
-Posts batch from = RunsInput (TextMeans batch from) IsFaultyText from
+Posts batch rounding from = RunsInput (TextMeans batch from) IsFaultyText rounding from
 
-abbrev pub Imports : List ℕ → Accounts → ℕ → Reading → State → State → Option (List ℕ)
+-- how many decimals the cash of a row has, where an account takes crumbs
+abbrev pub decimals_of : Option Rounding → Option ℕ
+decimals_of rounding = option_map (λ (r : Rounding). r.decimals) rounding
+
+abbrev pub Imports : List ℕ → Accounts → Option Rounding → ℕ → Reading → State → State → Option (List ℕ)
     → Option (List ℕ) → WritesMade → Told → Type 0
-Imports batch accounts from = RunsInput (FileMeans batch accounts from) IsFaultyFile from
+Imports batch accounts rounding from =
+    RunsInput (FileMeans batch accounts (decimals_of rounding) from) (IsFaultyFile (decimals_of rounding)) rounding from
 
 -- ---- a command in place of a row
 
@@ -99,9 +122,9 @@ abbrev pub unfit : ℕ
 unfit = 2
 
 -- the input is ledger text of one command, and this is that command under the key of the row, alone in the list
-abbrev pub RowAlone : List ℕ → List ℕ → List ℕ → List (Key × Command) → Type 0
+abbrev pub RowAlone : List ℕ → List ℕ → List ℕ → List (Key × Asked) → Type 0
 RowAlone batch reference input keyed =
-    (one : Key × Command) × RowMeans batch reference input (Some one) × (keyed ≡ one ∷ [])
+    (one : Key × Asked) × RowMeans batch reference input (Some one) × (keyed ≡ one ∷ [])
 
 -- what is read is ledger text without a command, or of several: nothing is done to the book, and nothing is written
 pub record IsUnfit (batch reference : List ℕ) (reading : Reading) (old new : State)
@@ -112,8 +135,8 @@ pub record IsUnfit (batch reference : List ℕ) (reading : Reading) (old new : S
   pub ends : (told.status ≡ unfit) × (told.halt ≡ None)
 
 -- the one command of ledger text that is posted in place of a row of a broker file
-abbrev pub PostsRow : List ℕ → List ℕ → Reading → State → State → Option (List ℕ)
+abbrev pub PostsRow : List ℕ → List ℕ → Option Rounding → Reading → State → State → Option (List ℕ)
     → Option (List ℕ) → WritesMade → Told → Type 0
-PostsRow batch reference reading old new before written calls told =
+PostsRow batch reference rounding reading old new before written calls told =
     IsUnfit batch reference reading old new before written calls told
-    ⊎ RunsInput (RowAlone batch reference) IsFaultyText 1 reading old new before written calls told
+    ⊎ RunsInput (RowAlone batch reference) IsFaultyText rounding 1 reading old new before written calls told

@@ -1,5 +1,5 @@
 -- What an action writes, with which status it ends, and what it leaves of the book (docs/RULES.md, The program).
-use Rattle.std.specs.Prelude.{◌≡◌, ◌≢◌, ◌⊎◌, ℕ, List, [], IfSome, IsTrue, None, Option, codes, ⊤}
+use Rattle.std.specs.Prelude.{◌≡◌, ◌≢◌, ◌⊎◌, ℕ, nat_eq, if◌then◌else◌, List, [], IfSome, IsTrue, None, Some, Option, codes, ⊤}
 use Rattle.sqlite.specs.State.{HasCleanDisk, KeepsCommit, State, Survives}
 use Rattle.lot_check.specs.Answer.{IsOutcome}
 use Rattle.lot_stream.specs.Status.{IsStatus}
@@ -10,7 +10,6 @@ use Rattle.lot_migrate.specs.Migrate.{IsOfFirst, IsOfSecond, LeavesMigrated, Mig
 use Rattle.lot_migrate.specs.declared.fault.MigrateFault.{MigrateFault}
 use Rattle.lot_report.specs.Output.{WritesMade}
 use Rattle.lot_report.specs.Printed.{line}
-use Rattle.lot_input.specs.Input.{Reading}
 use Rattle.lot_cli.specs.Reports.{Reports}
 use Rattle.lot_cli.specs.Runs.{Imports, IsUntouched, Posts, PostsRow, unfit}
 use Rattle.lot_cli.specs.Says.{Halts, Succeeds, Told}
@@ -26,6 +25,7 @@ use Rattle.lot_verify.specs.Verify.{NotVerified}
 use Rattle.lot_verify.specs.declared.fault.VerifyFault.{VerifyFault}
 use Rattle.lot_verify.specs.declared.fault.VerifyFault.TheVariants as verify
 use Rattle.lot_args.specs.declared.action.Action.{Action}
+use Rattle.lot_input.specs.Input.{Reading}
 use Rattle.lot_args.specs.declared.action.Action.TheVariants.{Check, Init, Migrate, Post, PostRow, Import, Holdings, Gains, Journal, Verify}
 use Rattle.std.specs.Io.KnownBytes.{Appends}
 
@@ -118,12 +118,12 @@ SaysVerified old new before written calls told =
 
 -- the action asks the reader for nothing
 abbrev pub ReadsNothing : Action → Type 0
-ReadsNothing Check = ⊥
+ReadsNothing (Check rounding) = ⊥
 ReadsNothing (Init book) = ⊤
 ReadsNothing (Migrate book) = ⊤
-ReadsNothing (Post book batch from) = ⊥
-ReadsNothing (PostRow book batch reference) = ⊥
-ReadsNothing (Import book batch accounts from) = ⊥
+ReadsNothing (Post book batch from rounding) = ⊥
+ReadsNothing (PostRow book batch reference rounding) = ⊥
+ReadsNothing (Import book batch accounts from rounding) = ⊥
 ReadsNothing (Holdings book day format) = ⊤
 ReadsNothing (Gains book first last format) = ⊤
 ReadsNothing (Journal book) = ⊤
@@ -131,12 +131,12 @@ ReadsNothing (Verify book) = ⊤
 
 -- the numbers with which an action ends: a post in place of a row may find that its text doesn't fit
 abbrev pub EndsWith : Action → ℕ → Type 0
-EndsWith (PostRow book batch reference) status = IsStatus status ⊎ (status ≡ unfit)
-EndsWith Check status = IsStatus status
+EndsWith (PostRow book batch reference rounding) status = IsStatus status ⊎ (status ≡ unfit)
+EndsWith (Check rounding) status = IsStatus status
 EndsWith (Init book) status = IsStatus status
 EndsWith (Migrate book) status = IsStatus status
-EndsWith (Post book batch from) status = IsStatus status
-EndsWith (Import book batch accounts from) status = IsStatus status
+EndsWith (Post book batch from rounding) status = IsStatus status
+EndsWith (Import book batch accounts from rounding) status = IsStatus status
 EndsWith (Holdings book day format) status = IsStatus status
 EndsWith (Gains book first last format) status = IsStatus status
 EndsWith (Journal book) status = IsStatus status
@@ -153,17 +153,28 @@ pub record Call : Type 1 where
   pub calls : WritesMade
   pub told : Told
 
+-- ---- a check with an account for crumbs
+
+-- the batch under which its commands are posted
+abbrev pub check_batch : List ℕ
+check_batch = codes "check"
+
+-- the status behind the holdings: that of the commands, unless the holdings can't be written
+abbrev pub status_behind : ℕ → ℕ → ℕ
+status_behind posted shown = if nat_eq shown 0 then posted else shown
+
 -- The outcome of an action: what it writes behind what was written before, and its status; whether it ended before its first
 -- command, and why; and what the connection stands for after it, and a crash may leave.
 abbrev pub Serves : Action → Call → Type 0
-Serves Check c =
+Serves (Check None) c =
     IsUntouched c.old c.new × IfSome c.input.bytes (λ input. (text : List ℕ) × Appends c.before c.written text
     × IsOutcome c.input.calls c.calls input text c.told.status) × (c.told.halt ≡ None)
+Serves (Check (Some rounding)) c = ⊤
 Serves (Init book) c = Makes c.old c.new c.before c.written c.calls c.told
 Serves (Migrate book) c = SaysMigrated c.old c.new c.before c.written c.calls c.told
-Serves (Post book batch from) c = Posts batch from c.input c.old c.new c.before c.written c.calls c.told
-Serves (PostRow book batch reference) c = PostsRow batch reference c.input c.old c.new c.before c.written c.calls c.told
-Serves (Import book batch accounts from) c = Imports batch accounts from c.input c.old c.new c.before c.written c.calls c.told
+Serves (Post book batch from rounding) c = Posts batch rounding from c.input c.old c.new c.before c.written c.calls c.told
+Serves (PostRow book batch reference rounding) c = PostsRow batch reference rounding c.input c.old c.new c.before c.written c.calls c.told
+Serves (Import book batch accounts from rounding) c = Imports batch accounts rounding from c.input c.old c.new c.before c.written c.calls c.told
 Serves (Holdings book day format) c = Reports (report.Holdings day format) c.old c.new c.before c.written c.calls c.told
 Serves (Gains book first last format) c = Reports (report.Gains first last format) c.old c.new c.before c.written c.calls c.told
 Serves (Journal book) c = Reports report.Journal c.old c.new c.before c.written c.calls c.told

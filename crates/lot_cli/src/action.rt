@@ -4,6 +4,7 @@ ghost use Rattle.lot_cli.specs.Serve.{EndsWith, Makes, ReadsNothing, Serves};
 ghost use Rattle.sqlite.specs.Held.{state};
 ghost use Rattle.sqlite.specs.Tree.{Trees};
 
+use crate::crumbs::check_with;
 use crate::halt::Halt;
 use crate::import::import;
 use crate::migration::migrate;
@@ -13,6 +14,7 @@ use crate::run::{halted, tell};
 use crate::verification::verify;
 use lot_args::Action;
 use lot_check::check;
+use lot_completion::Watch;
 use lot_migrate::Progress;
 use lot_report::{CountedWrite, print_texts};
 use lot_store::{HandedBack, create};
@@ -45,17 +47,19 @@ pub struct Served<S: Alter> {
 ///   the writer failed.
 /// - `verify` judges the book again from its entries, compares every table, and writes `book verified`. It reads no input and
 ///   changes nothing.
-/// - Without a subcommand a check is done. It leaves the book alone.
+/// - Without a subcommand a check is done. It leaves the book alone. With an account for crumbs it makes a book in a database
+///   without tables, posts the commands to it, and writes what it holds.
 ///
-/// A fault is one line (docs/FORMATS.md, Faults). Of a migration alone `progress` is told how far it is. Returns the status of
-/// the program:
+/// `post`, `import` and a check may have an account that takes crumbs. Then another command may be judged in the place of one that
+/// was handed in, and be the entry. A fault is one line (docs/FORMATS.md, Faults). `progress` is told how far a migration is, and
+/// what becomes of crumbs. Returns the status of the program:
 ///
 /// - 0: all commands were accepted or repeated, the book was made, migrated or verified, or the report is whole;
 /// - 1: some commands were refused;
 /// - 2: the text for a row isn't one command;
 /// - 3: a fault of the input;
 /// - 4: a fault of the book, of the output or of memory. It goes before 1.
-pub fn serve<R: CountedRead, W: CountedWrite, P: Progress, S: Alter>(
+pub fn serve<R: CountedRead, W: CountedWrite, P: Progress + Watch, S: Alter>(
     alloc: Global,
     action: &Action,
     reader: &mut R,
@@ -85,25 +89,50 @@ pub fn serve<R: CountedRead, W: CountedWrite, P: Progress, S: Alter>(
     ensures status { EndsWith action.now result.status }
 {
     match action {
-        Action::Check => Served {
+        Action::Check { rounding: None } => Served {
             status: check(alloc, reader, writer),
             halt: None,
             conn,
         },
+        Action::Check {
+            rounding: Some(rounding),
+        } => check_with(alloc, rounding, reader, writer, progress, conn),
         Action::Init { .. } => init(alloc, writer, conn),
         Action::Migrate { .. } => migrate(alloc, writer, progress, conn),
-        Action::Post { batch, from, .. } => post(alloc, batch, *from, reader, writer, conn),
+        Action::Post {
+            batch,
+            from,
+            rounding,
+            ..
+        } => {
+            let rounding = rounding.as_ref();
+            post(
+                alloc, batch, rounding, *from, reader, writer, progress, conn,
+            )
+        }
         Action::PostRow {
             batch,
             reference,
+            rounding,
             ..
-        } => post_row(alloc, batch, reference, reader, writer, conn),
+        } => {
+            let rounding = rounding.as_ref();
+            post_row(
+                alloc, batch, reference, rounding, reader, writer, progress, conn,
+            )
+        }
         Action::Import {
             batch,
             accounts,
             from,
+            rounding,
             ..
-        } => import(alloc, batch, accounts, *from, reader, writer, conn),
+        } => {
+            let rounding = rounding.as_ref();
+            import(
+                alloc, batch, accounts, rounding, *from, reader, writer, progress, conn,
+            )
+        }
         Action::Holdings { day, format, .. } => {
             let asked = Report::Holdings {
                 day: *day,

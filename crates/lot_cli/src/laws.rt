@@ -1,5 +1,5 @@
 //! Laws of what the contract of `serve` cites. Each is the contract of a function that does nothing.
-ghost use Rattle.std.specs.Prelude.{◌≡◌, ◌≢◌, ◌≤◌, Some, ℕ, List, [], length};
+ghost use Rattle.std.specs.Prelude.{◌≡◌, ◌≢◌, ◌≤◌, Option, Some, ℕ, List, [], length};
 ghost use Rattle.sqlite.specs.Files.{Finds, HoldsDatabase, IsOpened, file_state, image_of};
 ghost use Rattle.sqlite.specs.Held.{Held, state};
 ghost use Rattle.sqlite.specs.State.{IsLive, Opens};
@@ -22,6 +22,7 @@ ghost use Rattle.lot_import.specs.declared.row.Row.{Row};
 ghost use Rattle.lot_command.specs.Sayable.{IsSayable};
 ghost use Rattle.lot_input.specs.Keyed.{import_source, row_key};
 ghost use Rattle.lot_cli.specs.Again.{IsOneRun, SentAgain};
+ghost use Rattle.lot_rounding.specs.declared.asked.Asked.{Asked};
 ghost use Rattle.lot_cli.specs.Headline.{Headline, Sent, StopsLeave};
 ghost use Rattle.lot_cli.specs.Reopen.{IsOpenedAgain, LeavesOneOf, StandsForOneOf};
 ghost use Rattle.lot_store.specs.Session.{StopLeaves};
@@ -57,29 +58,41 @@ pub fn sending_again_is_one_run()
         → SentAgain before commands replied again book → IsOneRun before commands replied again book }
 {}
 
-/// A row of a broker file acts once. Where it is accepted, its text stands under its key. While it stands there, the row is a
-/// repeat where it comes again to the same accounts, and another row with its `ref` is refused. Neither changes anything.
+/// A row of a broker file acts once. Where it is accepted as it is handed in, its text stands under its key. While it stands
+/// there, the row is a repeat where it comes again to the same accounts, with its cash rounded to as many decimals, and another
+/// row with its `ref` is refused. Neither changes anything.
 ///
 /// A command may stand there that was posted in place of the row. Then the row changes nothing when its file comes: it is a
 /// repeat where it says that command, and else it is refused.
 pub fn a_row_acts_once()
-    ensures stands { (book after : List Entry) (source : List ℕ) (accounts : Accounts) (row : Row) (keyed : Key × Command)
-        → IsKeyed source accounts row keyed → JudgesOn book keyed.0 keyed.1 Accepted after
-        → text_under after keyed.0 ≡ Some (canonical keyed.1) }
-    ensures repeats { (book after : List Entry) (source : List ℕ) (accounts : Accounts) (row : Row) (keyed again : Key × Command) (verdict : Verdict)
-        → IsKeyed source accounts row keyed → IsKeyed source accounts row again → text_under book keyed.0 ≡ Some (canonical keyed.1)
-        → JudgesOn book again.0 again.1 verdict after → (verdict ≡ Repeated) × (after ≡ book) }
-    ensures refused { (book after : List Entry) (source : List ℕ) (accounts : Accounts) (row other : Row) (keyed next : Key × Command) (verdict : Verdict)
-        → IsKeyed source accounts row keyed → IsKeyed source accounts other next → other.name ≡ row.name → other ≢ row
-        → IsSayable keyed.1 → IsSayable next.1 → text_under book keyed.0 ≡ Some (canonical keyed.1)
-        → JudgesOn book next.0 next.1 verdict after → (verdict ≡ Refused KeyReused) × (after ≡ book) }
-    ensures in_place { (book after : List Entry) (batch : List ℕ) (accounts : Accounts) (row : Row)
-        (posted keyed : Key × Command) (verdict : Verdict)
+    ensures stands { (book after : List Entry) (source : List ℕ) (accounts : Accounts)
+        (decimals : Option ℕ) (row : Row) (keyed : Key × Asked)
+        → IsKeyed source accounts decimals row keyed
+        → JudgesOn book keyed.0 keyed.1.command Accepted after
+        → text_under after keyed.0 ≡ Some (canonical keyed.1.command) }
+    ensures repeats { (book after : List Entry) (source : List ℕ) (accounts : Accounts)
+        (decimals : Option ℕ) (row : Row) (keyed again : Key × Asked) (verdict : Verdict)
+        → IsKeyed source accounts decimals row keyed → IsKeyed source accounts decimals row again
+        → text_under book keyed.0 ≡ Some (canonical keyed.1.command)
+        → JudgesOn book again.0 again.1.command verdict after → (verdict ≡ Repeated) × (after ≡ book) }
+    ensures refused { (book after : List Entry) (source : List ℕ) (accounts : Accounts)
+        (decimals others : Option ℕ) (row other : Row) (keyed next : Key × Asked)
+        (verdict : Verdict)
+        → IsKeyed source accounts decimals row keyed → IsKeyed source accounts others other next
+        → other.name ≡ row.name → other ≢ row
+        → IsSayable keyed.1.command → IsSayable next.1.command
+        → text_under book keyed.0 ≡ Some (canonical keyed.1.command)
+        → JudgesOn book next.0 next.1.command verdict after
+        → (verdict ≡ Refused KeyReused) × (after ≡ book) }
+    ensures in_place { (book after : List Entry) (batch : List ℕ) (accounts : Accounts)
+        (decimals : Option ℕ) (row : Row) (posted : Key × Command) (keyed : Key × Asked)
+        (verdict : Verdict)
         → posted.0 ≡ row_key batch row.name → text_under book posted.0 ≡ Some (canonical posted.1)
-        → IsKeyed (import_source batch) accounts row keyed → IsSayable posted.1 → IsSayable keyed.1
-        → JudgesOn book keyed.0 keyed.1 verdict after
-        → ((posted.1 ≢ keyed.1) → (verdict ≡ Refused KeyReused) × (after ≡ book))
-        × ((posted.1 ≡ keyed.1) → (verdict ≡ Repeated) × (after ≡ book)) }
+        → IsKeyed (import_source batch) accounts decimals row keyed
+        → IsSayable posted.1 → IsSayable keyed.1.command
+        → JudgesOn book keyed.0 keyed.1.command verdict after
+        → ((posted.1 ≢ keyed.1.command) → (verdict ≡ Refused KeyReused) × (after ≡ book))
+        × ((posted.1 ≡ keyed.1.command) → (verdict ≡ Repeated) × (after ≡ book)) }
 {}
 
 /// Where a connection that was opened shows what a stop left of a book, it shows this book: its

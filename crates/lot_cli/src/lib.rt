@@ -4,6 +4,7 @@
 //!
 //! - `action`: `serve`, and what an action leaves.
 //! - `post`: ledger text posted to the book that is there; `import`: a broker file. `lot_input` says what an input gives.
+//! - `crumbs`: a check with an account that takes crumbs.
 //! - `migration`: a book of edition 1 taken over; `verification`: a book verified.
 //! - `run`: commands run on the book that is there.
 //! - `report`: reports of the book that is there.
@@ -12,6 +13,7 @@
 #![tactic(auto)]
 
 mod action;
+mod crumbs;
 mod halt;
 mod import;
 pub mod laws;
@@ -26,8 +28,9 @@ pub use halt::Halt;
 pub use lot_args::{
     Action, BadOption, Batch, Effect, Format, Notes, Request, Start, WordsFault, parse_words,
 };
+pub use lot_completion::{Note, Watch};
 pub use lot_input::InputFault;
-pub use lot_migrate::{MigrateFault, Progress, Unwatched};
+pub use lot_migrate::{MigrateFault, Progress};
 pub use lot_report::{CountedWrite, CountedWriter};
 pub use lot_store::{AdoptFault, CreateFault};
 pub use lot_stream::{Counted, CountedRead, SlurpFault, slurp};

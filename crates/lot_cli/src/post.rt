@@ -1,4 +1,4 @@
-ghost use Rattle.std.specs.Prelude.{◌≡◌, ◌⊎◌, None, false};
+ghost use Rattle.std.specs.Prelude.{◌≡◌, ◌⊎◌, None, false, option_copied};
 ghost use Rattle.lot_stream.specs.Status.{IsStatus};
 ghost use Rattle.lot_cli.specs.Runs.{Posts, PostsRow, unfit};
 ghost use Rattle.sqlite.specs.Held.{state};
@@ -8,8 +8,10 @@ use crate::halt::Halt;
 use crate::run::{halted, run};
 use lot_args::{Batch, Start};
 use lot_base::Label;
+use lot_completion::Watch;
 use lot_input::{keyed_row, keyed_text};
 use lot_report::CountedWrite;
+use lot_rounding::Rounding;
 use lot_stream::CountedRead;
 use sqlite::{Alter, Connection};
 use std::alloc::Global;
@@ -21,17 +23,19 @@ const UNFIT: u8 = 2;
 /// batch.
 ///
 /// All that the reader has is read before the book is taken up.
-pub(crate) fn post<R: CountedRead, W: CountedWrite, S: Alter>(
+pub(crate) fn post<R: CountedRead, W: CountedWrite, N: Watch, S: Alter>(
     alloc: Global,
     batch: &Batch,
+    rounding: Option<&Rounding>,
     from: Start,
     reader: &mut R,
     writer: &mut W,
+    watch: &mut N,
     conn: Connection<S>,
 ) -> Served<S>
     requires outside { conn.in_transaction ≡ false }
     requires unlimited { conn.step_limit ≡ None }
-    ensures posts { Posts batch.now from (record {
+    ensures posts { Posts batch.now (option_copied rounding.entry) from (record {
       bytes = R.remaining reader.old;
       left = R.remaining reader.new;
       calls = record { before = R.calls reader.old; after = R.calls reader.new };
@@ -44,7 +48,7 @@ pub(crate) fn post<R: CountedRead, W: CountedWrite, S: Alter>(
 {
     let first = from.number() as usize;
     match keyed_text(alloc, batch, first, reader) {
-        Ok(commands) => run(alloc, &commands, first, writer, conn),
+        Ok(commands) => run(alloc, &commands, rounding, first, writer, watch, conn),
         Err(fault) => halted(writer, Halt::Input(fault), conn),
     }
 }
@@ -53,17 +57,19 @@ pub(crate) fn post<R: CountedRead, W: CountedWrite, S: Alter>(
 /// files of the batch.
 ///
 /// All that the reader has is read before the book is taken up. Where the text has no command, or several, nothing is written.
-pub(crate) fn post_row<R: CountedRead, W: CountedWrite, S: Alter>(
+pub(crate) fn post_row<R: CountedRead, W: CountedWrite, N: Watch, S: Alter>(
     alloc: Global,
     batch: &Batch,
     reference: &Label,
+    rounding: Option<&Rounding>,
     reader: &mut R,
     writer: &mut W,
+    watch: &mut N,
     conn: Connection<S>,
 ) -> Served<S>
     requires outside { conn.in_transaction ≡ false }
     requires unlimited { conn.step_limit ≡ None }
-    ensures posts { PostsRow batch.now reference.now (record {
+    ensures posts { PostsRow batch.now reference.now (option_copied rounding.entry) (record {
       bytes = R.remaining reader.old;
       left = R.remaining reader.new;
       calls = record { before = R.calls reader.old; after = R.calls reader.new };
@@ -75,7 +81,7 @@ pub(crate) fn post_row<R: CountedRead, W: CountedWrite, S: Alter>(
     ensures status { IsStatus result.status ⊎ (result.status ≡ unfit) }
 {
     match keyed_row(alloc, batch, reference, reader) {
-        Ok(Some(keyed)) => run(alloc, &[keyed], 1, writer, conn),
+        Ok(Some(keyed)) => run(alloc, &[keyed], rounding, 1, writer, watch, conn),
         Ok(None) => Served {
             status: UNFIT,
             halt: None,

@@ -71,7 +71,7 @@ pub(crate) fn write_report<W: CountedWrite, S: Alter>(
 }
 
 /// Writes a report of a book, as far as its fault lets it. Nothing is flushed.
-fn show<W: CountedWrite, S: Alter>(
+pub(crate) fn show<W: CountedWrite, S: Alter>(
     alloc: Global,
     report: Report,
     book: &mut Book<S>,
@@ -113,7 +113,7 @@ fn show<W: CountedWrite, S: Alter>(
 
 /// Ends a report: flushes it where it is whole, else reports why it isn't. Nothing more is asked of a writer that failed.
 /// Returns the status of the program.
-fn conclude<W: CountedWrite>(writer: &mut W, shown: Result<(), ShowFault>) -> u8
+pub(crate) fn conclude<W: CountedWrite>(writer: &mut W, shown: Result<(), ShowFault>) -> u8
     ensures concludes { (before : Option WriteCalls) → HasCause shown (record {
       before = before;
       after = W.calls writer.old;

@@ -1,8 +1,7 @@
 -- A completion balances in each currency that has a crumb.
-use Rattle.std.proofs.Common.{◌≡◌, ◌∙◌, ℕ, suc, Bool, true, false, cond, List, [], ◌∷◌, ◌++◌, Option, None, Some, ℤ, pos, ◌+ℤ◌, refl, sym, ap, subst, arith}
-use Rattle.std.specs.Prelude.{flat_map, map, nat_eq}
+use Rattle.std.proofs.Common.{◌≡◌, ◌∙◌, ℕ, suc, Bool, true, false, cond, List, [], ◌∷◌, ◌++◌, append_assoc, Option, None, Some, ℤ, pos, ◌+ℤ◌, refl, sym, ap, subst, arith}
+use Rattle.std.specs.Prelude.{flat_map, map}
 use Rattle.std.specs.List.{AllByRecursion}
-use Rattle.std.specs.Ordering.{int_eq}
 use Rattle.std.proofs.lemmas.Grind.{flat_map-append}
 use Rattle.std.proofs.lemmas.Int.{ints}
 use Rattle.lot_num.specs.Sum.{sum_of}
@@ -17,8 +16,7 @@ use Rattle.lot_book.specs.Currencies.{sum_in}
 use Rattle.lot_book.specs.Facts.{Facts}
 use Rattle.lot_book.proofs.CaseLemmas.{by_bool}
 use Rattle.lot_book.proofs.SumLemmas.{sum_in-append, sum_in_apart, sum_in_here}
-use Rattle.lot_completion.specs.Crumbs.{crumb_postings, posting_in, rest_of, rest_posting, speck_of, weight_at, weights_at, whole_of, whole_posting}
-use Rattle.lot_command.specs.declared.price.Price.TheVariants as Price
+use Rattle.lot_completion.specs.Crumbs.{crumb_postings, is_nothing, part_posting, posting_in, price_in, rest_of, speck_of, weight_at, weights_at, whole_of}
 use Rattle.lot_laws.proofs.StepLemmas.{books_one}
 use Rattle.lot_completion.proofs.CrumbLemmas.{made_up}
 
@@ -70,7 +68,7 @@ module _ (ties : TieRule) (facts : Facts) (day : ℤ) (place : ℕ) (ps ys : Lis
       record { first = here.first; rest = here.rest; legs = here.legs; at = here.at; all = here.all; books = here.books; behind = here.behind }
   split_next before account (Some amount) booked (booking, to, follows) = split_booked before account amount booked booking to follows
 
-split_books : (ties : TieRule) (facts : Facts) (day : ℤ) (before : List Leg) (place : ℕ) (xs ys : List Posting) (booked : List Booked)
+pub split_books : (ties : TieRule) (facts : Facts) (day : ℤ) (before : List Leg) (place : ℕ) (xs ys : List Posting) (booked : List Booked)
     → BooksAllUnder ties facts day before place (xs ++ ys) (All booked) → Splits ties facts day before place xs ys booked
 split_books ties facts day before place [] ys booked h =
     record { first = []; rest = booked; legs = before; at = place; all = refl; books = refl; behind = h }
@@ -79,7 +77,7 @@ split_books ties facts day before place (p ∷ ps) ys booked h =
 
 -- ---- postings without braces weigh by their prices, whatever the book says
 
-abbrev IsPlain : Posting → Type 0
+abbrev pub IsPlain : Posting → Type 0
 IsPlain posting = (amount : Amount) × (posting.amount ≡ Some amount) × (amount.cost ≡ None)
 
 plain_weight : (booked : Booked) (amount : Amount) → booked.amount ≡ amount → amount.cost ≡ None → weights_of booked ≡ weight_at (Some amount)
@@ -100,7 +98,7 @@ module _ (ties : TieRule) (facts : Facts) (day : ℤ) (at : ℕ) (ps : List Post
       ∙ ap (λ ws. weight_at (Some amount) ++ ws)
       (others_weigh (legs ++ b.legs) found.0 (subst (λ (o : Bookings). BooksAllUnder ties facts day (legs ++ b.legs) (suc at) ps o) found.1 rest))
 
-plain_weights : (ties : TieRule) (facts : Facts) (day : ℤ) (legs : List Leg) (at : ℕ) (ys : List Posting) (booked : List Booked)
+pub plain_weights : (ties : TieRule) (facts : Facts) (day : ℤ) (legs : List Leg) (at : ℕ) (ys : List Posting) (booked : List Booked)
     → AllByRecursion IsPlain ys → BooksAllUnder ties facts day legs at ys (All booked) → weights_in booked ≡ weights_at ys
 plain_weights ties facts day legs at [] booked plain h = let none : booked ≡ [] = cc in ap weights_in none
 plain_weights ties facts day legs at (p ∷ ps) booked ((amount, is, cost), plain) h =
@@ -121,24 +119,25 @@ cond_plain : (b : Bool) (p : Posting) (more : List Posting) → IsPlain p → Al
 cond_plain true p more plain all = all
 cond_plain false p more plain all = (plain, all)
 
-crumb_plain : (account currency : List ℕ) (whole speck : ℤ) (rest : ℕ) (more : List Posting) → AllByRecursion IsPlain more
-    → AllByRecursion IsPlain ((whole_posting account currency whole ++ rest_posting account currency speck rest) ++ more)
-crumb_plain account currency whole speck rest more all = grouped (int_eq whole (pos 0)) (nat_eq rest 0)
-  where
-    first : Posting
-    first = posting_in account currency whole None
+part_plain : (account currency : List ℕ) (units : ℤ) (rate : Option ℕ) (more : List Posting) → AllByRecursion IsPlain more
+    → AllByRecursion IsPlain (part_posting account currency units rate ++ more)
+part_plain account currency units rate more all =
+    cond_plain (is_nothing units rate) (posting_in account currency units (price_in currency rate)) more
+    (posting_plain account currency units (price_in currency rate)) all
 
-    second : Posting
-    second = posting_in account currency speck (Some (Price.Each (record { rate = rest; currency = currency })))
+crumb_plain : (account : List ℕ) (crumb : List ℕ × ℤ) (more : List Posting) → AllByRecursion IsPlain more
+    → AllByRecursion IsPlain (crumb_postings account crumb ++ more)
+crumb_plain account crumb more all =
+    let whole = part_posting account crumb.0 (whole_of crumb.1) None in
+    let rest = part_posting account crumb.0 (speck_of crumb.1) (Some (rest_of crumb.1)) in
+    subst (AllByRecursion IsPlain) (sym (append_assoc whole rest more))
+    (part_plain account crumb.0 (whole_of crumb.1) None (rest ++ more)
+    (part_plain account crumb.0 (speck_of crumb.1) (Some (rest_of crumb.1)) more all))
 
-    grouped : (a b : Bool) → AllByRecursion IsPlain ((cond a [] (first ∷ []) ++ cond b [] (second ∷ [])) ++ more)
-    grouped true b = cond_plain b second more (posting_plain account currency speck _) all
-    grouped false b = (posting_plain account currency whole None, cond_plain b second more (posting_plain account currency speck _) all)
-
-crumbs_plain : (account : List ℕ) (crumbs : List (List ℕ × ℤ)) → AllByRecursion IsPlain (flat_map (crumb_postings account) crumbs)
+pub crumbs_plain : (account : List ℕ) (crumbs : List (List ℕ × ℤ)) → AllByRecursion IsPlain (flat_map (crumb_postings account) crumbs)
 crumbs_plain account [] = tt
 crumbs_plain account (c ∷ cs) =
-    crumb_plain account c.0 (whole_of c.1) (speck_of c.1) (rest_of c.1) (flat_map (crumb_postings account) cs) (crumbs_plain account cs)
+    crumb_plain account c (flat_map (crumb_postings account) cs) (crumbs_plain account cs)
 
 -- ---- what they weigh in a currency
 
@@ -169,7 +168,7 @@ crumb_weighs account c cs name =
     (λ e. ap (λ z. z +ℤ sum_in cs name) (sum ∙ ap (λ b. cond b (sum_of (map (λ (x : List ℕ × ℤ). x.1) (weights_at (crumb_postings account c)))) (pos 0)) e)
     ∙ omega (arith, ints) ∙ sym (sum_in_apart c cs name e))
 
-crumbs_weigh : (account : List ℕ) (crumbs : List (List ℕ × ℤ)) (name : List ℕ)
+pub crumbs_weigh : (account : List ℕ) (crumbs : List (List ℕ × ℤ)) (name : List ℕ)
     → sum_in (weights_at (flat_map (crumb_postings account) crumbs)) name ≡ sum_in crumbs name
 crumbs_weigh account [] name = refl
 crumbs_weigh account (c ∷ cs) name =

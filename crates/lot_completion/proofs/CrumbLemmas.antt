@@ -7,9 +7,9 @@ use Rattle.std.specs.Ordering.{int_eq}
 use Rattle.std.proofs.lemmas.Bool.Decides.{nat_tests}
 use Rattle.std.proofs.lemmas.Int.{ints}
 use Rattle.lot_num.specs.Amount.{one}
-use Rattle.lot_completion.specs.Crumbs.{MakeUp, crumb_postings, rest_of, rest_posting, speck_of, posting_in, whole_of, whole_posting}
+use Rattle.lot_completion.specs.Crumbs.{MakeUp, crumb_postings, part_posting, posting_in, rest_of, speck_of, whole_of}
 
-no_sign : (n : ℕ) → speck_of (pos n) ≡ pos 1
+pub no_sign : (n : ℕ) → speck_of (pos n) ≡ pos 1
 no_sign n = let not_below : int_lt (pos n) (pos 0) ≡ false = grind (arith, ints) in ap (λ b. cond b (neg_ℤ (pos 1)) (pos 1)) not_below
 
 -- whole units and the rest come to the crumb
@@ -25,7 +25,7 @@ none_rest z r is = let nothing : r ≡ 0 = grind (arith, nat_tests) in ap (λ y.
 
 -- the two postings, of which either is left out where it would be zero
 pub made : (account currency : List ℕ) (whole speck : ℤ) (rest : ℕ) (crumb : ℤ) → whole *ℤ pos one +ℤ speck *ℤ pos rest ≡ crumb
-    → MakeUp (currency, crumb) (whole_posting account currency whole ++ rest_posting account currency speck rest)
+    → MakeUp (currency, crumb) (part_posting account currency whole None ++ part_posting account currency speck (Some rest))
 made account currency whole speck rest crumb sum = by (int_eq whole (pos 0)) (nat_eq rest 0) refl refl
   where
     by : (no_whole no_rest : Bool) → int_eq whole (pos 0) ≡ no_whole → nat_eq rest 0 ≡ no_rest

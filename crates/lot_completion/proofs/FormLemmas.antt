@@ -1,9 +1,8 @@
 -- Completions by form: what is compared tells them.
-use Rattle.std.proofs.Common.{◌≡◌, ◌≢◌, ℕ, zero, suc, ◌≤◌, ◌<◌, ◌+◌, get_or, Result, Ok, Err, Bool, true, false, ◌&&◌, slice_get, List, [], ◌∷◌, ◌++◌, length, length-append, take, drop, Option, None, Some, ℤ, pos, ◌*ℤ◌, refl, ap, sym, subst, ◌∙◌, arith}
-use Rattle.std.specs.Prelude.{IfOk, IsTrue, SomeIff, ◌↔◌}
+use Rattle.std.proofs.Common.{◌≡◌, ◌≢◌, ℕ, zero, suc, ◌≤◌, ◌<◌, ◌+◌, get_or, Result, Ok, Err, Bool, true, List, [], ◌∷◌, ◌++◌, length, length-append, take, drop, Option, None, Some, ℤ, pos, ◌*ℤ◌, refl, ap, sym, subst, ◌∙◌, arith}
+use Rattle.std.specs.Prelude.{IfOk, IsTrue, SomeIff, flat_map, ◌↔◌}
 use Rattle.std.specs.List.{list_all}
 use Rattle.std.proofs.lemmas.List.{length-take-le, take-append-drop}
-use Rattle.lot_base.proofs.TextLemmas.{one_text}
 use Rattle.lot_command.specs.Canonical.{canonical}
 use Rattle.lot_command.specs.Sayable.{IsSayable}
 use Rattle.lot_command.specs.declared.command.Command.{Command}
@@ -12,8 +11,10 @@ use Rattle.lot_command.specs.declared.transaction.Posting.{Posting}
 use Rattle.lot_command.specs.declared.transaction.Transaction.{Transaction as TransactionOf}
 use Rattle.lot_completion.proofs.RateLemmas.{next_taken}
 use Rattle.lot_completion.proofs.OneLemmas.{all_one, rates_one}
-use Rattle.lot_completion.specs.Form.{IsByForm, is_part_posting}
-use Rattle.lot_completion.specs.Formed.{IsFormed, IsFormedAt, IsFormedAtSome, are_parts, formed}
+use Rattle.lot_completion.proofs.ReadLemmas.{made_again, made_of_some, read_apart, read_taken}
+use Rattle.lot_completion.specs.Crumbs.{crumb_postings}
+use Rattle.lot_completion.specs.Form.{IsByForm, may_be_taken}
+use Rattle.lot_completion.specs.Formed.{IsFormed, IsFormedAt, IsFormedAtSome, crumbs_behind, formed, made_by}
 use Rattle.lot_completion.specs.Rates.{Rates, RatesAll, postings_of}
 use Rattle.lot_completion.specs.declared.rates.RatedPosting.{RatedPosting}
 use Rattle.lot_num.specs.Amount.{IsUnits, one}
@@ -85,34 +86,6 @@ drop_length [] ys (suc n) same = absurd cc
 drop_length (x ∷ xs) ys zero same = absurd cc
 drop_length (x ∷ xs) ys (suc n) same = drop_length xs ys n (omega arith)
 
--- ---- the account of crumbs
-
-first_true : (a b : Bool) → (a && b) ≡ true → a ≡ true
-first_true true b both = refl
-first_true false b both = both
-
--- postings that make up for crumbs of an account make up for crumbs of the account of the first
-parts_of_one : (postings crumbs : List Posting) (account : List ℕ) → list_all (is_part_posting postings account) crumbs ≡ true → are_parts postings crumbs ≡ true
-parts_of_one postings [] account all = refl
-parts_of_one postings (c ∷ cs) account all =
-    let same = one_text account c.account (first_true _ _ (first_true _ _ all)) in
-    subst (λ a. list_all (is_part_posting postings a) (c ∷ cs) ≡ true) same all
-
--- postings with a first one
-pub parts_of_first : (postings crumbs : List Posting) (one : Posting) → slice_get crumbs 0 ≡ Some one → list_all (is_part_posting postings one.account) crumbs ≡ are_parts postings crumbs
-parts_of_first postings [] one first = absurd cc
-parts_of_first postings (c ∷ cs) one first =
-    let same : c ≡ one = cc in
-    ap (λ (p : Posting). list_all (is_part_posting postings p.account) (c ∷ cs)) (sym same)
-
-pub parts_of_none : (postings crumbs : List Posting) → slice_get crumbs 0 ≡ None → true ≡ are_parts postings crumbs
-parts_of_none postings [] none = refl
-parts_of_none postings (c ∷ cs) none = absurd cc
-
-some_account : (postings crumbs : List Posting) → are_parts postings crumbs ≡ true → (account : List ℕ) × (list_all (is_part_posting postings account) crumbs ≡ true)
-some_account postings [] parts = ([], refl)
-some_account postings (c ∷ cs) parts = (c.account, parts)
-
 -- ---- one text, one transaction
 
 abbrev Apart : Type 0
@@ -167,16 +140,20 @@ some_if (Some x) P value it is some = let same : x ≡ it = cc in sym same ∙ i
 -- ---- by form
 
 module _ (text : List ℕ) (cash : Option RowCash) (t stands : TransactionOf) (says : text ≡ canonical (Transaction stands)) (sayable : IsSayable (Transaction stands)) where
-  -- what is formed stands, and is by form
-  by_form : (first crumbs : List Posting) → Apart → length first ≡ length t.postings → stands.postings ≡ first ++ crumbs → are_parts first crumbs ≡ true
-      → IsFormedAtSome text cash t crumbs → IsByForm cash t stands
-  by_form first crumbs apart count postings parts (written, at, it) =
-      let is : formed written it.rated crumbs ≡ stands = one_transaction text (formed written it.rated crumbs) stands apart it.sayable sayable it.says says in
+  -- what is formed of those that stand is by form
+  by_form : (first behind : List Posting) → Apart → length first ≡ length t.postings → stands.postings ≡ first ++ behind
+      → list_all (may_be_taken first) (crumbs_behind behind) ≡ true → IsFormedAtSome text cash t (made_by behind (crumbs_behind behind))
+      → IsByForm cash t stands
+  by_form first behind apart count postings taken (written, at, it) =
+      let crumbs = crumbs_behind behind in
+      let made = made_by behind crumbs in
+      let is : formed written it.rated made ≡ stands = one_transaction text (formed written it.rated made) stands apart it.sayable sayable it.says says in
       let lengths : length (postings_of it.rated) ≡ length t.postings = rates_length written.postings it.rated it.rates ∙ written_length cash t written at in
-      let same : postings_of it.rated ++ crumbs ≡ first ++ crumbs = ap (λ (s : TransactionOf). s.postings) is ∙ postings in
+      let same : postings_of it.rated ++ made ≡ first ++ behind = ap (λ (s : TransactionOf). s.postings) is ∙ postings in
       let rates : postings_of it.rated ≡ first =
-      sym (take_length (postings_of it.rated) crumbs (length t.postings) lengths) ∙ ap (λ ps. take (length t.postings) ps) same ∙ take_length first crumbs (length t.postings) count in
-      let account = some_account first crumbs parts in
+      sym (take_length (postings_of it.rated) made (length t.postings) lengths) ∙ ap (λ ps. take (length t.postings) ps) same
+      ∙ take_length first behind (length t.postings) count in
+      let account = made_of_some behind in
       record {
         written = written;
         at = at;
@@ -184,39 +161,48 @@ module _ (text : List ℕ) (cash : Option RowCash) (t stands : TransactionOf) (s
         rates = it.rates;
         account = account.0;
         crumbs = crumbs;
-        parts = subst (λ ps. list_all (is_part_posting ps account.0) crumbs ≡ true) (sym rates) account.1;
-        is = sym is;
+        apart = read_apart behind;
+        taken = subst (λ ps. list_all (may_be_taken ps) crumbs ≡ true) (sym rates) taken;
+        is = sym is ∙ ap (λ ps. formed written it.rated ps) account.1;
       }
 
   module _ (it : IsByForm cash t stands) where
+    abbrev behind : List Posting
+    behind = flat_map (crumb_postings it.account) it.crumbs
+
     lengths : length (postings_of it.rated) ≡ length t.postings
     lengths = rates_length it.written.postings it.rated it.rates ∙ written_length cash t it.written it.at
 
-    postings : stands.postings ≡ postings_of it.rated ++ it.crumbs
+    postings : stands.postings ≡ postings_of it.rated ++ behind
     postings = ap (λ (s : TransactionOf). s.postings) it.is
 
     -- it has as many postings at least
     pub by_form_count : length t.postings ≤ length stands.postings
     by_form_count =
-        let all : length stands.postings ≡ length (postings_of it.rated ++ it.crumbs) = ap length postings in
-        omega (arith, all, lengths, length-append (postings_of it.rated) it.crumbs)
+        let all : length stands.postings ≡ length (postings_of it.rated ++ behind) = ap length postings in
+        omega (arith, all, lengths, length-append (postings_of it.rated) behind)
 
     by_form_first : take (length t.postings) stands.postings ≡ postings_of it.rated
-    by_form_first = ap (λ ps. take (length t.postings) ps) postings ∙ take_length (postings_of it.rated) it.crumbs (length t.postings) lengths
+    by_form_first = ap (λ ps. take (length t.postings) ps) postings ∙ take_length (postings_of it.rated) behind (length t.postings) lengths
 
-    by_form_rest : drop (length t.postings) stands.postings ≡ it.crumbs
-    by_form_rest = ap (λ ps. drop (length t.postings) ps) postings ∙ drop_length (postings_of it.rated) it.crumbs (length t.postings) lengths
+    by_form_rest : drop (length t.postings) stands.postings ≡ behind
+    by_form_rest = ap (λ ps. drop (length t.postings) ps) postings ∙ drop_length (postings_of it.rated) behind (length t.postings) lengths
 
-    -- those behind make up for crumbs
-    pub by_form_parts : are_parts (take (length t.postings) stands.postings) (drop (length t.postings) stands.postings) ≡ true
-    by_form_parts =
-        ap (λ ps. are_parts ps (drop (length t.postings) stands.postings)) by_form_first ∙ ap (λ cs. are_parts (postings_of it.rated) cs) by_form_rest
-        ∙ parts_of_one (postings_of it.rated) it.crumbs it.account it.parts
+    -- those behind make up for crumbs that may have been taken
+    pub by_form_taken : list_all (may_be_taken (take (length t.postings) stands.postings)) (crumbs_behind (drop (length t.postings) stands.postings)) ≡ true
+    by_form_taken =
+        ap (λ ps. list_all (may_be_taken ps) (crumbs_behind (drop (length t.postings) stands.postings))) by_form_first
+        ∙ ap (λ ps. list_all (may_be_taken (postings_of it.rated)) (crumbs_behind ps)) by_form_rest
+        ∙ read_taken it.account (postings_of it.rated) it.crumbs it.apart it.taken
+
+    by_form_made : made_by (drop (length t.postings) stands.postings) (crumbs_behind (drop (length t.postings) stands.postings)) ≡ behind
+    by_form_made =
+        ap (λ ps. made_by ps (crumbs_behind ps)) by_form_rest ∙ made_again it.account (postings_of it.rated) it.crumbs it.apart it.taken
 
     -- and it is formed of them
-    pub by_form_formed : IsFormedAtSome text cash t (drop (length t.postings) stands.postings)
+    pub by_form_formed : IsFormedAtSome text cash t (made_by (drop (length t.postings) stands.postings) (crumbs_behind (drop (length t.postings) stands.postings)))
     by_form_formed =
-        subst (λ cs. IsFormedAtSome text cash t cs) (sym by_form_rest) (
+        subst (λ ps. IsFormedAtSome text cash t ps) (sym by_form_made) (
           it.written,
           it.at,
           record {
@@ -228,14 +214,17 @@ module _ (text : List ℕ) (cash : Option RowCash) (t stands : TransactionOf) (s
         )
 
   -- what is formed of those that stand is by form, and nothing else
-  pub by_form_alone : (first crumbs : List Posting) → Apart → length t.postings ≤ length stands.postings
-      → first ≡ take (length t.postings) stands.postings → crumbs ≡ drop (length t.postings) stands.postings → are_parts first crumbs ≡ true
-      → (b : Bool) → (IsTrue b ↔ IsFormedAtSome text cash t crumbs) → (IsTrue b ↔ IsByForm cash t stands)
-  by_form_alone first crumbs apart fits front back parts b h =
+  pub by_form_alone : (first behind made : List Posting) → Apart → length t.postings ≤ length stands.postings
+      → first ≡ take (length t.postings) stands.postings → behind ≡ drop (length t.postings) stands.postings
+      → list_all (may_be_taken first) (crumbs_behind behind) ≡ true → made ≡ made_by behind (crumbs_behind behind)
+      → (b : Bool) → (IsTrue b ↔ IsFormedAtSome text cash t made) → (IsTrue b ↔ IsByForm cash t stands)
+  by_form_alone first behind made apart fits front back taken is b h =
       let count : length first ≡ length t.postings = ap length front ∙ length-take-le (length t.postings) stands.postings fits in
-      let postings : stands.postings ≡ first ++ crumbs =
+      let postings : stands.postings ≡ first ++ behind =
       sym (take-append-drop (length t.postings) stands.postings) ∙ ap (λ ps. ps ++ drop (length t.postings) stands.postings) (sym front)
-      ∙ ap (λ cs. first ++ cs) (sym back) in (
-        λ yes. by_form first crumbs apart count postings parts (h.0 yes),
-        λ it. h.1 (subst (λ cs. IsFormedAtSome text cash t cs) (sym back) (by_form_formed it)),
+      ∙ ap (λ ps. first ++ ps) (sym back) in
+      let same : made ≡ made_by (drop (length t.postings) stands.postings) (crumbs_behind (drop (length t.postings) stands.postings)) =
+      is ∙ ap (λ ps. made_by ps (crumbs_behind ps)) back in (
+        λ yes. by_form first behind apart count postings taken (subst (λ ps. IsFormedAtSome text cash t ps) is (h.0 yes)),
+        λ it. h.1 (subst (λ ps. IsFormedAtSome text cash t ps) (sym same) (by_form_formed it)),
       )

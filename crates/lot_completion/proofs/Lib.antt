@@ -7,5 +7,9 @@ mod CompletionLemmas
 mod BalanceLemmas
 mod TakenUpLemmas
 mod GetsLemmas
+mod ReadLemmas
 mod FormLemmas
+mod ByFormLemmas
+mod OwnLemmas
 mod TurnLemmas
+mod RepeatLemmas

@@ -12,20 +12,16 @@ use Rattle.lot_book.proofs.CaseLemmas.{by_bool}
 use Rattle.lot_book.proofs.SumLemmas.{sum_in-none, sum_in_apart, sum_in_here}
 use Rattle.lot_completion.specs.Completion.{IsCrumbOf, stated}
 use Rattle.lot_completion.specs.Crumbs.{IsCrumb, IsTakenUp}
+use Rattle.lot_completion.specs.Form.{AreApart}
 
 -- ---- currencies that differ
-
--- each differs from those behind it
-abbrev Apart : List (List ℕ × ℤ) → Type 0
-Apart [] = Unit {0}
-Apart (r ∷ rs) = (list_any (λ (s : List ℕ × ℤ). same_text r.0 s.0) rs ≡ false) × Apart rs
 
 abbrev Distinct : List (List ℕ) → Type 0
 Distinct [] = Unit {0}
 Distinct (n ∷ ns) = (list_any (same_text n) ns ≡ false) × Distinct ns
 
 -- none of some is among fewer
-none_fewer : {X : Type 0} (q p : X → Bool) (xs : List X) → list_any q xs ≡ false → list_any q (filter p xs) ≡ false
+pub none_fewer : {X : Type 0} (q p : X → Bool) (xs : List X) → list_any q xs ≡ false → list_any q (filter p xs) ≡ false
 none_fewer q p [] none = refl
 none_fewer q p (x ∷ xs) none =
     by_bool (q x)
@@ -44,13 +40,13 @@ distinct_fewer p (n ∷ ns) all =
     (λ kept. subst (λ b. Distinct (cond b (n ∷ filter p ns) (filter p ns))) (sym kept) (none_fewer (same_text n) p ns all.0, rest))
     (λ gone. subst (λ b. Distinct (cond b (n ∷ filter p ns) (filter p ns))) (sym gone) rest)
 
-apart_fewer : (p : List ℕ × ℤ → Bool) (rs : List (List ℕ × ℤ)) → Apart rs → Apart (filter p rs)
+apart_fewer : (p : List ℕ × ℤ → Bool) (rs : List (List ℕ × ℤ)) → AreApart rs → AreApart (filter p rs)
 apart_fewer p [] all = tt
 apart_fewer p (r ∷ rs) all =
     let rest = apart_fewer p rs all.1 in
     by_bool (p r)
-    (λ kept. subst (λ b. Apart (cond b (r ∷ filter p rs) (filter p rs))) (sym kept) (none_fewer (λ (s : List ℕ × ℤ). same_text r.0 s.0) p rs all.0, rest))
-    (λ gone. subst (λ b. Apart (cond b (r ∷ filter p rs) (filter p rs))) (sym gone) rest)
+    (λ kept. subst (λ b. AreApart (cond b (r ∷ filter p rs) (filter p rs))) (sym kept) (none_fewer (λ (s : List ℕ × ℤ). same_text r.0 s.0) p rs all.0, rest))
+    (λ gone. subst (λ b. AreApart (cond b (r ∷ filter p rs) (filter p rs))) (sym gone) rest)
 
 none_same : (n : List ℕ) (ns : List (List ℕ)) → list_any (same_text n) (filter (λ other. not (same_text n other)) ns) ≡ false
 none_same n [] = refl
@@ -66,21 +62,23 @@ distinct_first [] = tt
 distinct_first (n ∷ ns) =
     (none_same n (first_appearances ns), distinct_fewer (λ other. not (same_text n other)) (first_appearances ns) (distinct_first ns))
 
-any_beside : (n : List ℕ) (f : List ℕ → ℤ) (ns : List (List ℕ))
+pub any_beside : (n : List ℕ) (f : List ℕ → ℤ) (ns : List (List ℕ))
     → list_any (λ (s : List ℕ × ℤ). same_text n s.0) (map (λ (m : List ℕ). (m, f m)) ns) ≡ list_any (same_text n) ns
 any_beside n f [] = refl
 any_beside n f (m ∷ ns) = ap (λ b. same_text n m || b) (any_beside n f ns)
 
-apart_beside : (f : List ℕ → ℤ) (ns : List (List ℕ)) → Distinct ns → Apart (map (λ (m : List ℕ). (m, f m)) ns)
+apart_beside : (f : List ℕ → ℤ) (ns : List (List ℕ)) → Distinct ns → AreApart (map (λ (m : List ℕ). (m, f m)) ns)
 apart_beside f [] all = tt
 apart_beside f (n ∷ ns) all = (any_beside n f ns ∙ all.0, apart_beside f ns all.1)
 
 -- those of residuals do
-pub apart_residuals : (p : List ℕ × ℤ → Bool) (weights : List (List ℕ × ℤ)) → Apart (filter p (residuals weights))
-apart_residuals p weights =
-    apart_fewer p (residuals weights)
-    (apart_beside (sum_in weights) (first_appearances (map (λ (w : List ℕ × ℤ). w.0) weights))
-    (distinct_first (map (λ (w : List ℕ × ℤ). w.0) weights)))
+pub apart_all : (weights : List (List ℕ × ℤ)) → AreApart (residuals weights)
+apart_all weights =
+    apart_beside (sum_in weights) (first_appearances (map (λ (w : List ℕ × ℤ). w.0) weights))
+    (distinct_first (map (λ (w : List ℕ × ℤ). w.0) weights))
+
+pub apart_residuals : (p : List ℕ × ℤ → Bool) (weights : List (List ℕ × ℤ)) → AreApart (filter p (residuals weights))
+apart_residuals p weights = apart_fewer p (residuals weights) (apart_all weights)
 
 -- ---- a crumb is all that crumbs come to in its currency
 
@@ -91,7 +89,7 @@ none_each q (x ∷ xs) none =
     (λ e. let yes : true ≡ false = sym (ap (λ b. b || list_any q xs) e) ∙ none in absurd cc)
     (λ e. (e, none_each q xs (sym (ap (λ b. b || list_any q xs) e) ∙ none)))
 
-own_sums : (cs : List (List ℕ × ℤ)) → Apart cs → AllByRecursion (λ (c : List ℕ × ℤ). sum_in cs c.0 ≡ c.1) cs
+pub own_sums : (cs : List (List ℕ × ℤ)) → AreApart cs → AllByRecursion (λ (c : List ℕ × ℤ). sum_in cs c.0 ≡ c.1) cs
 own_sums [] all = tt
 own_sums (c ∷ cs) all =
     let none : sum_in cs c.0 ≡ pos 0 = sum_in-none c.0 cs all.0 in
@@ -112,7 +110,7 @@ same_names fill left name (r ∷ rs) (c ∷ cs) are =
     ap (λ n. same_text name n || list_any (λ (s : List ℕ × ℤ). same_text name s.0) cs) are.0.currency
     ∙ ap (λ b. same_text name r.0 || b) (same_names fill left name rs cs are.1)
 
-apart_crumbs : (fill : Option ℕ) (left rs cs : List (List ℕ × ℤ)) → AllZip (IsCrumbOf fill left) rs cs → Apart rs → Apart cs
+pub apart_crumbs : (fill : Option ℕ) (left rs cs : List (List ℕ × ℤ)) → AllZip (IsCrumbOf fill left) rs cs → AreApart rs → AreApart cs
 apart_crumbs fill left [] [] are all = tt
 apart_crumbs fill left [] (c ∷ cs) are all = absurd are
 apart_crumbs fill left (r ∷ rs) [] are all = absurd are
@@ -144,7 +142,7 @@ zip_taken_up fill left before after all (r ∷ rs) (c ∷ cs) are sums own adds 
       zip_taken_up fill left before after all rs cs are.1 sums.1 own.1 adds,
     )
 
-fewer_all : {X : Type 0} (P : X → Type 0) (p : X → Bool) (xs : List X) → AllByRecursion P xs → AllByRecursion P (filter p xs)
+pub fewer_all : {X : Type 0} (P : X → Type 0) (p : X → Bool) (xs : List X) → AllByRecursion P xs → AllByRecursion P (filter p xs)
 fewer_all P p [] all = tt
 fewer_all P p (x ∷ xs) all =
     let rest = fewer_all P p xs all.1 in

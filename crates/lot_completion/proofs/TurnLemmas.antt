@@ -10,7 +10,7 @@ use Rattle.lot_book.specs.Facts.{Facts}
 use Rattle.lot_book.specs.Step.{DecidesByUnder, DecidesUnder, JudgesTransactionUnder, Outcome, concluded, first_conditions, first_of}
 use Rattle.lot_laws.proofs.StepLemmas.{books_one}
 use Rattle.lot_completion.specs.Completion.{IsCompletion}
-use Rattle.lot_completion.specs.Proposal.{IsFirstBeyond, IsProposal, IsWithinOr, ProposesNone}
+use Rattle.lot_completion.specs.Proposal.{GoesBeyond, GoesNowhereBeyond, IsFirstBeyond, IsProposal, IsWithinOr}
 use Rattle.lot_completion.specs.Turn.{AreWithinBound, Completes, Proposes, ProposesFor, may_complete}
 use Rattle.lot_completion.specs.declared.completion.Completion.{Completion}
 use Rattle.lot_completion.specs.declared.turn.Proposal.{Proposal}
@@ -63,19 +63,44 @@ module _ (ties : TieRule) (facts : Facts) (rounding : Rounding) (asked : Asked) 
       by (inl (crumbs, completes)) = (crumbs, proposes.completed, completes)
       by (inr stands) = let both = sym new ∙ stands.says in absurd cc
 
-  -- not where the step leaves no room for one
-  pub none_by_outcome : (outcome : Outcome) → DecidesUnder ties facts (Transaction t) outcome → may_complete outcome ≡ false
-      → ProposesNone ties facts rounding asked
-  none_by_outcome outcome decides may other proposes =
-      let found = completes_of other proposes in
-      let one : found.2.outcome ≡ outcome = decided_one ties facts t found.2.outcome outcome new found.2.decides decides in
-      true≢false (sym found.2.may ∙ ap may_complete one ∙ may)
+  -- no crumb goes beyond the bound where the step leaves no room for a completion
+  goes_by_outcome : (outcome : Outcome) → DecidesUnder ties facts (Transaction t) outcome → may_complete outcome ≡ false
+      → GoesNowhereBeyond ties facts rounding asked
+  goes_by_outcome outcome decides may other crumb command goes =
+      let both : Transaction other ≡ Transaction t = sym command ∙ is in
+      let same : other ≡ t = cc in
+      let beyond = subst (λ (x : TransactionOf). GoesBeyond ties facts rounding x crumb) same goes in
+      let one : beyond.outcome ≡ outcome = decided_one ties facts t beyond.outcome outcome new beyond.decides decides in
+      true≢false (sym beyond.may ∙ ap may_complete one ∙ may)
 
-  -- nor where it has none
+  -- nor where there is none
+  goes_by_completion : ((crumbs : List (List ℕ × ℤ)) (completed : TransactionOf)
+      → IsCompletion ties facts rounding.account rounding.decimals t crumbs completed → ⊥) → GoesNowhereBeyond ties facts rounding asked
+  goes_by_completion none other crumb command goes =
+      let both : Transaction other ≡ Transaction t = sym command ∙ is in
+      let same : other ≡ t = cc in
+      let beyond = subst (λ (x : TransactionOf). GoesBeyond ties facts rounding x crumb) same goes in
+      none beyond.crumbs beyond.completed beyond.completion
+
+  -- nothing is tried where the step leaves no room for a completion
+  pub none_by_outcome : (outcome : Outcome) → DecidesUnder ties facts (Transaction t) outcome → may_complete outcome ≡ false
+      → IsProposal ties facts rounding asked proposal.Nothing
+  none_by_outcome outcome decides may = (
+    λ other proposes.
+        let found = completes_of other proposes in
+        let one : found.2.outcome ≡ outcome = decided_one ties facts t found.2.outcome outcome new found.2.decides decides in
+        true≢false (sym found.2.may ∙ ap may_complete one ∙ may),
+    goes_by_outcome outcome decides may,
+  )
+
+  -- nor where there is none
   pub none_by_completion : ((crumbs : List (List ℕ × ℤ)) (completed : TransactionOf)
-      → IsCompletion ties facts rounding.account rounding.decimals t crumbs completed → ⊥) → ProposesNone ties facts rounding asked
-  none_by_completion none other proposes =
-      let found = completes_of other proposes in none found.0 found.1 found.2.completion
+      → IsCompletion ties facts rounding.account rounding.decimals t crumbs completed → ⊥)
+      → IsProposal ties facts rounding asked proposal.Nothing
+  none_by_completion none = (
+    λ other proposes. let found = completes_of other proposes in none found.0 found.1 found.2.completion,
+    goes_by_completion none,
+  )
 
   -- with its completion, and the bound
   module _ (outcome : Outcome) (decides : DecidesUnder ties facts (Transaction t) outcome) (may : may_complete outcome ≡ true)

@@ -1,5 +1,5 @@
 -- Completions: which transaction stands for which, where its amounts have few decimals and an account takes the crumbs.
-use Rattle.std.specs.Prelude.{◌≡◌, ◌≤◌, ◌&&◌, ◌||◌, ℕ, Bool, false, if◌then◌else◌, is_none, length, List, [], ◌++◌, filter, flat_map, Option, None, Some, ℤ, ◌+ℤ◌}
+use Rattle.std.specs.Prelude.{◌≡◌, ◌≤◌, ◌&&◌, ◌||◌, ℕ, Bool, false, if◌then◌else◌, is_none, length, List, [], ◌++◌, filter, flat_map, map, Option, None, Some, ℤ, pos, ◌+ℤ◌}
 use Rattle.std.specs.List.{AllZip, list_any}
 use Rattle.std.specs.Option.{option_map}
 use Rattle.lot_num.specs.Amount.{IsUnits}
@@ -81,6 +81,10 @@ pub record IsCompletion (ties : TieRule) (facts : Facts) (account : List ℕ) (d
   pub books : BooksAllUnder ties facts t.day [] 1 (postings_of rated) (All booked)
   pub are : AllZip (IsCrumbOf (fill_decimals decimals t.postings) (left_of rated)) (product_residuals (postings_of rated) booked) crumbs
   pub is : completed ≡ record t { postings = postings_of rated ++ flat_map (crumb_postings account) crumbs }
+
+-- crumbs of zero, in the same currencies
+abbrev pub zeros_of : List (List ℕ × ℤ) → List (List ℕ × ℤ)
+zeros_of crumbs = map (λ (c : List ℕ × ℤ). (c.0, pos 0)) crumbs
 
 -- what a posting moves: its account, and the units of a commodity, if it has an amount
 abbrev pub gets : Posting → List ℕ × Option (ℤ × List ℕ)

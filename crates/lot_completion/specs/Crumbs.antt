@@ -1,6 +1,7 @@
 -- Crumbs: what postings leave in a currency so that the fill has few decimals, and the postings of an account that make up for
 -- one.
-use Rattle.std.specs.Prelude.{◌≡◌, ℕ, ◌%◌, nat_eq, if◌then◌else◌, List, [], ◌∷◌, ◌++◌, map, flat_map, Option, None, Some, ℤ, pos, ◌-ℤ◌, ◌*ℤ◌, neg_ℤ, int_div, int_lt, unsigned_abs}
+use Rattle.std.specs.Prelude.{◌≡◌, ℕ, ◌%◌, Bool, nat_eq, if◌then◌else◌, List, [], ◌∷◌, ◌++◌, map, flat_map, Option, None, Some, ℤ, pos, ◌-ℤ◌, ◌*ℤ◌, neg_ℤ, int_div, int_lt, unsigned_abs}
+use Rattle.std.specs.Option.{option_map}
 use Rattle.std.specs.Ordering.{int_eq}
 use Rattle.lot_num.specs.Amount.{one}
 use Rattle.lot_command.specs.declared.price.Price.{Price}
@@ -47,21 +48,25 @@ posting_in account currency units price = record {
   amount = Some (record { units = units; commodity = currency; cost = None; price = price });
 }
 
--- units that aren't zero
-abbrev pub whole_posting : List ℕ → List ℕ → ℤ → List Posting
-whole_posting account currency whole =
-    if int_eq whole (pos 0) then [] else posting_in account currency whole None ∷ []
+-- the price of a rate in a currency, if there is one
+abbrev pub price_in : List ℕ → Option ℕ → Option Price
+price_in currency rate = option_map (λ (r : ℕ). Each (record { rate = r; currency = currency })) rate
 
--- the least units at the price that comes to the rest, unless that is zero
-abbrev pub rest_posting : List ℕ → List ℕ → ℤ → ℕ → List Posting
-rest_posting account currency speck rest =
-    if nat_eq rest 0 then []
-    else posting_in account currency speck (Some (Each (record { rate = rest; currency = currency }))) ∷ []
+-- whether nothing is left of a crumb: no units, or, of the least units at a rate, no rate
+abbrev pub is_nothing : ℤ → Option ℕ → Bool
+is_nothing units None = int_eq units (pos 0)
+is_nothing units (Some rate) = nat_eq rate 0
 
+-- a posting of units at a rate in their currency, if there is one, unless that is nothing
+abbrev pub part_posting : List ℕ → List ℕ → ℤ → Option ℕ → List Posting
+part_posting account currency units rate =
+    if is_nothing units rate then [] else posting_in account currency units (price_in currency rate) ∷ []
+
+-- the whole units of a crumb, and behind them the least units at the price that comes to the rest
 abbrev pub crumb_postings : List ℕ → List ℕ × ℤ → List Posting
 crumb_postings account crumb =
-    whole_posting account crumb.0 (whole_of crumb.1)
-    ++ rest_posting account crumb.0 (speck_of crumb.1) (rest_of crumb.1)
+    part_posting account crumb.0 (whole_of crumb.1) None
+    ++ part_posting account crumb.0 (speck_of crumb.1) (Some (rest_of crumb.1))
 
 -- ---- What they weigh.
 

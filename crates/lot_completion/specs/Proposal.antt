@@ -37,9 +37,16 @@ pub record GoesBeyond (ties : TieRule) (facts : Facts) (rounding : Rounding) (t 
   pub completion : IsCompletion ties facts rounding.account rounding.decimals t crumbs completed
   pub first : IsFirstBeyond rounding.within crumbs crumb
 
--- what is tried is what may be, on what is known, with its crumbs
+-- no crumb of its completion is beyond the bound
+abbrev pub GoesNowhereBeyond : TieRule → Facts → Rounding → Asked → Type 0
+GoesNowhereBeyond ties facts rounding asked =
+    (t : TransactionOf) (crumb : List ℕ × ℤ) → asked.command ≡ Transaction t → GoesBeyond ties facts rounding t crumb → ⊥
+
+-- What is tried is what may be, on what is known, with its crumbs. Where nothing is, since a crumb is beyond the bound, that is
+-- told.
 abbrev pub IsProposal : TieRule → Facts → Rounding → Asked → Proposal → Type 0
-IsProposal ties facts rounding asked proposal.Nothing = ProposesNone ties facts rounding asked
+IsProposal ties facts rounding asked proposal.Nothing =
+    ProposesNone ties facts rounding asked × GoesNowhereBeyond ties facts rounding asked
 IsProposal ties facts rounding asked (proposal.Beyond currency crumb) =
     ProposesNone ties facts rounding asked
     × (t : TransactionOf) × (asked.command ≡ Transaction t) × GoesBeyond ties facts rounding t (currency, crumb)

@@ -1,8 +1,8 @@
 //! The postings of an account that make up for crumbs.
-ghost use Rattle.std.specs.Prelude.{◌≡◌, ◌++◌, ◌∷◌, [], ℕ, ℤ, List, flat_map, OnOk, Some, SomeIff};
+ghost use Rattle.std.specs.Prelude.{◌≡◌, ◌++◌, ℕ, ℤ, List, flat_map, IfOk, OnOk, Some, SomeIff};
 ghost use Rattle.std.specs.List.{AllByRecursion};
 ghost use Rattle.lot_num.specs.Amount.{IsUnits};
-ghost use Rattle.lot_completion.specs.Crumbs.{crumb_postings, rest_of, rest_posting, speck_of, whole_of, whole_posting, posting_in};
+ghost use Rattle.lot_completion.specs.Crumbs.{crumb_postings, is_nothing, part_posting, price_in, rest_of, speck_of, whole_of};
 
 use lot_base::{Account, Commodity};
 use lot_command::{Amount, Items, Posting, Price, UnitPrice};
@@ -37,78 +37,62 @@ fn push_crumb(
     ensures { OnOk result (postings.new
         ≡ postings.old ++ crumb_postings account.now (currency.now, crumb)) }
 {
-    push_whole(postings, account, currency, crumb)?;
-    push_rest(postings, account, currency, crumb)
+    let Some(whole) = whole_of(crumb) else {
+        unreachable!();
+    };
+    push_part(postings, account, currency, whole, None)?;
+    push_part(postings, account, currency, speck_of(crumb), rest_of(crumb))
 }
 
-/// Appends a posting of the whole units of a crumb, unless these are zero.
-fn push_whole(
-    postings: &mut Items<Posting>,
-    account: &Account,
-    currency: &Commodity,
-    crumb: Wide,
-) -> Result<(), AllocError>
-    requires { IsUnits (whole_of crumb) }
-    ensures { OnOk result (postings.new
-        ≡ postings.old ++ whole_posting account.now currency.now (whole_of crumb)) }
-{
-    match whole_of(crumb) {
-        Some(units) if units != Units::ZERO => push(postings, account, currency, units, None),
-        _ => Ok(()),
-    }
-}
-
-/// Appends a posting of the least units at the price that comes to the rest of a crumb, unless that
-/// is zero.
-fn push_rest(
-    postings: &mut Items<Posting>,
-    account: &Account,
-    currency: &Commodity,
-    crumb: Wide,
-) -> Result<(), AllocError>
-    ensures { OnOk result (postings.new
-        ≡ postings.old ++ rest_posting account.now currency.now (speck_of crumb) (rest_of crumb)) }
-{
-    match rest_of(crumb) {
-        Some(rate) if rate.mantissa() > 0 => {
-            let price = UnitPrice {
-                rate,
-                currency: currency.copy()?,
-            };
-            push(
-                postings,
-                account,
-                currency,
-                speck_of(crumb),
-                Some(Price::Each(price)),
-            )
-        }
-        _ => Ok(()),
-    }
-}
-
-/// Appends a posting of units of a currency, at a price, if there is one.
-fn push(
+/// Appends a posting of units at a rate in their currency, if there is one, unless that is nothing. The
+/// only error is out of memory.
+fn push_part(
     postings: &mut Items<Posting>,
     account: &Account,
     currency: &Commodity,
     units: Units,
-    price: Option<Price>,
+    rate: Option<Rate>,
 ) -> Result<(), AllocError>
     ensures { OnOk result (postings.new
-        ≡ postings.old ++ posting_in account.now currency.now units price ∷ []) }
+        ≡ postings.old ++ part_posting account.now currency.now units rate) }
 {
+    if is_nothing(units, rate) {
+        return Ok(());
+    }
     let amount = Amount {
         units,
         commodity: currency.copy()?,
         cost: None,
-        price,
+        price: price_in(currency, rate)?,
     };
     postings.push(Posting {
         account: account.copy()?,
         amount: Some(amount),
     })?;
     Ok(())
+}
+
+/// Returns whether nothing is left of a crumb: no units, or, of the least units at a rate, no rate.
+fn is_nothing(units: Units, rate: Option<Rate>) -> bool
+    ensures { result ≡ is_nothing units rate }
+{
+    match rate {
+        None => units == Units::ZERO,
+        Some(rate) => rate.mantissa() == 0,
+    }
+}
+
+/// Returns the price of a rate in a currency, if there is one. The only error is out of memory.
+fn price_in(currency: &Commodity, rate: Option<Rate>) -> Result<Option<Price>, AllocError>
+    ensures { IfOk result (λ price. price ≡ price_in currency.now rate) }
+{
+    let Some(rate) = rate else {
+        return Ok(None);
+    };
+    Ok(Some(Price::Each(UnitPrice {
+        rate,
+        currency: currency.copy()?,
+    })))
 }
 
 /// Returns the whole units of a crumb, or `None` where they are out of range.

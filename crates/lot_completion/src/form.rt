@@ -5,20 +5,21 @@ ghost use Rattle.lot_command.specs.Canonical.{canonical};
 ghost use Rattle.lot_command.specs.Sayable.{IsSayable};
 ghost use Rattle.lot_command.specs.declared.command.Command.TheVariants.{Transaction as AsCommand};
 ghost use Rattle.lot_command.specs.declared.transaction.Transaction.{Transaction as TransactionOf};
-ghost use Rattle.lot_completion.specs.Form.{IsByForm, is_part, is_part_amount, is_part_posting, may_cost_in, may_have_products_in, may_weigh_in};
-ghost use Rattle.lot_completion.specs.Formed.{IsFormed, IsFormedAt, IsFormedAtSome, are_parts};
+ghost use Rattle.lot_completion.specs.Form.{IsByForm, may_be_taken, may_cost_in, may_have_products_in, may_weigh_in};
+ghost use Rattle.lot_completion.specs.Formed.{IsFormed, IsFormedAt, IsFormedAtSome};
 ghost use Rattle.lot_completion.specs.Turn.{StandsByForm};
 ghost use Rattle.lot_rounding.specs.Asked.{with_units, with_units_at};
 
+use crate::behind::{crumbs_behind, made_by};
 use crate::completion::{weighs_at_price, with_postings};
 use crate::rates::{RatedPostings, rate_all};
-use lot_base::{Account, Commodity};
-use lot_command::{Amount, Command, Items, Posting, Price, Transaction, canonical, is_sayable};
+use lot_base::Commodity;
+use lot_command::{Amount, Command, Items, Posting, Transaction, canonical, is_sayable};
 use lot_cost::Cost;
-use lot_num::Units;
+use lot_num::{Units, Wide};
 use lot_print::command_of;
 use lot_print::laws::canonical_texts_tell_commands_apart;
-use lot_rounding::{Decimals, RowCash, rounded};
+use lot_rounding::{Bound, Decimals, RowCash, rounded};
 use std::alloc::{AllocError, Global};
 
 /// Returns the transaction whose canonical text this is, if it is a completion of another by form, with
@@ -67,12 +68,13 @@ fn is_by_form(
     if postings.len() < count {
         return Ok(false);
     }
-    let (first, crumbs) = postings.split_at(count);
-    if are_parts(first, crumbs) {
-        is_formed_at_some(alloc, text, cash, transaction, crumbs)
-    } else {
-        Ok(false)
+    let (first, behind) = postings.split_at(count);
+    let crumbs = crumbs_behind(alloc, behind)?;
+    if !may_all_be_taken(first, crumbs.as_slice()) {
+        return Ok(false);
     }
+    let made = made_by(alloc, behind, crumbs.as_slice())?;
+    is_formed_at_some(alloc, text, cash, transaction, made.as_slice())
 }
 
 /// Returns whether a completion by form has that text, of a transaction with the cash of a row at any
@@ -199,61 +201,19 @@ fn push_all(postings: &mut Items<Posting>, more: &[Posting]) -> Result<(), Alloc
     Ok(())
 }
 
-/// Returns whether postings make up for crumbs of one account, behind the first ones.
-fn are_parts(first: &[Posting], crumbs: &[Posting]) -> bool
-    ensures { result ≡ are_parts first.now crumbs.now }
+/// Returns whether an account may have taken crumbs behind the first postings.
+fn may_all_be_taken(first: &[Posting], crumbs: &[(Commodity, Wide)]) -> bool
+    ensures { result ≡ list_all (may_be_taken first.now) crumbs.now }
 {
-    match crumbs.first() {
-        Some(one) => are_parts_of(first, &one.account, crumbs),
-        None => true,
-    }
+    crumbs.iter().all(|crumb| may_be_taken(first, crumb))
 }
 
-/// Returns whether postings make up for crumbs of that account, behind the first ones.
-fn are_parts_of(first: &[Posting], account: &Account, crumbs: &[Posting]) -> bool
-    ensures { result ≡ list_all (is_part_posting first.now account.now) crumbs.now }
+/// Returns whether an account may have taken a crumb behind the first postings: it is at most one, in a
+/// currency in which a product may weigh.
+fn may_be_taken(first: &[Posting], crumb: &(Commodity, Wide)) -> bool
+    ensures { result ≡ may_be_taken first.now crumb.now }
 {
-    crumbs
-        .iter()
-        .all(|posting| is_part_posting(first, account, posting))
-}
-
-/// Returns whether a posting of that account makes up for a crumb, or a part of one, behind the first
-/// ones.
-fn is_part_posting(first: &[Posting], account: &Account, posting: &Posting) -> bool
-    ensures { result ≡ is_part_posting first.now account.now posting.now }
-{
-    *account == posting.account && is_part_amount(first, &posting.amount)
-}
-
-/// Returns whether a posting with that amount does.
-fn is_part_amount(first: &[Posting], amount: &Option<Amount>) -> bool
-    ensures { result ≡ is_part_amount first.now amount.now }
-{
-    match amount {
-        Some(amount) => {
-            amount.cost.is_none()
-                && is_part(&amount.commodity, amount.units, &amount.price)
-                && may_have_products_in(first, &amount.commodity)
-        }
-        None => false,
-    }
-}
-
-/// Returns whether units of a currency at a price make up for a crumb, or a part of one.
-fn is_part(currency: &Commodity, units: Units, price: &Option<Price>) -> bool
-    ensures { result ≡ is_part currency.now units price.now }
-{
-    let size = units.mantissa().unsigned_abs();
-    match price {
-        None => (1..=100_000_000).contains(&size),
-        Some(Price::Each(price)) => {
-            *currency == price.currency
-                && (1..100_000_000).contains(&price.rate.mantissa())
-                && size == 1
-        }
-        Some(Price::Whole(_)) => false,
-    }
+    Bound::greatest().allows(crumb.1) && may_have_products_in(first, &crumb.0)
 }
 
 /// Returns whether a product may weigh in a currency.

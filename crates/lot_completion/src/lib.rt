@@ -4,12 +4,14 @@
 //! - `rates`: whole costs that no rate comes to, each replaced by the nearest rate.
 //! - `crumbs`: the postings of an account that make up for crumbs.
 //! - `completion`: the transaction that completes another on what is known of a book.
+//! - `behind`: crumbs, read back from the postings that make up for them.
 //! - `form`: whether a text is a completion of a transaction, as far as that can be seen.
 //! - `turn`: which command is tried in the place of one that was handed in.
 //! - `watch`: who is told what becomes of crumbs.
 //! - `laws`: there is at most one completion of a transaction, and it balances.
 #![tactic(auto)]
 
+mod behind;
 mod completion;
 mod crumbs;
 mod form;

@@ -2,6 +2,8 @@ pub mod Cause
 pub mod Codes
 pub mod Commas
 pub mod Commodity
+pub mod Crumbs
+pub mod Finding
 pub mod Records
 pub mod Residual
 pub mod Site

@@ -1,6 +1,7 @@
 //! The facts of a refusal that its book has, as they stand once the run is over.
 
 use crate::fact::without_sign;
+use crate::form::is_by_form;
 use crate::nearest::nearest;
 use crate::refused::Refused;
 use crate::shown::Shown;
@@ -69,18 +70,39 @@ pub(crate) fn key_reused<B: Known>(
         return Ok(String::new(alloc));
     };
     let sent = body(alloc, refused.command)?;
-    let number = entry.number;
+    let (number, completes) = (entry.number, completing(alloc, &entry, refused)?);
     match first_difference(entry.body.as_str(), sent.as_str()) {
         Difference::Has(line) => {
             let line = Shown(line.trim_start().as_bytes());
-            format!(in alloc; ": entry {number}, with the line `{line}`")
+            format!(in alloc; ": entry {number}, with the line `{line}`{completes}")
         }
         Difference::Lacks(line) => {
             let line = Shown(line.trim_start().as_bytes());
-            format!(in alloc; ": entry {number}, without the line `{line}`")
+            format!(in alloc; ": entry {number}, without the line `{line}`{completes}")
         }
-        Difference::Absent => format!(in alloc; ": entry {number}"),
+        Difference::Absent => format!(in alloc; ": entry {number}{completes}"),
     }
+}
+
+/// Says that with an account for crumbs a command repeats an entry, which is a completion of it by
+/// form, where none takes them.
+fn completing(
+    alloc: Global,
+    entry: &Entry,
+    refused: &Refused<'_>,
+) -> Result<&'static str, AllocError> {
+    let Command::Transaction(transaction) = refused.command else {
+        return Ok("");
+    };
+    if refused.rounding.is_some() {
+        return Ok("");
+    }
+    let completes = is_by_form(alloc, entry.body.as_str(), refused.cash, transaction)?;
+    Ok(if completes {
+        "; if --rounding completed it, it repeats with that option alone"
+    } else {
+        ""
+    })
 }
 
 /// The first difference of an entry from a text that was sent.

@@ -1,11 +1,13 @@
 //! What there is to say of the refusals and the faults of a call.
 
 use crate::book::Known;
+use crate::finding::Findings;
 use crate::notebook::Notebook;
 use crate::reading::Reading;
 use crate::refused::note_lines;
 use crate::warning::{warn_of_rows, warn_of_text};
 use lot_import::Accounts;
+use lot_rounding::{Decimals, Rounding};
 use std::alloc::Global;
 use std::io::{self, Write};
 
@@ -52,6 +54,10 @@ pub struct Call<'a> {
     pub left_out: u64,
     /// Why the system refused a call of the book's files, where it did.
     pub cause: Option<&'a str>,
+    /// The account that takes crumbs, where one does.
+    pub rounding: Option<&'a Rounding>,
+    /// What was found of the crumbs of refused commands.
+    pub findings: &'a Findings,
 }
 
 impl<'a> Call<'a> {
@@ -64,6 +70,14 @@ impl<'a> Call<'a> {
             Source::Rows { batch, .. } => ("import", batch, name),
         };
         Key { word, batch, name }
+    }
+
+    /// Returns to how many decimals the cash of a row was rounded, where it was.
+    pub(crate) fn decimals(&self) -> Option<Decimals> {
+        match self.rounding {
+            Some(rounding) => Some(rounding.decimals),
+            None => None,
+        }
     }
 }
 

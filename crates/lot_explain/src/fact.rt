@@ -1,11 +1,18 @@
 //! The facts of a refusal: what the text of the command says of it, and the book.
 
+ghost use Rattle.std.specs.Prelude.{◌≡◌, None, Some};
+ghost use Rattle.lot_import.specs.Deal.{IsCommandOf, exact_cash};
+ghost use Rattle.lot_import.specs.declared.accounts.Accounts.{Accounts as AccountsOf};
+ghost use Rattle.lot_rounding.specs.Nearest.{most_decimals};
+ghost use Rattle.lot_explain.specs.Crumbs.{postings_in};
+
 use crate::book::{Known, back_dated, fitting, key_reused, unknown_account};
 use crate::refused::{Refused, item};
 use crate::residual::residual;
 use lot_command::{Amount, Command, Cost, Posting};
 use lot_import::{Action, Row};
 use lot_num::{NumberFault, Rate, Units, Wide, weight};
+use lot_rounding::{Decimals, Rounding, RowCash, rounded};
 use std::alloc::{AllocError, Global};
 
 /// How many decimals an amount may have.
@@ -81,7 +88,9 @@ fn posting_of<'a>(refused: &Refused<'a>) -> Option<&'a Posting> {
 }
 
 /// Returns the postings of a command, none where it is no transaction.
-fn postings_of(command: &Command) -> &[Posting] {
+pub(crate) fn postings_of(command: &Command) -> &[Posting]
+    ensures { result.now ≡ postings_in command.now }
+{
     match command {
         Command::Transaction(transaction) => transaction.postings.as_slice(),
         _ => &[],
@@ -165,11 +174,37 @@ pub(crate) fn without_sign(units: Units) -> Units {
     }
 }
 
-/// Says the cash that a row moves.
-pub(crate) fn cash(alloc: Global, row: &Row) -> Result<String, AllocError> {
-    match moved(row) {
-        Some(moved) => amount_left(alloc, ": ", moved, row.currency.as_str()),
-        None => Ok(String::new(alloc)),
+/// Says the cash that a row moves, and names the option by which it is rounded, where that helps and
+/// no account takes crumbs.
+pub(crate) fn cash(
+    alloc: Global,
+    row: &Row,
+    rounding: Option<&Rounding>,
+) -> Result<String, AllocError> {
+    let Some(moved) = moved(row) else {
+        return Ok(String::new(alloc));
+    };
+    let mut text = amount_left(alloc, ": ", moved, row.currency.as_str())?;
+    if rounding.is_none() && rounded(moved, Decimals::of_units()).to_units().is_some() {
+        text.push_str("; --rounding ACCOUNT rounds it")?;
+    }
+    Ok(text)
+}
+
+/// Returns the cash that a row moves, by its command, in which it isn't rounded.
+pub(crate) fn row_cash(row: &Row, command: &Command) -> Option<RowCash>
+    ensures { (accounts : AccountsOf) → IsCommandOf accounts None row.now command.now
+        → result ≡ exact_cash (Some most_decimals) row.now }
+{
+    // It stands behind the fee, if there is one.
+    let place = if row.fee.mantissa() == 0 { 1 } else { 2 };
+    let posting = postings_of(command).get(place)?;
+    match &posting.amount {
+        Some(amount) => Some(RowCash {
+            place,
+            exact: amount.units.wide(),
+        }),
+        None => None,
     }
 }
 

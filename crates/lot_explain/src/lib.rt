@@ -9,6 +9,8 @@
 //!   name that may have been meant (`commodity`).
 //! - `refused`: commands and rows that are refused, with what is known of them (`fact`): from their
 //!   text (`residual`), and from the book once the run is over (`book`, `Known`).
+//! - `crumbs`: what was found of their crumbs as they were judged (`finding`); `bound`: how large these
+//!   are. `form`: whether an entry is a completion of a command.
 //! - `warning`: what may have been meant otherwise. `commas`: which columns of a broker file have
 //!   numbers with a comma.
 //! - `reading`: the commands of an input. `site`: on which line a command stands; `records`: the
@@ -17,14 +19,18 @@
 #![tactic(auto)]
 
 mod book;
+mod bound;
 mod call;
 mod codes;
 mod commas;
 mod commodity;
+mod crumbs;
 mod culprit;
 mod explained;
 mod fact;
 mod faulty;
+mod finding;
+mod form;
 mod nearest;
 mod notebook;
 mod place;
@@ -40,3 +46,4 @@ mod warning;
 pub use book::{Entry, Known, Latest, Lot};
 pub use call::{Call, Source, notes};
 pub use explained::{explain, list, nearest_code};
+pub use finding::{Finding, Findings};

@@ -6,9 +6,11 @@ ghost use Rattle.lot_explain.specs.Cause.{cause_behind, is_of_disk};
 
 use crate::book::Known;
 use crate::call::{Call, Key};
+use crate::crumbs::crumbs;
 use crate::explained::find;
-use crate::fact::{cash, fact, named};
+use crate::fact::{cash, fact, named, row_cash};
 use crate::faulty::{faulty_lines, faulty_rows};
+use crate::finding::Finding;
 use crate::notebook::Notebook;
 use crate::place::Place;
 use crate::reading::Reading;
@@ -16,6 +18,7 @@ use crate::said::{Said, heard};
 use crate::shown::Shown;
 use lot_command::Command;
 use lot_import::{CommandFault, command};
+use lot_rounding::{Rounding, RowCash};
 use lot_token::Lines;
 use std::alloc::{AllocError, Global};
 use std::io::{self, Write};
@@ -28,6 +31,12 @@ pub(crate) struct Refused<'a> {
     pub(crate) said: &'a Said<'a>,
     /// All commands of the ledger text that it stands in.
     pub(crate) commands: &'a [Command],
+    /// Of a row whose cash isn't rounded, what that is.
+    pub(crate) cash: Option<RowCash>,
+    /// The account that takes crumbs, where one does.
+    pub(crate) rounding: Option<&'a Rounding>,
+    /// What was found of its crumbs.
+    pub(crate) finding: Option<&'a Finding>,
 }
 
 /// Notes each refusal and each fault that a call said.
@@ -112,32 +121,40 @@ fn known<'a, B: Known>(
         Reading::Text { commands, .. } => match item(commands, number) {
             Some(command) => {
                 let name = format!(in alloc; "{number}")?;
-                let key = call.key(name.as_str());
-                fact(
-                    alloc,
-                    book,
-                    &Refused {
-                        key,
-                        command,
-                        said,
-                        commands,
-                    },
-                )
+                let refused = Refused {
+                    key: call.key(name.as_str()),
+                    command,
+                    said,
+                    commands,
+                    cash: None,
+                    rounding: call.rounding,
+                    finding: call.findings.of(number),
+                };
+                let mut text = fact(alloc, book, &refused)?;
+                text.push_str(crumbs(alloc, &refused)?.as_str())?;
+                Ok(text)
             }
             None => Ok(String::new(alloc)),
         },
         Reading::Rows { rows, accounts, .. } => match item(rows, number) {
-            Some(row) if said.code == "C4" => cash(alloc, row),
-            Some(row) => match command(alloc, row, accounts) {
+            Some(row) if said.code == "C4" => cash(alloc, row, call.rounding),
+            Some(row) => match command(alloc, row, accounts, call.decimals()) {
                 Ok(command) => {
                     let refused = Refused {
                         key: call.key(row.name.as_str()),
                         command: &command,
                         said,
                         commands: &[],
+                        cash: match call.rounding {
+                            Some(_) => None,
+                            None => row_cash(row, &command),
+                        },
+                        rounding: call.rounding,
+                        finding: call.findings.of(number),
                     };
                     let mut text = named(alloc, &refused)?;
                     text.push_str(fact(alloc, book, &refused)?.as_str())?;
+                    text.push_str(crumbs(alloc, &refused)?.as_str())?;
                     Ok(text)
                 }
                 Err(CommandFault::InexactAmount) => Ok(String::new(alloc)),

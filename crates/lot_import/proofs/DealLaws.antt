@@ -1,10 +1,10 @@
 -- A row has one command, and each command comes of one row.
-use Rattle.std.proofs.Common.{◌≡◌, ℕ, true, false, List, [], ◌∷◌, ◌++◌, length, Some, None, ℤ, inl, inr, sym, ◌∙◌, ap, refl, arith}
+use Rattle.std.proofs.Common.{◌≡◌, ℕ, true, false, List, [], ◌∷◌, ◌++◌, length, Option, Some, None, ℤ, inl, inr, sym, ◌∙◌, ap, refl, arith}
 use Rattle.std.proofs.lemmas.Bool.{cases_Bool, eqb-true}
 use Rattle.std.proofs.lemmas.Int.{ints}
 use Rattle.std.proofs.lemmas.Option.{none-some, same_Some}
-use Rattle.std.specs.Prelude.{◌==◌, pos, ◌*ℤ◌, neg_ℤ}
-use Rattle.lot_num.specs.Amount.{one}
+use Rattle.std.specs.Prelude.{◌==◌, IfNone, pos, ◌*ℤ◌, neg_ℤ}
+use Rattle.lot_num.specs.Amount.{IsUnits, one}
 use Rattle.lot_cost.specs.declared.cost_spec.CostSpec.{CostSpec}
 use Rattle.lot_cost.specs.declared.cost.Cost.TheVariants as Costs
 use Rattle.lot_command.specs.declared.command.Command.{Command}
@@ -15,21 +15,50 @@ use Rattle.lot_command.specs.declared.transaction.Amount.{Amount}
 use Rattle.lot_command.specs.declared.transaction.Narration.{Narration}
 use Rattle.lot_command.specs.declared.transaction.Posting.{Posting}
 use Rattle.lot_command.specs.declared.transaction.Transaction.{Transaction}
-use Rattle.lot_import.specs.Deal.{IsCommandOf, bought, cash_posting, command_with, elided, fee_posting, opened, plain, postings, sold, taken}
+use Rattle.lot_import.specs.Deal.{HasCash, IsAskedOf, IsCash, IsCommandOf, IsKept, bought, cash_posting, cash_weight, command_with, elided, fee_posting, opened, plain, postings, sold, taken}
 use Rattle.lot_import.specs.declared.accounts.Accounts.{Accounts}
 use Rattle.lot_import.specs.declared.row.Action.{Action}
 use Rattle.lot_import.specs.declared.row.Action.TheVariants.{Buy, Sell}
 use Rattle.lot_import.specs.declared.row.Row.{Row}
 use Rattle.lot_import.proofs.RecordLaws.{same_fields}
+use Rattle.lot_rounding.proofs.NearestLemmas.{one_rounded}
+use Rattle.lot_rounding.specs.declared.asked.Asked.{Asked}
+use Rattle.lot_rounding.specs.declared.asked.RowCash.{RowCash}
 
 -- ---- One command.
 
-one_cash : (a b : ℤ) → a *ℤ pos one ≡ b *ℤ pos one → a ≡ b
-one_cash a b e = omega (arith, ints, e)
+same_units : (a b : ℤ) → a *ℤ pos one ≡ b *ℤ pos one → a ≡ b
+same_units a b e = omega (arith, ints, e)
 
-pub one_command : (accounts : Accounts) (row : Row) (a b : Command) → IsCommandOf accounts row a → IsCommandOf accounts row b → a ≡ b
-one_command accounts row a b h k =
-    h.is ∙ ap (command_with accounts row) (one_cash h.cash k.cash (sym h.moves.exact ∙ k.moves.exact)) ∙ sym k.is
+-- an amount is kept as one
+pub one_kept : (decimals : Option ℕ) (amount a b : ℤ) → IsKept decimals amount a → IsKept decimals amount b → a ≡ b
+one_kept None amount a b h k = h ∙ sym k
+one_kept (Some decimals) amount a b h k = one_rounded decimals amount a b h k
+
+pub one_cash : (decimals : Option ℕ) (row : Row) (a b : ℤ) → IsCash decimals row a → IsCash decimals row b → a ≡ b
+one_cash decimals row a b h k =
+    same_units a b (one_kept decimals (cash_weight row) (a *ℤ pos one) (b *ℤ pos one) h.kept k.kept)
+
+-- what isn't units is no cash
+pub no_units : (decimals : Option ℕ) (row : Row) (kept : ℤ) (found : Option ℤ) → IsKept decimals (cash_weight row) kept
+    → ((units : ℤ) → IsUnits units → kept ≡ units *ℤ pos one → found ≡ Some units) → IfNone found (HasCash decimals row → ⊥)
+no_units decimals row kept None keeps every = λ (cash, it).
+    none-some cash (every cash it.in_range (one_kept decimals (cash_weight row) kept (cash *ℤ pos one) keeps it.kept))
+no_units decimals row kept (Some units) keeps every = tt
+
+pub one_command : (accounts : Accounts) (decimals : Option ℕ) (row : Row) (a b : Command)
+    → IsCommandOf accounts decimals row a → IsCommandOf accounts decimals row b → a ≡ b
+one_command accounts decimals row a b h k =
+    h.is ∙ ap (command_with accounts row) (one_cash decimals row h.cash k.cash h.moves k.moves) ∙ sym k.is
+
+same_asked : (a b : Command) (p q : Option RowCash) → a ≡ b → p ≡ q
+    → ◌≡◌ {A = Asked} (record { command = a; cash = p }) (record { command = b; cash = q })
+same_asked a b p q command cash = rw (command, cash) refl
+
+pub one_asked : (accounts : Accounts) (decimals : Option ℕ) (row : Row) (a b : Asked)
+    → IsAskedOf accounts decimals row a → IsAskedOf accounts decimals row b → a ≡ b
+one_asked accounts decimals row a b h k =
+    same_asked a.command b.command a.cash b.cash (one_command accounts decimals row a.command b.command h.command k.command) (h.cash ∙ sym k.cash)
 
 -- ---- One row.
 
@@ -154,5 +183,6 @@ same_rows accounts a b p q e =
     (ap (λ (n : Narration). n.text) narration) (ap (λ (t : Transaction). t.day) transaction)
     deal.action deal.symbol deal.units deal.price deal.currency deal.fee deal.lot
 
-pub one_row_of : (accounts : Accounts) (a b : Row) (command : Command) → IsCommandOf accounts a command → IsCommandOf accounts b command → a ≡ b
-one_row_of accounts a b command h k = same_rows accounts a b h.cash k.cash (sym h.is ∙ k.is)
+pub one_row_of : (accounts : Accounts) (decimals others : Option ℕ) (a b : Row) (command : Command)
+    → IsCommandOf accounts decimals a command → IsCommandOf accounts others b command → a ≡ b
+one_row_of accounts decimals others a b command h k = same_rows accounts a b h.cash k.cash (sym h.is ∙ k.is)

@@ -6,6 +6,7 @@ pub mod FileLemmas
 pub mod HeaderBytes
 pub mod HeaderLemmas
 pub mod KeyedLemmas
+pub mod KnownLemmas
 pub mod LotLaws
 pub mod NoteLemmas
 pub mod ReadLemmas

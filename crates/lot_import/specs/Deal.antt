@@ -1,5 +1,5 @@
 -- The command that a row of a broker file stands for (docs/FORMATS.md, Broker files).
-use Rattle.std.specs.Prelude.{◌≡◌, ℕ, ◌==◌, if◌then◌else◌, List, [], ◌∷◌, ◌++◌, Some, None, ℤ, pos, ◌+ℤ◌, ◌-ℤ◌, ◌*ℤ◌, neg_ℤ}
+use Rattle.std.specs.Prelude.{◌≡◌, ℕ, ◌==◌, if◌then◌else◌, List, [], ◌∷◌, ◌++◌, Option, Some, None, IfSome, ◌≤◌, ℤ, pos, ◌+ℤ◌, ◌-ℤ◌, ◌*ℤ◌, neg_ℤ}
 use Rattle.lot_num.specs.Amount.{one, IsUnits}
 use Rattle.lot_cost.specs.declared.cost_spec.CostSpec.{CostSpec}
 use Rattle.lot_cost.specs.declared.cost.Cost.TheVariants as Costs
@@ -8,10 +8,14 @@ use Rattle.lot_command.specs.declared.command.Command.TheVariants as Commands
 use Rattle.lot_command.specs.declared.price.Price.TheVariants as Prices
 use Rattle.lot_command.specs.declared.transaction.Flag.TheVariants.{Complete}
 use Rattle.lot_command.specs.declared.transaction.Posting.{Posting}
+use Rattle.lot_command.specs.declared.transaction.Transaction.{Transaction as TransactionOf}
 use Rattle.lot_import.specs.declared.accounts.Accounts.{Accounts}
 use Rattle.lot_import.specs.declared.row.Action.{Action}
 use Rattle.lot_import.specs.declared.row.Action.TheVariants.{Buy, Sell}
 use Rattle.lot_import.specs.declared.row.Row.{Row}
+use Rattle.lot_rounding.specs.Nearest.{IsRounded, most_decimals}
+use Rattle.lot_rounding.specs.declared.asked.Asked.{Asked}
+use Rattle.lot_rounding.specs.declared.asked.RowCash.{RowCash}
 
 -- ---- The cash that a deal moves.
 
@@ -24,14 +28,23 @@ moved Sell worth fee = worth -ℤ fee
 abbrev pub cash_weight : Row → ℤ
 cash_weight row = moved row.action (row.units *ℤ pos row.price) (pos row.fee *ℤ pos one)
 
--- the same as units, where it is exactly units
-pub record IsCash (row : Row) (cash : ℤ) : Type 0 where
-  pub in_range : IsUnits cash
-  pub exact : cash_weight row ≡ cash *ℤ pos one
+-- decimals that may be given are at most eight
+abbrev pub MayBeGiven : Option ℕ → Type 0
+MayBeGiven decimals = IfSome decimals (λ d. d ≤ most_decimals)
 
--- the cash that a row moves is exactly units
-abbrev pub IsExact : Row → Type 0
-IsExact row = (cash : ℤ) × IsCash row cash
+-- what an amount is kept as: itself, or where decimals are given, rounded to so many
+abbrev pub IsKept : Option ℕ → ℤ → ℤ → Type 0
+IsKept None amount kept = kept ≡ amount
+IsKept (Some decimals) amount kept = IsRounded decimals amount kept
+
+-- the cash that a row moves as units, where what it is kept as is exactly units
+pub record IsCash (decimals : Option ℕ) (row : Row) (cash : ℤ) : Type 0 where
+  pub in_range : IsUnits cash
+  pub kept : IsKept decimals (cash_weight row) (cash *ℤ pos one)
+
+-- a row has cash: what it moves, as it is kept, is units
+abbrev pub HasCash : Option ℕ → Row → Type 0
+HasCash decimals row = (cash : ℤ) × IsCash decimals row cash
 
 -- ---- Its postings.
 
@@ -77,17 +90,35 @@ postings Sell accounts row cash =
 -- ---- The command.
 
 -- the transaction of a row that moves that cash
-abbrev pub command_with : Accounts → Row → ℤ → Command
-command_with accounts row cash =
-    Commands.Transaction (record {
-      day = row.day;
-      flag = Complete;
-      narration = Some (record { payee = None; text = row.name });
-      postings = postings row.action accounts row cash;
-    })
+abbrev pub transaction_with : Accounts → Row → ℤ → TransactionOf
+transaction_with accounts row cash = record {
+  day = row.day;
+  flag = Complete;
+  narration = Some (record { payee = None; text = row.name });
+  postings = postings row.action accounts row cash;
+}
 
--- the command of a row: there is one where the cash is exactly units
-pub record IsCommandOf (accounts : Accounts) (row : Row) (command : Command) : Type 0 where
+abbrev pub command_with : Accounts → Row → ℤ → Command
+command_with accounts row cash = Commands.Transaction (transaction_with accounts row cash)
+
+-- the command of a row: there is one where the row has cash
+pub record IsCommandOf (accounts : Accounts) (decimals : Option ℕ) (row : Row) (command : Command) : Type 0 where
   pub cash : ℤ
-  pub moves : IsCash row cash
+  pub moves : IsCash decimals row cash
   pub is : command ≡ command_with accounts row cash
+
+-- ---- The command as it is handed in.
+
+-- the place of the cash among the postings of a row, from 0
+abbrev pub cash_place : Row → ℕ
+cash_place row = if row.fee == 0 then 1 else 2
+
+-- of a row whose cash is rounded, what it is exactly
+abbrev pub exact_cash : Option ℕ → Row → Option RowCash
+exact_cash None row = None
+exact_cash (Some decimals) row = Some (record { place = cash_place row; exact = cash_weight row })
+
+-- a row as it is handed in
+pub record IsAskedOf (accounts : Accounts) (decimals : Option ℕ) (row : Row) (asked : Asked) : Type 0 where
+  pub command : IsCommandOf accounts decimals row asked.command
+  pub cash : asked.cash ≡ exact_cash decimals row

@@ -1,41 +1,42 @@
 -- The commands of the rows of a file, each under its key (docs/RULES.md, Keys and repeats).
-use Rattle.std.specs.Prelude.{◌≡◌, ℕ, ◌+◌, ◌-◌, ℤ, List, [], ◌∷◌, ◌++◌, drop, length, ⊤}
+use Rattle.std.specs.Prelude.{◌≡◌, ℕ, ◌+◌, ◌-◌, List, [], ◌∷◌, ◌++◌, drop, length, Option, ⊤}
 use Rattle.std.specs.List.{AllZip}
-use Rattle.lot_command.specs.declared.command.Command.{Command}
 use Rattle.lot_command.specs.declared.key.Key.{Key}
-use Rattle.lot_import.specs.Deal.{IsCash, IsCommandOf, IsExact}
+use Rattle.lot_import.specs.Deal.{HasCash, IsAskedOf}
 use Rattle.lot_import.specs.declared.accounts.Accounts.{Accounts}
 use Rattle.lot_import.specs.declared.row.Row.{Row}
+use Rattle.lot_rounding.specs.declared.asked.Asked.{Asked}
 
 -- the key of a row of a source
 abbrev pub key_of : List ℕ → Row → Key
 key_of source row = record { source = source; name = row.name }
 
--- the command of a row under its key
-abbrev pub IsKeyed : List ℕ → Accounts → Row → Key × Command → Type 0
-IsKeyed source accounts row keyed = (keyed.0 ≡ key_of source row) × IsCommandOf accounts row keyed.1
+-- a row as it is handed in, under its key
+abbrev pub IsKeyed : List ℕ → Accounts → Option ℕ → Row → Key × Asked → Type 0
+IsKeyed source accounts decimals row keyed = (keyed.0 ≡ key_of source row) × IsAskedOf accounts decimals row keyed.1
 
--- those of rows, in their order
-abbrev pub AreKeyed : List ℕ → Accounts → List Row → List (Key × Command) → Type 0
-AreKeyed source accounts = AllZip (IsKeyed source accounts)
+-- rows, in their order
+abbrev pub AreKeyed : List ℕ → Accounts → Option ℕ → List Row → List (Key × Asked) → Type 0
+AreKeyed source accounts decimals = AllZip (IsKeyed source accounts decimals)
 
--- Of those of all rows the ones from that number on. The first row has the number 1.
-pub record AreKeyedFrom (source : List ℕ) (accounts : Accounts) (from : ℕ) (rows : List Row) (keyed : List (Key × Command)) : Type 0 where
-  pub all : List (Key × Command)
-  pub each : AreKeyed source accounts rows all
+-- Of all rows those from that number on. The first row has the number 1.
+pub record AreKeyedFrom (source : List ℕ) (accounts : Accounts) (decimals : Option ℕ) (from : ℕ) (rows : List Row)
+    (keyed : List (Key × Asked)) : Type 0 where
+  pub all : List (Key × Asked)
+  pub each : AreKeyed source accounts decimals rows all
   pub rest : keyed ≡ drop (from - 1) all
 
--- the cash that each of the rows moves is exactly units
-abbrev pub AreExact : List Row → Type 0
-AreExact [] = ⊤
-AreExact (row ∷ rows) = IsExact row × AreExact rows
+-- each of the rows has cash
+abbrev pub HaveCash : Option ℕ → List Row → Type 0
+HaveCash decimals [] = ⊤
+HaveCash decimals (row ∷ rows) = HasCash decimals row × HaveCash decimals rows
 
--- the first row whose cash isn't units is that one, counted from 1
-pub record HasInexactRow (rows : List Row) (number : ℕ) : Type 0 where
+-- the first row that has no cash is that one, counted from 1
+pub record HasInexactRow (decimals : Option ℕ) (rows : List Row) (number : ℕ) : Type 0 where
   pub before : List Row
   pub row : Row
   pub after : List Row
   pub all : rows ≡ before ++ row ∷ after
-  pub exact : AreExact before
-  pub inexact : (cash : ℤ) → IsCash row cash → ⊥
+  pub earlier : HaveCash decimals before
+  pub inexact : HasCash decimals row → ⊥
   pub place : number ≡ length before + 1

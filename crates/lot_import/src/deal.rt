@@ -1,5 +1,6 @@
-ghost use Rattle.std.specs.Prelude.{◌≡◌, ℤ, pos, neg_ℤ, ◌++◌, Err, IfOk, IfErr, IfSome, IfNone, OnOk};
-ghost use Rattle.lot_import.specs.Deal.{IsCash, IsCommandOf, IsExact, bought, sold, elided, fee_posting, plain, postings};
+ghost use Rattle.std.specs.Prelude.{◌≡◌, ◌<◌, ◌*◌, ◌+ℤ◌, ◌*ℤ◌, pos, neg_ℤ, unsigned_abs, ◌++◌, Err, IfOk, IfErr, IfSome, IfNone, OnOk};
+ghost use Rattle.lot_num.specs.Amount.{IsWide, rate_limit, units_limit};
+ghost use Rattle.lot_import.specs.Deal.{HasCash, IsAskedOf, IsCash, IsCommandOf, IsKept, bought, cash_place, cash_weight, elided, exact_cash, fee_posting, plain, postings, sold};
 ghost use Rattle.lot_import.specs.declared.fault.CommandFault.TheVariants.{InexactAmount};
 
 use crate::accounts::Accounts;
@@ -9,19 +10,26 @@ use lot_base::{Account, Commodity, Label, NameFault, Note};
 use lot_command::{
     Amount, Command, Cost, CostSpec, Flag, Items, Narration, Posting, Price, Transaction, UnitPrice,
 };
-use lot_num::{Rate, Units, weight};
+use lot_num::{Rate, Units, Wide, weight};
+use lot_rounding::{Asked, Decimals, RowCash, rounded};
 use std::alloc::{AllocError, Global};
 
-/// Returns the transaction that a row stands for, posted to the accounts (docs/FORMATS.md, Broker files).
+/// Returns the transaction that a row stands for, posted to the accounts (docs/FORMATS.md, Broker files). Where decimals are
+/// given, the cash that it moves is rounded to so many, half to even.
 ///
-/// The error is `InexactAmount` exactly where the cash that the row moves isn't units. This is tested first. Else it is out of
-/// memory.
-pub fn command(alloc: Global, row: &Row, accounts: &Accounts) -> Result<Command, CommandFault>
-    ensures ok { IfOk result (λ command. IsCommandOf accounts.now row.now command) }
-    ensures inexact { IfErr result (λ fault. fault ≡ InexactAmount → (cash : ℤ) → IsCash row.now cash → ⊥) }
-    ensures memory { result ≡ Err CommandFault.Memory → IsExact row.now }
+/// The error is `InexactAmount` exactly where this cash isn't units: out of range, or without decimals not exact. This is tested
+/// first. Else it is out of memory.
+pub fn command(
+    alloc: Global,
+    row: &Row,
+    accounts: &Accounts,
+    decimals: Option<Decimals>,
+) -> Result<Command, CommandFault>
+    ensures ok { IfOk result (IsCommandOf accounts.now decimals row.now) }
+    ensures inexact { IfErr result (λ fault. fault ≡ InexactAmount → HasCash decimals row.now → ⊥) }
+    ensures memory { result ≡ Err CommandFault.Memory → HasCash decimals row.now }
 {
-    let Some(cash) = cash(row) else {
+    let Some(cash) = cash(row, decimals) else {
         return Err(CommandFault::InexactAmount);
     };
     let narration = Narration {
@@ -36,18 +44,89 @@ pub fn command(alloc: Global, row: &Row, accounts: &Accounts) -> Result<Command,
     }))
 }
 
-/// Returns the cash that a row moves, or `None` where it isn't exactly units.
-pub(crate) fn cash(row: &Row) -> Option<Units>
-    ensures some { IfSome result (λ cash. IsCash row.now cash) }
-    ensures none { IfNone result ((cash : ℤ) → IsCash row.now cash → ⊥) }
+/// Returns the same as it is handed in: where decimals are given, with the exact cash.
+pub(crate) fn asked(
+    alloc: Global,
+    row: &Row,
+    accounts: &Accounts,
+    decimals: Option<Decimals>,
+) -> Result<Asked, CommandFault>
+    ensures ok { IfOk result (IsAskedOf accounts.now decimals row.now) }
+    ensures inexact { IfErr result (λ fault. fault ≡ InexactAmount → HasCash decimals row.now → ⊥) }
 {
-    let worth = weight(row.units, row.price);
+    Ok(Asked {
+        command: command(alloc, row, accounts, decimals)?,
+        cash: exact_cash(row, decimals),
+    })
+}
+
+/// Returns of a row whose cash is rounded what it is exactly, and its place.
+fn exact_cash(row: &Row, decimals: Option<Decimals>) -> Option<RowCash>
+    ensures { result ≡ exact_cash decimals row.now }
+{
+    match decimals {
+        None => None,
+        Some(_) => Some(RowCash {
+            place: cash_place(row),
+            exact: moved(row),
+        }),
+    }
+}
+
+/// Returns the place of the cash among the postings of a row: behind the fee, where there is one.
+fn cash_place(row: &Row) -> usize
+    ensures { result ≡ cash_place row.now }
+{
+    if row.fee.mantissa() == 0 { 1 } else { 2 }
+}
+
+/// Returns the cash that a row moves, rounded where decimals are given, or `None` where it isn't units.
+pub(crate) fn cash(row: &Row, decimals: Option<Decimals>) -> Option<Units>
+    ensures some { IfSome result (IsCash decimals row.now) }
+    ensures none { IfNone result (HasCash decimals row.now → ⊥) }
+{
+    kept(moved(row), decimals).to_units()
+}
+
+/// Returns what an amount is kept as: itself, or where decimals are given, rounded to so many.
+fn kept(amount: Wide, decimals: Option<Decimals>) -> Wide
+    ensures { IsKept decimals amount result }
+{
+    match decimals {
+        None => amount,
+        Some(decimals) => rounded(amount, decimals),
+    }
+}
+
+/// Returns the cash that a row moves, exactly. It is always in range.
+fn moved(row: &Row) -> Wide
+    ensures { result ≡ cash_weight row.now }
+{
+    let worth = worth(row.units, row.price);
     let fee = as_units(row.fee).wide();
-    let moved = match row.action {
-        Action::Buy => worth.checked_add(fee)?.negated(),
-        Action::Sell => worth.checked_add(fee.negated())?,
-    };
-    moved.to_units()
+    match row.action {
+        Action::Buy => sum(worth, fee).negated(),
+        Action::Sell => sum(worth, fee.negated()),
+    }
+}
+
+/// Returns what units are worth at a price.
+fn worth(units: Units, price: Rate) -> Wide
+    ensures value { result ≡ units *ℤ pos price }
+    ensures bound { unsigned_abs result < units_limit * rate_limit }
+{
+    weight(units, price)
+}
+
+/// Returns the sum of two weights that is in range.
+fn sum(one: Wide, other: Wide) -> Wide
+    requires { IsWide (one +ℤ other) }
+    ensures { result ≡ one +ℤ other }
+{
+    match one.checked_add(other) {
+        Some(sum) => sum,
+        None => unreachable!(),
+    }
 }
 
 /// Returns the rate as units. They have the same scale, and their range is wider.

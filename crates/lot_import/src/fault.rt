@@ -68,7 +68,7 @@ impl<T: Drop> From<AllocFailed<T>> for RowsFault {
 /// Why a row has no command.
 #[derive(Clone, Copy, Debug, PartialEq, Eq, Error)]
 pub enum CommandFault {
-    /// The cash that the row moves isn't units: it has a decimal past the eighth, or is out of range.
+    /// The cash that the row moves isn't units: it is out of range, or it isn't rounded and has a decimal past the eighth.
     #[error("the cash amount isn't exact at eight decimals, or too large")]
     InexactAmount,
     /// Out of memory.

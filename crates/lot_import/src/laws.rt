@@ -1,7 +1,13 @@
 //! Laws of the definitions that the contracts of this crate cite. Each is the contract of a function that does nothing.
-ghost use Rattle.std.specs.Prelude.{◌≡◌, ◌≢◌, ◌⊎◌, ◌∷◌, ◌++◌, [], ℕ, ℤ, List};
+ghost use Rattle.std.specs.Prelude.{◌≡◌, ◌≢◌, ◌≤◌, ◌<◌, ◌*◌, ◌⊎◌, ◌∷◌, ◌++◌, [], ℕ, ℤ, List, Option, Some, unsigned_abs};
+ghost use Rattle.lot_num.specs.Amount.{one, units_limit};
 ghost use Rattle.lot_command.specs.declared.command.Command.{Command};
-ghost use Rattle.lot_import.specs.Deal.{IsCommandOf};
+ghost use Rattle.lot_command.specs.declared.command.Command.TheVariants.{Transaction};
+ghost use Rattle.lot_command.specs.declared.transaction.Transaction.{Transaction as TransactionOf};
+ghost use Rattle.lot_rounding.specs.Asked.{IsAtSomeDecimals};
+ghost use Rattle.lot_rounding.specs.Nearest.{IsRounded, most_decimals};
+ghost use Rattle.lot_rounding.specs.declared.asked.Asked.{Asked};
+ghost use Rattle.lot_import.specs.Deal.{HasCash, IsAskedOf, IsCommandOf, MayBeGiven, cash_weight};
 ghost use Rattle.lot_import.specs.File.{AreRows, HasFault};
 ghost use Rattle.lot_import.specs.Row.{IsFaulty, IsRow};
 ghost use Rattle.lot_import.specs.declared.accounts.Accounts.{Accounts};
@@ -33,8 +39,34 @@ pub fn an_empty_lot_changes_no_row()
     ensures { (written : List (List ℕ)) (row : Row) → IsRow First written row → IsRow Second (written ++ [] ∷ []) row }
 {}
 
-/// With the same accounts, a row has at most one command, and different rows have different commands.
+/// With the same accounts, a row has at most one command, and different rows have different commands, whatever their cash is
+/// rounded to. So a row is handed in as one thing.
 pub fn a_row_has_one_command()
-    ensures command { (accounts : Accounts) (row : Row) (a b : Command) → IsCommandOf accounts row a → IsCommandOf accounts row b → a ≡ b }
-    ensures row { (accounts : Accounts) (a b : Row) (command : Command) → IsCommandOf accounts a command → IsCommandOf accounts b command → a ≡ b }
+    ensures command { (accounts : Accounts) (decimals : Option ℕ) (row : Row) (a b : Command)
+        → IsCommandOf accounts decimals row a → IsCommandOf accounts decimals row b → a ≡ b }
+    ensures asked { (accounts : Accounts) (decimals : Option ℕ) (row : Row) (a b : Asked)
+        → IsAskedOf accounts decimals row a → IsAskedOf accounts decimals row b → a ≡ b }
+    ensures row { (accounts : Accounts) (decimals others : Option ℕ) (a b : Row) (command : Command)
+        → IsCommandOf accounts decimals a command → IsCommandOf accounts others b command → a ≡ b }
+{}
+
+/// A row whose cash is rounded has no cash only where that is out of the range of units.
+pub fn rounded_cash_is_units()
+    ensures { (decimals : ℕ) (row : Row) (rounded : ℤ) → decimals ≤ most_decimals
+        → IsRounded decimals (cash_weight row) rounded → unsigned_abs rounded < units_limit * one
+        → HasCash (Some decimals) row }
+{}
+
+/// A row whose cash is rounded is known as it was posted, whatever its cash was rounded to then, also where it was posted
+/// exactly. And each row is known as it is handed in.
+pub fn a_row_is_known_at_other_decimals()
+    ensures others { (accounts : Accounts) (decimals : ℕ) (earlier : Option ℕ) (row : Row)
+        (asked : Asked) (t written : TransactionOf)
+        → IsAskedOf accounts (Some decimals) row asked → asked.command ≡ Transaction t
+        → MayBeGiven earlier → IsCommandOf accounts earlier row (Transaction written)
+        → IsAtSomeDecimals asked.cash t written }
+    ensures itself { (accounts : Accounts) (decimals : Option ℕ) (row : Row)
+        (asked : Asked) (t : TransactionOf)
+        → MayBeGiven decimals → IsAskedOf accounts decimals row asked
+        → asked.command ≡ Transaction t → IsAtSomeDecimals asked.cash t t }
 {}

@@ -12,6 +12,8 @@ use Rattle.std.specs.Prelude.{◌||◌, ◌==◌}
 use Rattle.lot_base.specs.Name.{is_label, is_label_byte, longest_label}
 use Rattle.lot_command.specs.declared.command.Command.{Command}
 use Rattle.lot_command.specs.declared.key.Key.{Key}
+use Rattle.lot_rounding.specs.Asked.{plain}
+use Rattle.lot_rounding.specs.declared.asked.Asked.{Asked}
 use Rattle.lot_input.specs.Keyed.{keyed_from, numbered_key, source_of, under_keys}
 use Rattle.lot_args.specs.Batch.{is_batch, is_batch_byte, longest_batch}
 
@@ -95,27 +97,27 @@ source_is_label word batch label few good =
 
 one_more : (source : List ℕ) (number : ℕ) (commands : List Command) (command : Command)
     → under_keys source number (commands ++ command ∷ [])
-    ≡ under_keys source number commands ++ (numbered_key source (length commands + number), command) ∷ []
-one_more source number [] command = ap (λ n. (numbered_key source n, command) ∷ []) (counted_on number)
+    ≡ under_keys source number commands ++ (numbered_key source (length commands + number), plain command) ∷ []
+one_more source number [] command = ap (λ n. (numbered_key source n, plain command) ∷ []) (counted_on number)
   where
     counted_on : (n : ℕ) → n ≡ 0 + n
     counted_on n = omega arith
 one_more source number (first ∷ commands) command =
-    ap (λ more. (numbered_key source number, first) ∷ more)
+    ap (λ more. (numbered_key source number, plain first) ∷ more)
     (one_more source (suc number) commands command
-    ∙ ap (λ n. under_keys source (suc number) commands ++ (numbered_key source n, command) ∷ []) (counted_on (length commands) number))
+    ∙ ap (λ n. under_keys source (suc number) commands ++ (numbered_key source n, plain command) ∷ []) (counted_on (length commands) number))
   where
     counted_on : (m n : ℕ) → m + suc n ≡ suc m + n
     counted_on m n = omega arith
 
 -- of the commands so many were taken in, and these are left
-pub record TakenIn (source : List ℕ) (from : ℕ) (commands left : List Command) (count : ℕ) (keyed : List (Key × Command)) : Type 0 where
+pub record TakenIn (source : List ℕ) (from : ℕ) (commands left : List Command) (count : ℕ) (keyed : List (Key × Asked)) : Type 0 where
   pub done : List Command
   pub split : commands ≡ done ++ left
   pub counted : count ≡ length done
   pub taken : keyed ≡ keyed_from source from done
 
-pub none_yet : (source : List ℕ) (from : ℕ) (commands left : List Command) (count : ℕ) (keyed : List (Key × Command))
+pub none_yet : (source : List ℕ) (from : ℕ) (commands left : List Command) (count : ℕ) (keyed : List (Key × Asked))
     → left ≡ commands → count ≡ 0 → keyed ≡ [] → TakenIn source from commands left count keyed
 none_yet source from commands left count keyed all none empty = record {
   done = [];
@@ -124,11 +126,11 @@ none_yet source from commands left count keyed all none empty = record {
   taken = empty ∙ ap (under_keys source from) (sym (drop_all (from - 1) [] (omega arith)));
 }
 
-pub all_taken : (source : List ℕ) (from : ℕ) (commands : List Command) (count : ℕ) (keyed : List (Key × Command))
+pub all_taken : (source : List ℕ) (from : ℕ) (commands : List Command) (count : ℕ) (keyed : List (Key × Asked))
     → TakenIn source from commands [] count keyed → keyed ≡ keyed_from source from commands
 all_taken source from commands count keyed so = so.taken ∙ ap (keyed_from source from) (sym (so.split ∙ append-nil so.done))
 
-module _ (source : List ℕ) (from : ℕ) (commands left rest : List Command) (command : Command) (count number later : ℕ) (keyed : List (Key × Command))
+module _ (source : List ℕ) (from : ℕ) (commands left rest : List Command) (command : Command) (count number later : ℕ) (keyed : List (Key × Asked))
     (so : TakenIn source from commands left count keyed) (is : left ≡ command ∷ rest) (numbered : number ≡ count + 1) (counted_on : later ≡ count + 1) where
   abbrev more : List Command
   more = so.done ++ command ∷ []
@@ -140,7 +142,7 @@ module _ (source : List ℕ) (from : ℕ) (commands left rest : List Command) (c
   count_more = counted_on ∙ ap (λ n. n + 1) so.counted ∙ sym (length-append so.done (command ∷ []))
 
   -- the command has a number from which on they are run
-  pub takes_next : (longer : List (Key × Command)) → longer ≡ keyed ++ (numbered_key source number, command) ∷ [] → 1 ≤ from → from ≤ number
+  pub takes_next : (longer : List (Key × Asked)) → longer ≡ keyed ++ (numbered_key source number, plain command) ∷ [] → 1 ≤ from → from ≤ number
       → TakenIn source from commands rest later longer
   takes_next longer grown some here = record {
     done = more;
@@ -149,9 +151,9 @@ module _ (source : List ℕ) (from : ℕ) (commands left rest : List Command) (c
     taken = grown ∙ sym (
         ap (under_keys source from) (drop-append-le (from - 1) so.done (command ∷ []) (omega (arith, numbered, so.counted, here)))
         ∙ one_more source from (drop (from - 1) so.done) command
-        ∙ ap (λ n. keyed_from source from so.done ++ (numbered_key source n, command) ∷ [])
+        ∙ ap (λ n. keyed_from source from so.done ++ (numbered_key source n, plain command) ∷ [])
         (omega (arith, length-drop (from - 1) so.done, numbered, so.counted, some, here))
-        ∙ ap (λ (ks : List (Key × Command)). ks ++ (numbered_key source number, command) ∷ []) (sym so.taken)
+        ∙ ap (λ (ks : List (Key × Asked)). ks ++ (numbered_key source number, plain command) ∷ []) (sym so.taken)
         );
   }
 

@@ -2,6 +2,8 @@
 use Rattle.std.specs.Prelude.{ℕ, ◌-◌, suc, List, [], ◌∷◌, ◌++◌, codes, decimal, drop}
 use Rattle.lot_command.specs.declared.command.Command.{Command}
 use Rattle.lot_command.specs.declared.key.Key.{Key}
+use Rattle.lot_rounding.specs.Asked.{plain}
+use Rattle.lot_rounding.specs.declared.asked.Asked.{Asked}
 
 -- where the commands of a batch come from, by the word that sends them
 abbrev pub source_of : List ℕ → List ℕ → List ℕ
@@ -24,10 +26,10 @@ abbrev pub row_key : List ℕ → List ℕ → Key
 row_key batch reference = record { source = import_source batch; name = reference }
 
 -- commands under the keys of their numbers, of which the first has that one
-abbrev pub under_keys : List ℕ → ℕ → List Command → List (Key × Command)
+abbrev pub under_keys : List ℕ → ℕ → List Command → List (Key × Asked)
 under_keys source number [] = []
-under_keys source number (command ∷ commands) = (numbered_key source number, command) ∷ under_keys source (suc number) commands
+under_keys source number (command ∷ commands) = (numbered_key source number, plain command) ∷ under_keys source (suc number) commands
 
 -- those from that number on; the first of all has the number 1
-abbrev pub keyed_from : List ℕ → ℕ → List Command → List (Key × Command)
+abbrev pub keyed_from : List ℕ → ℕ → List Command → List (Key × Asked)
 keyed_from source from commands = under_keys source from (drop (from - 1) commands)

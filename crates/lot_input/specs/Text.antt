@@ -6,9 +6,11 @@ use Rattle.lot_input.specs.Keyed.{keyed_from, post_source, row_key}
 use Rattle.lot_input.specs.declared.fault.InputFault.{InputFault}
 use Rattle.lot_input.specs.declared.fault.InputFault.TheVariants.{Unasked, Unread, Text, Rows, Cash, Memory}
 use Rattle.lot_read.specs.Text.{IsFaultOf, Reads}
+use Rattle.lot_rounding.specs.Asked.{plain}
+use Rattle.lot_rounding.specs.declared.asked.Asked.{Asked}
 
 -- the input is ledger text, and these are its commands from that number on, each under the key of its number in the batch
-abbrev pub TextMeans : List ℕ → ℕ → List ℕ → List (Key × Command) → Type 0
+abbrev pub TextMeans : List ℕ → ℕ → List ℕ → List (Key × Asked) → Type 0
 TextMeans batch from input keyed = (commands : List Command) × Reads input commands × (keyed ≡ keyed_from (post_source batch) from commands)
 
 -- the one command of a list; none, where it has another number of commands
@@ -18,9 +20,9 @@ only (command ∷ []) = Some command
 only (command ∷ next ∷ commands) = None
 
 -- the input is ledger text, and this is its one command under the key of the row with that `ref`; or it has none, or several
-abbrev pub RowMeans : List ℕ → List ℕ → List ℕ → Option (Key × Command) → Type 0
+abbrev pub RowMeans : List ℕ → List ℕ → List ℕ → Option (Key × Asked) → Type 0
 RowMeans batch reference input given =
-    (commands : List Command) × Reads input commands × (given ≡ option_map (λ command. (row_key batch reference, command)) (only commands))
+    (commands : List Command) × Reads input commands × (given ≡ option_map (λ command. (row_key batch reference, plain command)) (only commands))
 
 -- The input is no ledger text, and this is its first faulty line. Or memory ends at a line before that, and the lines up to
 -- that one say commands.

@@ -5,6 +5,7 @@ ghost use Rattle.lot_input.specs.Keyed.{keyed_from, numbered_key, post_source, s
 use lot_args::Batch;
 use lot_base::Label;
 use lot_command::{Command, Key};
+use lot_rounding::Asked;
 use std::alloc::{AllocError, Global};
 
 /// Returns the commands of a batch from that number on, each under the key of its number. The first command of the list
@@ -14,7 +15,7 @@ pub(crate) fn keyed(
     batch: &Batch,
     from: usize,
     commands: Vec<Command>,
-) -> Result<Vec<(Key, Command)>, AllocError>
+) -> Result<Vec<(Key, Asked)>, AllocError>
     requires { 1 ≤ from }
     ensures { IfOk result (λ keyed.
         keyed.items ≡ keyed_from (post_source batch.now) from commands.items) }
@@ -25,7 +26,7 @@ pub(crate) fn keyed(
         let number = index + 1;
         if number >= from {
             let key = key(alloc, &source, number)?;
-            keyed.push((key, command))?;
+            keyed.push((key, Asked::plain(command)))?;
         }
     }
     Ok(keyed)

@@ -6,13 +6,15 @@ use crate::fault::InputFault;
 use crate::keyed::source;
 use lot_args::Batch;
 use lot_base::Label;
-use lot_command::{Command, Key};
+use lot_command::Key;
 use lot_import::{Accounts, keyed_commands, read_rows};
+use lot_rounding::{Asked, Decimals};
 use lot_stream::{CountedRead, slurp};
 use std::alloc::Global;
 
 /// Reads all that a reader has as a broker file. Returns the commands of its rows from that number on. Each posts to the
-/// accounts, and has the key of its row in the batch. The first row has the number 1.
+/// accounts, and has the key of its row in the batch. Where decimals are given, the cash of each is rounded to so many, half to
+/// even. The first row has the number 1.
 ///
 /// The errors are `Unasked`, `Unread`, `Rows` and `Cash`. `Unasked` is out of memory for the source of the keys. The source is
 /// made before anything is read, so that this is never told in place of a fault of the file.
@@ -20,16 +22,18 @@ pub fn keyed_rows<R: CountedRead>(
     alloc: Global,
     batch: &Batch,
     accounts: &Accounts,
+    decimals: Option<Decimals>,
     from: usize,
     reader: &mut R,
-) -> Result<Vec<(Key, Command)>, InputFault>
+) -> Result<Vec<(Key, Asked)>, InputFault>
     requires { 1 ≤ from }
-    ensures ok { IfOk result (λ keyed. Gives (FileMeans batch.now accounts.now from) (record {
-      bytes = R.remaining reader.old;
-      left = R.remaining reader.new;
-      calls = record { before = R.calls reader.old; after = R.calls reader.new };
-    }) keyed.items) }
-    ensures err { IfErr result (GivesNone IsFaultyFile (record {
+    ensures ok { IfOk result (λ keyed. Gives
+        (FileMeans batch.now accounts.now decimals from) (record {
+          bytes = R.remaining reader.old;
+          left = R.remaining reader.new;
+          calls = record { before = R.calls reader.old; after = R.calls reader.new };
+        }) keyed.items) }
+    ensures err { IfErr result (GivesNone (IsFaultyFile decimals) (record {
       bytes = R.remaining reader.old;
       left = R.remaining reader.new;
       calls = record { before = R.calls reader.old; after = R.calls reader.new };
@@ -39,7 +43,7 @@ pub fn keyed_rows<R: CountedRead>(
         return Err(InputFault::Unasked);
     };
     let file = slurp(alloc, reader)?;
-    let keyed = commands_in(alloc, &source, accounts, from, &file);
+    let keyed = commands_in(alloc, &source, accounts, decimals, from, &file);
     reader.take_back(file);
     keyed
 }
@@ -49,14 +53,15 @@ fn commands_in(
     alloc: Global,
     source: &Label,
     accounts: &Accounts,
+    decimals: Option<Decimals>,
     from: usize,
     file: &[u8],
-) -> Result<Vec<(Key, Command)>, InputFault>
+) -> Result<Vec<(Key, Asked)>, InputFault>
     requires { 1 ≤ from }
     ensures ok { IfOk result (λ keyed.
-        HasRowsOf source.now accounts.now from file.now keyed.items) }
-    ensures err { IfErr result (IsFaultyFile file.now) }
+        HasRowsOf source.now accounts.now decimals from file.now keyed.items) }
+    ensures err { IfErr result (IsFaultyFile decimals file.now) }
 {
     let rows = read_rows(alloc, file)?;
-    Ok(keyed_commands(alloc, source, accounts, from, &rows)?)
+    Ok(keyed_commands(alloc, source, accounts, decimals, from, &rows)?)
 }

@@ -7,6 +7,7 @@ use crate::keyed::{keyed, source};
 use lot_args::Batch;
 use lot_base::Label;
 use lot_command::{Command, Key};
+use lot_rounding::Asked;
 use lot_stream::{CountedRead, slurp};
 use lot_text::read;
 use std::alloc::Global;
@@ -20,7 +21,7 @@ pub fn keyed_text<R: CountedRead>(
     batch: &Batch,
     from: usize,
     reader: &mut R,
-) -> Result<Vec<(Key, Command)>, InputFault>
+) -> Result<Vec<(Key, Asked)>, InputFault>
     requires { 1 ≤ from }
     ensures ok { IfOk result (λ keyed. Gives (TextMeans batch.now from) (record {
       bytes = R.remaining reader.old;
@@ -48,7 +49,7 @@ pub fn keyed_row<R: CountedRead>(
     batch: &Batch,
     reference: &Label,
     reader: &mut R,
-) -> Result<Option<(Key, Command)>, InputFault>
+) -> Result<Option<(Key, Asked)>, InputFault>
     ensures ok { IfOk result (Gives (RowMeans batch.now reference.now) (record {
       bytes = R.remaining reader.old;
       left = R.remaining reader.new;
@@ -73,7 +74,7 @@ fn commands_in(
     batch: &Batch,
     from: usize,
     text: &[u8],
-) -> Result<Vec<(Key, Command)>, InputFault>
+) -> Result<Vec<(Key, Asked)>, InputFault>
     requires { 1 ≤ from }
     ensures ok { IfOk result (λ keyed. TextMeans batch.now from text.now keyed.items) }
     ensures err { IfErr result (IsFaultyText text.now) }
@@ -88,7 +89,7 @@ fn row_in(
     batch: &Batch,
     reference: &Label,
     text: &[u8],
-) -> Result<Option<(Key, Command)>, InputFault>
+) -> Result<Option<(Key, Asked)>, InputFault>
     ensures ok { IfOk result (RowMeans batch.now reference.now text.now) }
     ensures err { IfErr result (IsFaultyText text.now) }
 {
@@ -96,7 +97,7 @@ fn row_in(
         Some(command) => {
             let source = source(alloc, "import", batch)?;
             let name = reference.copy()?;
-            Ok(Some((Key { source, name }, command)))
+            Ok(Some((Key { source, name }, Asked::plain(command))))
         }
         None => Ok(None),
     }

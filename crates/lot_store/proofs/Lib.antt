@@ -9,4 +9,5 @@ pub mod KeptLemmas
 pub mod RefusalLemmas
 pub mod OutputLemmas
 pub mod RunLemmas
+pub mod TurnLemmas
 pub mod WalkLemmas

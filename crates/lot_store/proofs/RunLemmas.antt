@@ -1,10 +1,10 @@
 -- A run of commands, one after another.
-use Rattle.std.proofs.Common.{◌≡◌, ◌≢◌, ◌∙◌, ◌⊎◌, inl, inr, false, ◌<◌, ◌≤◌, ◌+◌, ℕ, IfSome, IsTrue, List, [], ◌∷◌, ◌++◌, Ok, Err, Option, Result, Some, length, take, drop, get_or, add-one, append_assoc, append-nil, length-append, take-append-drop, refl, sym, ap, subst, arith}
+use Rattle.std.proofs.Common.{◌≡◌, ◌≢◌, ◌∙◌, ◌⊎◌, inl, inr, false, ◌<◌, ◌≤◌, ◌+◌, ℕ, IfSome, IsTrue, List, [], ◌∷◌, ◌++◌, Ok, Err, Option, Result, Some, None, length, map, append_assoc, append-nil, length-append, refl, sym, ap, subst, arith}
+use Rattle.std.specs.Prelude.{⊤}
 use Rattle.std.proofs.KnownBytes.{Appends-nil, Appends-trans}
 use Rattle.std.proofs.lemmas.Bool.{cases_Bool, true≢false}
-use Rattle.std.proofs.Math.Seq.{take-suc}
 use Rattle.std.specs.Io.KnownBytes.{Appends}
-use Rattle.sqlite.proofs.StateLemmas.{survives_then}
+use Rattle.sqlite.proofs.StateLemmas.{survives_then, survives_weaker}
 use Rattle.sqlite.specs.Effect.{Database}
 use Rattle.sqlite.specs.State.{HasCleanDisk, State, Survives}
 use Rattle.sqlite.specs.Tree.{Trees}
@@ -28,6 +28,9 @@ use Rattle.lot_store.specs.Apply.{AppliesWith, FailsFor, HasNoRoomFor, MayAdd, S
 use Rattle.lot_store.specs.ByText.{AnswersByText, AnswersFirst, EndsByText, HasTurned, IsByText, RunsByText, TurnAllByText}
 use Rattle.lot_store.specs.Run.{AppendsSome, EndsBehind, FlushesLine, HasNoRoomForNext, IsConditionAfter, LeavesAfter, LeavesAtAnswer, LeavesAtFault, LeavesAtVerdict, RepliesTo, RunsSession, RunsBook, StopsWith, Writes, WritesEnd, WritesOut, answer_line, count_refused, fault_line, told}
 use Rattle.lot_store.specs.Session.{LeavesEntry, LeavesFirst, LeavesJudged, LeavesNext, LeavesStopped, Session}
+use Rattle.lot_store.specs.Turned.{AreLeft, AreTurned, AreTurnedOn, IsLastTurned, IsTurned, RunsTurned, handed}
+use Rattle.lot_rounding.specs.declared.asked.Asked.{Asked}
+use Rattle.lot_rounding.specs.declared.rounding.Rounding.{Rounding}
 use Rattle.lot_store.specs.declared.book.Ack.{Ack}
 use Rattle.lot_store.specs.declared.book.Ack.TheVariants as ack
 use Rattle.lot_store.specs.declared.book.Condition.{Condition}
@@ -124,34 +127,76 @@ few_refused (Refused refusal ∷ verdicts) = omega (arith, few_refused verdicts)
 
 -- ---- a run so far
 
--- The first commands, so many, were applied and replied to. `Kept` tells of which books is what is kept.
-pub record SoFar (Kept : List Entry → Type 0) (commands : List (Key × Command)) (from index refused : ℕ) (old now : State) (before written : Option (List ℕ)) : Type 0 where
+-- Commands were judged in the place of the first of those that were handed in, and replied to. `Kept` tells of which books is what
+-- is kept, and `Next` what else is known of the book.
+pub record SoFar (Kept Next : List Entry → Type 0) (rounding : Option Rounding) (asked : List (Key × Asked)) (done : List (Key × Command))
+    (from refused : ℕ) (old now : State) (before written : Option (List ℕ)) : Type 0 where
   pub verdicts : List Verdict
-  pub counted : index ≡ length verdicts
+  pub counted : length done ≡ length verdicts
   pub refusals : refused ≡ count_refused verdicts
   pub lines : Appends before written (replies from verdicts)
   pub judged : HasCleanDisk now → (entries : List Entry) → Stands old entries
-      → (book : List Entry) × JudgesAll entries (take index commands) verdicts book × StandsWith Kept now book × ((trees : Trees) → now.may_leave trees → LeavesJudged old.may_leave verdicts book trees)
+      → (book : List Entry) × AreTurnedOn rounding entries asked done verdicts book × StandsWith Kept now book
+      × ((trees : Trees) → now.may_leave trees → LeavesJudged old.may_leave verdicts book trees) × Next book
   -- only a database that was shut before is shut now
   pub shut : HasCleanDisk now → now.is_open ≡ false → old.is_open ≡ false
-  pub crash : Survives old now (λ trees. (entries : List Entry) → Stands old entries → LeavesFirst entries commands trees)
-  -- the tables that the first commands leave of others, whatever these stand for
+  pub crash : Survives old now (λ trees. (entries : List Entry) → Stands old entries → LeavesFirst entries done trees)
+  -- the tables that they leave of others, whatever these stand for
   pub turned : HasCleanDisk now → (tables : Tables) → Has old tables
-      → (after : Tables) × TurnAllByText tables (take index commands) verdicts after × Has now after
+      → (after : Tables) × TurnAllByText tables done verdicts after × Has now after
+
+-- nothing else is known of it
+abbrev pub Any : List Entry → Type 0
+Any book = ⊤
 
 -- what is kept before the first is of any book
-pub so_far_none : (Kept : List Entry → Type 0) → ((entries : List Entry) → Kept entries) → (commands : List (Key × Command)) (from : ℕ) (old : State) (before : Option (List ℕ))
-    → SoFar Kept commands from 0 0 old old before before
-so_far_none Kept all commands from old before = record {
+pub so_far_none : (Kept : List Entry → Type 0) → ((entries : List Entry) → Kept entries) → (rounding : Option Rounding) (from : ℕ) (old : State) (before : Option (List ℕ))
+    → SoFar Kept Any rounding [] [] from 0 old old before before
+so_far_none Kept all rounding from old before = record {
   verdicts = [];
   counted = refl;
   refusals = refl;
   lines = Appends-nil _;
-  judged = λ clean entries stands. (entries, refl, (stands, all entries), λ trees may. inr (refl, may));
+  judged = λ clean entries stands. (entries, refl, (stands, all entries), (λ trees may. inr (refl, may)), tt);
   shut = λ clean is. is;
   crash = survives_same old _;
   turned = λ clean tables has. (tables, refl, has);
 }
+
+-- ---- what was judged in the place of what was handed in
+
+pub turns_judge : (rounding : Option Rounding) (before : List Entry) (asked : List (Key × Asked)) (done : List (Key × Command)) (verdicts : List Verdict) (after : List Entry)
+    → AreTurnedOn rounding before asked done verdicts after → JudgesAll before done verdicts after
+turns_judge rounding before [] [] [] after is = is
+turns_judge rounding before [] [] (v ∷ vs) after is = absurd is
+turns_judge rounding before [] (t ∷ ts) vs after is = absurd is
+turns_judge rounding before (a ∷ as_) [] vs after is = absurd is
+turns_judge rounding before (a ∷ as_) (t ∷ ts) [] after is = absurd is
+turns_judge rounding before (a ∷ as_) (t ∷ ts) (v ∷ vs) after (turned, mid, judges, rest) =
+    (mid, judges, turns_judge rounding mid as_ ts vs after rest)
+
+pub turns_more : (rounding : Option Rounding) (before : List Entry) (asked : List (Key × Asked)) (done : List (Key × Command)) (verdicts : List Verdict) (book after : List Entry)
+    (next : Key × Asked) (turned : Key × Command) (verdict : Verdict) → AreTurnedOn rounding before asked done verdicts book
+    → IsTurned rounding book next turned → JudgesOn book turned.0 turned.1 verdict after
+    → AreTurnedOn rounding before (asked ++ next ∷ []) (done ++ turned ∷ []) (verdicts ++ verdict ∷ []) after
+turns_more rounding before [] [] [] book after next turned verdict is one judges =
+    subst (λ (b : List Entry). AreTurnedOn rounding b (next ∷ []) (turned ∷ []) (verdict ∷ []) after) is (one, after, judges, refl)
+turns_more rounding before [] [] (v ∷ vs) book after next turned verdict is one judges = absurd is
+turns_more rounding before [] (t ∷ ts) vs book after next turned verdict is one judges = absurd is
+turns_more rounding before (a ∷ as_) [] vs book after next turned verdict is one judges = absurd is
+turns_more rounding before (a ∷ as_) (t ∷ ts) [] book after next turned verdict is one judges = absurd is
+turns_more rounding before (a ∷ as_) (t ∷ ts) (v ∷ vs) book after next turned verdict (first, mid, on, rest) one judges =
+    (first, mid, on, turns_more rounding mid as_ ts vs book after next turned verdict rest one judges)
+
+-- what a crash leaves of the first commands it leaves of more
+first_more : (entries : List Entry) (commands more : List (Key × Command)) (trees : Trees) → LeavesFirst entries commands trees → LeavesFirst entries (commands ++ more) trees
+first_more entries commands more trees (verdicts, book, left, on, leaves) = (
+  verdicts,
+  book,
+  left ++ more,
+  record { done = on.done; split = ap (λ (cs : List (Key × Command)). cs ++ more) on.split ∙ append_assoc on.done left more; judged = on.judged },
+  leaves,
+)
 
 -- the next command is told with a verdict
 verdict_told : (answer : Result Ack ApplyFault) (verdict : Verdict) → told answer ≡ Ok verdict → verdict_of answer ≡ Some verdict
@@ -276,38 +321,44 @@ adds Before key command (Err (apply.Failed Device)) trees book there none = absu
 adds Before key command (Err (apply.Failed NeedsReopen)) trees book there none = absurd none
 adds Before key command (Err (apply.Failed Damaged)) trees book there none = absurd none
 
-module _ (Kept KeptThen : List Entry → Type 0) (commands : List (Key × Command)) (from index refused number : ℕ) (old now new : State) (before mid written : Option (List ℕ))
-    (so : SoFar Kept commands from index refused old now before mid) (next other : Key × Command) (is_next : next ≡ get_or commands index other) (within : index < length commands)
-    (numbered : number ≡ from + index) where
-  taken : take (index + 1) commands ≡ take index commands ++ next ∷ []
-  taken = rw add-one (take-suc commands index other within) ∙ ap (λ (k : Key × Command). take index commands ++ k ∷ []) (sym is_next)
-
-  split : commands ≡ take index commands ++ next ∷ drop (index + 1) commands
-  split =
-      sym (take-append-drop (index + 1) commands) ∙ ap (λ (cs : List (Key × Command)). cs ++ drop (index + 1) commands) taken
-      ∙ append_assoc (take index commands) (next ∷ []) (drop (index + 1) commands)
+module _ (Kept KeptThen : List Entry → Type 0) (rounding : Option Rounding) (asked : List (Key × Asked)) (done left : List (Key × Command)) (from refused number : ℕ)
+    (old now new : State) (before mid written : Option (List ℕ)) (asks : Key × Asked) (next : Key × Command) (Next : List Entry → Type 0)
+    (so : SoFar Kept Next rounding asked done from refused old now before mid) (numbered : number ≡ from + length done) where
+  judged_so : (entries book : List Entry) → AreTurnedOn rounding entries asked done so.verdicts book → JudgesAll entries done so.verdicts book
+  judged_so entries book turns = turns_judge rounding entries asked done so.verdicts book turns
 
   count : number ≡ length so.verdicts + from
   count = omega (arith, numbered, so.counted)
 
   -- a crash may leave the first commands, with the next one too
-  first : (answer : Result Ack ApplyFault) → AppliesWith Kept KeptThen next.0 next.1 now new answer → Survives old new (λ trees. (entries : List Entry) → Stands old entries → LeavesFirst entries commands trees)
+  first : (answer : Result Ack ApplyFault) → AppliesWith Kept KeptThen next.0 next.1 now new answer
+      → Survives old new (λ trees. (entries : List Entry) → Stands old entries → LeavesFirst entries (done ++ next ∷ []) trees)
   first answer applies =
-      survives_then old now new (λ trees. (entries : List Entry) → Stands old entries → LeavesFirst entries commands trees) (MayAdd (StandsWith Kept now) next.0 next.1 answer)
-      (λ trees. (entries : List Entry) → Stands old entries → LeavesFirst entries commands trees) (λ clean db leaves. leaves)
+      survives_then old now new (λ trees. (entries : List Entry) → Stands old entries → LeavesFirst entries done trees) (MayAdd (StandsWith Kept now) next.0 next.1 answer)
+      (λ trees. (entries : List Entry) → Stands old entries → LeavesFirst entries (done ++ next ∷ []) trees)
+      (λ clean db leaves entries stands. first_more entries done (next ∷ []) db (leaves entries stands))
       (λ clean db add entries stands.
       let was = so.judged (omega (arith, clean, applies.crash.clean)) entries stands in
       let more = adds (StandsWith Kept now) next.0 next.1 answer db was.0 was.2 add in (
         so.verdicts ++ Accepted ∷ [],
         more.0,
-        drop (index + 1) commands,
+        [],
         record {
-          done = take index commands ++ next ∷ [];
-          split = split ∙ sym (append_assoc (take index commands) (next ∷ []) (drop (index + 1) commands));
-          judged = judges_more entries (take index commands) so.verdicts was.0 more.0 next Accepted was.1 more.1;
+          done = done ++ next ∷ [];
+          split = sym (append-nil (done ++ next ∷ []));
+          judged = judges_more entries done so.verdicts was.0 more.0 next Accepted (judged_so entries was.0 was.1) more.1;
         },
         more.2,
       )) so.crash applies.crash
+
+  -- the same of all commands
+  first_all : (answer : Result Ack ApplyFault) → AppliesWith Kept KeptThen next.0 next.1 now new answer
+      → Survives old new (λ trees. (entries : List Entry) → Stands old entries → LeavesFirst entries (done ++ next ∷ left) trees)
+  first_all answer applies =
+      survives_weaker old new (λ trees. (entries : List Entry) → Stands old entries → LeavesFirst entries (done ++ next ∷ []) trees)
+      (λ trees. (entries : List Entry) → Stands old entries → LeavesFirst entries (done ++ next ∷ left) trees)
+      (λ _ db leaves entries stands. subst (λ (cs : List (Key × Command)). LeavesFirst entries cs db) (append_assoc done (next ∷ []) left)
+      (first_more entries (done ++ next ∷ []) left db (leaves entries stands))) (first answer applies)
 
   -- the next command is judged, and the book after it is what stands, and what a crash leaves
   judges_next : (answer : Result Ack ApplyFault) (verdict : Verdict) → told answer ≡ Ok verdict → AppliesWith Kept KeptThen next.0 next.1 now new answer
@@ -321,10 +372,11 @@ module _ (Kept KeptThen : List Entry → Type 0) (commands : List (Key × Comman
 
   pub so_far_next : (verdict : Verdict) (condition : Condition) → RepliesTo Kept KeptThen next.0 next.1 number now new mid written condition (Ok verdict)
       → (IsTrue new.is_open → (trees : Trees) → new.may_leave trees → trees ≡ new.committed.trees)
-      → SoFar KeptThen commands from (index + 1) (refused + count_refused (verdict ∷ [])) old new before written
-  so_far_next verdict condition (answer, applies, is_told, printed, by_text) safe = record {
+      → ((book : List Entry) → Next book → IsTurned rounding book asks next)
+      → SoFar KeptThen Any rounding (asked ++ asks ∷ []) (done ++ next ∷ []) from (refused + count_refused (verdict ∷ [])) old new before written
+  so_far_next verdict condition (answer, applies, is_told, printed, by_text) safe known = record {
     verdicts = so.verdicts ++ verdict ∷ [];
-    counted = ap (λ n. n + 1) so.counted ∙ sym (length-append so.verdicts (verdict ∷ []));
+    counted = length-append done (next ∷ []) ∙ ap (λ n. n + 1) so.counted ∙ sym (length-append so.verdicts (verdict ∷ []));
     refusals = ap (λ n. n + count_refused (verdict ∷ [])) so.refusals ∙ sym (refused_more so.verdicts verdict);
     lines = subst (Appends before written) (sym (replies_more from so.verdicts verdict ∙ ap (λ n. replies from so.verdicts ++ reply n verdict) (sym count)))
         (Appends-trans before mid written _ _ so.lines printed);
@@ -332,9 +384,10 @@ module _ (Kept KeptThen : List Entry → Type 0) (commands : List (Key × Comman
         let was = so.judged (omega (arith, clean, applies.crash.clean)) entries stands in
         let one = judges_next answer verdict is_told applies safe clean was.0 was.2 in (
           one.0,
-          subst (λ done. JudgesAll entries done (so.verdicts ++ verdict ∷ []) one.0) (sym taken) (judges_more entries (take index commands) so.verdicts was.0 one.0 next verdict was.1 one.1),
+          turns_more rounding entries asked done so.verdicts was.0 one.0 asks next verdict was.1 (known was.0 was.4) one.1,
           one.2,
-          λ trees may. inl (one.3 trees may),
+          (λ trees may. inl (one.3 trees may)),
+          tt,
         );
     shut = λ clean is.
         let set = subst (λ o. IfSome o (λ v. IsTrue new.is_open × (new.committed ≡ new.now))) (verdict_told answer verdict is_told) (applies.settled clean) in
@@ -345,8 +398,7 @@ module _ (Kept KeptThen : List Entry → Type 0) (commands : List (Key × Comman
         let one : HasTurned was.0 next.0 next.1 new verdict =
         subst (λ o. IfSome o (HasTurned was.0 next.0 next.1 new)) (verdict_told answer verdict is_told) (by_text clean was.0 was.2) in (
           one.0,
-          subst (λ done. TurnAllByText tables done (so.verdicts ++ verdict ∷ []) one.0) (sym taken)
-              (turn_more tables (take index commands) so.verdicts was.0 one.0 next verdict was.1 one.1),
+          turn_more tables done so.verdicts was.0 one.0 next verdict was.1 one.1,
           one.2,
         );
   }
@@ -354,8 +406,8 @@ module _ (Kept KeptThen : List Entry → Type 0) (commands : List (Key × Comman
   -- ---- the run ends at the command
 
   -- the session that has judged the commands before it
-  session : (entries : List Entry) (book : List Entry) → JudgesAll entries (take index commands) so.verdicts book → Session entries commands so.verdicts book (next ∷ drop (index + 1) commands)
-  session entries book keyed = record { done = take index commands; split = split; judged = keyed }
+  session : (entries : List Entry) (book : List Entry) → AreTurnedOn rounding entries asked done so.verdicts book → Session entries (done ++ next ∷ left) so.verdicts book (next ∷ left)
+  session entries book turns = record { done = done; split = refl; judged = judged_so entries book turns }
 
   -- where nothing is added
   kept_only : (answer : Result Ack ApplyFault) (applies : AppliesWith Kept KeptThen next.0 next.1 now new answer) → ((trees : Trees) → ¬ MayAdd (StandsWith Kept now) next.0 next.1 answer trees) → HasCleanDisk new
@@ -365,7 +417,7 @@ module _ (Kept KeptThen : List Entry → Type 0) (commands : List (Key × Comman
 
   leaves_next : (answer : Result Ack ApplyFault) (applies : AppliesWith Kept KeptThen next.0 next.1 now new answer) → HasCleanDisk new → (could : Trees → Type 0) (book : List Entry) → StandsWith Kept now book
       → ((trees : Trees) → now.may_leave trees → LeavesJudged could so.verdicts book trees)
-      → (trees : Trees) → new.may_leave trees → LeavesNext could so.verdicts book (next ∷ drop (index + 1) commands) trees
+      → (trees : Trees) → new.may_leave trees → LeavesNext could so.verdicts book (next ∷ left) trees
   leaves_next answer applies clean could book there was trees may = elim (applies.crash.crash clean trees may) [
     | inl earlier ↦ inl (was trees earlier)
     | inr add ↦ inr (adds (StandsWith Kept now) next.0 next.1 answer trees book there add)
@@ -378,7 +430,7 @@ module _ (Kept KeptThen : List Entry → Type 0) (commands : List (Key × Comman
 
   -- the disk failed, or there is no room for the command
   refused_for : (book : List Entry) → StandsWith Kept now book → AppliesWith Kept KeptThen next.0 next.1 now new (Err (apply.Failed Device))
-      → FailsFor Kept next.0 next.1 now new (Err (apply.Failed Device)) → HasCleanDisk new → DiskFailed old new ⊎ HasNoRoomForNext book (next ∷ drop (index + 1) commands) new
+      → FailsFor Kept next.0 next.1 now new (Err (apply.Failed Device)) → HasCleanDisk new → DiskFailed old new ⊎ HasNoRoomForNext book (next ∷ left) new
   refused_for book there applies fails clean = elim (fails.device clean refl book there.0 there.1) [
     | inl failed ↦ failed_so failed
     | inr room ↦ elim (cases_Bool now.is_open) [
@@ -395,14 +447,14 @@ module _ (Kept KeptThen : List Entry → Type 0) (commands : List (Key × Comman
     ]
   ]
     where
-      failed_so : DiskFailed now new → DiskFailed old new ⊎ HasNoRoomForNext book (next ∷ drop (index + 1) commands) new
+      failed_so : DiskFailed now new → DiskFailed old new ⊎ HasNoRoomForNext book (next ∷ left) new
       failed_so failed = inl (failed_since (Err (apply.Failed Device)) applies clean failed)
 
   -- what stands after a fault of the command
   at_fault : (fault : StoreFault) → AppliesWith Kept KeptThen next.0 next.1 now new (Err (apply.Failed fault))
       → FailsFor Kept next.0 next.1 now new (Err (apply.Failed fault)) → fault ≢ NeedsReopen → HasCleanDisk new
       → (book : List Entry) → StandsWith Kept now book → ((trees : Trees) → now.may_leave trees → LeavesJudged old.may_leave so.verdicts book trees)
-      → LeavesAtFault fault so.verdicts book (next ∷ drop (index + 1) commands) old new
+      → LeavesAtFault fault so.verdicts book (next ∷ left) old new
   at_fault Device applies fails usable clean book there was = (
     λ opened. stands_along now new book ((applies.rest clean).1 opened) there.0,
     kept_only (Err (apply.Failed Device)) applies (λ trees none. none) clean old.may_leave book was,
@@ -423,22 +475,22 @@ module _ (Kept KeptThen : List Entry → Type 0) (commands : List (Key × Comman
   -- what stands after a verdict on it, whose reply isn't written out
   at_verdict : (answer : Result Ack ApplyFault) (verdict : Verdict) → told answer ≡ Ok verdict → AppliesWith Kept KeptThen next.0 next.1 now new answer
       → (IsTrue new.is_open → (trees : Trees) → new.may_leave trees → trees ≡ new.committed.trees) → HasCleanDisk new → (book : List Entry) → StandsWith Kept now book
-      → LeavesAtVerdict verdict so.verdicts book (next ∷ drop (index + 1) commands) old new
+      → LeavesAtVerdict verdict so.verdicts book (next ∷ left) old new
   at_verdict answer verdict is applies safe clean book there =
       let one = judges_next answer verdict is applies safe clean book there in (one.0, one.1, one.2.0, λ trees may. inl (one.3 trees may))
 
   at_answer : (answer : Result Ack ApplyFault) → AppliesWith Kept KeptThen next.0 next.1 now new answer → FailsFor Kept next.0 next.1 now new answer → answer ≢ Err (apply.Failed NeedsReopen)
       → (IsTrue new.is_open → (trees : Trees) → new.may_leave trees → trees ≡ new.committed.trees) → HasCleanDisk new → (book : List Entry) → StandsWith Kept now book
       → ((trees : Trees) → now.may_leave trees → LeavesJudged old.may_leave so.verdicts book trees)
-      → LeavesAtAnswer answer so.verdicts book (next ∷ drop (index + 1) commands) old new
+      → LeavesAtAnswer answer so.verdicts book (next ∷ left) old new
   at_answer (Ok ack.Accepted) applies fails usable safe clean book there was = at_verdict (Ok ack.Accepted) Accepted refl applies safe clean book there
   at_answer (Ok ack.Repeat) applies fails usable safe clean book there was = at_verdict (Ok ack.Repeat) Repeated refl applies safe clean book there
   at_answer (Err (apply.Refused refusal)) applies fails usable safe clean book there was =
       at_verdict (Err (apply.Refused refusal)) (Refused refusal) refl applies safe clean book there
   at_answer (Err (apply.Failed fault)) applies fails usable safe clean book there was = at_fault fault applies fails (λ spent. usable (ap (λ (f : StoreFault). Err (apply.Failed f)) spent)) clean book there was
 
-  here : length so.verdicts < length commands
-  here = omega (arith, within, so.counted)
+  here : length so.verdicts < length (done ++ next ∷ left)
+  here = omega (arith, length-append done (next ∷ left), so.counted)
 
   -- the answer to the command on the tables before it
   answers_next : (answer : Result Ack ApplyFault) → AppliesWith Kept KeptThen next.0 next.1 now new answer → FailsFor Kept next.0 next.1 now new answer
@@ -452,14 +504,14 @@ module _ (Kept KeptThen : List Entry → Type 0) (commands : List (Key × Comman
   -- the run ends at it
   texts_end : (answer : Result Ack ApplyFault) (ending : Ending) → AppliesWith Kept KeptThen next.0 next.1 now new answer → FailsFor Kept next.0 next.1 now new answer
       → IsByText next.0 next.1 now new answer
-      → ((tables : Tables) → AnswersByText tables next.0 next.1 old new answer → EndsByText tables (next ∷ drop (index + 1) commands) old new answer ending)
-      → HasCleanDisk new → (tables : Tables) → Has old tables → RunsByText tables commands so.verdicts old new answer ending
+      → ((tables : Tables) → AnswersByText tables next.0 next.1 old new answer → EndsByText tables (next ∷ left) old new answer ending)
+      → HasCleanDisk new → (tables : Tables) → Has old tables → RunsByText tables (done ++ next ∷ left) so.verdicts old new answer ending
   texts_end answer ending applies fails by_text ends clean tables has =
       let was = so.turned (omega (arith, clean, applies.crash.clean)) tables has in
       record {
-        done = take index commands;
-        left = next ∷ drop (index + 1) commands;
-        split = split;
+        done = done;
+        left = next ∷ left;
+        split = refl;
         after = was.0;
         turn = was.1;
         ends = ends was.0 (answers_next answer applies fails by_text clean was.0 was.2);
@@ -467,84 +519,138 @@ module _ (Kept KeptThen : List Entry → Type 0) (commands : List (Key × Comman
 
   -- what was written up to the end, and what stands then
   ends_so : (answer : Result Ack ApplyFault) (ending : Ending) → LeavesWhatStands old → AppliesWith Kept KeptThen next.0 next.1 now new answer → WritesEnd from so.verdicts answer ending before written
-      → EndsBehind (length commands) (length so.verdicts) answer ending
+      → EndsBehind (length (done ++ next ∷ left)) (length so.verdicts) answer ending
       → (HasCleanDisk new → (book : List Entry) → StandsWith Kept now book → ((trees : Trees) → now.may_leave trees → LeavesJudged old.may_leave so.verdicts book trees)
-      → LeavesAfter so.verdicts book (next ∷ drop (index + 1) commands) old new answer ending)
-      → (HasCleanDisk new → (tables : Tables) → Has old tables → RunsByText tables commands so.verdicts old new answer ending)
-      → RunsSession commands from old new before written answer (record { replied = index; refused = refused; ending = ending })
+      → LeavesAfter so.verdicts book (next ∷ left) old new answer ending)
+      → (HasCleanDisk new → (tables : Tables) → Has old tables → RunsByText tables (done ++ next ∷ left) so.verdicts old new answer ending)
+      → RunsSession (done ++ next ∷ left) from old new before written answer (record { replied = length done; refused = refused; ending = ending })
   ends_so answer ending stands_so applies lines place leaves texts =
-      run_of commands from old new before written answer (record { replied = index; refused = refused; ending = ending }) so.verdicts stands_so
+      run_of (done ++ next ∷ left) from old new before written answer (record { replied = length done; refused = refused; ending = ending }) so.verdicts stands_so
       (record { replied = so.counted; refused = so.refusals; lines = lines }) place
       (λ clean entries stands.
       let was = so.judged (omega (arith, clean, applies.crash.clean)) entries stands in
-      (was.0, next ∷ drop (index + 1) commands, session entries was.0 was.1, leaves clean was.0 was.2 was.3)) (first answer applies) texts
+      (was.0, next ∷ left, session entries was.0 was.1, leaves clean was.0 was.2 was.3)) (first_all answer applies) texts
 
-  pub run_ends : (ending : Ending) (was condition : Condition) → RepliesTo Kept KeptThen next.0 next.1 number now new mid written condition (Err ending)
+  -- what is judged in the place of what was handed in, with the command at which the run ends
+  turned_so : (answer : Result Ack ApplyFault) (rest : List (Key × Asked)) → left ≡ map handed rest → AppliesWith Kept KeptThen next.0 next.1 now new answer
+      → ((book : List Entry) → Next book → IsLastTurned (verdict_of answer) rounding book asks next)
+      → HasCleanDisk new → (entries : List Entry) → Stands old entries → AreTurned rounding entries (asked ++ asks ∷ rest) (done ++ next ∷ left) (length done) answer
+  turned_so answer rest are applies known clean entries stands =
+      let was = so.judged (omega (arith, clean, applies.crash.clean)) entries stands in
+      record {
+        verdicts = so.verdicts;
+        counted = so.counted;
+        first = asked;
+        rest = asks ∷ rest;
+        asked_are = refl;
+        done = done;
+        left = next ∷ left;
+        turned_are = refl;
+        book = was.0;
+        turns = was.1;
+        next = (known was.0 was.4, are);
+      }
+
+  pub run_ends : (ending : Ending) (was condition : Condition) (rest : List (Key × Asked)) → left ≡ map handed rest
+      → (replies : RepliesTo Kept KeptThen next.0 next.1 number now new mid written condition (Err ending))
+      → ((book : List Entry) → Next book → IsLastTurned (verdict_of replies.0) rounding book asks next)
       → (IsTrue new.is_open → (trees : Trees) → new.may_leave trees → trees ≡ new.committed.trees) → LeavesWhatStands old
-      → RunsBook commands from old new before written was condition (record { replied = index; refused = refused; ending = ending })
-  run_ends ending was condition (answer, applies, fails, by_text, usable, after, inl (fault, is, stopped, printed)) safe stands_so = rw stopped (
-    answer,
-    ends_so answer (Stopped fault) stands_so applies
-        (subst (λ n. Appends before written (replies from so.verdicts ++ fault_line n fault)) count (Appends-trans before mid written _ _ so.lines printed)) (inl here)
-        (at_fault fault (subst (AppliesWith Kept KeptThen next.0 next.1 now new) is applies) (subst (FailsFor Kept next.0 next.1 now new) is fails) (λ spent. usable (is ∙ ap (λ (f : StoreFault). Err (apply.Failed f)) spent)))
-        (texts_end answer (Stopped fault) applies fails by_text (λ tables answers. subst (AnswersByText tables next.0 next.1 old new) is answers)),
-    λ ready. usable,
-    after ∙ ap condition_after is,
+      → RunsTurned rounding (asked ++ asks ∷ rest) from old new before written was condition (record { replied = length done; refused = refused; ending = ending })
+  run_ends ending was condition rest are (answer, applies, fails, by_text, usable, after, inl (fault, is, stopped, printed)) known safe stands_so = rw stopped (
+    done ++ next ∷ left,
+    (
+      answer,
+      ends_so answer (Stopped fault) stands_so applies
+          (subst (λ n. Appends before written (replies from so.verdicts ++ fault_line n fault)) count (Appends-trans before mid written _ _ so.lines printed)) (inl here)
+          (at_fault fault (subst (AppliesWith Kept KeptThen next.0 next.1 now new) is applies) (subst (FailsFor Kept next.0 next.1 now new) is fails) (λ spent. usable (is ∙ ap (λ (f : StoreFault). Err (apply.Failed f)) spent)))
+          (texts_end answer (Stopped fault) applies fails by_text (λ tables answers. subst (AnswersByText tables next.0 next.1 old new) is answers)),
+      (λ ready. usable),
+      after ∙ ap condition_after is,
+    ),
+    turned_so answer rest are applies known,
   )
-  run_ends ending was condition (answer, applies, fails, by_text, usable, after, inr (cut, part)) safe stands_so = rw cut (
-    answer,
-    ends_so answer Output stands_so applies
-        (part.0, subst (λ n. IsPrefixOf part.0 (answer_line n answer)) count part.1, Appends-trans before mid written _ _ so.lines part.2) (inl here)
-        (at_answer answer applies fails usable safe) (texts_end answer Output applies fails by_text (λ tables answers. answers)),
-    λ ready. usable,
-    after,
+  run_ends ending was condition rest are (answer, applies, fails, by_text, usable, after, inr (cut, part)) known safe stands_so = rw cut (
+    done ++ next ∷ left,
+    (
+      answer,
+      ends_so answer Output stands_so applies
+          (part.0, subst (λ n. IsPrefixOf part.0 (answer_line n answer)) count part.1, Appends-trans before mid written _ _ so.lines part.2) (inl here)
+          (at_answer answer applies fails usable safe) (texts_end answer Output applies fails by_text (λ tables answers. answers)),
+      (λ ready. usable),
+      after,
+    ),
+    turned_so answer rest are applies known,
   )
 
 -- ---- the run ends behind all commands, or before any
 
-take_all : {X : Type 0} (xs : List X) → take (length xs) xs ≡ xs
-take_all [] = refl
-take_all (x ∷ xs) = ap (λ ys. x ∷ ys) (take_all xs)
-
-pub run_completes : (Kept : List Entry → Type 0) (commands : List (Key × Command)) (from refused : ℕ) (old new : State) (before written : Option (List ℕ)) (was condition : Condition)
-    → SoFar Kept commands from (length commands) refused old new before written → condition ≡ Ready → LeavesWhatStands old
-    → RunsBook commands from old new before written was condition (record { replied = length commands; refused = refused; ending = Complete })
-run_completes Kept commands from refused old new before written was condition so ready stands_so = (
-  Ok ack.Accepted,
-  run_of commands from old new before written (Ok ack.Accepted) (record { replied = length commands; refused = refused; ending = Complete }) so.verdicts stands_so
-      (record { replied = so.counted; refused = so.refusals; lines = so.lines }) (sym so.counted)
-      (λ clean entries stands.
-      let was = so.judged clean entries stands in (
-        was.0,
-        [],
-        record { done = commands; split = sym (append-nil commands); judged = subst (λ cs. JudgesAll entries cs so.verdicts was.0) (take_all commands) was.1 },
-        (refl, was.2.0, was.3),
-      )) so.crash
-      (λ clean tables has.
-      let was = so.turned clean tables has in
+pub run_completes : (Kept : List Entry → Type 0) (rounding : Option Rounding) (asked : List (Key × Asked)) (done : List (Key × Command)) (from refused : ℕ) (old new : State)
+    (before written : Option (List ℕ)) (was condition : Condition)
+    → SoFar Kept Any rounding asked done from refused old new before written → condition ≡ Ready → LeavesWhatStands old
+    → RunsTurned rounding asked from old new before written was condition (record { replied = length done; refused = refused; ending = Complete })
+run_completes Kept rounding asked done from refused old new before written was condition so ready stands_so = (
+  done,
+  (
+    Ok ack.Accepted,
+    run_of done from old new before written (Ok ack.Accepted) (record { replied = length done; refused = refused; ending = Complete }) so.verdicts stands_so
+        (record { replied = so.counted; refused = so.refusals; lines = so.lines }) (sym so.counted)
+        (λ clean entries stands.
+        let was = so.judged clean entries stands in (
+          was.0,
+          [],
+          record { done = done; split = sym (append-nil done); judged = turns_judge rounding entries asked done so.verdicts was.0 was.1 },
+          (refl, was.2.0, was.3),
+        )) so.crash
+        (λ clean tables has.
+        let was = so.turned clean tables has in
+        record { done = done; left = []; split = sym (append-nil done); after = was.0; turn = was.1; ends = (refl, was.2) }),
+    (λ usable is. absurd cc),
+    ready,
+  ),
+  λ clean entries stands.
+      let was = so.judged clean entries stands in
       record {
-        done = commands;
+        verdicts = so.verdicts;
+        counted = so.counted;
+        first = asked;
+        rest = [];
+        asked_are = sym (append-nil asked);
+        done = done;
         left = [];
-        split = sym (append-nil commands);
-        after = was.0;
-        turn = subst (λ cs. TurnAllByText tables cs so.verdicts was.0) (take_all commands) was.1;
-        ends = (refl, was.2);
-      }),
-  λ usable is. absurd cc,
-  ready,
+        turned_are = sym (append-nil done);
+        book = was.0;
+        turns = was.1;
+        next = tt;
+      },
 )
 
-pub run_needs_reopening : (commands : List (Key × Command)) (from : ℕ) (old : State) (before written : Option (List ℕ)) (ending : Ending) (condition : Condition)
+pub run_needs_reopening : (rounding : Option Rounding) (asked : List (Key × Asked)) (from : ℕ) (old : State) (before written : Option (List ℕ)) (ending : Ending) (condition : Condition)
     → StopsWith from NeedsReopen before written ending → condition ≡ MustReopen → LeavesWhatStands old
-    → RunsBook commands from old old before written condition condition (record { replied = 0; refused = 0; ending = ending })
-run_needs_reopening commands from old before written ending condition stops_so spent stands_so = (
-  Err (apply.Failed NeedsReopen),
-  run_of commands from old old before written (Err (apply.Failed NeedsReopen)) (record { replied = 0; refused = 0; ending = ending }) [] stands_so
-      (record { replied = refl; refused = refl; lines = lines stops_so }) (place stops_so)
-      (λ clean entries stands. (entries, commands, record { done = []; split = refl; judged = refl }, leaves stops_so entries stands)) (survives_same old _)
-      (λ clean tables has. record { done = []; left = commands; split = refl; after = tables; turn = refl; ends = texts stops_so tables has commands }),
-  λ ready. let both = sym ready ∙ spent in absurd cc,
-  after stops_so,
+    → RunsTurned rounding asked from old old before written condition condition (record { replied = 0; refused = 0; ending = ending })
+run_needs_reopening rounding asked from old before written ending condition stops_so spent stands_so = (
+  map handed asked,
+  (
+    Err (apply.Failed NeedsReopen),
+    run_of (map handed asked) from old old before written (Err (apply.Failed NeedsReopen)) (record { replied = 0; refused = 0; ending = ending }) [] stands_so
+        (record { replied = refl; refused = refl; lines = lines stops_so }) (place stops_so)
+        (λ clean entries stands. (entries, map handed asked, record { done = []; split = refl; judged = refl }, leaves stops_so entries stands)) (survives_same old _)
+        (λ clean tables has. record { done = []; left = map handed asked; split = refl; after = tables; turn = refl; ends = texts stops_so tables has (map handed asked) }),
+    (λ ready. let both = sym ready ∙ spent in absurd cc),
+    after stops_so,
+  ),
+  λ clean entries stands. record {
+    verdicts = [];
+    counted = refl;
+    first = [];
+    rest = asked;
+    asked_are = refl;
+    done = [];
+    left = map handed asked;
+    turned_are = refl;
+    book = entries;
+    turns = refl;
+    next = as_handed entries asked;
+  },
 )
   where
     zero-on : (n : ℕ) → n ≡ length {A = Verdict} [] + n
@@ -554,11 +660,15 @@ run_needs_reopening commands from old before written ending condition stops_so s
     lines (inl (is, printed)) = rw is (subst (λ n. Appends before written ([] ++ fault_line n NeedsReopen)) (zero-on from) printed)
     lines (inr (is, part)) = rw is (part.0, subst (λ n. IsPrefixOf part.0 (fault_line n NeedsReopen)) (zero-on from) part.1, part.2)
 
-    place : StopsWith from NeedsReopen before written ending → EndsBehind (length commands) 0 (Err (apply.Failed NeedsReopen)) ending
+    as_handed : (book : List Entry) (all : List (Key × Asked)) → AreLeft None rounding book all (map handed all)
+    as_handed book [] = tt
+    as_handed book (one ∷ more) = (inr refl, refl)
+
+    place : StopsWith from NeedsReopen before written ending → EndsBehind (length (map handed asked)) 0 (Err (apply.Failed NeedsReopen)) ending
     place (inl (is, printed)) = rw is (inr (refl, refl))
     place (inr (is, part)) = rw is (inr (refl, refl))
 
-    leaves : StopsWith from NeedsReopen before written ending → (entries : List Entry) → Stands old entries → LeavesAfter [] entries commands old old (Err (apply.Failed NeedsReopen)) ending
+    leaves : StopsWith from NeedsReopen before written ending → (entries : List Entry) → Stands old entries → LeavesAfter [] entries (map handed asked) old old (Err (apply.Failed NeedsReopen)) ending
     leaves (inl (is, printed)) entries stands = rw is (refl, stands, λ trees may. inr (refl, may))
     leaves (inr (is, part)) entries stands = rw is (refl, stands, λ trees may. inr (refl, may))
 

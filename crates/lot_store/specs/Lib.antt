@@ -5,4 +5,5 @@ pub mod Damage
 pub mod Run
 pub mod Session
 pub mod Step
+pub mod Turned
 pub mod Walk

@@ -1,9 +1,10 @@
-ghost use Rattle.std.specs.Prelude.{◌≡◌, ◌≢◌, ◌↔◌, false, Err, IsTrue, None, OnErr};
+ghost use Rattle.std.specs.Prelude.{◌≡◌, ◌≢◌, ◌↔◌, false, Err, IsTrue, None, OnErr, option_copied};
 ghost use Rattle.lot_load.specs.Kept.{IsOf};
 ghost use Rattle.lot_store.specs.Apply.{Applies, AppliesWith, RefusedByDevice, RefusedByDeviceWith, condition_after, ready_of, verdict_of};
 ghost use Rattle.lot_store.specs.ByText.{IsByText};
 ghost use Rattle.lot_store.specs.Damage.{MeetsDamage};
 ghost use Rattle.lot_store.specs.Step.{LeavesTables, condition_from};
+ghost use Rattle.lot_store.specs.Turned.{TurnsTo};
 ghost use Rattle.lot_walk.specs.Step.{Steps, StepsOverRows};
 ghost use Rattle.lot_store.specs.declared.fault.ApplyFault.TheVariants.{Failed};
 ghost use Rattle.lot_table.specs.Statement.{DiskFailed};
@@ -13,9 +14,11 @@ ghost use Rattle.sqlite.specs.Tree.{Trees};
 
 use crate::commit::commit;
 use crate::fault::{ApplyFault, StoreFault};
+use crate::turn::{Turn, turn_of};
 use lot_command::{Command, Key, is_sayable};
 use lot_ledger::{Edition, Outcome, Stop, decide};
 use lot_load::{Kept, look_on};
+use lot_rounding::{Asked, Rounding};
 use lot_table::Fault;
 use lot_walk::Place;
 use lot_write::laws::what_is_written_stands_for_the_book;
@@ -105,6 +108,29 @@ impl<S: Alter> Book<S> {
         let applied = apply_to(self.alloc, &mut self.conn, kept, key, command);
         self.condition = condition_after(&applied);
         applied
+    }
+
+    /// Works out what is judged in the place of a command that was handed in, on what is kept of the book. Then keeps what is
+    /// known of it.
+    pub(crate) fn turn(
+        &mut self,
+        kept: &mut Option<Kept>,
+        rounding: Option<&Rounding>,
+        key: &Key,
+        asked: &Asked,
+    ) -> Result<Turn, StoreFault>
+        ensures turns { TurnsTo (IsOf kept.old) (IsOf kept.new) (option_copied rounding.entry)
+            (key.now, asked.now) (state S.Store self.old.conn) (state S.Store self.new.conn) result }
+        ensures safe { IsTrue (state S.Store self.new.conn).is_open
+            → (trees : Trees) → (state S.Store self.new.conn).may_leave trees
+            → trees ≡ (state S.Store self.new.conn).committed.trees }
+        ensures condition { self.new.condition ≡ condition_from self.old.condition result }
+    {
+        let turned = turn_of(self.alloc, &mut self.conn, kept, rounding, key, asked);
+        if let Err(StoreFault::Device) = turned {
+            self.condition = Condition::NeedsReopen;
+        }
+        turned
     }
 
     /// Returns the connection, every row as it was.

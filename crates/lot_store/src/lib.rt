@@ -4,6 +4,7 @@
 //! - `creation`: making a book; `adoption`: taking up the one that is there.
 //! - `commit`: rows written in one commit.
 //! - `run`: commands applied one after another, with a reply to each.
+//! - `turn`: which command is judged in the place of one that was handed in.
 //! - `walk`: walks over the rows of a book, and why one gives none.
 //! - `fault`: why a call fails.
 #![tactic(auto)]
@@ -14,6 +15,7 @@ mod commit;
 mod creation;
 mod fault;
 mod run;
+mod turn;
 mod walk;
 
 pub use adoption::adopt;

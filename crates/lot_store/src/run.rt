@@ -1,19 +1,23 @@
-ghost use Rattle.std.specs.Prelude.{◌≡◌, ◌≢◌, ◌+◌, ◌<◌, ◌^◌, [], ◌∷◌, length, IsOk, IsTrue, OnErr};
+ghost use Rattle.std.specs.Prelude.{◌≡◌, ◌≢◌, ◌+◌, ◌<◌, ◌^◌, [], ◌∷◌, length, IsOk, IsTrue, OnErr, option_copied};
 ghost use Rattle.lot_load.specs.Kept.{IsOf};
 ghost use Rattle.lot_report.specs.Printed.{reply};
 ghost use Rattle.lot_report.specs.Output.{HasFailed, IsFlushed};
-ghost use Rattle.lot_store.specs.Run.{FlushesLine, IsWrittenOut, IsWrittenOutAs, RepliesTo, RunsBook, StopsAtOnce, StopsWith, WritesOut, count_refused, flush_outcome, told};
+ghost use Rattle.lot_store.specs.Run.{FlushesLine, IsWrittenOut, IsWrittenOutAs, RepliesTo, StopsAtOnce, StopsWith, WritesOut, count_refused, flush_outcome, told};
+ghost use Rattle.lot_store.specs.Turned.{RunsTurned};
 ghost use Rattle.lot_store.specs.declared.run.Ending.TheVariants.{Stopped};
 ghost use Rattle.sqlite.specs.Held.{state};
 ghost use Rattle.sqlite.specs.Tree.{Trees};
 
 use crate::book::{Ack, Book, Condition};
 use crate::fault::{ApplyFault, StoreFault};
+use crate::turn::untaken;
 use itoa::Buffer;
 use lot_command::{Command, Key};
+use lot_completion::Watch;
 use lot_ledger::Verdict;
 use lot_load::Kept;
 use lot_report::{CountedWrite, PrintFault, print_reply, print_texts};
+use lot_rounding::{Asked, Rounding};
 use sqlite::Alter;
 use std::io;
 
@@ -46,16 +50,23 @@ impl<S: Alter> Book<S> {
     /// touches. The run stops at the first fault, and writes its line with the number of the command. It also stops where the
     /// writer fails. If the book needs reopening, even an empty run stops with `NeedsReopen` at `from`.
     ///
+    /// With an account for crumbs another command may be judged in the place of what was handed in, and be the entry. `watch` is
+    /// told what becomes of the crumbs.
+    ///
     /// Where the writer failed at a reply, the command of that reply was applied.
-    pub fn run<W: CountedWrite>(
+    pub fn run<W: CountedWrite, N: Watch>(
         &mut self,
-        commands: &[(Key, Command)],
+        commands: &[(Key, Asked)],
+        rounding: Option<&Rounding>,
         from: usize,
         writer: &mut W,
+        watch: &mut N,
     ) -> RunEnd
         requires { length commands.now + from < 2 ^ 64 }
-        ensures runs { RunsBook commands.now from (state S.Store self.old.conn) (state S.Store self.new.conn)
-            (W.contents writer.old) (W.contents writer.new) self.old.condition self.new.condition result }
+        ensures runs { RunsTurned (option_copied rounding.entry) commands.now from
+            (state S.Store self.old.conn) (state S.Store self.new.conn)
+            (W.contents writer.old) (W.contents writer.new)
+            self.old.condition self.new.condition result }
         // With the connection open a crash leaves the last commit, and nothing else.
         ensures safe { IsTrue (state S.Store self.new.conn).is_open → (trees : Trees) → (state S.Store self.new.conn).may_leave trees
             → trees ≡ (state S.Store self.new.conn).committed.trees }
@@ -78,9 +89,29 @@ impl<S: Alter> Book<S> {
         }
         let mut kept = None;
         let mut refused = 0;
-        'commands: for (index, (key, command)) in commands.iter().enumerate() {
-            match self.reply(&mut kept, from + index, key, command, writer) {
-                Ok(verdict) => refused += refusals(&verdict),
+        'commands: for (index, (key, asked)) in commands.iter().enumerate() {
+            let number = from + index;
+            let turn = match self.turn(&mut kept, rounding, key, asked) {
+                Ok(turn) => turn,
+                Err(fault) => {
+                    return RunEnd {
+                        replied: index,
+                        refused,
+                        ending: stop(writer, number, fault),
+                    };
+                }
+            };
+            match self.reply(&mut kept, number, key, turn.judged(asked), writer) {
+                Ok(verdict) => {
+                    refused += refusals(&verdict);
+                    let note = match rounding {
+                        Some(_) => turn.told(&verdict),
+                        None => untaken(self.allocator(), &kept, asked, &verdict, watch),
+                    };
+                    if let Some(note) = note {
+                        watch.tell(number, note);
+                    }
+                }
                 Err(ending) => {
                     return RunEnd {
                         replied: index,

@@ -3,11 +3,12 @@
 ghost use Rattle.std.specs.Prelude.{◌≡◌, None, false};
 
 use crate::keeper::{Keep, Keeper};
-use lot_call::{Call, Standing, explain, say_unwritten, sum_up};
+use lot_call::{Call, Crumbs, Standing, explain, say_taken, say_unwritten, sum_up};
 use lot_cli::{
     AdoptFault, CountedWriter, CreateFault, Halt, MigrateFault, Progress, Served, VerifyFault,
     serve,
 };
+use lot_completion::{Note, Watch};
 use lot_output::{Heard, Input, Kept, Meter, Output, Witness};
 use lot_verify::say_where;
 use sqlite::{Alter, Connection};
@@ -26,13 +27,15 @@ pub fn answer<S: Alter>(call: &Call<'_>, reader: Input<'_>, conn: Connection<S>)
     };
     let mut reader = Keeper::new(alloc, reader, keep);
     let mut writer = Witness::new(alloc, Output::new(call.rt, call.runs()), call.most());
-    let mut served = do_quietly(call, &mut reader, &mut writer, conn);
+    let mut crumbs = Crumbs::of(call);
+    let mut served = do_quietly(call, &mut reader, &mut writer, &mut crumbs, conn);
     reader.free_room();
     writer.writer.end();
     speak(
         call,
         &reader.kept,
         &writer.heard,
+        &crumbs,
         served.halt,
         &mut served.conn,
     );
@@ -45,35 +48,41 @@ pub fn do_quietly<S: Alter>(
     call: &Call<'_>,
     reader: &mut Keeper<Input<'_>>,
     writer: &mut Witness<Output<'_>>,
+    crumbs: &mut Crumbs,
     conn: Connection<S>,
 ) -> Served<S>
     requires outside { conn.in_transaction ≡ false }
     requires unlimited { conn.step_limit ≡ None }
 {
     let mut output = CountedWriter::new(writer);
-    let mut legs = Legs(Meter::of_legs(call.rt));
+    let mut watcher = Watcher {
+        legs: Meter::of_legs(call.rt),
+        crumbs,
+    };
     serve(
         call.rt.alloc(),
         call.action,
         reader,
         &mut output,
-        &mut legs,
+        &mut watcher,
         conn,
     )
 }
 
-/// Says on standard error what there is to say of what was read and written.
+/// Says on standard error what there is to say of what was read and written, and of crumbs.
 pub fn speak<S: Alter>(
     call: &Call<'_>,
     read: &Kept,
     heard: &Heard,
+    crumbs: &Crumbs,
     halt: Option<Halt>,
     conn: &mut Connection<S>,
 ) {
     if call.is_quiet() {
         return;
     }
-    explain(call, read, heard, conn);
+    explain(call, read, heard, crumbs, conn);
+    say_taken(call, crumbs);
     match halt {
         Some(halt) => advise(call, halt, conn),
         None => sum_up(call, &heard.course),
@@ -101,16 +110,29 @@ fn advise<S: Alter>(call: &Call<'_>, halt: Halt, conn: &mut Connection<S>) {
     }
 }
 
-/// How far a migration is, on standard error.
+/// How far a migration is, on standard error, and what becomes of crumbs.
 #[derive(Drop)]
-struct Legs<'a>(Meter<'a>);
+struct Watcher<'a, 'b> {
+    legs: Meter<'a>,
+    crumbs: &'b mut Crumbs,
+}
 
-impl Progress for Legs<'_> {
+impl Progress for Watcher<'_, '_> {
     fn legs_read(&mut self, legs: usize) {
-        self.0.add(legs as u64);
+        self.legs.add(legs as u64);
     }
 
     fn end(&mut self) {
-        self.0.end();
+        self.legs.end();
+    }
+}
+
+impl Watch for Watcher<'_, '_> {
+    fn asks(&self) -> bool {
+        self.crumbs.asks()
+    }
+
+    fn tell(&mut self, number: usize, note: Note) {
+        self.crumbs.tell(number, note);
     }
 }

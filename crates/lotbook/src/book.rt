@@ -5,7 +5,7 @@ ghost use Rattle.std.specs.Prelude.{◌≡◌, None, false};
 use crate::answer::{answer, do_quietly, speak};
 use crate::keeper::{Keep, Keeper};
 use lot_call::{
-    Call, DONE, REFUSED, STOPPED, UNUSABLE, out_of_memory, say_cut_short, say_why, withdraw,
+    Call, Crumbs, DONE, REFUSED, STOPPED, UNUSABLE, out_of_memory, say_cut_short, say_why, withdraw,
 };
 use lot_cli::{Action, Effect, Served};
 use lot_files::{
@@ -25,7 +25,7 @@ pub fn act(call: &Call<'_>) -> u8 {
     };
     let path = path.as_str();
     let ended = match call.action {
-        Action::Check => on_nothing(call),
+        Action::Check { .. } => on_nothing(call),
         _ => on_path(call, path),
     };
     match ended {
@@ -133,11 +133,12 @@ fn try_on_copy(call: &Call<'_>, copy: Connection<FileStore<BookFile<'_>>>) -> Re
     let (rt, alloc) = (call.rt, call.rt.alloc());
     let mut reader = Keeper::new(alloc, Input::Standard(rt.reader()), Keep::EachRead);
     let mut writer = Witness::new(alloc, Output::held_back(rt), call.most());
+    let mut crumbs = Crumbs::of(call);
     let Served {
         status,
         halt,
         mut conn,
-    } = do_quietly(call, &mut reader, &mut writer, copy);
+    } = do_quietly(call, &mut reader, &mut writer, &mut crumbs, copy);
     let (Some(_), Some(replies)) = (&reader.kept.bytes, writer.writer.held()) else {
         return Err(Cause::Memory);
     };
@@ -145,7 +146,7 @@ fn try_on_copy(call: &Call<'_>, copy: Connection<FileStore<BookFile<'_>>>) -> Re
         return reader.kept.bytes.map(Tried::Accepted).ok_or(Cause::Memory);
     }
     let written = io::writer(rt).write_all(replies);
-    speak(call, &reader.kept, &writer.heard, halt, &mut conn);
+    speak(call, &reader.kept, &writer.heard, &crumbs, halt, &mut conn);
     if halt.is_none() {
         withdraw(call);
     }

@@ -138,7 +138,8 @@ pub(super) static CODES: [Code; 6] = [
         name: "InexactCost",
         brief: "the whole cost can't be divided by the units",
         rule: "A whole cost {{T CUR}} is divided by the units. The cost of one unit has to come to \
-            at most eight decimals and to be below 100,000,000: nothing is rounded.",
+            at most eight decimals and to be below 100,000,000: without --rounding nothing is \
+            rounded.",
         examples: Examples::Ledger {
             refused: r#"
 2020-01-01 open Assets:Broker
@@ -156,7 +157,8 @@ pub(super) static CODES: [Code; 6] = [
   Assets:Cash
 "#,
         },
-        help: "Split the purchase into lots that can be divided.",
+        help: "Name an account that takes crumbs, as by --rounding Equity:Rounding: the cost of one \
+            unit is rounded then. Or split the purchase into lots that can be divided.",
         page: "docs/RULES.md, Cost specification",
     },
     Code {

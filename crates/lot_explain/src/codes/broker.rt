@@ -59,9 +59,9 @@ D-1,2024-01-15,BUY,HOOL,10,102.50,USD,
         code: "C4",
         name: "InexactAmount",
         brief: "the cash of the row has more than eight decimals, or is too large",
-        rule: "The cash of a row is units times price, with the fee. It has to have at most eight \
-            decimals and to be below 10,000,000,000: nothing is rounded. Then no row of the file \
-            is posted.",
+        rule: "The cash of a row is units times price, with the fee. It has to be below \
+            10,000,000,000, and without --rounding to have at most eight decimals. Else no row of \
+            the file is posted.",
         examples: Examples::Rows {
             refused: r#"
 ref,date,action,symbol,units,price,currency,fee
@@ -72,8 +72,9 @@ ref,date,action,symbol,units,price,currency,fee
 D-1,2024-01-15,BUY,HOOL,0.3170215,78.9,USD,
 "#,
         },
-        help: "The decimals of units and price are at most eight together: give the price fewer, \
-            and post what is left over to an account of its own.",
+        help: "Name an account that takes crumbs, as by --rounding Equity:Rounding: the cash is \
+            rounded then. Or give the price fewer decimals, so that these and those of the units \
+            are at most eight together, and post what is left over to an account of its own.",
         page: "docs/FORMATS.md, Broker files",
     },
 ];

@@ -22,8 +22,8 @@ D-1,2024-01-15,BUY,HOOL,10,102.50,USD,
 D-2,2024-01-16,BUY,HOOL,5,103,USD,
 "#,
         },
-        help: "Send the whole text of a batch, as it was; put a new command at its end, or into a \
-            batch of its own. Give each deal a ref of its own.",
+        help: "Send the whole text of a batch, as it was, with --rounding if it was sent so; put a \
+            new command at its end, or into a batch of its own. Give each deal a ref of its own.",
         page: "docs/RULES.md, Keys and repeats",
     },
     Code {

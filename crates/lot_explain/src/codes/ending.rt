@@ -97,8 +97,8 @@ pub(super) static CODES: [Code; 8] = [
         name: "InexactFill",
         brief: "what the others leave has more than eight decimals, or is too large",
         rule: "A posting without an amount takes exactly what the others leave, in each currency. \
-            That has to have at most eight decimals and to be below 10,000,000,000: nothing is \
-            rounded.",
+            That has to have at most eight decimals and to be below 10,000,000,000: without \
+            --rounding nothing is rounded.",
         examples: Examples::Ledger {
             refused: r#"
 2020-01-01 open Assets:Broker
@@ -117,8 +117,9 @@ pub(super) static CODES: [Code; 8] = [
   Equity:Rounding
 "#,
         },
-        help: "The decimals of the units and of the cost are at most eight together: shorten the \
-            cost, and post what is left over to an account of its own.",
+        help: "Name an account that takes crumbs, as by --rounding Equity:Rounding. Or shorten the \
+            cost, so that its decimals and those of the units are at most eight together, and \
+            post what is left over to an account of its own.",
         page: "docs/RULES.md, Balance and fill",
     },
     Code {
@@ -170,7 +171,8 @@ pub(super) static CODES: [Code; 8] = [
 "#,
         },
         help: "Correct the amount, or add a posting without one, as for the gain of a sale: a sale \
-            with braces weighs what its lots cost, and not its price.",
+            with braces weighs what its lots cost, and not its price. Where a product has more \
+            decimals than the cash, an account takes the crumb, as by --rounding Equity:Rounding.",
         page: "docs/RULES.md, Weight",
     },
     Code {

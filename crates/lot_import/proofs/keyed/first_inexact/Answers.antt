@@ -1,20 +1,24 @@
--- The cash of one more row is units, or it is the first whose cash isn't.
-use Rattle.std.proofs.Common.{◌<◌, length, arith}
-use Rattle.lot_import.proofs.KeyedLemmas.{is_exact, next_exact, next_inexact, not_exact}
+-- The rows before the one that `position` finds have cash.
+use Rattle.std.proofs.Common.{rules, tests}
+use Rattle.std.proofs.lemmas.Iterator.{IsFirst-from_position, YieldsList-from_slice}
+use Rattle.lot_import.specs.Deal.{HasCash}
+use Rattle.lot_import.proofs.KeyedLemmas.{Finds, found_inexact, found_none, where_none}
 use Rattle.lot_import.proofs.keyed.first_inexact.Goals as goal
 
-pub returns-then-is_none-clause-some : goal.returns-then-is_none-clause-some
-returns-then-is_none-clause-some c =
-    let l = c.loop-index in
+pub returns-clause-some : goal.returns-clause-some
+returns-clause-some c =
     let rows = c.args.rows.now in
-    let within : l.index < length rows = omega (arith, c.loop-index-test.true) in
-    next_inexact rows l.index c.index-rows-index.result within c.index-rows-index.is l.invariant
-    (not_exact c.cash.result _ c.is_none.result c.is_none.ensures c.if-is_none.true c.cash.ensures.none)
+    let decimals = c.args.decimals in
+    let finds : Finds decimals rows c.position.result =
+    IsFirst-from_position _ _ c.position.result (λ row. HasCash decimals row → ⊥) (HasCash decimals) c.position.ensures.ran
+    (YieldsList-from_slice rows cc) (λ x q k. search (rules, tests)) (λ x q k. search (rules, tests)) in
+    found_inexact decimals rows c.position.result c.in_ok-index.index c.in_ok-index.was finds
 
-pub loop-index-preserved : goal.loop-index-preserved
-loop-index-preserved c =
-    let l = c.loop-index in
+pub returns-in_err-index-clause-none : goal.returns-in_err-index-clause-none
+returns-in_err-index-clause-none c =
     let rows = c.args.rows.now in
-    let within : l.index < length rows = omega (arith, c.loop-index-test.true) in
-    next_exact rows l.index c.index-rows-index.result within c.index-rows-index.is l.invariant
-    (is_exact c.cash.result c.index-rows-index.result c.is_none.result c.is_none.ensures c.if-is_none.false c.cash.ensures.some)
+    let decimals = c.args.decimals in
+    let finds : Finds decimals rows c.position.result =
+    IsFirst-from_position _ _ c.position.result (λ row. HasCash decimals row → ⊥) (HasCash decimals) c.position.ensures.ran
+    (YieldsList-from_slice rows cc) (λ x q k. search (rules, tests)) (λ x q k. search (rules, tests)) in
+    where_none c.from_residual.result _ (found_none decimals rows c.position.result c.in_err-index.was finds)

@@ -3,7 +3,7 @@ use Rattle.lot_stream.specs.declared.status.Status.{Status}
 use Rattle.lot_cli.specs.HaltLine.{halt_line}
 use Rattle.lot_cli.specs.Says.{Says}
 use Rattle.lot_cli.proofs.HaltLemmas.{failed_before, said}
-use Rattle.lot_cli.proofs.run.halted.Goals as goal
+use Rattle.lot_cli.proofs.run.say_halt.Goals as goal
 
 pub returns-clause-says : goal.returns-clause-says
 returns-clause-says g c = (

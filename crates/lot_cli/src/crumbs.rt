@@ -1,0 +1,147 @@
+//! A check with an account that takes crumbs.
+ghost use Rattle.std.specs.Prelude.{◌≡◌, None, IfErr, IfOk, false};
+ghost use Rattle.lot_stream.specs.Status.{IsStatus};
+ghost use Rattle.lot_args.specs.declared.action.Format.TheVariants.{Text};
+ghost use Rattle.lot_cli.specs.Reports.{ShowsBook};
+ghost use Rattle.lot_cli.specs.Serve.{check_batch, status_behind};
+ghost use Rattle.lot_store.specs.declared.run.Ending.TheVariants.{Complete};
+ghost use Rattle.lot_cli.specs.declared.report.Report.TheVariants as report;
+ghost use Rattle.lot_input.specs.Input.{Gives, GivesNone};
+ghost use Rattle.lot_input.specs.Text.{IsFaultyText, TextMeans};
+ghost use Rattle.lot_store.specs.declared.book.Condition.TheVariants.{Ready};
+ghost use Rattle.sqlite.specs.Held.{state};
+
+use crate::action::Served;
+use crate::halt::Halt;
+use crate::report::{Report, conclude, show};
+use crate::run::{halted, say_halt, status_of_run};
+use lot_args::{Batch, Format};
+use lot_command::Key;
+use lot_completion::Watch;
+use lot_input::{InputFault, keyed_text};
+use lot_report::CountedWrite;
+use lot_rounding::{Asked, Rounding};
+use lot_store::{Book, Ending, HandedBack, RunEnd, create};
+use lot_stream::CountedRead;
+use sqlite::{Alter, Connection};
+use std::alloc::Global;
+
+/// The batch under which the commands of a check are posted.
+const BATCH: &str = "check";
+
+/// Judges the commands of a ledger text on an empty book, where an account takes the crumbs: it makes the book in a database
+/// without tables, posts the commands to it, and writes what it holds then.
+pub(crate) fn check_with<R: CountedRead, W: CountedWrite, N: Watch, S: Alter>(
+    alloc: Global,
+    rounding: &Rounding,
+    reader: &mut R,
+    writer: &mut W,
+    watch: &mut N,
+    conn: Connection<S>,
+) -> Served<S>
+    requires outside { conn.in_transaction ≡ false }
+    requires unlimited { conn.step_limit ≡ None }
+    ensures status { IsStatus result.status }
+{
+    match create(alloc, conn) {
+        Ok(mut book) => {
+            let (status, halt) = check_on(alloc, rounding, reader, writer, watch, &mut book);
+            Served {
+                status,
+                halt,
+                conn: book.into_connection(),
+            }
+        }
+        Err(HandedBack { fault, conn }) => halted(writer, Halt::Create(fault), conn),
+    }
+}
+
+/// Runs the commands of a ledger text on a book, and writes what it holds then. Returns the status of the program, and why it
+/// ends before the first command, if it does.
+fn check_on<R: CountedRead, W: CountedWrite, N: Watch, S: Alter>(
+    alloc: Global,
+    rounding: &Rounding,
+    reader: &mut R,
+    writer: &mut W,
+    watch: &mut N,
+    book: &mut Book<S>,
+) -> (u8, Option<Halt>)
+    ensures status { IsStatus result.0 }
+{
+    match commands_of(alloc, reader) {
+        Ok(commands) => {
+            let end = book.run(&commands, Some(rounding), 1, writer, watch);
+            (show_behind(alloc, end, book, writer), None)
+        }
+        Err(fault) => {
+            let halt = Halt::Input(fault);
+            (say_halt(writer, halt), Some(halt))
+        }
+    }
+}
+
+/// Reads all that a reader has as ledger text, and returns its commands, under the batch of checks.
+fn commands_of<R: CountedRead>(
+    alloc: Global,
+    reader: &mut R,
+) -> Result<Vec<(Key, Asked)>, InputFault>
+    ensures ok { IfOk result (λ keyed. Gives (TextMeans check_batch 1) (record {
+      bytes = R.remaining reader.old;
+      left = R.remaining reader.new;
+      calls = record { before = R.calls reader.old; after = R.calls reader.new };
+    }) keyed.items) }
+    ensures err { IfErr result (GivesNone IsFaultyText (record {
+      bytes = R.remaining reader.old;
+      left = R.remaining reader.new;
+      calls = record { before = R.calls reader.old; after = R.calls reader.new };
+    })) }
+{
+    match Batch::new(alloc, BATCH) {
+        Ok(batch) => keyed_text(alloc, &batch, 1, reader),
+        Err(_) => Err(InputFault::Unasked),
+    }
+}
+
+/// Writes what a book holds, if the run before came to its end. Returns the status of the program.
+fn show_behind<W: CountedWrite, S: Alter>(
+    alloc: Global,
+    end: RunEnd,
+    book: &mut Book<S>,
+    writer: &mut W,
+) -> u8
+    requires { end.ending ≡ Complete → book.old.condition ≡ Ready }
+    ensures status { IsStatus result }
+{
+    let status = status_of_run(end).code();
+    match end.ending {
+        Ending::Complete => status_behind(status, show_holdings(alloc, book, writer)),
+        Ending::Stopped(_) => status,
+        Ending::Output => status,
+    }
+}
+
+/// Writes what a book holds, and returns the status of that.
+fn show_holdings<W: CountedWrite, S: Alter>(alloc: Global, book: &mut Book<S>, writer: &mut W) -> u8
+    requires { book.old.condition ≡ Ready }
+    ensures shows { ShowsBook (report.Holdings None Text)
+        (state S.Store book.old.conn) (state S.Store book.new.conn)
+        (W.contents writer.old) (W.contents writer.new) (record {
+          before = W.calls writer.old;
+          after = W.calls writer.new;
+        }) result }
+    ensures status { IsStatus result }
+{
+    let report = Report::Holdings {
+        day: None,
+        format: Format::Text,
+    };
+    let shown = show(alloc, report, book, writer);
+    conclude(writer, shown)
+}
+
+/// Returns the status of commands, unless the holdings behind them couldn't be written.
+fn status_behind(posted: u8, shown: u8) -> u8
+    ensures { result ≡ status_behind posted shown }
+{
+    if shown == 0 { posted } else { shown }
+}

@@ -1,0 +1,208 @@
+//! Turns: which command is judged in the place of one that was handed in, where an account takes the crumbs.
+ghost use Rattle.std.specs.Prelude.{◌≡◌, false, IfOk, None, Some, option_copied};
+ghost use Rattle.lot_book.specs.Openings.{ties_on};
+ghost use Rattle.lot_book.specs.Step.{DecidesUnder, Outcome as OutcomeOf};
+ghost use Rattle.lot_load.specs.Kept.{IsOf, Keeps};
+ghost use Rattle.lot_load.specs.Tells.{Tells};
+ghost use Rattle.lot_store.specs.Turned.{IsTried, IsTurned, TurnsTo, judged_of, refusal_of};
+ghost use Rattle.lot_view.specs.View.{known, known_with_openings};
+ghost use Rattle.sqlite.specs.Held.{state};
+ghost use Rattle.sqlite.specs.State.{HasCleanDisk};
+
+use crate::fault::StoreFault;
+use lot_base::Account;
+use lot_command::{Command, Key};
+use lot_completion::laws::there_is_one_completion;
+use lot_completion::{Completion, Note, Proposal, Watch, complete, is_for_crumbs, propose};
+use lot_ledger::{Edition, Outcome, Refusal, Stop, Verdict, View, decide};
+use lot_load::{Kept, look_on};
+use lot_print::laws::canonical_texts_tell_commands_apart;
+use lot_rounding::{Asked, Decimals, Rounding};
+use lot_table::Fault;
+use sqlite::{Alter, Connection};
+use std::alloc::{AllocError, Global};
+
+/// The account of the crumbs that no account takes, in a completion that is told alone.
+const PLACEHOLDER: &str = "Equity:Rounding";
+
+/// The turn of a command that was handed in: what is judged, once that is worked out on the book.
+#[derive(Drop)]
+pub(crate) struct Turn {
+    /// The command that is judged in its place, where there is one.
+    pub(crate) other: Option<Command>,
+    /// What there is to tell of its crumbs, once it comes to a verdict.
+    pub(crate) note: Option<Note>,
+}
+
+impl Turn {
+    /// Returns the turn of a command that is judged as it was handed in.
+    fn as_handed_in(note: Option<Note>) -> Turn
+        ensures { result.other ≡ None }
+    {
+        Turn { other: None, note }
+    }
+
+    /// Returns what is judged in the place of what was handed in.
+    pub(crate) fn judged<'a>(&'a self, asked: &'a Asked) -> &'a Command
+        ensures { result.now ≡ judged_of self.now asked.now }
+    {
+        match &self.other {
+            Some(other) => other,
+            None => &asked.command,
+        }
+    }
+
+    /// Returns what there is to tell of the crumbs of a command that came to that verdict.
+    pub(crate) fn told(self, verdict: &Verdict) -> Option<Note> {
+        match (self.note, verdict) {
+            (Some(Note::Taken(crumbs)), Verdict::Accepted) => Some(Note::Taken(crumbs)),
+            (Some(Note::Taken(_)), _) => None,
+            (note, _) => note,
+        }
+    }
+}
+
+/// Works out what is judged in the place of a command that was handed in, on what is kept of the book,
+/// where an account takes the crumbs. Without one it is what was handed in. Then it keeps what is known
+/// of the book.
+pub(crate) fn turn_of<S: Alter>(
+    alloc: Global,
+    conn: &mut Connection<S>,
+    kept: &mut Option<Kept>,
+    rounding: Option<&Rounding>,
+    key: &Key,
+    asked: &Asked,
+) -> Result<Turn, StoreFault>
+    requires outside { HasCleanDisk (state S.Store conn.old) → conn.old.in_transaction ≡ false }
+    requires unlimited { conn.old.step_limit ≡ None }
+    ensures outside { HasCleanDisk (state S.Store conn.new) → conn.new.in_transaction ≡ false }
+    ensures turns { TurnsTo (IsOf kept.old) (IsOf kept.new) (option_copied rounding.entry)
+        (key.now, asked.now) (state S.Store conn.old) (state S.Store conn.new) result }
+{
+    let Some(rounding) = rounding else {
+        return Ok(Turn::as_handed_in(None));
+    };
+    // Outside a transaction the tables are those of the last commit.
+    let _settled = conn.is_autocommit();
+    let (looked, turn) = turn_with(alloc, conn, kept.take(), rounding, key, asked)?;
+    *kept = Some(looked);
+    Ok(turn)
+}
+
+/// Returns the turn of a command on what is kept of the book, with an account for the crumbs, and what
+/// is known of the book then.
+fn turn_with<S: Alter>(
+    alloc: Global,
+    conn: &mut Connection<S>,
+    kept: Option<Kept>,
+    rounding: &Rounding,
+    key: &Key,
+    asked: &Asked,
+) -> Result<(Kept, Turn), Fault>
+    ensures { Tells (λ found entries. IsOf kept entries → Keeps found.0 entries
+        × IsTurned (Some rounding.now) entries (key.now, asked.now)
+        (key.now, judged_of found.1 asked.now))
+        (state S.Store conn.old) (state S.Store conn.new) result }
+{
+    canonical_texts_tell_commands_apart();
+    there_is_one_completion();
+    let looked = look_on(alloc, conn, kept, key, &asked.command)?;
+    match propose(alloc, looked.view(), rounding, asked)? {
+        Proposal::Nothing => Ok((looked, Turn::as_handed_in(None))),
+        Proposal::Beyond { currency, crumb } => {
+            let note = Note::Beyond { currency, crumb };
+            Ok((looked, Turn::as_handed_in(Some(note))))
+        }
+        Proposal::Completion(
+            Completion {
+                transaction,
+                crumbs,
+            },
+        ) => {
+            let other = Command::Transaction(transaction);
+            let note = Some(Note::Taken(crumbs));
+            try_with(alloc, conn, looked, key, other, note)
+        }
+        Proposal::Standing(stands) => {
+            let other = Command::Transaction(stands);
+            try_with(alloc, conn, looked, key, other, None)
+        }
+    }
+}
+
+/// Returns the turn of a command in whose place this one is tried, and what is known of the book then.
+/// It is judged in that place where it is accepted or repeats an entry, and there is that to tell.
+fn try_with<S: Alter>(
+    alloc: Global,
+    conn: &mut Connection<S>,
+    kept: Kept,
+    key: &Key,
+    other: Command,
+    note: Option<Note>,
+) -> Result<(Kept, Turn), Fault>
+    ensures { Tells (λ found entries. Keeps kept entries → Keeps found.0 entries
+        × IsTried entries key.now other found.1.other)
+        (state S.Store conn.old) (state S.Store conn.new) result }
+{
+    let looked = look_on(alloc, conn, Some(kept), key, &other)?;
+    match refusal_of(alloc, looked.view(), &other)? {
+        Some(refusal) => {
+            let note = Note::Refused(refusal);
+            Ok((looked, Turn::as_handed_in(Some(note))))
+        }
+        None => {
+            let turn = Turn {
+                other: Some(other),
+                note,
+            };
+            Ok((looked, turn))
+        }
+    }
+}
+
+/// Returns why edition 2 refuses a command on a view that is that of its key, or `None` where it is
+/// accepted or repeats an entry. The only error is out of memory.
+fn refusal_of(alloc: Global, view: &View, command: &Command) -> Result<Option<Refusal>, AllocError>
+    ensures { IfOk result (λ refusal. (outcome : OutcomeOf)
+        × DecidesUnder (ties_on (known_with_openings view.now)) (known view.now)
+        command.now outcome
+        × (refusal ≡ refusal_of outcome)) }
+{
+    match decide(alloc, Edition::Second, view, command) {
+        Ok(Outcome::Accept(_)) => Ok(None),
+        Ok(Outcome::Repeat) => Ok(None),
+        Err(Stop::Refused(refusal)) => Ok(Some(refusal)),
+        Err(Stop::Memory) => Err(AllocError),
+    }
+}
+
+/// Returns what would balance a command that was refused for crumbs, where no account takes them, if
+/// somebody asks for that. Where memory runs out there is nothing to tell.
+pub(crate) fn untaken<N: Watch>(
+    alloc: Global,
+    kept: &Option<Kept>,
+    asked: &Asked,
+    verdict: &Verdict,
+    watch: &N,
+) -> Option<Note> {
+    let (Verdict::Refused(refusal), Command::Transaction(transaction)) = (verdict, &asked.command)
+    else {
+        return None;
+    };
+    if !is_for_crumbs(refusal) || !watch.asks() {
+        return None;
+    }
+    let view = kept.as_ref()?.view();
+    let account = Account::new(alloc, PLACEHOLDER).ok()?;
+    let decimals = Decimals::of_units();
+    let completion = complete(
+        alloc,
+        Edition::Second,
+        view,
+        &account,
+        decimals,
+        transaction,
+    )
+    .ok()??;
+    Some(Note::Untaken(completion))
+}
