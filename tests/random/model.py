@@ -4,7 +4,7 @@ A book is the list of its entries, and an entry is a command with its legs. What
 over all legs of the book; each condition of a refusal looks over all entries. Numbers are mantissas: of units, totals and
 rates at scale 8, of weights at scale 16. Days are triples (year, month, day). Entries and postings count from 1.
 
-With a rounding account, which the program is to get, a command that doesn't balance by a crumb is judged once more, as its completion.
+With a rounding account a command that doesn't balance by a crumb is judged once more, as its completion.
 """
 
 from typing import NamedTuple, Optional, Tuple, Union
