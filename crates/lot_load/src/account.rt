@@ -5,7 +5,6 @@ ghost use Rattle.lot_load.specs.Known.{KnowsEach, KnowsStanding};
 ghost use Rattle.lot_load.specs.Tells.{Teaches, Tells};
 ghost use Rattle.lot_rows.specs.declared.allowed.AllowedRow.{AllowedRow};
 ghost use Rattle.lot_view.specs.View.{known_with_openings};
-ghost use Rattle.sqlite.specs.Held.{state};
 ghost use Rattle.sqlite.specs.State.{HasCleanDisk};
 
 use lot_base::{Account, Commodity};
@@ -13,23 +12,23 @@ use lot_book::Standing;
 use lot_command::Currencies;
 use lot_rows::account::find;
 use lot_rows::allowed::{AllowedRow, list_of};
-use lot_table::Fault;
+use lot_table::{Fault, Queryable};
 use lot_view::View;
-use sqlite::{Alter, Connection};
 use std::alloc::{AllocError, Global};
 use std::collections::BTreeSet;
 
 /// Puts how accounts stand.
-pub(crate) fn learn_accounts<S: Alter>(
+pub(crate) fn learn_accounts<D: Queryable>(
     alloc: Global,
-    conn: &mut Connection<S>,
+    conn: &mut D,
     accounts: &BTreeSet<Account>,
     view: &mut View,
 ) -> Result<(), Fault>
-    requires { HasCleanDisk (state S.Store conn.old) → IsTrue (state S.Store conn.old).is_open }
+    requires { HasCleanDisk (D.shown conn.old) → IsTrue (D.shown conn.old).is_open }
+    ensures same_reference { D.reference conn.new ≡ D.reference conn.old }
     ensures teaches { Teaches (KnowsEach KnowsStanding accounts.now.keys)
         (known_with_openings view.old) (known_with_openings view.new)
-        (state S.Store conn.old) (state S.Store conn.new) result }
+        (D.shown conn.old) (D.shown conn.new) result }
 {
     for account in accounts {
         learn_account(alloc, conn, account, view)?;
@@ -38,15 +37,16 @@ pub(crate) fn learn_accounts<S: Alter>(
 }
 
 /// Puts how an account stands, if it was opened.
-fn learn_account<S: Alter>(
+fn learn_account<D: Queryable>(
     alloc: Global,
-    conn: &mut Connection<S>,
+    conn: &mut D,
     account: &Account,
     view: &mut View,
 ) -> Result<(), Fault>
+    ensures same_reference { D.reference conn.new ≡ D.reference conn.old }
     ensures teaches { Teaches (KnowsStanding account.now)
         (known_with_openings view.old) (known_with_openings view.new)
-        (state S.Store conn.old) (state S.Store conn.new) result }
+        (D.shown conn.old) (D.shown conn.new) result }
 {
     if let Some(standing) = find_standing(alloc, conn, account)? {
         view.put_account(account, standing)?;
@@ -55,13 +55,14 @@ fn learn_account<S: Alter>(
 }
 
 /// Returns how an account stands, if it was opened.
-fn find_standing<S: Alter>(
+fn find_standing<D: Queryable>(
     alloc: Global,
-    conn: &mut Connection<S>,
+    conn: &mut D,
     account: &Account,
 ) -> Result<Option<Standing>, Fault>
+    ensures same_reference { D.reference conn.new ≡ D.reference conn.old }
     ensures tells { Tells (λ standing entries. standing ≡ standing_of entries account.now)
-        (state S.Store conn.old) (state S.Store conn.new) result }
+        (D.shown conn.old) (D.shown conn.new) result }
 {
     match find(alloc, conn, account)? {
         Some(row) => Ok(Some(Standing {
@@ -75,13 +76,14 @@ fn find_standing<S: Alter>(
 }
 
 /// Returns the currencies with which an account was opened.
-fn find_currencies<S: Alter>(
+fn find_currencies<D: Queryable>(
     alloc: Global,
-    conn: &mut Connection<S>,
+    conn: &mut D,
     account: &Account,
 ) -> Result<Currencies, Fault>
+    ensures same_reference { D.reference conn.new ≡ D.reference conn.old }
     ensures tells { Tells (λ currencies entries. currencies ≡ currencies_of entries account.now)
-        (state S.Store conn.old) (state S.Store conn.new) result }
+        (D.shown conn.old) (D.shown conn.new) result }
 {
     let rows = list_of(alloc, conn, account)?;
     match Currencies::new(commodities(alloc, &rows)?) {

@@ -4,19 +4,18 @@ ghost use Rattle.lot_book.specs.Facts.{text_under};
 ghost use Rattle.lot_load.specs.Damage.{FindsDamage, FindsText};
 ghost use Rattle.lot_load.specs.Tells.{Tells};
 ghost use Rattle.lot_print.specs.Canonical.{IsCanonical};
-ghost use Rattle.sqlite.specs.Held.{state};
 
 use lot_command::Key;
 use lot_print::is_canonical;
 use lot_rows::entry::{self, EntryRow};
-use lot_table::Fault;
-use sqlite::{Alter, Connection};
+use lot_table::{Fault, Queryable};
 use std::alloc::Global;
 
 /// Returns the number of entries, which are numbered from 1.
-pub(crate) fn count<S: Alter>(alloc: Global, conn: &mut Connection<S>) -> Result<u32, Fault>
+pub(crate) fn count<D: Queryable>(alloc: Global, conn: &mut D) -> Result<u32, Fault>
+    ensures same_reference { D.reference conn.new ≡ D.reference conn.old }
     ensures tells { Tells (λ count entries. count ≡ length entries)
-        (state S.Store conn.old) (state S.Store conn.new) result }
+        (D.shown conn.old) (D.shown conn.new) result }
 {
     match entry::greatest(alloc, conn)? {
         Some(number) => Ok(number.number()),
@@ -27,16 +26,17 @@ pub(crate) fn count<S: Alter>(alloc: Global, conn: &mut Connection<S>) -> Result
 /// Returns the canonical text that stands under a key.
 ///
 /// The error is `Damaged` where the text there is the canonical text of no command.
-pub(crate) fn find_text<S: Alter>(
+pub(crate) fn find_text<D: Queryable>(
     alloc: Global,
-    conn: &mut Connection<S>,
+    conn: &mut D,
     key: &Key,
 ) -> Result<Option<String>, Fault>
+    ensures same_reference { D.reference conn.new ≡ D.reference conn.old }
     ensures tells { Tells (λ text entries. option_map string_bytes text ≡ text_under entries key.now)
-        (state S.Store conn.old) (state S.Store conn.new) result }
-    ensures damage { FindsDamage key.now (state S.Store conn.old) (state S.Store conn.new) result }
+        (D.shown conn.old) (D.shown conn.new) result }
+    ensures damage { FindsDamage key.now (D.shown conn.old) (D.shown conn.new) result }
     ensures text { FindsText (λ text. option_map string_bytes text) key.now
-        (state S.Store conn.old) (state S.Store conn.new) result }
+        (D.shown conn.old) (D.shown conn.new) result }
 {
     match entry::find(alloc, conn, &key.source, &key.name)? {
         Some(row) => Ok(Some(text_of(alloc, &row)?)),

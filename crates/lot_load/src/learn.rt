@@ -1,9 +1,8 @@
-ghost use Rattle.std.specs.Prelude.{IsTrue};
+ghost use Rattle.std.specs.Prelude.{◌≡◌, IsTrue};
 ghost use Rattle.lot_load.specs.Kept.{Covers, Keeps};
 ghost use Rattle.lot_load.specs.Known.{KnowsTouched};
 ghost use Rattle.lot_load.specs.Tells.{Teaches, Tells};
 ghost use Rattle.lot_view.specs.View.{known_with_openings};
-ghost use Rattle.sqlite.specs.Held.{state};
 ghost use Rattle.sqlite.specs.State.{HasCleanDisk};
 
 use crate::account::learn_accounts;
@@ -12,22 +11,22 @@ use crate::kept::Kept;
 use crate::pair::learn_pairs;
 use crate::plain::learn_all_plain;
 use crate::whole::{add, lacking};
-use lot_table::Fault;
+use lot_table::{Fault, Queryable};
 use lot_view::{Touched, View};
-use sqlite::{Alter, Connection};
 use std::alloc::Global;
 
 /// Puts what the book has of all that a command looks at and that isn't known whole yet. Then it is
 /// known whole.
-pub(crate) fn learn_lacking<S: Alter>(
+pub(crate) fn learn_lacking<D: Queryable>(
     alloc: Global,
-    conn: &mut Connection<S>,
+    conn: &mut D,
     touched: Touched,
     kept: &mut Kept,
 ) -> Result<(), Fault>
-    requires { HasCleanDisk (state S.Store conn.old) → IsTrue (state S.Store conn.old).is_open }
+    requires { HasCleanDisk (D.shown conn.old) → IsTrue (D.shown conn.old).is_open }
+    ensures same_reference { D.reference conn.new ≡ D.reference conn.old }
     ensures tells { Tells (λ _ entries. Keeps kept.old entries → Covers touched entries kept.old kept.new)
-        (state S.Store conn.old) (state S.Store conn.new) result }
+        (D.shown conn.old) (D.shown conn.new) result }
 {
     let lacking = lacking(touched, &kept.whole);
     learn_touched(alloc, conn, &lacking, &mut kept.view)?;
@@ -36,16 +35,17 @@ pub(crate) fn learn_lacking<S: Alter>(
 }
 
 /// Puts what there is in the book of what a command looks at.
-fn learn_touched<S: Alter>(
+fn learn_touched<D: Queryable>(
     alloc: Global,
-    conn: &mut Connection<S>,
+    conn: &mut D,
     touched: &Touched,
     view: &mut View,
 ) -> Result<(), Fault>
-    requires { HasCleanDisk (state S.Store conn.old) → IsTrue (state S.Store conn.old).is_open }
+    requires { HasCleanDisk (D.shown conn.old) → IsTrue (D.shown conn.old).is_open }
+    ensures same_reference { D.reference conn.new ≡ D.reference conn.old }
     ensures teaches { Teaches (KnowsTouched touched.now)
         (known_with_openings view.old) (known_with_openings view.new)
-        (state S.Store conn.old) (state S.Store conn.new) result }
+        (D.shown conn.old) (D.shown conn.new) result }
 {
     learn_accounts(alloc, conn, &touched.accounts, view)?;
     learn_commodities(alloc, conn, &touched.declared, view)?;

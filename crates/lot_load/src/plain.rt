@@ -2,29 +2,28 @@ ghost use Rattle.std.specs.Prelude.{◌≡◌, IsTrue};
 ghost use Rattle.lot_load.specs.Known.{KnowsEach, KnowsPlain};
 ghost use Rattle.lot_load.specs.Tells.{Teaches};
 ghost use Rattle.lot_view.specs.View.{known_with_openings};
-ghost use Rattle.sqlite.specs.Held.{state};
 ghost use Rattle.sqlite.specs.State.{HasCleanDisk};
 
 use crate::held::hold_plain;
 use lot_base::Account;
 use lot_rows::plain::list_of;
-use lot_table::Fault;
+use lot_table::{Fault, Queryable};
 use lot_view::View;
-use sqlite::{Alter, Connection};
 use std::alloc::Global;
 use std::collections::BTreeSet;
 
 /// Puts the plain units of these accounts, of every commodity.
-pub(crate) fn learn_all_plain<S: Alter>(
+pub(crate) fn learn_all_plain<D: Queryable>(
     alloc: Global,
-    conn: &mut Connection<S>,
+    conn: &mut D,
     accounts: &BTreeSet<Account>,
     view: &mut View,
 ) -> Result<(), Fault>
-    requires { HasCleanDisk (state S.Store conn.old) → IsTrue (state S.Store conn.old).is_open }
+    requires { HasCleanDisk (D.shown conn.old) → IsTrue (D.shown conn.old).is_open }
+    ensures same_reference { D.reference conn.new ≡ D.reference conn.old }
     ensures teaches { Teaches (KnowsEach KnowsPlain accounts.now.keys)
         (known_with_openings view.old) (known_with_openings view.new)
-        (state S.Store conn.old) (state S.Store conn.new) result }
+        (D.shown conn.old) (D.shown conn.new) result }
 {
     for account in accounts {
         learn_plain(alloc, conn, account, view)?;
@@ -33,15 +32,16 @@ pub(crate) fn learn_all_plain<S: Alter>(
 }
 
 /// Puts the plain units of an account, of every commodity.
-fn learn_plain<S: Alter>(
+fn learn_plain<D: Queryable>(
     alloc: Global,
-    conn: &mut Connection<S>,
+    conn: &mut D,
     account: &Account,
     view: &mut View,
 ) -> Result<(), Fault>
+    ensures same_reference { D.reference conn.new ≡ D.reference conn.old }
     ensures teaches { Teaches (KnowsPlain account.now)
         (known_with_openings view.old) (known_with_openings view.new)
-        (state S.Store conn.old) (state S.Store conn.new) result }
+        (D.shown conn.old) (D.shown conn.new) result }
 {
     let rows = list_of(alloc, conn, account)?;
     hold_plain(view, &rows)

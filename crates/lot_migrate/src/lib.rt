@@ -19,4 +19,4 @@ mod progress;
 
 pub use fault::MigrateFault;
 pub use migration::migrate;
-pub use progress::{Progress, Unwatched};
+pub use progress::Progress;

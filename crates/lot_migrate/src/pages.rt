@@ -6,7 +6,7 @@ ghost use Rattle.sqlite.specs.declared.types.Value.TheVariants.{Int};
 ghost use Rattle.sqlite_value.specs.Value.{owned};
 
 use lot_rows::leg::LegRow;
-use lot_table::{Cell, Fault, Ordinal, ask_within};
+use lot_table::{Cell, Fault, Ordinal, ask};
 use sqlite::types::ValueRef;
 use sqlite::{Alter, Row, Transaction};
 
@@ -29,7 +29,7 @@ pub(crate) fn legs_behind<S: Alter>(
         // a number that no entry has is met, too
         return legs_from(tx, ValueRef::Int(i64::MIN));
     };
-    let rest = ask_within(
+    let rest = ask(
         tx,
         "SELECT entry, posting, place, account, commodity, units, cost_number, cost_currency, cost_day, cost_label FROM leg WHERE entry = ?2 AND posting = ?3 AND place > ?4 ORDER BY entry, posting, place LIMIT ?1",
         &[
@@ -52,7 +52,7 @@ fn behind_posting<S: Alter>(tx: &mut Transaction<'_, S>, row: &LegRow) -> Result
         (filter (is_past 2 (leg_cells row.now)))
         (state S.Store tx.old.conn.now) (state S.Store tx.new.conn.now) result }
 {
-    let rest = ask_within(
+    let rest = ask(
         tx,
         "SELECT entry, posting, place, account, commodity, units, cost_number, cost_currency, cost_day, cost_label FROM leg WHERE entry = ?2 AND posting > ?3 ORDER BY entry, posting, place LIMIT ?1",
         &[
@@ -74,7 +74,7 @@ fn legs_from<S: Alter>(tx: &mut Transaction<'_, S>, first: ValueRef<'_>) -> Resu
         → PagesOf leg_cells (λ b. b.leg) page_rows (filter (is_from (Int n)))
         (state S.Store tx.old.conn.now) (state S.Store tx.new.conn.now) result }
 {
-    ask_within(
+    ask(
         tx,
         "SELECT entry, posting, place, account, commodity, units, cost_number, cost_currency, cost_day, cost_label FROM leg WHERE entry >= ?2 ORDER BY entry, posting, place LIMIT ?1",
         &[PAGE_ROWS.to_cell(), first],

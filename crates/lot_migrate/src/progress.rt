@@ -6,13 +6,3 @@ pub trait Progress {
     /// Nothing more is told. Other output may follow.
     fn end(&mut self);
 }
-
-/// A receiver that does nothing.
-#[derive(Drop)]
-pub struct Unwatched;
-
-impl Progress for Unwatched {
-    fn legs_read(&mut self, _legs: usize) {}
-
-    fn end(&mut self) {}
-}

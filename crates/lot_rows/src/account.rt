@@ -9,8 +9,8 @@ ghost use Rattle.sqlite.specs.declared.types.Value.TheVariants.{Text};
 
 use lot_base::{Account, Day};
 use lot_cost::Method;
-use lot_table::{Cell, Fault, TableRow, change, column, find as find_row};
-use sqlite::{Alter, Connection, Row, Transaction};
+use lot_table::{Cell, Fault, Queryable, TableRow, change, column, find as find_row};
+use sqlite::{Alter, Row, Transaction};
 use std::alloc::Global;
 
 /// A row of the table `account`: an account, the days on which it was opened and closed, and its method.
@@ -60,13 +60,14 @@ pub fn put<S: Alter>(tx: &mut Transaction<'_, S>, row: &AccountRow) -> Result<()
 }
 
 /// Returns the row of an account, or `None` where there is none.
-pub fn find<S: Alter>(
+pub fn find<D: Queryable>(
     alloc: Global,
-    conn: &mut Connection<S>,
+    conn: &mut D,
     name: &Account,
 ) -> Result<Option<AccountRow>, Fault>
+    ensures same_reference { D.reference conn.new ≡ D.reference conn.old }
     ensures finds { Finds layout IsAccountRow (λ b. with_key account_cells 1 (Text name.now ∷ []) b.account)
-        (state S.Store conn.old) (state S.Store conn.new) result }
+        (D.shown conn.old) (D.shown conn.new) result }
 {
     find_row(
         alloc,

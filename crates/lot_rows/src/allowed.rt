@@ -8,8 +8,8 @@ ghost use Rattle.sqlite.specs.State.{HasCleanDisk};
 ghost use Rattle.sqlite.specs.declared.types.Value.TheVariants.{Text};
 
 use lot_base::{Account, Commodity};
-use lot_table::{Cell, Fault, TableRow, change, column, select};
-use sqlite::{Alter, Connection, Row, Transaction};
+use lot_table::{Cell, Fault, Queryable, TableRow, change, column, select};
+use sqlite::{Alter, Row, Transaction};
 use std::alloc::Global;
 
 /// A row of the table `allowed`: a currency of an opening, and its place there.
@@ -57,13 +57,14 @@ pub fn put<S: Alter>(tx: &mut Transaction<'_, S>, row: &AllowedRow) -> Result<()
 }
 
 /// Returns the rows of an account, by place.
-pub fn list_of<S: Alter>(
+pub fn list_of<D: Queryable>(
     alloc: Global,
-    conn: &mut Connection<S>,
+    conn: &mut D,
     account: &Account,
 ) -> Result<Vec<AllowedRow>, Fault>
+    ensures same_reference { D.reference conn.new ≡ D.reference conn.old }
     ensures lists { Lists layout IsAllowedRow (λ b. with_key allowed_cells 1 (Text account.now ∷ []) b.allowed)
-        (state S.Store conn.old) (state S.Store conn.new) result }
+        (D.shown conn.old) (D.shown conn.new) result }
 {
     select(
         alloc,

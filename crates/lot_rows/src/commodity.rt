@@ -8,8 +8,8 @@ ghost use Rattle.sqlite.specs.State.{HasCleanDisk};
 ghost use Rattle.sqlite.specs.declared.types.Value.TheVariants.{Text};
 
 use lot_base::{Commodity, Day};
-use lot_table::{Cell, Fault, TableRow, change, column, find as find_row};
-use sqlite::{Alter, Connection, Row, Transaction};
+use lot_table::{Cell, Fault, Queryable, TableRow, change, column, find as find_row};
+use sqlite::{Alter, Row, Transaction};
 use std::alloc::Global;
 
 /// A row of the table `commodity`: a commodity, and the day on which it was declared.
@@ -50,13 +50,14 @@ pub fn put<S: Alter>(tx: &mut Transaction<'_, S>, row: &CommodityRow) -> Result<
 }
 
 /// Returns the row of a commodity, or `None` where there is none.
-pub fn find<S: Alter>(
+pub fn find<D: Queryable>(
     alloc: Global,
-    conn: &mut Connection<S>,
+    conn: &mut D,
     name: &Commodity,
 ) -> Result<Option<CommodityRow>, Fault>
+    ensures same_reference { D.reference conn.new ≡ D.reference conn.old }
     ensures finds { Finds layout IsCommodityRow (λ b. with_key commodity_cells 1 (Text name.now ∷ []) b.commodity)
-        (state S.Store conn.old) (state S.Store conn.new) result }
+        (D.shown conn.old) (D.shown conn.new) result }
 {
     find_row(
         alloc,

@@ -8,8 +8,10 @@ ghost use Rattle.sqlite.specs.State.{HasCleanDisk};
 ghost use Rattle.lot_rows.specs.declared.entry.NumberRow.{NumberRow};
 
 use lot_base::Label;
-use lot_table::{AnyText, Cell, Fault, Ordinal, TableRow, change, column, find as find_row};
-use sqlite::{Alter, Connection, Row, Transaction};
+use lot_table::{
+    AnyText, Cell, Fault, Ordinal, Queryable, TableRow, change, column, find as find_row,
+};
+use sqlite::{Alter, Row, Transaction};
 use std::alloc::Global;
 
 /// A row of the table `entry`: an accepted command by its number and its key, with its canonical text.
@@ -59,14 +61,15 @@ pub fn add<S: Alter>(tx: &mut Transaction<'_, S>, row: &EntryRow) -> Result<(), 
 }
 
 /// Returns the row of a source and a name, or `None` where there is none.
-pub fn find<S: Alter>(
+pub fn find<D: Queryable>(
     alloc: Global,
-    conn: &mut Connection<S>,
+    conn: &mut D,
     source: &Label,
     name: &Label,
 ) -> Result<Option<EntryRow>, Fault>
+    ensures same_reference { D.reference conn.new ≡ D.reference conn.old }
     ensures finds { Finds layout IsEntryRow (λ b. named source.now name.now b.entry)
-        (state S.Store conn.old) (state S.Store conn.new) result }
+        (D.shown conn.old) (D.shown conn.new) result }
 {
     find_row(
         alloc,
@@ -77,9 +80,10 @@ pub fn find<S: Alter>(
 }
 
 /// Returns the greatest number, which is that of the last row, or `None` where there is no row.
-pub fn greatest<S: Alter>(alloc: Global, conn: &mut Connection<S>) -> Result<Option<Ordinal>, Fault>
+pub fn greatest<D: Queryable>(alloc: Global, conn: &mut D) -> Result<Option<Ordinal>, Fault>
+    ensures same_reference { D.reference conn.new ≡ D.reference conn.old }
     ensures answers { Answers layout (λ number b. number ≡ greatest_number b.entry) always (λ b. All IsEntryRow b.entry)
-        (state S.Store conn.old) (state S.Store conn.new) result }
+        (D.shown conn.old) (D.shown conn.new) result }
 {
     let row = greatest_row(alloc, conn)?;
     Ok(row.map(|row| row.number))
@@ -107,12 +111,10 @@ impl TableRow for NumberRow {
 }
 
 /// Returns the row of the greatest number, or `None` where there is no row.
-fn greatest_row<S: Alter>(
-    alloc: Global,
-    conn: &mut Connection<S>,
-) -> Result<Option<NumberRow>, Fault>
+fn greatest_row<D: Queryable>(alloc: Global, conn: &mut D) -> Result<Option<NumberRow>, Fault>
+    ensures same_reference { D.reference conn.new ≡ D.reference conn.old }
     ensures answers { Answers layout (λ row b. option_map (λ (n : NumberRow). n.number) row ≡ greatest_number b.entry) always (λ b. All IsEntryRow b.entry)
-        (state S.Store conn.old) (state S.Store conn.new) result }
+        (D.shown conn.old) (D.shown conn.new) result }
 {
     find_row(
         alloc,

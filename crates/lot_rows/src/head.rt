@@ -8,8 +8,8 @@ ghost use Rattle.sqlite.specs.State.{HasCleanDisk};
 ghost use Rattle.sqlite.specs.declared.types.Value.TheVariants.{Text};
 
 use lot_base::{Account, Commodity, Day};
-use lot_table::{Cell, Fault, TableRow, change, column, find as find_row};
-use sqlite::{Alter, Connection, Row, Transaction};
+use lot_table::{Cell, Fault, Queryable, TableRow, change, column, find as find_row};
+use sqlite::{Alter, Row, Transaction};
 use std::alloc::Global;
 
 /// A row of the table `head`: the latest day of a transaction that posted with braces to an account and a commodity.
@@ -75,14 +75,15 @@ pub fn set<S: Alter>(tx: &mut Transaction<'_, S>, row: &HeadRow) -> Result<(), F
 }
 
 /// Returns the row of an account and a commodity, or `None` where there is none.
-pub fn find<S: Alter>(
+pub fn find<D: Queryable>(
     alloc: Global,
-    conn: &mut Connection<S>,
+    conn: &mut D,
     account: &Account,
     commodity: &Commodity,
 ) -> Result<Option<HeadRow>, Fault>
+    ensures same_reference { D.reference conn.new ≡ D.reference conn.old }
     ensures finds { Finds layout IsHeadRow (λ b. with_key head_cells 2 (Text account.now ∷ Text commodity.now ∷ []) b.head)
-        (state S.Store conn.old) (state S.Store conn.new) result }
+        (D.shown conn.old) (D.shown conn.new) result }
 {
     find_row(
         alloc,

@@ -11,8 +11,8 @@ use crate::cost;
 use lot_base::{Account, Commodity};
 use lot_cost::LotKey;
 use lot_num::Units;
-use lot_table::{Cell, Fault, Ordinal, TableRow, change, column, select};
-use sqlite::{Alter, Connection, Row, Transaction};
+use lot_table::{Cell, Fault, Ordinal, Queryable, TableRow, change, column, select};
+use sqlite::{Alter, Row, Transaction};
 use std::alloc::Global;
 
 /// A row of the table `leg`: units that a posting of an entry put into a position. Below zero it took them out.
@@ -76,14 +76,15 @@ pub fn add<S: Alter>(tx: &mut Transaction<'_, S>, row: &LegRow) -> Result<(), Fa
 }
 
 /// Returns the legs of a posting, by place.
-pub fn list_of<S: Alter>(
+pub fn list_of<D: Queryable>(
     alloc: Global,
-    conn: &mut Connection<S>,
+    conn: &mut D,
     entry: Ordinal,
     posting: Ordinal,
 ) -> Result<Vec<LegRow>, Fault>
+    ensures same_reference { D.reference conn.new ≡ D.reference conn.old }
     ensures lists { ListsColumns layout leg_cells IsLegRow (λ b. with_key leg_cells 2 (Int (pos entry) ∷ Int (pos posting) ∷ []) b.leg)
-        (state S.Store conn.old) (state S.Store conn.new) result }
+        (D.shown conn.old) (D.shown conn.new) result }
 {
     select(
         alloc,

@@ -11,8 +11,8 @@ ghost use Rattle.sqlite.specs.declared.types.Value.TheVariants.{Text};
 use crate::lot_key;
 use lot_base::{Account, Commodity};
 use lot_cost::LotKey;
-use lot_table::{Cell, Fault, Sum, TableRow, change, column, select};
-use sqlite::{Alter, Connection, Row, Transaction};
+use lot_table::{Cell, Fault, Queryable, Sum, TableRow, change, column, select};
+use sqlite::{Alter, Row, Transaction};
 use std::alloc::Global;
 
 /// A row of the table `lot`: the units that an account has in a lot.
@@ -82,14 +82,15 @@ pub fn delete<S: Alter>(
 
 /// Returns the rows of a commodity in an account, by the day, currency, number and label of the lot. A lot without a label
 /// stands before those with one.
-pub fn list_of<S: Alter>(
+pub fn list_of<D: Queryable>(
     alloc: Global,
-    conn: &mut Connection<S>,
+    conn: &mut D,
     account: &Account,
     commodity: &Commodity,
 ) -> Result<Vec<LotRow>, Fault>
+    ensures same_reference { D.reference conn.new ≡ D.reference conn.old }
     ensures lists { ListsColumns layout lot_cells IsLotRow (λ b. with_key lot_cells 2 (Text account.now ∷ Text commodity.now ∷ []) b.lot)
-        (state S.Store conn.old) (state S.Store conn.new) result }
+        (D.shown conn.old) (D.shown conn.new) result }
 {
     select(
         alloc,

@@ -11,8 +11,8 @@ ghost use Rattle.sqlite.specs.declared.types.Value.TheVariants.{Text};
 use crate::lot_key;
 use lot_base::{Account, Commodity};
 use lot_cost::LotKey;
-use lot_table::{Cell, Fault, OpeningNumber, TableRow, change, column, select};
-use sqlite::{Alter, Connection, Row, Transaction};
+use lot_table::{Cell, Fault, OpeningNumber, Queryable, TableRow, change, column, select};
+use sqlite::{Alter, Row, Transaction};
 use std::alloc::Global;
 
 /// A row of the table `opening`: the opening number of a lot in which an account has units.
@@ -89,15 +89,16 @@ pub fn delete<S: Alter>(
 
 /// Returns the rows of a commodity in an account, by the day, currency, number and label of the lot. A lot without a label
 /// stands before those with one.
-pub fn list_of<S: Alter>(
+pub fn list_of<D: Queryable>(
     alloc: Global,
-    conn: &mut Connection<S>,
+    conn: &mut D,
     account: &Account,
     commodity: &Commodity,
 ) -> Result<Vec<OpeningRow>, Fault>
+    ensures same_reference { D.reference conn.new ≡ D.reference conn.old }
     ensures lists { ListsColumns layout opening_cells IsOpeningRow
         (λ b. with_key opening_cells 2 (Text account.now ∷ Text commodity.now ∷ []) b.opening)
-        (state S.Store conn.old) (state S.Store conn.new) result }
+        (D.shown conn.old) (D.shown conn.new) result }
 {
     select(
         alloc,

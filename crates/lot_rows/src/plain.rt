@@ -8,8 +8,8 @@ ghost use Rattle.sqlite.specs.State.{HasCleanDisk};
 ghost use Rattle.sqlite.specs.declared.types.Value.TheVariants.{Text};
 
 use lot_base::{Account, Commodity};
-use lot_table::{Cell, Fault, Sum, TableRow, change, column, find as find_row, select};
-use sqlite::{Alter, Connection, Row, Transaction};
+use lot_table::{Cell, Fault, Queryable, Sum, TableRow, change, column, find as find_row, select};
+use sqlite::{Alter, Row, Transaction};
 use std::alloc::Global;
 
 /// A row of the table `plain`: the units of a commodity that an account has without a cost.
@@ -93,14 +93,15 @@ pub fn delete<S: Alter>(
 }
 
 /// Returns the row of an account and a commodity, or `None` where there is none.
-pub fn find<S: Alter>(
+pub fn find<D: Queryable>(
     alloc: Global,
-    conn: &mut Connection<S>,
+    conn: &mut D,
     account: &Account,
     commodity: &Commodity,
 ) -> Result<Option<PlainRow>, Fault>
+    ensures same_reference { D.reference conn.new ≡ D.reference conn.old }
     ensures finds { Finds layout IsPlainRow (λ b. with_key plain_cells 2 (Text account.now ∷ Text commodity.now ∷ []) b.plain)
-        (state S.Store conn.old) (state S.Store conn.new) result }
+        (D.shown conn.old) (D.shown conn.new) result }
 {
     find_row(
         alloc,
@@ -111,13 +112,14 @@ pub fn find<S: Alter>(
 }
 
 /// Returns the rows of an account, by commodity.
-pub fn list_of<S: Alter>(
+pub fn list_of<D: Queryable>(
     alloc: Global,
-    conn: &mut Connection<S>,
+    conn: &mut D,
     account: &Account,
 ) -> Result<Vec<PlainRow>, Fault>
+    ensures same_reference { D.reference conn.new ≡ D.reference conn.old }
     ensures lists { Lists layout IsPlainRow (λ b. with_key plain_cells 1 (Text account.now ∷ []) b.plain)
-        (state S.Store conn.old) (state S.Store conn.new) result }
+        (D.shown conn.old) (D.shown conn.new) result }
 {
     select(
         alloc,
@@ -128,8 +130,9 @@ pub fn list_of<S: Alter>(
 }
 
 /// Returns all rows, by account and commodity.
-pub fn list<S: Alter>(alloc: Global, conn: &mut Connection<S>) -> Result<Vec<PlainRow>, Fault>
-    ensures lists { Lists layout IsPlainRow (λ b. b.plain) (state S.Store conn.old) (state S.Store conn.new) result }
+pub fn list<D: Queryable>(alloc: Global, conn: &mut D) -> Result<Vec<PlainRow>, Fault>
+    ensures same_reference { D.reference conn.new ≡ D.reference conn.old }
+    ensures lists { Lists layout IsPlainRow (λ b. b.plain) (D.shown conn.old) (D.shown conn.new) result }
 {
     select(
         alloc,

@@ -1,7 +1,7 @@
 //! Tables of a book over `sqlite`: what one statement does to the lists of all tables, whatever they are.
 //!
-//! - `statement`: `change` runs a statement that changes rows, `ask` a query, and `ask_within` a query in a
-//!   transaction.
+//! - `statement`: `change` runs a statement that changes rows, `ask` a query. `Queryable` is what a query is asked of, a
+//!   connection or a transaction.
 //! - `row`: `TableRow`, a row of one table; `select` and `find`, the rows that a query answers.
 //! - `cell`: `Cell`, what one column holds; `column` reads it.
 //! - `make`: `make_each` makes tables, and `MakeFault`, why it doesn't.
@@ -26,5 +26,5 @@ pub use make::{MakeFault, make_each};
 pub use opening_number::OpeningNumber;
 pub use ordinal::Ordinal;
 pub use row::{TableRow, find, read_all, select};
-pub use statement::{ask, ask_within, change};
+pub use statement::{Queryable, ask, change};
 pub use sum::Sum;

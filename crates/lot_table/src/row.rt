@@ -1,14 +1,13 @@
 ghost use Rattle.std.specs.Prelude.{◌≡◌, ◌≢◌, All, IfOk, IfSome, List, map, slice_get};
-ghost use Rattle.sqlite.specs.Held.{state};
 ghost use Rattle.sqlite.specs.Order.{Row as Cells};
 ghost use Rattle.sqlite.specs.Values.{bound};
 ghost use Rattle.lot_table.specs.Call.{Selects};
 ghost use Rattle.lot_table.specs.Statement.{IsSelect};
 
 use crate::fault::Fault;
-use crate::statement::ask;
+use crate::statement::{Queryable, ask};
+use sqlite::Row;
 use sqlite::types::ValueRef;
-use sqlite::{Alter, Connection, Row};
 use std::alloc::Global;
 
 /// A row of one table.
@@ -47,15 +46,16 @@ pub fn read_all<R: TableRow>(alloc: Global, rows: &[Row]) -> Result<Vec<R>, Faul
 /// Returns the rows that a query answers.
 ///
 /// The query changes nothing. After an error nothing changed, or a transaction that was open is rolled back.
-pub fn select<S: Alter, R: TableRow>(
+pub fn select<D: Queryable, R: TableRow>(
     alloc: Global,
-    conn: &mut Connection<S>,
+    conn: &mut D,
     text: &str,
     params: &[ValueRef<'_>],
 ) -> Result<Vec<R>, Fault>
     requires { IsSelect text.now }
+    ensures same_reference { D.reference conn.new ≡ D.reference conn.old }
     ensures selects { Selects R.TableRow.encode R.TableRow.IsGood (λ rows found. found.items ≡ rows) (λ found. All R.TableRow.IsGood found.items)
-        text.now (bound params.now) (state S.Store conn.old) (state S.Store conn.new) result }
+        text.now (bound params.now) (D.shown conn.old) (D.shown conn.new) result }
 {
     let rows = ask(conn, text, params)?;
     read_all(alloc, &rows)
@@ -64,15 +64,16 @@ pub fn select<S: Alter, R: TableRow>(
 /// Returns the first row that a query answers, or `None` where it answers none.
 ///
 /// The query changes nothing. After an error nothing changed, or a transaction that was open is rolled back.
-pub fn find<S: Alter, R: TableRow>(
+pub fn find<D: Queryable, R: TableRow>(
     alloc: Global,
-    conn: &mut Connection<S>,
+    conn: &mut D,
     text: &str,
     params: &[ValueRef<'_>],
 ) -> Result<Option<R>, Fault>
     requires { IsSelect text.now }
+    ensures same_reference { D.reference conn.new ≡ D.reference conn.old }
     ensures selects { Selects R.TableRow.encode R.TableRow.IsGood (λ rows found. found ≡ slice_get rows 0) (λ found. IfSome found R.TableRow.IsGood)
-        text.now (bound params.now) (state S.Store conn.old) (state S.Store conn.new) result }
+        text.now (bound params.now) (D.shown conn.old) (D.shown conn.new) result }
 {
     let rows = select(alloc, conn, text, params)?;
     Ok(first(rows))

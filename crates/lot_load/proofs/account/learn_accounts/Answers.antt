@@ -1,7 +1,6 @@
 -- One more is known; at the end all are.
 use Rattle.std.specs.Prelude.{◌≡◌, List, [], ◌∷◌, ℕ}
-use Rattle.std.proofs.Common.{subst}
-use Rattle.sqlite.specs.Held.{state}
+use Rattle.std.proofs.Common.{subst, ◌∙◌}
 use Rattle.lot_load.specs.Known.{KnowsStanding, said_by}
 use Rattle.lot_load.proofs.LearnLemmas.{IsLeft, standing_stays, left_more, left_none}
 use Rattle.lot_load.proofs.ReadLemmas.{reads_as, reads_next, tells}
@@ -10,31 +9,32 @@ use Rattle.lot_load.proofs.account.learn_accounts.Goals as goal
 
 pub loop-account-preserved : goal.loop-account-preserved
 loop-account-preserved g c =
-    let first = state g.S.Store c.args.conn.now in
-    let mid = state g.S.Store c.loop-account.conn in
-    let new = state g.S.Store c.learn_account.new.conn in
+    let first = g.D.Queryable.shown c.args.conn.now in
+    let mid = g.D.Queryable.shown c.loop-account.conn in
+    let new = g.D.Queryable.shown c.learn_account.new.conn in
     let keys : List (List ℕ) = c.args.accounts.now.keys in
     let left : List (List ℕ) = c.loop-account.account-iterator in
     let rest : List (List ℕ) = c.next.new.self in
     let key : List ℕ = c.in-Some.account.now in
-    let turn : left ≡ key ∷ rest = c.in-Some.ensures.steps in
-    reads_next _ _ _ (λ entries. IsLeft KnowsStanding keys left (said_by entries) (known_with_openings c.args.view.now) (known_with_openings c.loop-account.view)) _
-    first mid new c.in_ok-learn_account.field-0 c.loop-account.invariant c.in_ok-learn_account.ensures.teaches
-    (λ tables entries book stand was good says.
-    left_more KnowsStanding standing_stays keys rest key (said_by entries) (known_with_openings c.args.view.now) (known_with_openings c.loop-account.view) (known_with_openings c.learn_account.new.view)
-    (subst (λ (l : List (List ℕ)). IsLeft KnowsStanding keys l (said_by entries) (known_with_openings c.args.view.now) (known_with_openings c.loop-account.view)) turn was)
-    (says entries book stand))
+    let turn : left ≡ key ∷ rest = c.in-Some.ensures.steps in (
+      c.in_ok-learn_account.ensures.same_reference ∙ c.loop-account.invariant.0,
+      reads_next _ _ _ (λ entries. IsLeft KnowsStanding keys left (said_by entries) (known_with_openings c.args.view.now) (known_with_openings c.loop-account.view)) _
+          first mid new c.in_ok-learn_account.field-0 c.loop-account.invariant.1 c.in_ok-learn_account.ensures.teaches
+          (λ tables entries book stand was good says.
+          left_more KnowsStanding standing_stays keys rest key (said_by entries) (known_with_openings c.args.view.now) (known_with_openings c.loop-account.view) (known_with_openings c.learn_account.new.view)
+          (subst (λ (l : List (List ℕ)). IsLeft KnowsStanding keys l (said_by entries) (known_with_openings c.args.view.now) (known_with_openings c.loop-account.view)) turn was)
+          (says entries book stand)),
+    )
 
-pub returns : goal.returns
-returns g c =
-    let first = state g.S.Store c.args.conn.now in
-    let now = state g.S.Store c.loop-account.conn in
+pub returns-clause-teaches : goal.returns-clause-teaches
+returns-clause-teaches g c =
+    let first = g.D.Queryable.shown c.args.conn.now in
+    let now = g.D.Queryable.shown c.loop-account.conn in
     let keys : List (List ℕ) = c.args.accounts.now.keys in
     let left : List (List ℕ) = c.loop-account.account-iterator in
-    let none : left ≡ [] = c.in-None.ensures.steps.0 in record {
-      teaches = tells _ first now tt
-          (reads_as (λ entries. IsLeft KnowsStanding keys left (said_by entries) (known_with_openings c.args.view.now) (known_with_openings c.loop-account.view)) _ first now c.loop-account.invariant
-          (λ tables entries book stand was.
-          left_none KnowsStanding keys (said_by entries) (known_with_openings c.args.view.now) (known_with_openings c.loop-account.view)
-          (subst (λ (l : List (List ℕ)). IsLeft KnowsStanding keys l (said_by entries) (known_with_openings c.args.view.now) (known_with_openings c.loop-account.view)) none was)));
-    }
+    let none : left ≡ [] = c.in-None.ensures.steps.0 in
+    tells _ first now tt
+    (reads_as (λ entries. IsLeft KnowsStanding keys left (said_by entries) (known_with_openings c.args.view.now) (known_with_openings c.loop-account.view)) _ first now c.loop-account.invariant.1
+    (λ tables entries book stand was.
+    left_none KnowsStanding keys (said_by entries) (known_with_openings c.args.view.now) (known_with_openings c.loop-account.view)
+    (subst (λ (l : List (List ℕ)). IsLeft KnowsStanding keys l (said_by entries) (known_with_openings c.args.view.now) (known_with_openings c.loop-account.view)) none was)))

@@ -3,7 +3,6 @@ use Rattle.std.specs.Prelude.{◌≡◌, List, Some, None, option_map, slice_get
 use Rattle.std.specs.String.{string_bytes}
 use Rattle.std.proofs.Common.{Err, sym, ap, ◌∙◌}
 use Rattle.std.proofs.lemmas.List.Elements.{recursion_from_All}
-use Rattle.sqlite.specs.Held.{state}
 use Rattle.lot_book.specs.Facts.{Entry, text_under}
 use Rattle.lot_command.specs.Sayable.{IsSayable}
 use Rattle.lot_rows.specs.Entry.{IsEntryRow, entry_cells, is_named, named}
@@ -16,8 +15,8 @@ use Rattle.lot_load.proofs.entry.find_text.Goals as goal
 
 pub returns-in_err-row-clause-tells : goal.returns-in_err-row-clause-tells
 returns-in_err-row-clause-tells g c =
-    let old = state g.S.Store c.args.conn.now in
-    let new = state g.S.Store c.find.new.conn in
+    let old = g.D.Queryable.shown c.args.conn.now in
+    let new = g.D.Queryable.shown c.find.new.conn in
     let key = c.args.key.now in
     passes _ old new c.in_err-row.field-0.0 c.from_residual.result c.from_residual.ensures.1
     (fails_first _ _ _ _ old new c.in_err-row.field-0.0 c.in_err-row.ensures.finds
@@ -25,8 +24,8 @@ returns-in_err-row-clause-tells g c =
 
 pub returns-in_ok-text_of-in-Some-clause-tells : goal.returns-in_ok-text_of-in-Some-clause-tells
 returns-in_ok-text_of-in-Some-clause-tells g c =
-    let old = state g.S.Store c.args.conn.now in
-    let new = state g.S.Store c.find.new.conn in
+    let old = g.D.Queryable.shown c.args.conn.now in
+    let new = g.D.Queryable.shown c.find.new.conn in
     let key = c.args.key.now in
     let text = c.in_ok-text_of-in-Some.field-0 in
     tells _ old new (Some text)
@@ -43,8 +42,8 @@ returns-in_ok-text_of-in-Some-clause-damage g c clean tables has damaged =
 
 pub returns-in_err-text_of-in-Some-clause-tells : goal.returns-in_err-text_of-in-Some-clause-tells
 returns-in_err-text_of-in-Some-clause-tells g c =
-    let old = state g.S.Store c.args.conn.now in
-    let new = state g.S.Store c.find.new.conn in
+    let old = g.D.Queryable.shown c.args.conn.now in
+    let new = g.D.Queryable.shown c.find.new.conn in
     let key = c.args.key.now in
     let body = c.in-Some.row.body in
     let refused = c.in_err-text_of-in-Some.ensures in
@@ -58,8 +57,8 @@ returns-in_err-text_of-in-Some-clause-tells g c =
 
 pub returns-in-None-clause-tells : goal.returns-in-None-clause-tells
 returns-in-None-clause-tells g c =
-    let old = state g.S.Store c.args.conn.now in
-    let new = state g.S.Store c.find.new.conn in
+    let old = g.D.Queryable.shown c.args.conn.now in
+    let new = g.D.Queryable.shown c.find.new.conn in
     let key = c.args.key.now in
     tells (λ text entries. option_map string_bytes text ≡ text_under entries key) old new None
     (reads_first _ _ _ (λ entries. None ≡ text_under entries key) old new c.in_ok-row.field-0 c.in_ok-row.ensures.finds

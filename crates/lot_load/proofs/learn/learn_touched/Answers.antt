@@ -1,5 +1,4 @@
 -- The four steps, one after another.
-use Rattle.sqlite.specs.Held.{state}
 use Rattle.lot_book.specs.Facts.{Facts}
 use Rattle.lot_view.specs.View.{known_with_openings}
 use Rattle.lot_load.proofs.ReadLemmas.{HasRead, reads_first, reads_next, tells_last}
@@ -8,8 +7,8 @@ use Rattle.lot_load.proofs.LearnLemmas.{both_stay, declared_stays, each_stays, l
 use Rattle.lot_view.specs.declared.touched.Touched.{Touched}
 use Rattle.lot_load.proofs.learn.learn_touched.Goals as goal
 
-pub returns : goal.returns
-returns g c =
+pub returns-clause-teaches : goal.returns-clause-teaches
+returns-clause-teaches g c =
     let touched : Touched = c.args.touched.now in
     let p : Facts → Facts → Type 0 = KnowsEach KnowsStanding touched.accounts.keys in
     let q : Facts → Facts → Type 0 = KnowsEach KnowsDeclared touched.declared.keys in
@@ -20,11 +19,11 @@ returns g c =
     let stays_p = each_stays KnowsStanding standing_stays touched.accounts.keys in
     let stays_q = each_stays KnowsDeclared declared_stays touched.declared.keys in
     let stays_r = each_stays KnowsPair pair_stays touched.pairs.keys in
-    let s0 = state g.S.Store c.args.conn.now in
-    let s1 = state g.S.Store c.learn_accounts.new.conn in
-    let s2 = state g.S.Store c.learn_commodities.new.conn in
-    let s3 = state g.S.Store c.learn_pairs.new.conn in
-    let s4 = state g.S.Store c.learn_all_plain.new.conn in
+    let s0 = g.D.Queryable.shown c.args.conn.now in
+    let s1 = g.D.Queryable.shown c.learn_accounts.new.conn in
+    let s2 = g.D.Queryable.shown c.learn_commodities.new.conn in
+    let s3 = g.D.Queryable.shown c.learn_pairs.new.conn in
+    let s4 = g.D.Queryable.shown c.learn_all_plain.new.conn in
     let v0 = known_with_openings c.args.view.now in
     let v1 = known_with_openings c.learn_accounts.new.view in
     let v2 = known_with_openings c.learn_commodities.new.view in
@@ -40,11 +39,10 @@ returns g c =
     let three : HasRead (λ entries. Learns pqr (said_by entries) v0 v3) s0 s3 =
     reads_next _ _ _ (λ entries. Learns pq (said_by entries) v0 v2) (λ entries. Learns pqr (said_by entries) v0 v3) s0 s2 s3
     c.in_ok-learn_pairs.field-0 two c.in_ok-learn_pairs.ensures.teaches
-    (λ tables entries book stand was good is. learns_both pq r (said_by entries) v0 v2 v3 (both_stay p q stays_p stays_q) was (is entries book stand)) in record {
-      teaches = tells_last (λ entries. Learns pqr (said_by entries) v0 v3) (λ answer entries. Learns s (said_by entries) v3 v4) _ s0 s3 s4 c.learn_all_plain.result three
-          c.learn_all_plain.ensures.teaches
-          (λ entries answer was own.
-          learns_as (λ book known. pqr book known × s book known) (KnowsTouched touched) (said_by entries) v0 v4
-          (λ _ part knows. (knows.0.0.0, knows.0.0.1, knows.0.1, knows.1))
-          (learns_both pqr s (said_by entries) v0 v3 v4 (both_stay pq r (both_stay p q stays_p stays_q) stays_r) was own));
-    }
+    (λ tables entries book stand was good is. learns_both pq r (said_by entries) v0 v2 v3 (both_stay p q stays_p stays_q) was (is entries book stand)) in
+    tells_last (λ entries. Learns pqr (said_by entries) v0 v3) (λ answer entries. Learns s (said_by entries) v3 v4) _ s0 s3 s4 c.learn_all_plain.result three
+    c.learn_all_plain.ensures.teaches
+    (λ entries answer was own.
+    learns_as (λ book known. pqr book known × s book known) (KnowsTouched touched) (said_by entries) v0 v4
+    (λ _ part knows. (knows.0.0.0, knows.0.0.1, knows.0.1, knows.1))
+    (learns_both pqr s (said_by entries) v0 v3 v4 (both_stay pq r (both_stay p q stays_p stays_q) stays_r) was own))

@@ -2,7 +2,6 @@
 use Rattle.std.specs.Prelude.{◌≡◌, List, ℕ, Option, option_map}
 use Rattle.std.specs.String.{string_bytes}
 use Rattle.std.proofs.Common.{ap, arith, subst, sym, ◌∙◌}
-use Rattle.sqlite.specs.Held.{state}
 use Rattle.lot_book.specs.Facts.{Facts, text_under}
 use Rattle.lot_book.specs.Recorded.{facts_in}
 use Rattle.lot_load.specs.Damage.{HasText}
@@ -15,10 +14,10 @@ use Rattle.lot_load.proofs.look.look_on.Goals as goal
 
 pub returns : goal.returns
 returns g c =
-    let old = state g.S.Store c.args.conn.now in
-    let read = state g.S.Store c.find_text.new.conn in
-    let counted = state g.S.Store c.begin.new.conn in
-    let new = state g.S.Store c.learn_lacking.new.conn in
+    let old = g.D.Queryable.shown c.args.conn.now in
+    let read = g.D.Queryable.shown c.find_text.new.conn in
+    let counted = g.D.Queryable.shown c.begin.new.conn in
+    let new = g.D.Queryable.shown c.learn_lacking.new.conn in
     let key = c.args.key.now in
     let command = c.args.command.now in
     let kept = c.args.kept in
@@ -35,6 +34,7 @@ returns g c =
     reads_next _ _ _ (λ entries. text ≡ text_under entries key) (λ entries. (text ≡ text_under entries key) × (IsOf kept entries → Keeps begun entries))
     old read counted begun one c.in_ok-kept.ensures.tells
     (λ tables entries book stand was good is. (was, is entries book stand)) in record {
+      same_reference = c.in_ok-learn_lacking.ensures.same_reference ∙ c.in_ok-kept.ensures.same_reference ∙ c.in_ok-text.ensures.same_reference;
       looks = tells _ old new _
           (reads_next _ _ _ (λ entries. (text ≡ text_under entries key) × (IsOf kept entries → Keeps begun entries)) _
           old counted new c.in_ok-learn_lacking.field-0 two c.in_ok-learn_lacking.ensures.tells

@@ -2,7 +2,6 @@
 use Rattle.std.specs.Prelude.{List, ⊤}
 use Rattle.std.specs.List.{AllByRecursion}
 use Rattle.std.proofs.Common.{sym, subst}
-use Rattle.sqlite.specs.Held.{state}
 use Rattle.sqlite.specs.State.{HasCleanDisk}
 use Rattle.lot_rows.proofs.StateLemmas.{early, has_still}
 use Rattle.lot_book.specs.Openings.{FactsWithOpenings}
@@ -24,8 +23,8 @@ use Rattle.lot_load.proofs.pair.learn_lots.Goals as goal
 
 pub returns-in_err-lots-clause-teaches : goal.returns-in_err-lots-clause-teaches
 returns-in_err-lots-clause-teaches g c =
-    let old = state g.S.Store c.args.conn.now in
-    let new = state g.S.Store c.list_of.new.conn in
+    let old = g.D.Queryable.shown c.args.conn.now in
+    let new = g.D.Queryable.shown c.list_of.new.conn in
     let pair = c.args.pair.now in
     passes _ old new c.in_err-lots.field-0.0 c.from_residual.result c.from_residual.ensures.1
     (fails_first _ _ _ _ old new c.in_err-lots.field-0.0 c.in_err-lots.ensures.lists
@@ -33,9 +32,9 @@ returns-in_err-lots-clause-teaches g c =
 
 pub returns-in_err-openings-clause-teaches : goal.returns-in_err-openings-clause-teaches
 returns-in_err-openings-clause-teaches g c =
-    let old = state g.S.Store c.args.conn.now in
-    let mid = state g.S.Store c.list_of.new.conn in
-    let new = state g.S.Store c.list_of-2.new.conn in
+    let old = g.D.Queryable.shown c.args.conn.now in
+    let mid = g.D.Queryable.shown c.list_of.new.conn in
+    let new = g.D.Queryable.shown c.list_of-2.new.conn in
     let pair = c.args.pair.now in
     passes _ old new c.in_err-openings.field-0.0 c.from_residual-in_err-openings.result c.from_residual-in_err-openings.ensures.1
     (fails_next _ _ _ (λ entries. ⊤) _ old mid new c.in_err-openings.field-0.0
@@ -45,9 +44,9 @@ returns-in_err-openings-clause-teaches g c =
 
 pub returns-clause-teaches : goal.returns-clause-teaches
 returns-clause-teaches g c =
-    let old = state g.S.Store c.args.conn.now in
-    let mid = state g.S.Store c.list_of.new.conn in
-    let new = state g.S.Store c.list_of-2.new.conn in
+    let old = g.D.Queryable.shown c.args.conn.now in
+    let mid = g.D.Queryable.shown c.list_of.new.conn in
+    let new = g.D.Queryable.shown c.list_of-2.new.conn in
     let pair : Pair = c.args.pair.now in
     let before = known_with_openings c.args.view.now in
     let after = known_with_openings c.hold_lots.new.view in
@@ -70,9 +69,9 @@ returns-clause-teaches g c =
 
 pub returns-clause-paired : goal.returns-clause-paired
 returns-clause-paired g c clean =
-    let old = state g.S.Store c.args.conn.now in
-    let mid = state g.S.Store c.list_of.new.conn in
-    let new = state g.S.Store c.list_of-2.new.conn in
+    let old = g.D.Queryable.shown c.args.conn.now in
+    let mid = g.D.Queryable.shown c.list_of.new.conn in
+    let new = g.D.Queryable.shown c.list_of-2.new.conn in
     let pair : Pair = c.args.pair.now in
     let lots = c.in_ok-lots.lots.items in
     let openings = c.in_ok-openings.openings.items in

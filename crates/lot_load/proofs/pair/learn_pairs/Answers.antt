@@ -1,7 +1,6 @@
 -- One more is known; at the end all are.
 use Rattle.std.specs.Prelude.{◌≡◌, List, [], ◌∷◌}
-use Rattle.std.proofs.Common.{subst}
-use Rattle.sqlite.specs.Held.{state}
+use Rattle.std.proofs.Common.{subst, ◌∙◌}
 use Rattle.lot_book.specs.declared.change.Pair.{Pair}
 use Rattle.lot_load.specs.Known.{KnowsPair, said_by}
 use Rattle.lot_load.proofs.LearnLemmas.{IsLeft, pair_stays, left_more, left_none}
@@ -11,31 +10,32 @@ use Rattle.lot_load.proofs.pair.learn_pairs.Goals as goal
 
 pub loop-pair-preserved : goal.loop-pair-preserved
 loop-pair-preserved g c =
-    let first = state g.S.Store c.args.conn.now in
-    let mid = state g.S.Store c.loop-pair.conn in
-    let new = state g.S.Store c.learn_pair.new.conn in
+    let first = g.D.Queryable.shown c.args.conn.now in
+    let mid = g.D.Queryable.shown c.loop-pair.conn in
+    let new = g.D.Queryable.shown c.learn_pair.new.conn in
     let keys : List Pair = c.args.pairs.now.keys in
     let left : List Pair = c.loop-pair.pair-iterator in
     let rest : List Pair = c.next.new.self in
     let key : Pair = c.in-Some.pair.now in
-    let turn : left ≡ key ∷ rest = c.in-Some.ensures.steps in
-    reads_next _ _ _ (λ entries. IsLeft KnowsPair keys left (said_by entries) (known_with_openings c.args.view.now) (known_with_openings c.loop-pair.view)) _
-    first mid new c.in_ok-learn_pair.field-0 c.loop-pair.invariant c.in_ok-learn_pair.ensures.teaches
-    (λ tables entries book stand was good says.
-    left_more KnowsPair pair_stays keys rest key (said_by entries) (known_with_openings c.args.view.now) (known_with_openings c.loop-pair.view) (known_with_openings c.learn_pair.new.view)
-    (subst (λ (l : List Pair). IsLeft KnowsPair keys l (said_by entries) (known_with_openings c.args.view.now) (known_with_openings c.loop-pair.view)) turn was)
-    (says entries book stand))
+    let turn : left ≡ key ∷ rest = c.in-Some.ensures.steps in (
+      c.in_ok-learn_pair.ensures.same_reference ∙ c.loop-pair.invariant.0,
+      reads_next _ _ _ (λ entries. IsLeft KnowsPair keys left (said_by entries) (known_with_openings c.args.view.now) (known_with_openings c.loop-pair.view)) _
+          first mid new c.in_ok-learn_pair.field-0 c.loop-pair.invariant.1 c.in_ok-learn_pair.ensures.teaches
+          (λ tables entries book stand was good says.
+          left_more KnowsPair pair_stays keys rest key (said_by entries) (known_with_openings c.args.view.now) (known_with_openings c.loop-pair.view) (known_with_openings c.learn_pair.new.view)
+          (subst (λ (l : List Pair). IsLeft KnowsPair keys l (said_by entries) (known_with_openings c.args.view.now) (known_with_openings c.loop-pair.view)) turn was)
+          (says entries book stand)),
+    )
 
-pub returns : goal.returns
-returns g c =
-    let first = state g.S.Store c.args.conn.now in
-    let now = state g.S.Store c.loop-pair.conn in
+pub returns-clause-teaches : goal.returns-clause-teaches
+returns-clause-teaches g c =
+    let first = g.D.Queryable.shown c.args.conn.now in
+    let now = g.D.Queryable.shown c.loop-pair.conn in
     let keys : List Pair = c.args.pairs.now.keys in
     let left : List Pair = c.loop-pair.pair-iterator in
-    let none : left ≡ [] = c.in-None.ensures.steps.0 in record {
-      teaches = tells _ first now tt
-          (reads_as (λ entries. IsLeft KnowsPair keys left (said_by entries) (known_with_openings c.args.view.now) (known_with_openings c.loop-pair.view)) _ first now c.loop-pair.invariant
-          (λ tables entries book stand was.
-          left_none KnowsPair keys (said_by entries) (known_with_openings c.args.view.now) (known_with_openings c.loop-pair.view)
-          (subst (λ (l : List Pair). IsLeft KnowsPair keys l (said_by entries) (known_with_openings c.args.view.now) (known_with_openings c.loop-pair.view)) none was)));
-    }
+    let none : left ≡ [] = c.in-None.ensures.steps.0 in
+    tells _ first now tt
+    (reads_as (λ entries. IsLeft KnowsPair keys left (said_by entries) (known_with_openings c.args.view.now) (known_with_openings c.loop-pair.view)) _ first now c.loop-pair.invariant.1
+    (λ tables entries book stand was.
+    left_none KnowsPair keys (said_by entries) (known_with_openings c.args.view.now) (known_with_openings c.loop-pair.view)
+    (subst (λ (l : List Pair). IsLeft KnowsPair keys l (said_by entries) (known_with_openings c.args.view.now) (known_with_openings c.loop-pair.view)) none was)))

@@ -1,5 +1,5 @@
 -- Once those that are left are known, all are.
-use Rattle.sqlite.specs.Held.{state}
+use Rattle.std.specs.Prelude.{◌≡◌}
 use Rattle.lot_load.specs.Known.{KnowsPair, said_by}
 use Rattle.lot_load.proofs.LearnLemmas.{IsLeft}
 use Rattle.lot_load.proofs.ReadLemmas.{HasRead}
@@ -8,5 +8,6 @@ use Rattle.lot_load.proofs.pair.learn_pairs.Given as goal
 
 abbrev pub invariant-loop-pair : goal.invariant-loop-pair
 invariant-loop-pair g l =
-    HasRead (λ entries. IsLeft KnowsPair l.pairs.keys l.pair-iterator (said_by entries) (known_with_openings l.fn.view) (known_with_openings l.view))
-    (state g.S.Store l.fn.conn) (state g.S.Store l.conn)
+    (g.D.Queryable.reference l.conn ≡ g.D.Queryable.reference l.fn.conn)
+    × HasRead (λ entries. IsLeft KnowsPair l.pairs.keys l.pair-iterator (said_by entries) (known_with_openings l.fn.view) (known_with_openings l.view))
+    (g.D.Queryable.shown l.fn.conn) (g.D.Queryable.shown l.conn)

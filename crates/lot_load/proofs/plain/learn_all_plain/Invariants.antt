@@ -1,5 +1,5 @@
 -- Once those that are left are known, all are.
-use Rattle.sqlite.specs.Held.{state}
+use Rattle.std.specs.Prelude.{◌≡◌}
 use Rattle.lot_load.specs.Known.{KnowsPlain, said_by}
 use Rattle.lot_load.proofs.LearnLemmas.{IsLeft}
 use Rattle.lot_load.proofs.ReadLemmas.{HasRead}
@@ -8,5 +8,6 @@ use Rattle.lot_load.proofs.plain.learn_all_plain.Given as goal
 
 abbrev pub invariant-loop-account : goal.invariant-loop-account
 invariant-loop-account g l =
-    HasRead (λ entries. IsLeft KnowsPlain l.accounts.keys l.account-iterator (said_by entries) (known_with_openings l.fn.view) (known_with_openings l.view))
-    (state g.S.Store l.fn.conn) (state g.S.Store l.conn)
+    (g.D.Queryable.reference l.conn ≡ g.D.Queryable.reference l.fn.conn)
+    × HasRead (λ entries. IsLeft KnowsPlain l.accounts.keys l.account-iterator (said_by entries) (known_with_openings l.fn.view) (known_with_openings l.view))
+    (g.D.Queryable.shown l.fn.conn) (g.D.Queryable.shown l.conn)

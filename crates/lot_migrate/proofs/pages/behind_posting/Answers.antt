@@ -7,17 +7,17 @@ use Rattle.lot_page.proofs.WalkLemmas.{later_pages, level_fails, level_pages}
 use Rattle.lot_rows.specs.Leg.{leg_cells}
 use Rattle.lot_migrate.proofs.pages.behind_posting.Goals as goal
 
-pub ask_within-requires : goal.ask_within-requires
-ask_within-requires g c = asks_posting.selects
+pub ask-requires : goal.ask-requires
+ask-requires g c = asks_posting.selects
 
 pub returns-in_err-rest : goal.returns-in_err-rest
 returns-in_err-rest g c =
-    let told = c.ask_within.ensures in
+    let told = c.ask.ensures in
     let row = c.args.row.now in
     let old = state g.S.Store c.args.tx.now.conn.now in
-    let new = state g.S.Store c.ask_within.new.tx.conn.now in
+    let new = state g.S.Store c.ask.new.conn.conn.now in
     let first =
-    posting_takes old new row c.ask_within.result
+    posting_takes old new row c.ask.result
     (rw (c.to_cell.ensures, c.to_cell-2.ensures, c.to_cell-3.ensures) at told.shown) told.same
     (rw (c.to_cell.ensures, c.to_cell-2.ensures, c.to_cell-3.ensures) at told.refused) told.device
     told.err told.crash in
@@ -28,12 +28,12 @@ returns-in_err-rest g c =
 
 pub returns-then-not-is_empty : goal.returns-then-not-is_empty
 returns-then-not-is_empty g c =
-    let told = c.ask_within.ensures in
+    let told = c.ask.ensures in
     let row = c.args.row.now in
     let old = state g.S.Store c.args.tx.now.conn.now in
-    let new = state g.S.Store c.ask_within.new.tx.conn.now in
+    let new = state g.S.Store c.ask.new.conn.conn.now in
     let first =
-    posting_takes old new row c.ask_within.result
+    posting_takes old new row c.ask.result
     (rw (c.to_cell.ensures, c.to_cell-2.ensures, c.to_cell-3.ensures) at told.shown) told.same
     (rw (c.to_cell.ensures, c.to_cell-2.ensures, c.to_cell-3.ensures) at told.refused) told.device
     told.err told.crash in
@@ -45,12 +45,12 @@ returns-then-not-is_empty g c =
 
 pub returns : goal.returns
 returns g c =
-    let told = c.ask_within.ensures in
+    let told = c.ask.ensures in
     let row = c.args.row.now in
     let old = state g.S.Store c.args.tx.now.conn.now in
-    let mid = state g.S.Store c.ask_within.new.tx.conn.now in
+    let mid = state g.S.Store c.ask.new.conn.conn.now in
     let first =
-    posting_takes old mid row c.ask_within.result
+    posting_takes old mid row c.ask.result
     (rw (c.to_cell.ensures, c.to_cell-2.ensures, c.to_cell-3.ensures) at told.shown) told.same
     (rw (c.to_cell.ensures, c.to_cell-2.ensures, c.to_cell-3.ensures) at told.refused) told.device
     told.err told.crash in

@@ -18,17 +18,17 @@ returns-in_default g c =
           (all_legs old new c.legs_from.result (c.legs_from.ensures.pages least refl));
     }
 
-pub ask_within-requires : goal.ask_within-requires
-ask_within-requires g c = asks_place.selects
+pub ask-requires : goal.ask-requires
+ask-requires g c = asks_place.selects
 
 pub returns-in_err-rest : goal.returns-in_err-rest
 returns-in_err-rest g c =
-    let told = c.ask_within.ensures in
+    let told = c.ask.ensures in
     let row = c.in-Some.row in
     let old = state g.S.Store c.args.tx.now.conn.now in
-    let new = state g.S.Store c.ask_within.new.tx.conn.now in
+    let new = state g.S.Store c.ask.new.conn.conn.now in
     let first =
-    place_takes old new row c.ask_within.result
+    place_takes old new row c.ask.result
     (rw (c.to_cell.ensures, c.to_cell-2.ensures, c.to_cell-3.ensures, c.to_cell-4.ensures)
     at told.shown) told.same
     (rw (c.to_cell.ensures, c.to_cell-2.ensures, c.to_cell-3.ensures, c.to_cell-4.ensures)
@@ -40,12 +40,12 @@ returns-in_err-rest g c =
 
 pub returns-then-not-is_empty : goal.returns-then-not-is_empty
 returns-then-not-is_empty g c =
-    let told = c.ask_within.ensures in
+    let told = c.ask.ensures in
     let row = c.in-Some.row in
     let old = state g.S.Store c.args.tx.now.conn.now in
-    let new = state g.S.Store c.ask_within.new.tx.conn.now in
+    let new = state g.S.Store c.ask.new.conn.conn.now in
     let first =
-    place_takes old new row c.ask_within.result
+    place_takes old new row c.ask.result
     (rw (c.to_cell.ensures, c.to_cell-2.ensures, c.to_cell-3.ensures, c.to_cell-4.ensures)
     at told.shown) told.same
     (rw (c.to_cell.ensures, c.to_cell-2.ensures, c.to_cell-3.ensures, c.to_cell-4.ensures)
@@ -59,12 +59,12 @@ returns-then-not-is_empty g c =
 
 pub returns : goal.returns
 returns g c =
-    let told = c.ask_within.ensures in
+    let told = c.ask.ensures in
     let row = c.in-Some.row in
     let old = state g.S.Store c.args.tx.now.conn.now in
-    let mid = state g.S.Store c.ask_within.new.tx.conn.now in
+    let mid = state g.S.Store c.ask.new.conn.conn.now in
     let first =
-    place_takes old mid row c.ask_within.result
+    place_takes old mid row c.ask.result
     (rw (c.to_cell.ensures, c.to_cell-2.ensures, c.to_cell-3.ensures, c.to_cell-4.ensures)
     at told.shown) told.same
     (rw (c.to_cell.ensures, c.to_cell-2.ensures, c.to_cell-3.ensures, c.to_cell-4.ensures)

@@ -7,20 +7,20 @@ use Rattle.lot_page.proofs.WalkLemmas.{taken}
 use Rattle.lot_rows.specs.Leg.{leg_cells}
 use Rattle.lot_migrate.proofs.pages.legs_from.Goals as goal
 
-pub ask_within-requires : goal.ask_within-requires
-ask_within-requires g c = asks_from.selects
+pub ask-requires : goal.ask-requires
+ask-requires g c = asks_from.selects
 
 pub returns : goal.returns
 returns g c =
-    let told = c.ask_within.ensures in
+    let told = c.ask.ensures in
     let old = state g.S.Store c.args.tx.now.conn.now in
-    let new = state g.S.Store c.ask_within.new.tx.conn.now in
+    let new = state g.S.Store c.ask.new.conn.conn.now in
     record {
       same_reference = search rules;
       pages = λ n is.
           let first =
-          from_takes old new n c.ask_within.result (rw (c.to_cell.ensures, is) at told.shown) told.same
+          from_takes old new n c.ask.result (rw (c.to_cell.ensures, is) at told.shown) told.same
           (rw (c.to_cell.ensures, is) at told.refused) told.device told.err told.crash in
-          taken leg_cells (λ b. b.leg) page_rows (omega arith) (is_from (Int n)) old new c.ask_within.result
+          taken leg_cells (λ b. b.leg) page_rows (omega arith) (is_from (Int n)) old new c.ask.result
           first;
     }
