@@ -618,10 +618,15 @@ echo "lotbook: $left; its crumb is -0.004445885 USD, 0.003445885 more than --wit
 notes "a crumb that is too large" 1 "${post[@]}" "${rounding[@]}" --within 0.001
 echo "lotbook: $left; with its crumbs it is refused: L3 UnknownAccount Equity:Other: 2024-01-02 * \"Buy\"" >"$scratch/told"
 notes "an account for crumbs that isn't open" 1 "${post[@]}" --rounding Equity:Other
+cp "$scratch/in" "$scratch/bought"
+printf '2024-01-02 * "Move"\n  Assets:Cash 10 USD\n  Assets:Cash -9.999 USD\n' >"$scratch/in"
+echo "lotbook: line 1, command 1: L14 NotBalanced: the postings don't balance: they leave 0.001 USD; USD has no cost or price here, so no crumb is taken in it: 2024-01-02 * \"Move\"" >"$scratch/told"
+notes "a currency in which no crumb is taken" 1 "${post[@]}" "${rounding[@]}"
+mv "$scratch/bought" "$scratch/in"
 opened
 "$program" "${post[@]}" "${rounding[@]}" <"$scratch/in" >/dev/null 2>&1
 run "${post[@]}" <"$scratch/in"
-echo "lotbook: line 1, command 1: $key the line \`Income:Gains -0.00444588 USD\`; if --rounding completed it, it repeats with that option alone: 2024-01-02 * \"Buy\"" >"$scratch/told"
+echo "lotbook: line 1, command 1: $key the line \`Income:Gains -0.00444588 USD\`; with --rounding ACCOUNT it is a repeat: 2024-01-02 * \"Buy\"" >"$scratch/told"
 if ((status == 1)) && cmp -s "$scratch/told" "$scratch/err"; then pass "an entry that was completed"; else fail "an entry that was completed" "status $status, and $(head -n 1 "$scratch/err")"; fi
 printf 'ref,date,action,symbol,units,price,currency,fee\nD-1,2024-01-15,BUY,HOOL,0.3333,101.12345,USD,\nD-2,2024-01-15,BUY,HOOL,2,10.002,USD,\n' >"$scratch/in"
 printf 'lotbook: %s\n' "row 1: Income:Gains takes -0.004445885 USD" "row 2: Income:Gains takes -0.004 USD" "Income:Gains takes -0.008445885 USD, of 2 rows" >"$scratch/told"

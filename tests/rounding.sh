@@ -238,6 +238,9 @@ says_of 0 "--quiet says nothing of them" .
 run post --book "$book" --batch b "${rounding[@]}" <"$scratch/twelve.ledger"
 replies "twelve again" 0 repeat 12
 says_of 0 "nothing is said of repeats" Equity:Rounding
+run post --book "$book" --batch e --from 12 "${rounding[@]}" <"$scratch/twelve.ledger"
+answers "the last of twelve under another batch" 0 "12 accepted"
+says_of 1 "it is told under its number" "command 12: Equity:Rounding takes -0\.003 EUR"
 run post --book "$book" --batch d --dry-run "${rounding[@]}" <"$scratch/twelve.ledger"
 replies "a dry run" 0 accepted 12
 says_of 1 "a dry run says what would go to the account" Equity:Rounding "[ -]0\.0066 USD"
@@ -249,7 +252,7 @@ opened=$'1 accepted\n2 accepted\n3 accepted\n4 accepted'
 over='2024-01-02 *\n  Assets:Depot 1.002 FUND {10 USD}\n  Assets:Cash -10 USD\n'
 one over "$over" "${rounding[@]}"
 answers "a crumb over the bound is refused as it is written" 1 "$opened"$'\n5 refused L14 NotBalanced USD\nnothing held'
-says_of 1 "and by how much it is too much" L14 "0\.0(2|15)[^0-9]" USD
+says_of 1 "and by how much it is too much" L14 "its crumb is -0\.02 USD, 0\.015 more than"
 one over "$over" "${rounding[@]}" --within 0.02
 if ((status == 0)) && grep -qxF 'Equity:Rounding -0.02 USD' "$scratch/out"; then pass "a crumb as large as the bound"; else fail "a crumb as large as the bound" "status $status"; fi
 one over "$over" "${rounding[@]}" --within 0.01999999
@@ -257,6 +260,8 @@ answers "a crumb that is larger by the last decimal" 1 "$opened"$'\n5 refused L1
 one over "$over" --rounding Equity:Other --within 1
 answers "an account that isn't open" 1 "$opened"$'\n5 refused L14 NotBalanced USD\nnothing held'
 says_of 1 "why the completion isn't accepted" L14 Equity:Other
+one behind '2024-01-02 *\n  Assets:Depot 3 FUND {{100.99 EUR}}\n  Assets:Depot -5 OTHER {}\n  Assets:Cash\n' "${rounding[@]}"
+answers "a whole cost without a rate, before a sale of what isn't held" 1 "$opened"$'\n5 refused B5 InexactCost posting 1\nnothing held'
 one plain '2024-01-02 *\n  Assets:Cash 1 USD\n  Income:Gains -1.001 USD\n' "${rounding[@]}"
 answers "no crumb in a currency without a product" 1 "$opened"$'\n5 refused L14 NotBalanced USD\nnothing held'
 one other '2024-01-02 *\n  Assets:Depot -1 FUND {} @ 1.00000001 USD\n  Assets:Cash\n' "${rounding[@]}"
@@ -313,23 +318,51 @@ answers "all or none of rows of which one isn't completed" 1 $'1 refused L14 Not
 
 # ---- without the options: the postings that would balance
 
-# pastes NAME TEXT PATTERN: refused without the options; with what its line on standard error says it is accepted without them.
+# pastes NAME TEXT PATTERN: refused without the options, by a post and by a check; with what the line of standard error says it is
+# accepted without them, by both.
 pastes() {
-    local text
-    fresh pasted "$scratch/accounts.ledger"
-    printf '%b' "$2" | run post --book "$book" --batch p
-    if ! grep -q "^1 refused $3" "$scratch/out"; then
-        fail "$1" "$(<"$scratch/out")"
-        return
+    local text way
+    for way in post check; do
+        fresh pasted "$scratch/accounts.ledger"
+        to_judge "$way" "$2"
+        if ! tail -n 1 "$scratch/replied" | grep -q "refused $3"; then
+            fail "$1, $way" "$(<"$scratch/out")"
+            continue
+        fi
+        text=$(printf '%b' "$2" | look pasted "$scratch/err" "$3") || { fail "$1, $way" "no postings: $(head -c 500 "$scratch/err")" && continue; }
+        to_judge "$way" "$text\n"
+        if tail -n 1 "$scratch/replied" | grep -q "accepted$"; then pass "$1, $way"; else fail "$1, $way" "$(<"$scratch/out"): $text"; fi
+    done
+}
+
+# to_judge WAY TEXT: posts a text to the book, or checks it behind its accounts; the replies are kept.
+to_judge() {
+    if [[ $1 == post ]]; then
+        printf '%b' "$2" | run post --book "$book" --batch p
+    else
+        { cat "$scratch/accounts.ledger" && printf '%b' "$2"; } | run
     fi
-    text=$(printf '%b' "$2" | look pasted "$scratch/err" "$3") || { fail "$1" "no postings: $(head -c 500 "$scratch/err")" && return; }
-    printf '%s\n' "$text" | run post --book "$book" --batch p
-    if grep -qx "1 accepted" "$scratch/out"; then pass "$1"; else fail "$1" "$(<"$scratch/out"): $text"; fi
+    grep -E '^[0-9]+ ' "$scratch/out" >"$scratch/replied"
 }
 pastes "L14 with its postings" '2024-01-02 *\n  Assets:Depot 0.3333 FUND {101.12345 USD}\n  Assets:Cash -33.70 USD\n' L14
 pastes "L12 with its postings" '2024-01-02 *\n  Assets:Depot 0.3333 FUND {101.12345 USD}\n  Assets:Cash\n' L12
 pastes "B5 with its postings" '2024-01-02 *\n  Assets:Depot 3 FUND {{100.99 EUR}}\n  Assets:Cash\n' B5
 pastes "B5 with cash" '2024-01-02 *\n  Assets:Depot 3 FUND {{100.99 EUR, 2024-01-01, "a"}}\n  Assets:Depot 7 FUND {{10 USD}}\n  Assets:Cash -100.99 EUR\n  Assets:Cash -10 USD\n' B5
+# What leaves another currency off isn't told.
+for way in post check; do
+    fresh off "$scratch/accounts.ledger"
+    to_judge "$way" '2024-01-02 *\n  Assets:Depot 0.3333 FUND {101.12345 USD}\n  Assets:Cash -33.70 USD\n  Assets:Cash 5 EUR\n'
+    if tail -n 1 "$scratch/replied" | grep -q "refused L14 NotBalanced USD" && ! grep -q "would balance" "$scratch/err"; then
+        pass "of a transaction that a completion doesn't balance nothing is told, $way"
+    else
+        fail "of a transaction that a completion doesn't balance nothing is told, $way" "$(<"$scratch/out") $(<"$scratch/err")"
+    fi
+done
+# With the options, of what is accepted as it is written nothing is told.
+fresh whole "$scratch/accounts.ledger"
+printf '2024-01-02 *\n  Assets:Depot 1 FUND {10.40 USD}\n  Assets:Cash\n' | run post --book "$book" --batch p "${rounding[@]}" --decimals 0
+answers "a fill of which a completion takes too much is accepted as it is written" 0 "1 accepted"
+if [[ -s $scratch/err ]]; then fail "nothing is told of it" "$(<"$scratch/err")"; else pass "nothing is told of it"; fi
 # Of a sale the residual goes by the lots that are held.
 sold='2024-01-02 *\n  Assets:Depot 3.333333 FUND {33.66333333 EUR}\n  Assets:Cash\n'
 fresh sale "$scratch/accounts.ledger"
@@ -340,6 +373,15 @@ printf "$sale" | run post --book "$book" --batch t
 answers "a sale of it is L12 without the options" 1 "1 refused L12 InexactFill EUR"
 text=$(printf "$sale" | look pasted "$scratch/err" L12) && printf '%s\n' "$text" | run post --book "$book" --batch t
 answers "with the postings that its line says it isn't" 0 "1 accepted"
+
+# ---- a comma in the bound
+
+printf '2000-01-01 open Assets:Cash\n' | run "${rounding[@]}" --within 0,01
+if grep -qx "lotbook: --within: warning: '0,01' is read as 1" "$scratch/err"; then pass "a comma in the bound is told"; else fail "a comma in the bound is told" "$(<"$scratch/err")"; fi
+printf '2000-01-01 open Assets:Cash\n' | run "${rounding[@]}" --within=0.01
+if [[ ! -s $scratch/err ]]; then pass "a point isn't"; else fail "a point isn't" "$(<"$scratch/err")"; fi
+printf '2000-01-01 open Assets:Cash\n' | run --quiet "${rounding[@]}" --within 0,01
+if [[ ! -s $scratch/err ]]; then pass "nor is anything of a quiet call"; else fail "nor is anything of a quiet call" "$(<"$scratch/err")"; fi
 
 # ---- codes
 

@@ -32,7 +32,7 @@ OF_THE_BOOK = re.compile(
 OF_ITS_CRUMBS = re.compile(
     r"; (it would balance with `[^`]*`( in its place)?(, `[^`]*`( in its place)?)*(: --rounding ACCOUNT( --within [0-9.]+)? adds that)?"
     r"|its crumb is -?[0-9.]+ [^ ]+, [0-9.]+ more than --within allows|with its crumbs it is refused: [A-Z][0-9]+ [A-Za-z]+( [^ ]+)?(?=: )"
-    r"|if --rounding completed it, it repeats with that option alone)"
+    r"|[^ ]+ has no cost or price here, so no crumb is taken in it|with --rounding ACCOUNT it is a repeat)"
 )
 HELD = re.compile(r".*: warning: the account is closed, and still holds .+")
 

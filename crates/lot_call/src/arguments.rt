@@ -1,9 +1,10 @@
 //! The arguments of the program.
 
+use crate::call::rounding_of;
 use crate::remains::say_cut_short;
 use crate::status::{DONE, STOPPED, UNUSABLE, out_of_memory};
 use clap::error::ErrorKind as UsageKind;
-use lot_args::{BadOption, Request, WordsFault, parse_words};
+use lot_args::{BadOption, Notes, Request, WordsFault, parse_words};
 use std::env;
 use std::io::{self, ErrorKind};
 
@@ -24,7 +25,10 @@ const LONGEST_SHOWN: usize = 80;
 pub fn understand(rt: &HostRuntime) -> Result<Request, u8> {
     match words(rt) {
         Ok(words) => match parse_words(rt.alloc(), &words) {
-            Ok(request) => Ok(request),
+            Ok(request) => {
+                warn_of_comma(rt, &words, &request);
+                Ok(request)
+            }
             Err(fault) => Err(answer(rt, &words, &fault)),
         },
         Err(error) if error.kind() == ErrorKind::OutOfMemory => Err(out_of_memory(rt)),
@@ -38,6 +42,25 @@ pub fn understand(rt: &HostRuntime) -> Result<Request, u8> {
 /// Returns the arguments, the program's name first.
 fn words(rt: &HostRuntime) -> io::Result<Vec<String>> {
     Ok(env::args(rt)?.collect(rt.alloc())?)
+}
+
+/// Warns on standard error of a comma in the bound of crumbs, which stands between digits and has no meaning. Where memory ends it
+/// doesn't.
+fn warn_of_comma(rt: &HostRuntime, words: &[String], request: &Request) {
+    let Request::Act {
+        action,
+        notes: Notes::Ten | Notes::All,
+        ..
+    } = request
+    else {
+        return;
+    };
+    if let (Some(rounding), Some(value)) = (rounding_of(action), value_of(words, "within"))
+        && value.contains(',')
+        && let Ok(bound) = rounding.within.units().text(rt.alloc())
+    {
+        let _ = eprintln!(rt; "lotbook: --within: warning: '{value}' is read as {bound}");
+    }
 }
 
 /// Shows help or the version, or reports why arguments can't be used. Returns the status.

@@ -14,6 +14,7 @@ ghost use Rattle.lot_view.specs.View.{known_with_openings};
 mod report;
 
 use lot_command::Command;
+use lot_completion::{Watch, untaken};
 use lot_ledger::{Edition, Outcome, Stop, Verdict, View, decide};
 use lot_report::{CountedWrite, PrintFault, print_reply};
 use lot_stream::{CountedRead, Fault, Status, finish, print_fault, slurp};
@@ -34,7 +35,14 @@ use std::alloc::{AllocError, Global};
 /// Where memory ends, whole lines of the answer are written, and one more that says so. That line has the number of the command
 /// at which memory ended. It has no number where memory ended while the input was read or in the report. After a fault of the
 /// writer nothing more is written. No contract says when memory ends; tests alone show it.
-pub fn check<R: CountedRead, W: CountedWrite>(alloc: Global, reader: &mut R, writer: &mut W) -> u8
+///
+/// `watch` is told what would balance a command that is refused for crumbs, once the reply is written.
+pub fn check<R: CountedRead, W: CountedWrite, N: Watch>(
+    alloc: Global,
+    reader: &mut R,
+    writer: &mut W,
+    watch: &mut N,
+) -> u8
     ensures status { IsStatus result }
     // Where the bytes of the reader are known: what is written, where it is known what the writer holds; and what the calls of
     // the writer came to, where that is known.
@@ -43,16 +51,17 @@ pub fn check<R: CountedRead, W: CountedWrite>(alloc: Global, reader: &mut R, wri
         × IsOutcome (record { before = R.calls reader.old; after = R.calls reader.new })
         (record { before = W.calls writer.old; after = W.calls writer.new }) input written result) }
 {
-    let outcome = answer(alloc, reader, writer);
+    let outcome = answer(alloc, reader, writer, watch);
     let concluded = conclude(writer, outcome);
     finish(writer, concluded).code()
 }
 
 /// Reads, judges and writes, up to the end or the first fault. The fault isn't reported yet.
-fn answer<R: CountedRead, W: CountedWrite>(
+fn answer<R: CountedRead, W: CountedWrite, N: Watch>(
     alloc: Global,
     reader: &mut R,
     writer: &mut W,
+    watch: &mut N,
 ) -> Result<Status, Fault>
     ensures answers { IfSome (R.remaining reader.old) (λ input.
         Answers (record { before = R.calls reader.old; after = R.calls reader.new }) input
@@ -61,13 +70,18 @@ fn answer<R: CountedRead, W: CountedWrite>(
     ensures cause { IsErrOf result Fault.Write → HasFailed (W.calls writer.new) }
 {
     let text = slurp(alloc, reader)?;
-    let answered = answer_text(alloc, &text, writer);
+    let answered = answer_text(alloc, &text, writer, watch);
     reader.take_back(text);
     answered
 }
 
 /// Does the same with a text that was read.
-fn answer_text<W: CountedWrite>(alloc: Global, text: &[u8], writer: &mut W) -> Result<Status, Fault>
+fn answer_text<W: CountedWrite, N: Watch>(
+    alloc: Global,
+    text: &[u8],
+    writer: &mut W,
+    watch: &mut N,
+) -> Result<Status, Fault>
     requires { length text.now ≤ longest_input }
     ensures reaches { Reaches text.now
         (record { before = W.calls writer.old; after = W.calls writer.new })
@@ -75,17 +89,18 @@ fn answer_text<W: CountedWrite>(alloc: Global, text: &[u8], writer: &mut W) -> R
     ensures cause { IsErrOf result Fault.Write → HasFailed (W.calls writer.new) }
 {
     let commands = read(alloc, text)?;
-    let (view, status) = run(alloc, commands, writer)?;
+    let (view, status) = run(alloc, commands, writer, watch)?;
     let rows = view.holdings()?;
     print_holdings(alloc, rows, writer)?;
     Ok(status)
 }
 
 /// Judges commands in their order on an empty book, and writes a reply to each. Returns what is known of the book after them.
-fn run<W: CountedWrite>(
+fn run<W: CountedWrite, N: Watch>(
     alloc: Global,
     commands: Vec<Command>,
     writer: &mut W,
+    watch: &mut N,
 ) -> Result<(View, Status), Fault>
     ensures runs { RunsCommands commands.items
         (W.contents writer.old) (W.contents writer.new) result }
@@ -96,20 +111,21 @@ fn run<W: CountedWrite>(
     let mut view = View::new(alloc, 0);
     let mut status = Status::Accepted;
     for (index, command) in commands.into_iter().enumerate() {
-        let (next, replied) = reply(alloc, view, index + 1, &command, writer)?;
+        let (next, replied) = reply(alloc, view, index + 1, &command, writer, watch)?;
         view = next;
         status = status.and(replied);
     }
     Ok((view, status))
 }
 
-/// Judges the command of that number, and writes the reply.
-fn reply<W: CountedWrite>(
+/// Judges the command of that number, and writes the reply. Then it tells what would balance the command, if somebody asks.
+fn reply<W: CountedWrite, N: Watch>(
     alloc: Global,
     view: View,
     number: usize,
     command: &Command,
     writer: &mut W,
+    watch: &mut N,
 ) -> Result<(View, Status), Fault>
     ensures replies { Replies (known_with_openings view) command.now number
         (W.contents writer.old) (W.contents writer.new) result }
@@ -121,7 +137,12 @@ fn reply<W: CountedWrite>(
         return Err(Fault::MemoryAt { number });
     };
     match print_reply(writer, number, &verdict) {
-        Ok(()) => Ok((view, status_of_verdict(&verdict))),
+        Ok(()) => {
+            if let Some(note) = untaken(alloc, &view, command, &verdict, watch) {
+                watch.tell(number, note);
+            }
+            Ok((view, status_of_verdict(&verdict)))
+        }
         Err(_) => Err(Fault::Write),
     }
 }

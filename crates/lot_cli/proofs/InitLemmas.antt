@@ -4,7 +4,7 @@ use Rattle.sqlite.specs.State.{HasCleanDisk, KeepsCommit, State, Survives}
 use Rattle.lot_stored.specs.StandFor.{Left, Stands}
 use Rattle.lot_report.specs.Output.{WritesMade}
 use Rattle.lot_cli.specs.Says.{Halts, Succeeds, Told}
-use Rattle.lot_cli.specs.Serve.{Makes, ready_line}
+use Rattle.lot_cli.specs.Init.{Makes, ready_line}
 use Rattle.lot_cli.specs.declared.halt.Halt.TheVariants as halt
 use Rattle.lot_store.specs.Create.{IsHandedBack, RefusedFor}
 use Rattle.lot_store.specs.declared.fault.CreateFault.{CreateFault}

@@ -1,5 +1,6 @@
 pub mod HaltLemmas
 pub mod InitLemmas
+pub mod CheckLemmas
 pub mod MigrationLemmas
 pub mod InputLemmas
 pub mod ReportLemmas

@@ -1,7 +1,9 @@
 pub mod HaltLine
 pub mod Says
+pub mod Init
 pub mod Runs
 pub mod Reports
+pub mod Check
 pub mod Serve
 pub mod Headline
 pub mod Again

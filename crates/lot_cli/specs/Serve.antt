@@ -1,24 +1,23 @@
 -- What an action writes, with which status it ends, and what it leaves of the book (docs/RULES.md, The program).
-use Rattle.std.specs.Prelude.{◌≡◌, ◌≢◌, ◌⊎◌, ℕ, nat_eq, if◌then◌else◌, List, [], IfSome, IsTrue, None, Some, Option, codes, ⊤}
+use Rattle.std.specs.Prelude.{◌≡◌, ◌≢◌, ◌⊎◌, ℕ, List, IfSome, None, Some, Option, codes, ⊤}
 use Rattle.sqlite.specs.State.{HasCleanDisk, KeepsCommit, State, Survives}
 use Rattle.lot_check.specs.Answer.{IsOutcome}
 use Rattle.lot_stream.specs.Status.{IsStatus}
-use Rattle.lot_stored.specs.StandFor.{Left, Stands}
+use Rattle.lot_stored.specs.StandFor.{Stands}
 use Rattle.lot_book.specs.Facts.{Entry}
 use Rattle.lot_migrate.specs.First.{StandsFirst}
 use Rattle.lot_migrate.specs.Migrate.{IsOfFirst, IsOfSecond, LeavesMigrated, Migrates, NotMigrated}
 use Rattle.lot_migrate.specs.declared.fault.MigrateFault.{MigrateFault}
 use Rattle.lot_report.specs.Output.{WritesMade}
 use Rattle.lot_report.specs.Printed.{line}
+use Rattle.lot_cli.specs.Check.{Checks}
+use Rattle.lot_cli.specs.Init.{Makes}
 use Rattle.lot_cli.specs.Reports.{Reports}
 use Rattle.lot_cli.specs.Runs.{Imports, IsUntouched, Posts, PostsRow, unfit}
 use Rattle.lot_cli.specs.Says.{Halts, Succeeds, Told}
 use Rattle.lot_cli.specs.declared.halt.Halt.TheVariants as halt
 use Rattle.lot_cli.specs.declared.report.Report.TheVariants as report
-use Rattle.lot_store.specs.Create.{IsHandedBack, IsTaken, RefusedFor}
-use Rattle.lot_store.specs.declared.fault.CreateFault.{CreateFault}
-use Rattle.lot_store.specs.declared.fault.CreateFault.TheVariants.{NotABook}
-use Rattle.lot_table.specs.Shape.{schema_of}
+use Rattle.lot_store.specs.Create.{IsHandedBack, IsTaken}
 use Rattle.lot_page.specs.Cursor.{Stays}
 use Rattle.lot_rows.specs.Tables.{Has, Tables}
 use Rattle.lot_verify.specs.Verify.{NotVerified}
@@ -28,34 +27,6 @@ use Rattle.lot_args.specs.declared.action.Action.{Action}
 use Rattle.lot_input.specs.Input.{Reading}
 use Rattle.lot_args.specs.declared.action.Action.TheVariants.{Check, Init, Migrate, Post, PostRow, Import, Holdings, Gains, Journal, Verify}
 use Rattle.std.specs.Io.KnownBytes.{Appends}
-
--- ---- making a book
-
-abbrev pub ready_line : List ℕ
-ready_line = line (codes "book ready")
-
--- The tables of a book without entries are made in a database that had none, in one commit. A crash during the call leaves
--- them or what it could leave before.
-pub record IsMade (old new : State) : Type 0 where
-  pub made : HasCleanDisk new → Stands new []
-  pub committed : HasCleanDisk new → IsTrue new.is_open × (new.committed ≡ new.now)
-  pub empty : old.now.schema ≡ schema_of []
-  pub crash : Survives old new (λ trees. Left trees [])
-
--- none is made, for what the fault says, and the database is handed back as it was; after a commit that failed a crash may
--- leave one
-pub record IsNotMade (old new : State) (fault : CreateFault) : Type 0 where
-  pub refused : HasCleanDisk new → RefusedFor old new fault
-  pub other : old.now.schema ≢ schema_of [] → fault ≡ NotABook
-  pub handed_back : HasCleanDisk new → IsHandedBack old new
-  pub kept : HasCleanDisk new → KeepsCommit old new
-  pub crash : Survives old new (λ trees. Left trees [])
-
-abbrev pub Makes : State → State → Option (List ℕ) → Option (List ℕ) → WritesMade → Told → Type 0
-Makes old new before written calls told =
-    (IsMade old new × Succeeds ready_line before written calls told)
-    ⊎ ((fault : CreateFault) × IsNotMade old new fault
-    × Halts (halt.Create fault) before written calls told)
 
 -- ---- taking over a book of edition 1
 
@@ -153,23 +124,13 @@ pub record Call : Type 1 where
   pub calls : WritesMade
   pub told : Told
 
--- ---- a check with an account for crumbs
-
--- the batch under which its commands are posted
-abbrev pub check_batch : List ℕ
-check_batch = codes "check"
-
--- the status behind the holdings: that of the commands, unless the holdings can't be written
-abbrev pub status_behind : ℕ → ℕ → ℕ
-status_behind posted shown = if nat_eq shown 0 then posted else shown
-
 -- The outcome of an action: what it writes behind what was written before, and its status; whether it ended before its first
 -- command, and why; and what the connection stands for after it, and a crash may leave.
 abbrev pub Serves : Action → Call → Type 0
 Serves (Check None) c =
     IsUntouched c.old c.new × IfSome c.input.bytes (λ input. (text : List ℕ) × Appends c.before c.written text
     × IsOutcome c.input.calls c.calls input text c.told.status) × (c.told.halt ≡ None)
-Serves (Check (Some rounding)) c = ⊤
+Serves (Check (Some rounding)) c = Checks rounding c.input c.old c.new c.before c.written c.calls c.told
 Serves (Init book) c = Makes c.old c.new c.before c.written c.calls c.told
 Serves (Migrate book) c = SaysMigrated c.old c.new c.before c.written c.calls c.told
 Serves (Post book batch from rounding) c = Posts batch rounding from c.input c.old c.new c.before c.written c.calls c.told

@@ -1,6 +1,7 @@
 ghost use Rattle.std.specs.Prelude.{◌≡◌, IsTrue, None, false};
 ghost use Rattle.lot_stream.specs.Status.{IsStatus};
-ghost use Rattle.lot_cli.specs.Serve.{EndsWith, Makes, ReadsNothing, Serves};
+ghost use Rattle.lot_cli.specs.Init.{Makes};
+ghost use Rattle.lot_cli.specs.Serve.{EndsWith, ReadsNothing, Serves};
 ghost use Rattle.sqlite.specs.Held.{state};
 ghost use Rattle.sqlite.specs.Tree.{Trees};
 
@@ -51,8 +52,9 @@ pub struct Served<S: Alter> {
 ///   without tables, posts the commands to it, and writes what it holds.
 ///
 /// `post`, `import` and a check may have an account that takes crumbs. Then another command may be judged in the place of one that
-/// was handed in, and be the entry. A fault is one line (docs/FORMATS.md, Faults). `progress` is told how far a migration is, and
-/// what becomes of crumbs. Returns the status of the program:
+/// was handed in, and be the entry. A fault is one line (docs/FORMATS.md, Faults). `progress` is told how far a migration is, what
+/// becomes of crumbs, and, without such an account, what would balance a command that is refused for crumbs. Returns the status of
+/// the program:
 ///
 /// - 0: all commands were accepted or repeated, the book was made, migrated or verified, or the report is whole;
 /// - 1: some commands were refused;
@@ -90,7 +92,7 @@ pub fn serve<R: CountedRead, W: CountedWrite, P: Progress + Watch, S: Alter>(
 {
     match action {
         Action::Check { rounding: None } => Served {
-            status: check(alloc, reader, writer),
+            status: check(alloc, reader, writer, progress),
             halt: None,
             conn,
         },

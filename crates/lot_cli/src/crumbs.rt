@@ -1,15 +1,19 @@
 //! A check with an account that takes crumbs.
-ghost use Rattle.std.specs.Prelude.{◌≡◌, None, IfErr, IfOk, false};
-ghost use Rattle.lot_stream.specs.Status.{IsStatus};
+ghost use Rattle.std.specs.Prelude.{◌≡◌, [], None, IfErr, IfOk, List, false};
+ghost use Rattle.lot_stored.specs.StandFor.{Stands};
+ghost use Rattle.lot_stream.specs.Status.{IsStatus, code_of};
 ghost use Rattle.lot_args.specs.declared.action.Format.TheVariants.{Text};
+ghost use Rattle.lot_book.specs.Facts.{Entry};
+ghost use Rattle.lot_cli.specs.Check.{Checks, ChecksMade, ShowsBehind, check_batch, status_behind};
 ghost use Rattle.lot_cli.specs.Reports.{ShowsBook};
-ghost use Rattle.lot_cli.specs.Serve.{check_batch, status_behind};
+ghost use Rattle.lot_cli.specs.Runs.{status_of_run};
 ghost use Rattle.lot_store.specs.declared.run.Ending.TheVariants.{Complete};
 ghost use Rattle.lot_cli.specs.declared.report.Report.TheVariants as report;
 ghost use Rattle.lot_input.specs.Input.{Gives, GivesNone};
 ghost use Rattle.lot_input.specs.Text.{IsFaultyText, TextMeans};
 ghost use Rattle.lot_store.specs.declared.book.Condition.TheVariants.{Ready};
 ghost use Rattle.sqlite.specs.Held.{state};
+ghost use Rattle.sqlite.specs.State.{HasCleanDisk, Survives};
 
 use crate::action::Served;
 use crate::halt::Halt;
@@ -41,6 +45,15 @@ pub(crate) fn check_with<R: CountedRead, W: CountedWrite, N: Watch, S: Alter>(
 ) -> Served<S>
     requires outside { conn.in_transaction ≡ false }
     requires unlimited { conn.step_limit ≡ None }
+    ensures checks { Checks rounding.now (record {
+      bytes = R.remaining reader.old;
+      left = R.remaining reader.new;
+      calls = record { before = R.calls reader.old; after = R.calls reader.new };
+    }) (state S.Store conn) (state S.Store result.conn)
+        (W.contents writer.old) (W.contents writer.new) (record {
+          before = W.calls writer.old;
+          after = W.calls writer.new;
+        }) (record { status = result.status; halt = result.halt }) }
     ensures status { IsStatus result.status }
 {
     match create(alloc, conn) {
@@ -66,6 +79,18 @@ fn check_on<R: CountedRead, W: CountedWrite, N: Watch, S: Alter>(
     watch: &mut N,
     book: &mut Book<S>,
 ) -> (u8, Option<Halt>)
+    requires ready { book.old.condition ≡ Ready }
+    requires made { HasCleanDisk (state S.Store book.old.conn)
+        → Stands (state S.Store book.old.conn) [] }
+    ensures checks { ChecksMade rounding.now (record {
+      bytes = R.remaining reader.old;
+      left = R.remaining reader.new;
+      calls = record { before = R.calls reader.old; after = R.calls reader.new };
+    }) (state S.Store book.new.conn)
+        (W.contents writer.old) (W.contents writer.new) (record {
+          before = W.calls writer.old;
+          after = W.calls writer.new;
+        }) (record { status = result.0; halt = result.1 }) }
     ensures status { IsStatus result.0 }
 {
     match commands_of(alloc, reader) {
@@ -110,6 +135,14 @@ fn show_behind<W: CountedWrite, S: Alter>(
     writer: &mut W,
 ) -> u8
     requires { end.ending ≡ Complete → book.old.condition ≡ Ready }
+    ensures behind { HasCleanDisk (state S.Store book.new.conn) → (entries : List Entry)
+        → (end.ending ≡ Complete → Stands (state S.Store book.old.conn) entries)
+        → ShowsBehind end.ending entries
+        (W.contents writer.old) (W.contents writer.new) (record {
+          before = W.calls writer.old;
+          after = W.calls writer.new;
+        }) (code_of (status_of_run end)) result }
+    ensures crash { Survives (state S.Store book.old.conn) (state S.Store book.new.conn) (λ _. ⊥) }
     ensures status { IsStatus result }
 {
     let status = status_of_run(end).code();

@@ -13,3 +13,4 @@ mod ByFormLemmas
 mod OwnLemmas
 mod TurnLemmas
 mod RepeatLemmas
+mod BalancingLemmas

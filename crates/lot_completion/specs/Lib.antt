@@ -6,3 +6,4 @@ pub mod Form
 pub mod Formed
 pub mod Turn
 pub mod Proposal
+pub mod Balancing

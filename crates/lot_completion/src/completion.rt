@@ -118,7 +118,7 @@ fn fill_decimals(decimals: Decimals, postings: &[Posting]) -> Option<Decimals>
 }
 
 /// Returns whether some posting is elided.
-fn has_elided(postings: &[Posting]) -> bool
+pub(crate) fn has_elided(postings: &[Posting]) -> bool
     ensures { result ≡ list_any (λ p. is_none p.amount) postings.now }
 {
     postings.iter().any(|posting| posting.amount.is_none())

@@ -77,7 +77,7 @@ fn may_complete(alloc: Global, view: &View, command: &Command) -> Result<bool, A
 }
 
 /// Returns whether a refusal is for crumbs.
-pub fn is_for_crumbs(refusal: &Refusal) -> bool
+pub(crate) fn is_for_crumbs(refusal: &Refusal) -> bool
     ensures { result ≡ is_for_crumbs refusal.now }
 {
     matches!(

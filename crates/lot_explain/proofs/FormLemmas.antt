@@ -16,7 +16,6 @@ use Rattle.lot_completion.specs.Turn.{Completes, Proposes, StandsByForm, may_com
 use Rattle.lot_completion.specs.declared.turn.Proposal.{Proposal}
 use Rattle.lot_completion.specs.declared.turn.Proposal.TheVariants as proposal
 use Rattle.lot_rounding.specs.declared.asked.Asked.{Asked}
-use Rattle.lot_rounding.specs.declared.asked.RowCash.{RowCash}
 use Rattle.lot_rounding.specs.declared.rounding.Rounding.{Rounding}
 use Rattle.lot_explain.specs.Crumbs.{IsByFormIn, is_standing}
 

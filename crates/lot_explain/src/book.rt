@@ -99,7 +99,7 @@ fn completing(
     }
     let completes = is_by_form(alloc, entry.body.as_str(), refused.cash, transaction)?;
     Ok(if completes {
-        "; if --rounding completed it, it repeats with that option alone"
+        "; with --rounding ACCOUNT it is a repeat"
     } else {
         ""
     })

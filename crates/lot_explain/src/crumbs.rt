@@ -143,6 +143,10 @@ fn refusal(
         return Ok(String::new(alloc));
     };
     match place_of(command, &said, account) {
+        // What a completion leaves is in a currency that has no product.
+        currency if said.code == "L14" => {
+            format!(in alloc; "; {currency} has no cost or price here, so no crumb is taken in it")
+        }
         "" => format!(in alloc; "; with its crumbs it is refused: {code}"),
         place => format!(in alloc; "; with its crumbs it is refused: {code} {place}"),
     }

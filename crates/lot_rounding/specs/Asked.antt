@@ -3,7 +3,6 @@ use Rattle.std.specs.Prelude.{◌≡◌, ℕ, suc, ◌≤◌, List, map, take, d
 use Rattle.std.specs.Option.{option_map}
 use Rattle.lot_num.specs.Amount.{IsUnits, one}
 use Rattle.lot_command.specs.declared.command.Command.{Command}
-use Rattle.lot_command.specs.declared.key.Key.{Key}
 use Rattle.lot_command.specs.declared.transaction.Amount.{Amount}
 use Rattle.lot_command.specs.declared.transaction.Posting.{Posting}
 use Rattle.lot_command.specs.declared.transaction.Transaction.{Transaction as TransactionOf}
@@ -16,10 +15,6 @@ use Rattle.lot_rounding.specs.declared.asked.RowCash.{RowCash}
 -- a command of which nothing was rounded
 abbrev pub plain : Command → Asked
 plain command = record { command = command; cash = None }
-
--- such commands under their keys
-abbrev pub all_plain : List (Key × Command) → List (Key × Asked)
-all_plain = map (λ (keyed : Key × Command). (keyed.0, plain keyed.1))
 
 -- ---- The cash of a row.
 

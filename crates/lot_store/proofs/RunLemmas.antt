@@ -1,5 +1,5 @@
 -- A run of commands, one after another.
-use Rattle.std.proofs.Common.{◌≡◌, ◌≢◌, ◌∙◌, ◌⊎◌, inl, inr, false, ◌<◌, ◌≤◌, ◌+◌, ℕ, IfSome, IsTrue, List, [], ◌∷◌, ◌++◌, Ok, Err, Option, Result, Some, None, length, map, append_assoc, append-nil, length-append, refl, sym, ap, subst, arith}
+use Rattle.std.proofs.Common.{◌≡◌, ◌≢◌, ◌∙◌, ◌⊎◌, inl, inr, false, ◌<◌, ◌≤◌, ◌+◌, ℕ, IfSome, IsTrue, List, [], ◌∷◌, ◌++◌, Ok, Err, Option, Result, Some, length, map, append_assoc, append-nil, length-append, refl, sym, ap, subst, arith}
 use Rattle.std.specs.Prelude.{⊤}
 use Rattle.std.proofs.KnownBytes.{Appends-nil, Appends-trans}
 use Rattle.std.proofs.lemmas.Bool.{cases_Bool, true≢false}
@@ -26,9 +26,9 @@ use Rattle.lot_table.specs.Book.{Holds}
 use Rattle.lot_table.specs.Statement.{DiskFailed}
 use Rattle.lot_store.specs.Apply.{AppliesWith, FailsFor, HasNoRoomFor, MayAdd, StandsWith, condition_after, ready_of, verdict_of}
 use Rattle.lot_store.specs.ByText.{AnswersByText, AnswersFirst, EndsByText, HasTurned, IsByText, RunsByText, TurnAllByText}
-use Rattle.lot_store.specs.Run.{AppendsSome, EndsBehind, FlushesLine, HasNoRoomForNext, IsConditionAfter, LeavesAfter, LeavesAtAnswer, LeavesAtFault, LeavesAtVerdict, RepliesTo, RunsSession, RunsBook, StopsWith, Writes, WritesEnd, WritesOut, answer_line, count_refused, fault_line, told}
+use Rattle.lot_store.specs.Run.{AppendsSome, EndsBehind, FlushesLine, HasNoRoomForNext, IsConditionAfter, LeavesAfter, LeavesAtAnswer, LeavesAtFault, LeavesAtVerdict, RepliesTo, RunsSession, StopsWith, Writes, WritesEnd, WritesOut, answer_line, count_refused, fault_line, told}
 use Rattle.lot_store.specs.Session.{LeavesEntry, LeavesFirst, LeavesJudged, LeavesNext, LeavesStopped, Session}
-use Rattle.lot_store.specs.Turned.{AreLeft, AreTurned, AreTurnedOn, IsLastTurned, IsTurned, RunsTurned, handed}
+use Rattle.lot_store.specs.Turned.{AreLeft, AreTurned, AreTurnedOn, IsLastTurned, IsTurned, RunsTurned, handed, is_judged}
 use Rattle.lot_rounding.specs.declared.asked.Asked.{Asked}
 use Rattle.lot_rounding.specs.declared.rounding.Rounding.{Rounding}
 use Rattle.lot_store.specs.declared.book.Ack.{Ack}
@@ -533,7 +533,7 @@ module _ (Kept KeptThen : List Entry → Type 0) (rounding : Option Rounding) (a
 
   -- what is judged in the place of what was handed in, with the command at which the run ends
   turned_so : (answer : Result Ack ApplyFault) (rest : List (Key × Asked)) → left ≡ map handed rest → AppliesWith Kept KeptThen next.0 next.1 now new answer
-      → ((book : List Entry) → Next book → IsLastTurned (verdict_of answer) rounding book asks next)
+      → ((book : List Entry) → Next book → IsLastTurned (is_judged answer) rounding book asks next)
       → HasCleanDisk new → (entries : List Entry) → Stands old entries → AreTurned rounding entries (asked ++ asks ∷ rest) (done ++ next ∷ left) (length done) answer
   turned_so answer rest are applies known clean entries stands =
       let was = so.judged (omega (arith, clean, applies.crash.clean)) entries stands in
@@ -553,7 +553,7 @@ module _ (Kept KeptThen : List Entry → Type 0) (rounding : Option Rounding) (a
 
   pub run_ends : (ending : Ending) (was condition : Condition) (rest : List (Key × Asked)) → left ≡ map handed rest
       → (replies : RepliesTo Kept KeptThen next.0 next.1 number now new mid written condition (Err ending))
-      → ((book : List Entry) → Next book → IsLastTurned (verdict_of replies.0) rounding book asks next)
+      → ((book : List Entry) → Next book → IsLastTurned (is_judged replies.0) rounding book asks next)
       → (IsTrue new.is_open → (trees : Trees) → new.may_leave trees → trees ≡ new.committed.trees) → LeavesWhatStands old
       → RunsTurned rounding (asked ++ asks ∷ rest) from old new before written was condition (record { replied = length done; refused = refused; ending = ending })
   run_ends ending was condition rest are (answer, applies, fails, by_text, usable, after, inl (fault, is, stopped, printed)) known safe stands_so = rw stopped (
@@ -660,7 +660,7 @@ run_needs_reopening rounding asked from old before written ending condition stop
     lines (inl (is, printed)) = rw is (subst (λ n. Appends before written ([] ++ fault_line n NeedsReopen)) (zero-on from) printed)
     lines (inr (is, part)) = rw is (part.0, subst (λ n. IsPrefixOf part.0 (fault_line n NeedsReopen)) (zero-on from) part.1, part.2)
 
-    as_handed : (book : List Entry) (all : List (Key × Asked)) → AreLeft None rounding book all (map handed all)
+    as_handed : (book : List Entry) (all : List (Key × Asked)) → AreLeft false rounding book all (map handed all)
     as_handed book [] = tt
     as_handed book (one ∷ more) = (inr refl, refl)
 

@@ -1,12 +1,10 @@
 -- What is judged in the place of a command that was handed in: on what is known of a book, and so on the book; and a run of such.
-use Rattle.std.proofs.Common.{◌≡◌, ◌≢◌, ◌∙◌, ◌⊎◌, ◌+◌, ◌<◌, inl, inr, if◌then◌else◌, ℕ, ℤ, Bool, length, take, drop, get_or, add-one, append_assoc, length-append, take-append-drop, true, false, IfOk, IsTrue, List, [], ◌∷◌, ◌++◌, Option, None, Some, Result, Ok, Err, map, refl, sym, ap, subst, arith}
+use Rattle.std.proofs.Common.{◌≡◌, ◌≢◌, ◌∙◌, ◌+◌, ◌<◌, inl, inr, if◌then◌else◌, ℕ, ℤ, Bool, length, take, drop, get_or, add-one, append_assoc, length-append, take-append-drop, true, false, IsTrue, List, [], ◌∷◌, ◌++◌, Option, None, Some, Result, Ok, Err, map, refl, sym, ap, subst, arith}
 use Rattle.std.proofs.Math.Seq.{take-suc}
 use Rattle.std.proofs.lemmas.Bool.{true≢false}
-use Rattle.std.specs.Io.KnownBytes.{Appends}
 use Rattle.std.specs.Option.{unwrap_or}
-use Rattle.sqlite.proofs.StateLemmas.{survives_then, survives_weaker}
-use Rattle.sqlite.specs.Effect.{Database}
-use Rattle.sqlite.specs.State.{HasCleanDisk, State, Survives}
+use Rattle.sqlite.proofs.StateLemmas.{survives_then}
+use Rattle.sqlite.specs.State.{HasCleanDisk, State}
 use Rattle.sqlite.specs.Tree.{Trees}
 use Rattle.lot_base.specs.Text.{same_text}
 use Rattle.lot_book.specs.declared.verdict.Verdict.{Verdict}
@@ -39,24 +37,20 @@ use Rattle.lot_load.specs.declared.kept.Kept.{Kept}
 use Rattle.lot_rounding.specs.declared.asked.Asked.{Asked}
 use Rattle.lot_rounding.specs.declared.rounding.Rounding.{Rounding}
 use Rattle.lot_rows.proofs.StateLemmas.{survives_same}
-use Rattle.lot_rows.specs.Tables.{Has, Tables}
-use Rattle.lot_stored.specs.StandFor.{Left, Stands}
+use Rattle.lot_stored.specs.StandFor.{Stands}
 use Rattle.lot_view.specs.View.{known, known_with_openings}
 use Rattle.lot_view.specs.declared.view.View.{View}
 use Rattle.lot_table.proofs.MakeLemmas.{keeps_undone}
 use Rattle.lot_table.specs.Book.{IsUndone}
 use Rattle.lot_table.specs.declared.fault.Fault as table
-use Rattle.lot_store.specs.Apply.{AppliesWith, FailsFor, MayAdd, StandsWith, condition_after, store_fault_of, verdict_of}
-use Rattle.lot_store.specs.ByText.{IsByText}
+use Rattle.lot_store.specs.Apply.{AppliesWith, FailsFor, MayAdd, StandsWith, condition_after, store_fault_of}
 use Rattle.lot_store.specs.Damage.{IsOfDamage}
-use Rattle.lot_store.specs.Run.{EndsAt, RepliesTo, RunsBook, StopsWith, answer_line, count_refused}
+use Rattle.lot_store.specs.Run.{EndsAt, RepliesTo, StopsWith, count_refused}
 use Rattle.lot_store.specs.Session.{LeavesFirst}
 use Rattle.lot_store.specs.Step.{condition_from}
-use Rattle.lot_store.specs.Turned.{AreTurnedOn, IsLastTurned, IsTried, IsTurned, RunsTurned, TurnsTo, handed, judged_of, refusal_of}
-use Rattle.lot_store.specs.declared.book.Ack.{Ack}
+use Rattle.lot_store.specs.Turned.{IsLastTurned, IsTried, IsTurned, RunsTurned, TurnsTo, handed, is_judged, judged_of, refusal_of}
 use Rattle.lot_store.specs.declared.book.Condition.{Condition}
-use Rattle.lot_store.specs.declared.book.Condition.TheVariants.{Ready, NeedsReopen as MustReopen}
-use Rattle.lot_store.specs.declared.fault.ApplyFault.{ApplyFault}
+use Rattle.lot_store.specs.declared.book.Condition.TheVariants.{Ready}
 use Rattle.lot_store.specs.declared.fault.ApplyFault.TheVariants as apply
 use Rattle.lot_store.specs.declared.fault.StoreFault.{StoreFault}
 use Rattle.lot_store.specs.declared.fault.StoreFault.TheVariants.{Damaged, Device, InDoubt, Memory, NeedsReopen}
@@ -67,6 +61,15 @@ use Rattle.lot_store.proofs.ApplyLemmas.{stands_along}
 use Rattle.lot_store.proofs.ByTextLemmas.{has_along}
 use Rattle.lot_store.proofs.CommitLemmas.{leaves_none, of_damaged, of_device}
 use Rattle.lot_store.proofs.RunLemmas.{Any, SoFar, LeavesWhatStands, run_ends, so_far_next}
+
+-- what was handed in is what is left where a fault comes as its turn is worked out
+handed_last : (fault : StoreFault) → fault ≢ InDoubt → (rounding : Option Rounding) (book : List Entry) (asked : Key × Asked)
+    → IsLastTurned (is_judged (Err (apply.Failed fault))) rounding book asked (handed asked)
+handed_last Device sure rounding book asked = inr refl
+handed_last Damaged sure rounding book asked = inr refl
+handed_last Memory sure rounding book asked = inr refl
+handed_last NeedsReopen sure rounding book asked = inr refl
+handed_last InDoubt sure rounding book asked = absurd (sure refl)
 
 -- ---- at most one command is tried
 
@@ -399,7 +402,7 @@ module _ (Kept KeptThen : List Entry → Type 0) (rounding : Option Rounding) (a
           after,
           ends_at number written ending stops,
         )
-        (λ book known. inr refl) safe stands_so
+        (λ book known. handed_last fault (λ is. turned.sure (ap Err is)) rounding book keyed) safe stands_so
 
 -- ---- the commands of a list, one after another
 
@@ -417,10 +420,10 @@ take_all [] = refl
 take_all (x ∷ xs) = ap (λ ys. x ∷ ys) (take_all xs)
 
 -- what is judged is so, whatever it comes to
-last_turned : (verdict : Option Verdict) (rounding : Option Rounding) (book : List Entry) (asked : Key × Asked) (turned : Key × Command)
-    → IsTurned rounding book asked turned → IsLastTurned verdict rounding book asked turned
-last_turned None rounding book asked turned is = inl is
-last_turned (Some verdict) rounding book asked turned is = is
+last_turned : (judged : Bool) (rounding : Option Rounding) (book : List Entry) (asked : Key × Asked) (turned : Key × Command)
+    → IsTurned rounding book asked turned → IsLastTurned judged rounding book asked turned
+last_turned false rounding book asked turned is = inl is
+last_turned true rounding book asked turned is = is
 
 -- The first commands of a list, so many, were judged and replied to. Now it is the turn of the next one.
 module _ (commands : List (Key × Asked)) (index from refused : ℕ) (rounding : Option Rounding) (done : List (Key × Command)) (counted : index ≡ length done)
@@ -470,7 +473,7 @@ module _ (commands : List (Key × Asked)) (index from refused : ℕ) (rounding :
         ended replies_so =
             run_ends KeptMid KeptThen rounding (take index commands) done (map handed (drop (index + 1) commands)) from refused (from + index) old mid new before written later
             next judged (λ book. IsTurned rounding book next judged) so_mid numbered ending was condition (drop (index + 1) commands) refl replies_so
-            (λ book known. last_turned (verdict_of replies_so.0) rounding book next judged known) safe_then stands_so
+            (λ book known. last_turned (is_judged replies_so.0) rounding book next judged known) safe_then stands_so
 
     -- it goes on behind the reply
     pub goes_on : (KeptThen : List Entry → Type 0) (new : State) (later : Option (List ℕ)) (verdict : Verdict) (condition : Condition)

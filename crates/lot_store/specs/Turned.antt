@@ -1,5 +1,5 @@
 -- Which commands a run judges in the place of those that were handed in, each worked out on the book when its turn comes.
-use Rattle.std.specs.Prelude.{◌≡◌, ◌≢◌, ◌⊎◌, ℕ, IfOk, IsTrue, List, [], ◌∷◌, ◌++◌, length, map, OnErr, OnOk, Option, None, Some, Result, Err, ⊤}
+use Rattle.std.specs.Prelude.{◌≡◌, ◌≢◌, ◌⊎◌, ℕ, Bool, true, false, IfOk, IsTrue, List, [], ◌∷◌, ◌++◌, length, map, OnErr, OnOk, Option, None, Some, Result, Ok, Err, ⊤}
 use Rattle.std.specs.Option.{unwrap_or}
 use Rattle.sqlite.specs.State.{HasCleanDisk, KeepsCommit, State, Survives}
 use Rattle.lot_command.specs.declared.command.Command.{Command}
@@ -10,18 +10,22 @@ use Rattle.lot_book.specs.Judged.{JudgesOn}
 use Rattle.lot_book.specs.Step.{Accept, Outcome, Refuse, Repeat}
 use Rattle.lot_book.specs.declared.refusal.Refusal.{Refusal}
 use Rattle.lot_book.specs.declared.verdict.Verdict.{Verdict}
+use Rattle.lot_book.specs.declared.verdict.Verdict.TheVariants as verdict
 use Rattle.lot_completion.specs.Turn.{IsTurnOn, Passes}
+use Rattle.lot_completion.specs.declared.watch.Note.{Note}
+use Rattle.lot_completion.specs.declared.watch.Note.TheVariants as note
 use Rattle.lot_rounding.specs.declared.asked.Asked.{Asked}
 use Rattle.lot_rounding.specs.declared.rounding.Rounding.{Rounding}
 use Rattle.lot_stored.specs.StandFor.{Stands}
 use Rattle.lot_table.specs.Statement.{DiskFailed}
-use Rattle.lot_store.specs.Apply.{StandsWith, verdict_of}
+use Rattle.lot_store.specs.Apply.{StandsWith}
 use Rattle.lot_store.specs.Run.{RunsBook}
 use Rattle.lot_store.specs.declared.book.Ack.{Ack}
 use Rattle.lot_store.specs.declared.book.Condition.{Condition}
 use Rattle.lot_store.specs.declared.fault.ApplyFault.{ApplyFault}
+use Rattle.lot_store.specs.declared.fault.ApplyFault.TheVariants.{Failed, Refused}
 use Rattle.lot_store.specs.declared.fault.StoreFault.{StoreFault}
-use Rattle.lot_store.specs.declared.fault.StoreFault.TheVariants.{Damaged, Device, InDoubt, NeedsReopen}
+use Rattle.lot_store.specs.declared.fault.StoreFault.TheVariants.{Damaged, Device, InDoubt, Memory, NeedsReopen}
 use Rattle.lot_store.specs.declared.run.RunEnd.{RunEnd}
 use Rattle.lot_store.specs.declared.turn.Turn.{Turn}
 
@@ -44,6 +48,14 @@ abbrev pub refusal_of : Outcome → Option Refusal
 refusal_of (Accept legs) = None
 refusal_of Repeat = None
 refusal_of (Refuse refusal) = Some refusal
+
+-- what there is to tell of the crumbs of a command that came to a verdict: what an account took of one that was accepted, and why
+-- a completion isn't judged of one that is refused
+abbrev pub FitsVerdict : Verdict → Note → Type 0
+FitsVerdict judged (note.Taken crumbs) = judged ≡ verdict.Accepted
+FitsVerdict judged (note.Beyond currency crumb) = (refusal : Refusal) × (judged ≡ verdict.Refused refusal)
+FitsVerdict judged (note.Refused why) = (refusal : Refusal) × (judged ≡ verdict.Refused refusal)
+FitsVerdict judged (note.Untaken completion) = ⊥
 
 -- Another command is tried in the place of one on a book: it is judged there where it is accepted or repeats an entry.
 abbrev pub IsTried : List Entry → Key → Command → Option Command → Type 0
@@ -81,18 +93,28 @@ AreTurnedOn rounding before (asked ∷ more) (turned ∷ others) (verdict ∷ ve
     × (mid : List Entry) × JudgesOn before turned.0 turned.1 verdict mid × AreTurnedOn rounding mid more others verdicts after
 AreTurnedOn rounding before _ _ _ after = ⊥
 
--- The command at which a run ends is judged in the place of what was handed in. Where it has no verdict, it may also be what was
--- handed in itself.
-abbrev pub IsLastTurned : Option Verdict → Option Rounding → List Entry → Key × Asked → Key × Command → Type 0
-IsLastTurned (Some verdict) rounding book asked turned = IsTurned rounding book asked turned
-IsLastTurned None rounding book asked turned = IsTurned rounding book asked turned ⊎ (turned ≡ handed asked)
+-- whether an answer tells that the command was judged: a verdict does, and a commit in doubt
+abbrev pub is_judged : Result Ack ApplyFault → Bool
+is_judged (Ok ack) = true
+is_judged (Err (Refused refusal)) = true
+is_judged (Err (Failed InDoubt)) = true
+is_judged (Err (Failed Device)) = false
+is_judged (Err (Failed NeedsReopen)) = false
+is_judged (Err (Failed Damaged)) = false
+is_judged (Err (Failed Memory)) = false
+
+-- The command at which a run ends is judged in the place of what was handed in. Where nothing tells that it was judged, it may
+-- also be what was handed in itself.
+abbrev pub IsLastTurned : Bool → Option Rounding → List Entry → Key × Asked → Key × Command → Type 0
+IsLastTurned true rounding book asked turned = IsTurned rounding book asked turned
+IsLastTurned false rounding book asked turned = IsTurned rounding book asked turned ⊎ (turned ≡ handed asked)
 
 -- the commands that are left at the end of a run: that at which it ends, and the others as they were handed in
-abbrev pub AreLeft : Option Verdict → Option Rounding → List Entry → List (Key × Asked) → List (Key × Command) → Type 0
-AreLeft verdict rounding book [] [] = ⊤
-AreLeft verdict rounding book (asked ∷ more) (turned ∷ others) =
-    IsLastTurned verdict rounding book asked turned × (others ≡ map handed more)
-AreLeft verdict rounding book _ _ = ⊥
+abbrev pub AreLeft : Bool → Option Rounding → List Entry → List (Key × Asked) → List (Key × Command) → Type 0
+AreLeft judged rounding book [] [] = ⊤
+AreLeft judged rounding book (asked ∷ more) (turned ∷ others) =
+    IsLastTurned judged rounding book asked turned × (others ≡ map handed more)
+AreLeft judged rounding book _ _ = ⊥
 
 -- A run judges these commands in the place of those that were handed in. So many were replied to, with their verdicts, and the
 -- answer is that to the next one.
@@ -108,7 +130,7 @@ pub record AreTurned (rounding : Option Rounding) (entries : List Entry) (asked 
   pub turned_are : turned ≡ done ++ left
   pub book : List Entry
   pub turns : AreTurnedOn rounding entries first done verdicts book
-  pub next : AreLeft (verdict_of answer) rounding book rest left
+  pub next : AreLeft (is_judged answer) rounding book rest left
 
 -- A run of commands that were handed in is one of those that are judged in their place.
 abbrev pub RunsTurned : Option Rounding → List (Key × Asked) → ℕ → State → State → Option (List ℕ) → Option (List ℕ)

@@ -24,4 +24,5 @@ pub use creation::{create, edition_row};
 pub use fault::{AdoptFault, ApplyFault, CreateFault, HandedBack, StoreFault};
 pub use lot_walk::{PairPrice, laws};
 pub use run::{Ending, RunEnd};
+pub use turn::{Turn, turn_with};
 pub use walk::{Gains, Holdings, Journal, Prices, Walk, WalkFault};

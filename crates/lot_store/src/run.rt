@@ -10,7 +10,7 @@ ghost use Rattle.sqlite.specs.Tree.{Trees};
 
 use crate::book::{Ack, Book, Condition};
 use crate::fault::{ApplyFault, StoreFault};
-use crate::turn::untaken;
+use crate::turn::untaken_on;
 use itoa::Buffer;
 use lot_command::{Command, Key};
 use lot_completion::Watch;
@@ -106,7 +106,13 @@ impl<S: Alter> Book<S> {
                     refused += refusals(&verdict);
                     let note = match rounding {
                         Some(_) => turn.told(&verdict),
-                        None => untaken(self.allocator(), &kept, asked, &verdict, watch),
+                        None => untaken_on(
+                            self.allocator(),
+                            &kept,
+                            &asked.command,
+                            &verdict,
+                            watch,
+                        ),
                     };
                     if let Some(note) = note {
                         watch.tell(number, note);

@@ -1,37 +1,33 @@
 //! Turns: which command is judged in the place of one that was handed in, where an account takes the crumbs.
-ghost use Rattle.std.specs.Prelude.{◌≡◌, false, IfOk, None, Some, option_copied};
+ghost use Rattle.std.specs.Prelude.{◌≡◌, false, IfOk, IfSome, None, Some, option_copied};
 ghost use Rattle.lot_book.specs.Openings.{ties_on};
 ghost use Rattle.lot_book.specs.Step.{DecidesUnder, Outcome as OutcomeOf};
 ghost use Rattle.lot_load.specs.Kept.{IsOf, Keeps};
 ghost use Rattle.lot_load.specs.Tells.{Tells};
-ghost use Rattle.lot_store.specs.Turned.{IsTried, IsTurned, TurnsTo, judged_of, refusal_of};
+ghost use Rattle.lot_store.specs.Turned.{FitsVerdict, IsTried, IsTurned, TurnsTo, judged_of, refusal_of};
 ghost use Rattle.lot_view.specs.View.{known, known_with_openings};
 ghost use Rattle.sqlite.specs.Held.{state};
 ghost use Rattle.sqlite.specs.State.{HasCleanDisk};
 
 use crate::fault::StoreFault;
-use lot_base::Account;
 use lot_command::{Command, Key};
 use lot_completion::laws::there_is_one_completion;
-use lot_completion::{Completion, Note, Proposal, Watch, complete, is_for_crumbs, propose};
+use lot_completion::{Completion, Note, Proposal, Watch, propose, untaken};
 use lot_ledger::{Edition, Outcome, Refusal, Stop, Verdict, View, decide};
 use lot_load::{Kept, look_on};
 use lot_print::laws::canonical_texts_tell_commands_apart;
-use lot_rounding::{Asked, Decimals, Rounding};
-use lot_table::Fault;
+use lot_rounding::{Asked, Rounding};
+use lot_table::{Fault, Queryable};
 use sqlite::{Alter, Connection};
 use std::alloc::{AllocError, Global};
 
-/// The account of the crumbs that no account takes, in a completion that is told alone.
-const PLACEHOLDER: &str = "Equity:Rounding";
-
 /// The turn of a command that was handed in: what is judged, once that is worked out on the book.
 #[derive(Drop)]
-pub(crate) struct Turn {
+pub struct Turn {
     /// The command that is judged in its place, where there is one.
-    pub(crate) other: Option<Command>,
+    pub other: Option<Command>,
     /// What there is to tell of its crumbs, once it comes to a verdict.
-    pub(crate) note: Option<Note>,
+    pub note: Option<Note>,
 }
 
 impl Turn {
@@ -43,7 +39,7 @@ impl Turn {
     }
 
     /// Returns what is judged in the place of what was handed in.
-    pub(crate) fn judged<'a>(&'a self, asked: &'a Asked) -> &'a Command
+    pub fn judged<'a>(&'a self, asked: &'a Asked) -> &'a Command
         ensures { result.now ≡ judged_of self.now asked.now }
     {
         match &self.other {
@@ -52,12 +48,19 @@ impl Turn {
         }
     }
 
-    /// Returns what there is to tell of the crumbs of a command that came to that verdict.
-    pub(crate) fn told(self, verdict: &Verdict) -> Option<Note> {
-        match (self.note, verdict) {
-            (Some(Note::Taken(crumbs)), Verdict::Accepted) => Some(Note::Taken(crumbs)),
-            (Some(Note::Taken(_)), _) => None,
-            (note, _) => note,
+    /// Returns what there is to tell of the crumbs of a command that came to that verdict: what the account took of one that was
+    /// accepted, or why the completion of one that was refused isn't judged in its place.
+    pub fn told(self, verdict: &Verdict) -> Option<Note>
+        ensures told { IfSome result (λ note. (self.note ≡ Some note)
+            × FitsVerdict verdict.now note) }
+    {
+        match (self.note?, verdict) {
+            (Note::Taken(crumbs), Verdict::Accepted) => Some(Note::Taken(crumbs)),
+            (Note::Beyond { currency, crumb }, Verdict::Refused(_)) => {
+                Some(Note::Beyond { currency, crumb })
+            }
+            (Note::Refused(refusal), Verdict::Refused(_)) => Some(Note::Refused(refusal)),
+            _ => None,
         }
     }
 }
@@ -91,18 +94,19 @@ pub(crate) fn turn_of<S: Alter>(
 
 /// Returns the turn of a command on what is kept of the book, with an account for the crumbs, and what
 /// is known of the book then.
-fn turn_with<S: Alter>(
+pub fn turn_with<D: Queryable>(
     alloc: Global,
-    conn: &mut Connection<S>,
+    conn: &mut D,
     kept: Option<Kept>,
     rounding: &Rounding,
     key: &Key,
     asked: &Asked,
 ) -> Result<(Kept, Turn), Fault>
-    ensures { Tells (λ found entries. IsOf kept entries → Keeps found.0 entries
+    ensures same_reference { D.reference conn.new ≡ D.reference conn.old }
+    ensures tells { Tells (λ found entries. IsOf kept entries → Keeps found.0 entries
         × IsTurned (Some rounding.now) entries (key.now, asked.now)
         (key.now, judged_of found.1 asked.now))
-        (state S.Store conn.old) (state S.Store conn.new) result }
+        (D.shown conn.old) (D.shown conn.new) result }
 {
     canonical_texts_tell_commands_apart();
     there_is_one_completion();
@@ -132,17 +136,18 @@ fn turn_with<S: Alter>(
 
 /// Returns the turn of a command in whose place this one is tried, and what is known of the book then.
 /// It is judged in that place where it is accepted or repeats an entry, and there is that to tell.
-fn try_with<S: Alter>(
+fn try_with<D: Queryable>(
     alloc: Global,
-    conn: &mut Connection<S>,
+    conn: &mut D,
     kept: Kept,
     key: &Key,
     other: Command,
     note: Option<Note>,
 ) -> Result<(Kept, Turn), Fault>
-    ensures { Tells (λ found entries. Keeps kept entries → Keeps found.0 entries
+    ensures same_reference { D.reference conn.new ≡ D.reference conn.old }
+    ensures tells { Tells (λ found entries. Keeps kept entries → Keeps found.0 entries
         × IsTried entries key.now other found.1.other)
-        (state S.Store conn.old) (state S.Store conn.new) result }
+        (D.shown conn.old) (D.shown conn.new) result }
 {
     let looked = look_on(alloc, conn, Some(kept), key, &other)?;
     match refusal_of(alloc, looked.view(), &other)? {
@@ -176,33 +181,15 @@ fn refusal_of(alloc: Global, view: &View, command: &Command) -> Result<Option<Re
     }
 }
 
-/// Returns what would balance a command that was refused for crumbs, where no account takes them, if
-/// somebody asks for that. Where memory runs out there is nothing to tell.
-pub(crate) fn untaken<N: Watch>(
+/// Returns what would balance a command that came to a verdict on what is kept, where no account takes
+/// crumbs and somebody asks for that.
+pub(crate) fn untaken_on<N: Watch>(
     alloc: Global,
     kept: &Option<Kept>,
-    asked: &Asked,
+    command: &Command,
     verdict: &Verdict,
     watch: &N,
 ) -> Option<Note> {
-    let (Verdict::Refused(refusal), Command::Transaction(transaction)) = (verdict, &asked.command)
-    else {
-        return None;
-    };
-    if !is_for_crumbs(refusal) || !watch.asks() {
-        return None;
-    }
     let view = kept.as_ref()?.view();
-    let account = Account::new(alloc, PLACEHOLDER).ok()?;
-    let decimals = Decimals::of_units();
-    let completion = complete(
-        alloc,
-        Edition::Second,
-        view,
-        &account,
-        decimals,
-        transaction,
-    )
-    .ok()??;
-    Some(Note::Untaken(completion))
+    untaken(alloc, view, command, verdict, watch)
 }

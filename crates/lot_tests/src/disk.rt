@@ -1,7 +1,8 @@
 //! The two files of a book, on disks in memory that stop: after so many calls of one of the files, each further call fails.
 //! What such a stop leaves is opened again as other files. The program is called on them by its words.
 
-use lot_cli::{Action, Note, Progress, Request, Served, Watch, parse_words, serve};
+use crate::nobody::Nobody;
+use lot_cli::{Action, Request, Served, parse_words, serve};
 use sqlite::{Alter, Connection, FileStore, Files, Options};
 use sqlite_disk::{Crash, Disk, Fuse, Memory};
 use std::process::Abort;
@@ -135,24 +136,6 @@ fn served<S: Alter>(
         conn: left,
     } = serve(rt.alloc(), &action, &mut reader, written, &mut Nobody, conn);
     left
-}
-
-/// Receives what a call tells as it runs, and does nothing.
-#[derive(Drop)]
-struct Nobody;
-
-impl Progress for Nobody {
-    fn legs_read(&mut self, _legs: usize) {}
-
-    fn end(&mut self) {}
-}
-
-impl Watch for Nobody {
-    fn asks(&self) -> bool {
-        false
-    }
-
-    fn tell(&mut self, _number: usize, _note: Note) {}
 }
 
 /// The action that words of the program ask for.

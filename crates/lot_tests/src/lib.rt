@@ -4,6 +4,7 @@
 //! - `commands`: the canonical texts of commands.
 //! - `copies`: copies of values that the program doesn't copy.
 //! - `faults`: the texts of faults, and which of several faults of a number is told.
+//! - `nobody`: a receiver of what a call tells as it runs.
 //! - `opening_numbers`: the lots that legs leave, with their opening numbers.
 //! - `streams`: readers and writers that give or take little, are interrupted, or fail, by a script.
 //! - `stops`: a file of a book stops at each of its calls, once and twice, while a course is gone through: a ledger is sent, a book
@@ -25,6 +26,8 @@ mod courses;
 mod disk;
 #[cfg(test)]
 mod faults;
+#[cfg(test)]
+mod nobody;
 #[cfg(test)]
 mod opening_numbers;
 #[cfg(test)]

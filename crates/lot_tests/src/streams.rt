@@ -2,6 +2,7 @@
 //! A flush that fails, and a reader that is interrupted for ever.
 
 use crate::assert_that;
+use crate::nobody::Nobody;
 use lot_check::check;
 use lot_stream::slurp;
 use std::io::{Error, ErrorKind, Read, Result, Write};
@@ -113,7 +114,7 @@ fn assert_read(
 ) -> usize {
     let mut reader = reader;
     let mut written = Vec::new(rt.alloc());
-    let ended = check(rt.alloc(), &mut reader, &mut written);
+    let ended = check(rt.alloc(), &mut reader, &mut written, &mut Nobody);
     assert_that(rt, written.as_slice() == printed, "written");
     assert_that(rt, ended == status, "status");
     reader.calls
@@ -172,7 +173,7 @@ fn each_call_of_a_reader_may_meet_trouble(rt: HostRuntime) {
 /// The writer to which a text was answered, and the status.
 fn written<'a>(rt: &impl AllocGlobal, text: &[u8], writer: Stream<'a>) -> (Stream<'a>, u8) {
     let (mut reader, mut writer) = (text, writer);
-    let status = check(rt.alloc(), &mut reader, &mut writer);
+    let status = check(rt.alloc(), &mut reader, &mut writer, &mut Nobody);
     (writer, status)
 }
 

@@ -1,7 +1,7 @@
 use Rattle.std.proofs.Common.{None, refl, subst, sym}
 use Rattle.sqlite.specs.Held.{state}
 use Rattle.lot_stream.specs.declared.status.Status.TheVariants.{Accepted}
-use Rattle.lot_cli.specs.Serve.{Makes, ready_line}
+use Rattle.lot_cli.specs.Init.{Makes, ready_line}
 use Rattle.lot_cli.proofs.HaltLemmas.{failed_before, said}
 use Rattle.lot_cli.proofs.InitLemmas.{makes, makes_none}
 use Rattle.lot_cli.proofs.action.init.Goals as goal

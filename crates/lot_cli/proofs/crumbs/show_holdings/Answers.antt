@@ -1,4 +1,3 @@
-use Rattle.sqlite.specs.Held.{state}
 use Rattle.lot_cli.proofs.ReportLemmas.{shows_book}
 use Rattle.lot_cli.proofs.crumbs.show_holdings.Goals as goal
 

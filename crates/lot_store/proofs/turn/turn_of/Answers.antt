@@ -1,8 +1,7 @@
 -- What was worked out on what was kept is so on each book that this is of.
-use Rattle.std.proofs.Common.{ap, arith, not, subst}
+use Rattle.std.proofs.Common.{ap, arith, not}
 use Rattle.sqlite.specs.Held.{state}
-use Rattle.lot_load.specs.Tells.{Tells}
-use Rattle.lot_store.proofs.TurnLemmas.{SaysTurn, turns_told}
+use Rattle.lot_store.proofs.TurnLemmas.{turns_told}
 use Rattle.lot_store.proofs.turn.turn_of.Goals as goal
 
 pub returns-clause-turns : goal.returns-clause-turns
@@ -11,5 +10,5 @@ returns-clause-turns g c =
     let new = state g.S.Store c.turn_with.new.conn in
     rw c.in-Some.is
     (turns_told c.args.kept.now c.in-Some.rounding.now c.args.key.now c.args.asked.now old new
-    (λ clean opened. c.is_autocommit-settled.ensures.settled (rw c.is_autocommit-settled.ensures.value (ap not (c.requires.outside (omega (arith, clean, c.in_ok-looked.ensures.crash.clean))))) opened)
-    c.in_ok-looked.looked c.in_ok-looked.turn (rw c.take.ensures.value at c.in_ok-looked.ensures))
+    (λ clean opened. c.is_autocommit-settled.ensures.settled (rw c.is_autocommit-settled.ensures.value (ap not (c.requires.outside (omega (arith, clean, c.in_ok-looked.ensures.tells.crash.clean))))) opened)
+    c.in_ok-looked.looked c.in_ok-looked.turn (rw c.take.ensures.value at c.in_ok-looked.ensures.tells))
