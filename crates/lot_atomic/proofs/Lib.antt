@@ -1,1 +1,2 @@
 pub mod AllOrNoneLemmas
+pub mod RepliesLemmas

@@ -1,1 +1,2 @@
 pub mod AllOrNone
+pub mod Replies

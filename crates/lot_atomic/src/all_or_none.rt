@@ -4,6 +4,7 @@ ghost use Rattle.std.specs.Prelude.{
   ◌≡◌,
   ◌+◌,
   ◌<◌,
+  ◌≤◌,
   ◌^◌,
   [],
   false,
@@ -119,6 +120,7 @@ pub fn apply_all<S: Alter, N: Watch>(
     ensures outside { HasCleanDisk (state S.Store conn.new) → conn.new.in_transaction ≡ false }
     ensures applies { AppliesAll (option_copied rounding.entry) commands.now
         (state S.Store conn.old) (state S.Store conn.new) result.verdicts.items result.ended }
+    ensures few { length result.verdicts.items ≤ length commands.now }
     // With the connection open a crash leaves the last commit, and nothing else.
     ensures safe { IsTrue (state S.Store conn.new).is_open
         → (trees : Trees) → (state S.Store conn.new).may_leave trees
@@ -146,6 +148,7 @@ fn keep_all<S: Alter, N: Watch>(
     ensures outside { HasCleanDisk (state S.Store conn.new) → conn.new.in_transaction ≡ false }
     ensures applies { AppliesAll (option_copied rounding.entry) commands.now
         (state S.Store conn.old) (state S.Store conn.new) verdicts.new.items result }
+    ensures few { length verdicts.new.items ≤ length commands.now }
 {
     // A disk that has lied may have left anything, a transaction too. Outside one the tables are
     // those of the last commit.
@@ -203,6 +206,7 @@ fn judge_all<S: Alter, N: Watch>(
     ensures same_reference { tx.new.conn.ghost_name ≡ tx.old.conn.ghost_name }
     ensures judges { JudgesAllAsked (option_copied rounding.entry) commands.now
         (state S.Store tx.old.conn.now) (state S.Store tx.new.conn.now) verdicts.new.items result }
+    ensures few { length verdicts.new.items ≤ length commands.now }
 {
     let mut kept = None;
     let mut together = Together::Repeats;

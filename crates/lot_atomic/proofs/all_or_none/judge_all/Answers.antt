@@ -1,5 +1,5 @@
 -- The commands of the list are judged, one after another.
-use Rattle.std.proofs.Common.{◌≡◌, ◌∙◌, [], List, None, ap, arith, length, refl, subst, sym, take}
+use Rattle.std.proofs.Common.{◌≡◌, ◌∙◌, ◌+◌, [], ◌∷◌, List, None, ap, arith, length, length-append, refl, subst, sym, take}
 use Rattle.std.proofs.lemmas.Result.{err_from_is_err_and}
 use Rattle.std.specs.Option.{option_copied}
 use Rattle.sqlite.specs.Held.{state}
@@ -18,6 +18,7 @@ commands-init g c = (
   rw c.requires.none (inside_none (IsOf None) (λ entries. tt) (option_copied c.args.rounding) (state g.S.Store c.args.tx.now.conn.now) c.requires.inside),
   rw c.requires.none refl,
   refl,
+  rw c.requires.none refl,
 )
 
 pub returns-in_err-verdict-clause-judges : goal.returns-in_err-verdict-clause-judges
@@ -48,6 +49,7 @@ commands-preserved g c =
           (c.with-together.ensures ∙ ap (λ (t : Together). joined t (comes_to c.in_ok-verdict.verdict)) c.commands.invariant.2
           ∙ sym (together_more c.commands.verdicts.items c.in_ok-verdict.verdict)),
       c.in_ok-verdict.ensures.same_reference ∙ c.commands.invariant.3,
+      rw c.in_ok-push.ensures.items (length-append c.commands.verdicts.items (c.in_ok-verdict.verdict ∷ []) ∙ ap (λ n. n + 1) c.commands.invariant.4),
     )
 
 pub returns-clause-judges : goal.returns-clause-judges
