@@ -18,7 +18,7 @@ _lotbook_options() {
             echo --explain-all --quiet --help
             ;;
         import)
-            echo --book --batch --invest --cash --fees --gains --from --rounding --within --decimals --dry-run
+            echo --book --batch --invest --cash --fees --gains --from --except --rounding --within --decimals --dry-run
             echo --all-or-none --explain-all --quiet --help
             ;;
         holdings) echo --book --day --format --quiet --help ;;
@@ -61,7 +61,7 @@ _lotbook() {
             _lotbook_offer -W "text csv"
             return
             ;;
-        --batch | --cash | --day | --decimals | --fees | --first | --from | --gains | --invest | --last | --ref | --rounding | --row-of | --within) return ;;
+        --batch | --cash | --day | --decimals | --except | --fees | --first | --from | --gains | --invest | --last | --ref | --rounding | --row-of | --within) return ;;
     esac
     if [[ $current == -* ]]; then
         _lotbook_offer -W "$(_lotbook_options "$word")"

@@ -440,5 +440,9 @@ run_python tests/book/stops.py "$program" "$scratch" --kills 30
 if takes_crumbs; then
     mkdir "$scratch/crumbs"
     run_python tests/book/stops.py "$program" "$scratch/crumbs" --kills 15 --crumbs
+    mkdir "$scratch/crumbs/batch"
+    run_python tests/book/stops.py "$program" "$scratch/crumbs/batch" --kills 10 --crumbs --all-or-none
 fi
+mkdir "$scratch/batch"
+run_python tests/book/stops.py "$program" "$scratch/batch" --kills 20 --all-or-none
 finish

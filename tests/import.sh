@@ -89,6 +89,38 @@ printf '%s\n' "$header" "$row" "A2${row#A1}" |
     run import --gains Income:Gains --from 2 --fees Expenses:Fees --cash Assets:Cash --invest Assets:Broker --batch=x --book="$book"
 answers "the options in another order" 0 "2 repeat"
 
+# Rows that are left out. Those that are left keep their numbers; a row that is left out may have a cash that no row can have.
+begin "$openings"
+printf '%s\n' "$header" "$row" "A2${row#A1}" "A3${row#A1}" >"$scratch/three"
+import --except A2 <"$scratch/three"
+answers "a row that is left out" 0 $'1 accepted\n3 accepted'
+says "it says so" "lotbook: row 2 \(A2\): left out: A2,2020-01-02,BUY,HOOL,1,100,USD,"
+import --except A3 --all-or-none --except=A1 <"$scratch/three"
+answers "two rows that are left out, of all or none" 0 "2 accepted"
+import --from 2 --except A2 <"$scratch/three"
+answers "a row that is left out behind one that is skipped" 0 "3 repeat"
+import --from 3 --except A2 <"$scratch/three"
+answers "a row that is skipped and left out" 0 "3 repeat"
+if [[ ! -s $scratch/err ]]; then pass "nothing is said of it"; else fail "nothing is said of it" "$(head -n 1 "$scratch/err")"; fi
+import --except A1 --except A2 --except A3 --all-or-none <"$scratch/three"
+answers "all rows are left out" 0 ""
+import --except a2 <"$scratch/three"
+answers "a ref that no row has" 0 $'1 repeat\n2 repeat\n3 repeat'
+says "it says that, too" "lotbook: no row has the ref a2"
+printf '%s\n' "$header" "$row" "A2${row#A1}" "$row" | import --except A1 --all-or-none
+answers "two rows of one ref that are left out" 0 "2 repeat"
+printf 'lotbook: row %d (A1): left out: '"$row"'\n' 1 3 | cmp -s - "$scratch/err" && pass "both are named" || fail "both are named" "$(tail -n 1 "$scratch/err")"
+printf '%s\n' "$header" "$inexact" "$row" | import --except A0 --all-or-none
+answers "an inexact row that is left out" 0 "2 repeat"
+printf '%s\n' "$header" "$inexact" "$row" | import --except A1
+answers "an inexact row beside one that is left out" 3 "fault row 1 C4 InexactAmount"
+printf '%s\n' "$header" "A4,2020-01-32,BUY,HOOL,1,100,USD," "$row" | import --except A4
+answers "a faulty row that is left out" 3 "fault row 1 C2 BadRow Date"
+printf '%s\n' "$header" "A5,2020-01-02,BUY,HOOL,1,100,NO," "A6,2020-01-02,SELL,HOOL,9,1,USD," "A7${row#A1}" | import --except A5 --all-or-none
+answers "a refusal behind a row that is left out" 1 $'2 refused B3 NotEnough posting 1\n3 accepted'
+printf '%s\n' "$header" "A7${row#A1}" | import
+answers "nothing of it was kept" 0 "1 accepted"
+
 # A lot whose row in one of the two tables is gone.
 begin "$openings"
 printf '%s\n' "$header" "$row" | import

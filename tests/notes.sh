@@ -599,13 +599,42 @@ refused_row "a row whose gain an account may not have" "Income:Dollars USD" \
     "L13 FillNotAllowed: the account of the posting without an amount was opened with other currencies: Income:Dollars, EUR"
 accounts[7]=Income:Gains
 
-# What is kept nowhere: a dry run, and a call that keeps all or nothing. Their facts are those of the copy on which they ran.
+# What is kept nowhere: a dry run, and a call that keeps all or nothing, one of whose commands is refused.
 printf '2024-01-02 * "Buy"\n  Assets:Broker 3 HOOL {500 USD}\n  Assets:Cash\n2024-01-03 * "Sell"\n  Assets:Broker -5 HOOL {}\n  Assets:Cash\n' >"$scratch/in"
 fact='line 5, command 2: B3 NotEnough: the lots that fit hold less than the units: held now: 3; wanted: 5: Assets:Broker -5 HOOL {}'
 echo "lotbook: $fact" >"$scratch/told"
 notes "facts of a dry run" 1 "${post[@]}" --dry-run
 echo "lotbook: $book: nothing is kept, since not all was accepted" >>"$scratch/told"
 notes "facts of a call that keeps all or nothing" 1 "${post[@]}" --all-or-none
+
+# They are of the book that all its commands had made: an account, a lot and an entry that aren't kept.
+printf '2024-01-01 open %s\n' Assets:Depot Assets:Money >"$scratch/in"
+cat >>"$scratch/in" <<'END'
+2024-02-02 * "Buy"
+  Assets:Depot 3 HOOL {500 USD}
+  Assets:Money
+2024-02-03 * "Buy"
+  Assets:Depot 4 HOOL {510 USD}
+  Assets:Mony
+2024-02-01 * "Buy"
+  Assets:Depot 1 HOOL {490 USD}
+  Assets:Money
+2024-02-03 * "Buy"
+  Assets:Depot 4 HOOL {510 USD}
+  Assets:Money
+2024-02-04 * "Sell"
+  Assets:Depot -2 HOOL {}
+  Assets:Money
+2024-02-04 close Assets:Money
+END
+{
+    echo 'lotbook: line 8, command 4: L3 UnknownAccount: no account of this name was opened: the nearest is Assets:Money: Assets:Mony'
+    echo 'lotbook: line 10, command 5: L10 BackDated: a later day of this account and commodity is booked at cost already: the latest is 2024-02-03, of entry 8: Assets:Depot 1 HOOL {490 USD}'
+    echo "lotbook: line 16, command 7: B2 Ambiguous: several lots fit the braces, and STRICT doesn't choose among them: lots that fit now: 2, with 7 units; they differ in day, cost: Assets:Depot -2 HOOL {}"
+    echo 'lotbook: line 18: warning: the account is closed, and still holds USD: 2024-02-04 close Assets:Money'
+    echo "lotbook: $book: nothing is kept, since not all was accepted"
+} >"$scratch/told"
+notes "facts of what isn't kept" 1 "${post[@]}" --all-or-none
 
 # What an account took, or why it takes nothing. An entry that it completed is one of the same text where the account is named.
 rounding=(--rounding Income:Gains)
@@ -631,6 +660,12 @@ if ((status == 1)) && cmp -s "$scratch/told" "$scratch/err"; then pass "an entry
 printf 'ref,date,action,symbol,units,price,currency,fee\nD-1,2024-01-15,BUY,HOOL,0.3333,101.12345,USD,\nD-2,2024-01-15,BUY,HOOL,2,10.002,USD,\n' >"$scratch/in"
 printf 'lotbook: %s\n' "row 1: Income:Gains takes -0.004445885 USD" "row 2: Income:Gains takes -0.004 USD" "Income:Gains takes -0.008445885 USD, of 2 rows" >"$scratch/told"
 notes "crumbs of rows" 0 "${import[@]}" "${rounding[@]}" --decimals 2
+{ echo ref,date,action,symbol,units,price,currency,fee && seq -f 'D-%g,2024-01-15,BUY,HOOL,2,10.002,USD,' 12; } >"$scratch/in"
+{
+    seq -f 'lotbook: row %g: Income:Gains takes -0.004 USD' 10
+    printf 'lotbook: %s\n' "... and 2 more" "Income:Gains takes -0.048 USD, of 12 rows"
+} >"$scratch/told"
+notes "crumbs of more than ten rows" 0 "${import[@]}" "${rounding[@]}" --decimals 2
 
 # Standard error that can't be written changes nothing.
 printf '2020-01-01 open Assets:Cash\n' >"$scratch/in"

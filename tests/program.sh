@@ -189,6 +189,10 @@ unusable "fault U2 BadValue --rounding" import --book f "${good[@]}" "${crumbs[@
 unusable "fault U2 BadValue --decimals" import --book f "${good[@]}" --decimals 2
 unusable "--from" import --book f "${bad[@]}" --from 0
 unusable "--row-of" import --book f --row-of a "${good[@]}"
+for ref in '' 'r"' 'r\'; do unusable "fault U2 BadValue --except" import --book f "${good[@]}" --except a --except "$ref"; done
+unusable "\"r,s\\\"\" isn't the ref of a row, as in --except A17" import --book f "${good[@]}" --except A17 '--except=r,s"'
+unusable "--except" import --book f "${good[@]}" --except
+unusable "--except" post --book f --batch a --except A17
 
 # Help that is asked for: status 0, on standard output, with an example of each word.
 helps() {
@@ -233,6 +237,7 @@ helps "--cash Assets:Cash" import -h
 helps "--fees Expenses:Fees" import -h
 helps "--gains Income:Gains" import -h
 helps "--from 120" import -h
+helps "--except A17" import -h
 helps "--day 2024-12-31" holdings -h
 helps "it chooses prices alone" holdings -h
 for word in holdings gains; do helps "--format csv" "$word" -h; done
@@ -243,7 +248,7 @@ helps "--last 2024-12-31" gains -h
 for word in help --help -h; do
     run "$word" </dev/null
     lines=$(wc -l <"$scratch/out") columns=$(wc -L <"$scratch/out")
-    if ((lines == 26 && columns <= 80)); then pass "the size of $word"; else fail "the size of $word" "$lines lines, $columns columns"; fi
+    if ((lines == 24 && columns <= 80)); then pass "the size of $word"; else fail "the size of $word" "$lines lines, $columns columns"; fi
     [[ $word == help ]] && cp "$scratch/out" "$scratch/help"
     cmp -s "$scratch/help" "$scratch/out" && pass "$word is the help" || fail "$word is the help" "other than help"
 done

@@ -244,6 +244,8 @@ sums "of a post with refusals" "1 accepted, 0 repeated, 2 refused $time" "$first
 sums "of a dry run" "1 accepted, 0 repeated, 2 refused $time: a dry run, of which nothing is kept" "$first" \
     post --book "$book" --batch d --dry-run
 sums "of all or none" "lotbook: $book: nothing is kept, since not all was accepted" "$first" post --book "$book" --batch d --all-or-none
+printf '2020-01-01 open Assets:Kept\n' >"$scratch/kept"
+sums "of all or none that is kept" "1 accepted, 0 repeated, 0 refused $time" "$scratch/kept" post --book "$book" --batch e --all-or-none
 sums "none with --quiet" "" "$first" post --book "$book" --batch a --quiet
 sums "none of a report" "" /dev/null journal --book "$book"
 finish

@@ -1,6 +1,6 @@
 #!/usr/bin/env bash
 # A row of a broker file that is posted by hand: it stands under the row's key, so the row doesn't act a second time when its
-# file comes.
+# file comes, and is left out of a call that keeps all or none.
 source "$(dirname "$(readlink -f "${BASH_SOURCE[0]}")")/lib/cases.sh"
 need_program
 
@@ -23,7 +23,7 @@ cat >"$scratch/sale.ledger" <<'EOT'
   Assets:Cash 520 USD
   Income:Gains
 EOT
-import() { run import --book "$book" --batch broker --invest Assets:Broker --cash Assets:Cash --fees Expenses:Fees --gains Income:Gains; }
+import() { run import --book "$book" --batch broker --invest Assets:Broker --cash Assets:Cash --fees Expenses:Fees --gains Income:Gains "$@"; }
 in_place() { run post --book "$book" --row-of broker --ref "$@"; }
 
 # replies NAME STATUS LINES: the last call ended so, with these replies.
@@ -79,6 +79,27 @@ replies "another one in its place" 1 "1 refused L1 KeyReused"
 import <"$scratch/deals.csv"
 replies "the file again" 1 $'1 repeat\n2 repeat\n3 refused L1 KeyReused'
 [[ $("$program" journal --book "$book") == "$(<"$scratch/journal")" ]] && pass "the sale acts once" || fail "the sale acts once" "the book changed"
+
+# says_of NAME LINE: the last call's standard error is this one line behind `lotbook: `.
+says_of() { if [[ $(<"$scratch/err") == "lotbook: $2" ]]; then pass "$1"; else fail "$1" "'$(head -c 300 "$scratch/err")'"; fi; }
+
+# All of a longer file or none: the row by hand keeps the others out, until it is left out.
+{ cat "$scratch/deals.csv" && echo "A4,2020-02-03,BUY,HOOL,1,140,USD,"; } >"$scratch/longer.csv"
+import --all-or-none <"$scratch/longer.csv"
+replies "all of a longer file or none" 1 $'1 repeat\n2 repeat\n3 refused L1 KeyReused\n4 accepted'
+if grep -q '^lotbook: row 3 (S1): L1 KeyReused: .*; --except S1 leaves it out: S1,2020-02-03,SELL,HOOL,4,130,USD,$' "$scratch/err"; then
+    pass "it says how it goes in"
+else
+    fail "it says how it goes in" "$(head -n 1 "$scratch/err")"
+fi
+[[ $("$program" journal --book "$book") == "$(<"$scratch/journal")" ]] && pass "none of it is kept" || fail "none of it is kept" "the book changed"
+import --all-or-none --except S1 --dry-run <"$scratch/longer.csv"
+replies "a dry run without the row by hand" 0 $'1 repeat\n2 repeat\n4 accepted'
+import --all-or-none --except S1 <"$scratch/longer.csv"
+replies "all of it without the row by hand" 0 $'1 repeat\n2 repeat\n4 accepted'
+says_of "it says which is left out" "row 3 (S1): left out: S1,2020-02-03,SELL,HOOL,4,130,USD,"
+import --all-or-none --except S1 <"$scratch/longer.csv"
+replies "the same again" 0 $'1 repeat\n2 repeat\n4 repeat'
 run gains --book "$book" </dev/null
 [[ $(grep -c 'HOOL' "$scratch/out") -ge 1 && $(grep -c '2020-02-03' "$scratch/out") == 1 ]] && pass "one sale" || fail "one sale" "$(<"$scratch/out")"
 

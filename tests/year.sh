@@ -104,11 +104,19 @@ EOT
 step "a split" 0 "1 accepted"
 
 { cat "$scratch/points.csv" && echo "S4,2024-12-09,BUY,WIDG,1,66,EUR,"; } >"$scratch/later.csv"
-import south later.csv
-step "a file that overlaps, with the row by hand" 1 $'1 repeat\n2 repeat\n3 refused L1 KeyReused\n4 accepted' "row 3 (S3): L1 KeyReused: another command has this key already: entry 13, with the line \`Assets:South -5 WIDG {2024-02-01} @ 130 EUR\`"
+import south later.csv --all-or-none
+step "a file that overlaps, with the row by hand" 1 $'1 repeat\n2 repeat\n3 refused L1 KeyReused\n4 accepted' \
+    "row 3 (S3): L1 KeyReused: another command has this key already: entry 13, with the line \`Assets:South -5 WIDG {2024-02-01} @ 130 EUR\`; --except S3 leaves it out" \
+    "nothing is kept, since not all was accepted"
+import south later.csv --all-or-none --except S3
+step "the same without that row" 0 $'1 repeat\n2 repeat\n4 accepted' "row 3 (S3): left out: S3,2024-09-02,SELL,WIDG,8,130.00,EUR,"
 { cat "$scratch/oldest.csv" && echo "N6,2024-12-10,BUY,BOND,100,1.05,USD,"; } >"$scratch/further.csv"
-import north further.csv
+import north further.csv --all-or-none
 step "the other file that overlaps" 0 $'1 repeat\n2 repeat\n3 repeat\n4 repeat\n5 accepted' "row 2 (N2): warning: units 1,000 is read as 1000"
+{ head -n 1 "$scratch/north.csv" && tail -n +2 "$scratch/north.csv" | tac && tail -n 1 "$scratch/further.csv"; } >"$scratch/complete.csv"
+import north complete.csv --all-or-none --except N4
+step "the same file with the fraction of a share, which stands by hand" 0 $'1 repeat\n2 repeat\n3 repeat\n5 repeat\n6 repeat' \
+    "row 2 (N2): warning: units 1,000 is read as 1000" "row 4 (N4): left out: N4,2024-06-03,BUY,HOOL,0.3333,101.12345,USD,"
 run post --book "$book" --batch end <<'EOT'
 2024-12-31 close Assets:South
 EOT

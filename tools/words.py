@@ -12,7 +12,7 @@ ROOT = Path(__file__).resolve().parent.parent
 NOTICE = "Written by tools/pages.py from the subcommands of the program: change those, and run it again."
 
 Word = namedtuple("Word", "name usage brief about options")
-Option = namedtuple("Option", "name value help")
+Option = namedtuple("Option", "name value help is_repeated", defaults=(False,))
 
 # What an option takes, where the shell can offer it.
 CHOICES = {"format": ("text", "csv")}
@@ -89,7 +89,7 @@ def option(said):
     form, *value = said["form"]
     kind = form.rpartition("::")[2]
     value = value[0] if value else "N" if kind in ("Start", "Decimals") else ""
-    return kind, Option(said["name"], value, said["help"])
+    return kind, Option(said["name"], value, said["help"], kind == "Repeated")
 
 
 def word(said):
@@ -243,7 +243,8 @@ def zsh_option(it):
         action = "(%s)" % " ".join(CHOICES[it.name])
     else:
         action = ""
-    return zsh_quoted(f"--{it.name}={said}:{it.value}:{action}")
+    again = "*" if it.is_repeated else ""
+    return zsh_quoted(f"{again}--{it.name}={said}:{it.value}:{action}")
 
 
 def zsh(whole, words, codes):
@@ -354,7 +355,7 @@ def manual(whole, version, words):
     yield ".PP"
     yield roff(is_not[0].upper() + is_not[1:])
     yield ".SH OPTIONS"
-    yield "Without a subcommand:"
+    yield "Without a subcommand lotbook judges ledger text in memory:"
     yield from man_options(whole.options)
     yield ".SH COMMANDS"
     for it in words:

@@ -1,10 +1,11 @@
-"""Posts the stored cases to books in files, each in one batch, and in several.
+"""Posts the stored cases to books in files, each in one batch, in several, and all or none.
 
     batches.py PROGRAM FOLDER SCRATCH [--whole]
 
 Several are up to four, or with --whole one for each command. The replies are those of the stored answer, with the numbers of their
 batch, and the tables hold what the stored answer prints, with the opening number that the legs give each lot, and no migrated entry.
-A faulty text, each third one or with --whole each, has its fault, and changes nothing. It prints a line `ok NAME` or `FAILED NAME: ..`
+All or none, a text in which a command is refused has the same replies, and changes nothing; what of it is accepted is kept. A faulty
+text, each third one or with --whole each, has its fault, and changes nothing. It prints a line `ok NAME` or `FAILED NAME: ..`
 for each case.
 """
 
@@ -46,8 +47,8 @@ def call(program, words, text=b""):
     return done.stdout.decode(), notes.without(done.stderr).decode(), done.returncode
 
 
-def post(program, book, batch, text):
-    return call(program, ["post", "--book", book, "--batch", batch], text)
+def post(program, book, batch, text, *options):
+    return call(program, ["post", "--book", book, "--batch", batch, *options], text)
 
 
 def make(program, book):
@@ -73,8 +74,32 @@ def fault_of(program, empty, book, answer, batches):
     for reply, wanted in zip(told, replies):
         if reply.split(" ", 1)[1] != wanted.split(" ", 1)[1]:
             return f"'{reply}' instead of '{wanted}'"
+    return other_tables(book, answer[len(replies):])
+
+
+def fault_of_all_or_none(program, empty, book, answer, text):
+    """What is wrong with a case that is posted all or none to a copy of an empty book, or nothing."""
+    replies = [line for line in answer if line[:1].isdigit()]
+    shutil.copyfile(empty, book)
+    if any(" refused " in line for line in replies):
+        told = post(program, book, "a", text.encode(), "--all-or-none")
+        if told != ("".join(line + "\n" for line in replies), "", 1):
+            return f"all of it: {told}"
+        if tables.contents(book) != tables.contents(empty):
+            return "the book isn't as it was"
+        shutil.copyfile(empty, book)
+        text = "".join(command for command, reply in zip(commands_of(text), replies, strict=True) if reply.endswith(" accepted"))
+        replies = [f"{number} accepted" for number in range(1, len(commands_of(text)) + 1)]
+    told = post(program, book, "a", text.encode(), "--all-or-none")
+    if told != ("".join(line + "\n" for line in replies), "", 0):
+        return f"what is accepted: {told}"
+    return other_tables(book, [line for line in answer if not line[:1].isdigit()])
+
+
+def other_tables(book, wanted):
+    """What is wrong with the tables of a book that holds these lines, or nothing."""
     held = tables.holdings(book)
-    if held != answer[len(replies):]:
+    if held != wanted:
         return f"the tables hold {held[:3]}"
     wrong = set(tables.openings(book)) ^ set(tables.openings_of_legs(book))
     if wrong:
@@ -122,6 +147,9 @@ def main():
                 case = f"{os.path.relpath(path, folder)[: -len('.ledger')]}, {way}"
                 book = os.path.join(scratch, f"case-{case.replace('/', '-').replace(' ', '-')}.book")
                 jobs.append((case, pool.submit(fault_of, program, empty, book, answer, batches)))
+            case = f"{os.path.relpath(path, folder)[: -len('.ledger')]}, all or none"
+            book = os.path.join(scratch, f"case-{case.replace('/', '-').replace(' ', '-')}.book")
+            jobs.append((case, pool.submit(fault_of_all_or_none, program, empty, book, answer, text.decode())))
         jobs.append((f"{len(texts)} faulty texts", pool.submit(faulty, program, empty, os.path.join(scratch, "faulty.book"), texts)))
         for case, job in jobs:
             fault = job.result()

@@ -1,10 +1,12 @@
 """Kills the program at random moments, and sends what it had not replied to again.
 
-    stops.py PROGRAM SCRATCH [--commands N] [--kills N] [--seed N] [--crumbs]
+    stops.py PROGRAM SCRATCH [--commands N] [--kills N] [--seed N] [--crumbs] [--all-or-none]
 
 The book that is left in the end has the rows of one that was posted to without a stop, and after each stop it has every
 command that was acknowledged. Twice as often it is killed while a book is made. With --crumbs each post has a rounding account, which
-most commands need, and no making is stopped. A line `ok NAME` or `FAILED NAME: ..` for each case.
+most commands need, and no making is stopped. With --all-or-none the post keeps all commands or none, so after each stop the book has
+all of them or none, and all where a reply was written; no making is stopped, either. A line `ok NAME` or `FAILED NAME: ..` for each
+case.
 """
 
 import argparse
@@ -107,6 +109,37 @@ def stopped_posts(program, scratch, path, rng, kills, count, took, options):
     return ""
 
 
+def stopped_batches(program, scratch, path, rng, kills, count, took, options):
+    """One book after another is given all commands or none, killed and given them again, until there were so many stops."""
+    stops = books = 0
+    whole = tables.contents(os.path.join(scratch, "whole.book"))
+    while stops < kills:
+        books += 1
+        book = os.path.join(scratch, f"batch-{books}.book")
+        subprocess.run([program, "init", "--book", book], check=True, stdout=subprocess.DEVNULL)
+        stood, is_over = 0, False
+        while not is_over:
+            run = post(program, book, path, 1, options)
+            output = kill_at(rng, run, took) if stops < kills else run.communicate(timeout=600)[0]
+            is_killed, is_over = run.returncode < 0, run.returncode == 0
+            stops += is_killed
+            if not is_killed and not is_over:
+                return f"status {run.returncode}: {output[-60:]}"
+            word = "repeat" if stood else "accepted"
+            replies = "".join(f"{number} {word}\n" for number in range(1, count + 1)).encode()
+            if not replies.startswith(output) or is_over and output != replies:
+                return f"replies where the book had {stood} entries: {output[-60:]}"
+            kept = entries(book)
+            if kept not in (stood, count):
+                return f"{kept} entries of {count}, where there were {stood}"
+            if output and kept != count:
+                return f"{kept} entries of {count} behind {output[:60]}"
+            stood = kept
+        if tables.contents(book) != whole:
+            return f"book {books}: other rows than without a stop"
+    return ""
+
+
 def init_took(program, scratch):
     """How long making a book takes here."""
     begun = time.monotonic()
@@ -144,9 +177,12 @@ def main():
     parser.add_argument("--kills", type=int, default=100)
     parser.add_argument("--seed", type=int, default=1)
     parser.add_argument("--crumbs", action="store_true")
+    parser.add_argument("--all-or-none", action="store_true")
     words = parser.parse_args()
     rng = random.Random(words.seed)
     options, kind = (ROUNDING, ", with crumbs") if words.crumbs else ([], "")
+    if words.all_or_none:
+        options, kind = [*options, "--all-or-none"], kind + ", all or none"
     path = os.path.join(words.scratch, "stops.ledger")
     with open(path, "w", encoding="ascii") as text:
         text.write(ledger(words.commands, words.crumbs))
@@ -155,10 +191,11 @@ def main():
     if words.crumbs and b"Equity:Rounding" not in b"".join(journal(words.program, book).split(b"\n")[8:]):
         fault = "no crumb"
     print(f"FAILED a run without a stop{kind}: {fault}" if fault else f"ok a run without a stop{kind}")
-    fault = stopped_posts(words.program, words.scratch, path, rng, words.kills, words.commands, took, options)
+    stopped = stopped_batches if words.all_or_none else stopped_posts
+    fault = stopped(words.program, words.scratch, path, rng, words.kills, words.commands, took, options)
     name = f"killed {words.kills} times{kind}, no acknowledged command is lost, and the rows are those of one run"
     print(f"FAILED {name}: {fault}" if fault else f"ok {name}")
-    if words.crumbs:
+    if words.crumbs or words.all_or_none:
         return
     fault = stopped_inits(words.program, words.scratch, rng, 2 * words.kills)
     print(f"FAILED killed while a book is made: {fault}" if fault else "ok killed while a book is made")

@@ -8,7 +8,8 @@ this one and each that follows. Of each copy:
 - it answers what the call answers with ample memory, or the fault of memory behind some of the first lines of that, with status 4;
   standard error has some of the first lines that it has with ample memory, or all, and a line of memory in the place of what was stopped
 - the tables, read by SQLite's own library in a copy of the files, are those of the commands that were replied to. One command more
-  may stand where the log held its commit already when the growth was refused: that commit is in doubt, and counted
+  may stand where the log held its commit already when the growth was refused: that commit is in doubt, and counted. Of a call that
+  keeps all commands or none, all stand once all were replied to, and else none, or all by such a commit
 - a report, and words that can't be used, leave the tables as they were, and no file where there was none
 - the same input sent again with ample memory, from its start or from the first command without a reply, is answered as a list that was
   stopped there, and comes to the tables of one run without a stop
@@ -52,7 +53,7 @@ STEP = 11
 LONGER_STEP = 47  # of the calls that do more
 MEMORY = "fault Memory"
 OF_A_COPY = ("fault S4 Device", "fault S5 InDoubt")  # to the database a copy for which memory ends is a disk that fails
-KEEPS_NOTHING = {"--dry-run", "--all-or-none"}  # the second where a command is refused
+KEEPS_NOTHING = {"--dry-run", "--all-or-none"}  # no prefix of the commands: the second all of them or none
 BOOK = "BOOK"  # stands in words for the path of the book
 PATIENCE = 300  # seconds without a message
 
@@ -206,6 +207,7 @@ class Sweep:
         word = next((word for word in self.call.words[:1] if not word.startswith("--")), "check")
         self.replies = sum(line[:1].isdigit() for line in self.lines) if word in ("check", "post", "import") else 0
         self.is_run = word != "check" and self.replies > 0 and not KEEPS_NOTHING & {*self.call.words}
+        self.is_batch = "--all-or-none" in self.call.words
         if self.is_run:
             self.stages += [self.left(text) for text in self.call.beginnings()[1:]]
         elif after != self.stages[0]:
@@ -228,8 +230,12 @@ class Sweep:
         """Whether a copy says that memory stopped it. Raises where it answers otherwise than it may."""
         status, output, messages = answer
         messages = notes.before_the_end(messages, self.ample[2])
+        if self.is_batch:
+            messages = notes.before_the_withdrawal(messages)
         if (status, output) == self.ample[:2]:
-            first = self.ample[2].startswith(messages) or notes.are_first_but_for_crumbs(messages, notes.before_the_end(self.ample[2], self.ample[2]))
+            ample = notes.before_the_end(self.ample[2], self.ample[2])
+            first = self.ample[2].startswith(messages) or notes.are_first_but_for_crumbs(messages, ample)
+            first = first or self.is_batch and notes.are_first_but_for_facts(messages, ample)
             if not first or messages[-1:] not in (b"", b"\n"):
                 raise Different(f"messages {messages[-200:]}")
             return False
@@ -272,6 +278,8 @@ class Sweep:
                 raise Different(f"the tables aren't those of {stage} commands; the last line is {output[-60:]}")
             stage += 1
             self.found.in_doubt += 1
+        if self.is_batch and stage and state["err"].content.endswith(notes.NOTHING_KEPT):
+            raise Different("it says that nothing is kept, and all is")
         first = replied + 1 if copy == ALL and is_stopped else 1
         if fault := self.once(("again", first), state, lambda: self.fault_again(first, stage)):
             raise Different(fault)
@@ -290,6 +298,9 @@ class Sweep:
             # What stands is a repeat. What was refused is so again: the inputs are such.
             lines = [line.replace(" accepted", " repeat") if at < stage else line for at, line in enumerate(self.lines)][first - 1 :]
             wanted = int(any(" refused " in line for line in lines)), "".join(line + "\n" for line in lines).encode(), b""
+        elif self.is_batch and self.ample[0] == 0:
+            # All that stands is a repeat.
+            wanted = 0, self.ample[1].replace(b" accepted\n", b" repeat\n") if stage else self.ample[1], b""
         elif words[:1] == ["init"] and stage:
             wanted = 4, b"fault S1 NotABook\n", b""
         elif words[:1] != ["migrate"]:
@@ -413,6 +424,7 @@ def calls_on_a_book(texts, older):
     yield Call("a dry run of init", [*INIT, "--dry-run"])
     yield Call("a dry run of the first purchase", [*POST, "--dry-run"], texts["the first purchase"], [MAKE])
     yield Call("all or none of a text that is refused", [*POST[:-1], "b", "--all-or-none"], texts["the first purchase"], filled)
+    yield Call("all or none of a sale", [*POST, "--all-or-none"], texts["a sale"], [MAKE])
     yield Call("migrate a book of edition 1", MIGRATE, file=older)
     yield Call("migrate a book of edition 2", MIGRATE, before=[MAKE])
 
@@ -437,6 +449,8 @@ def longer_calls(texts, crumbs, broker, older):
     yield Call("import", IMPORT, broker["2024.csv"], accounts)
     yield Call("import of a faulty file", IMPORT, broker["2024.csv"] + b"D-1006,2024-13-01,BUY,HOOL,1,1,USD,\n", accounts)
     yield Call("import again", IMPORT, broker["2024.csv"], [*accounts, (IMPORT, broker["2024.csv"])])
+    yield Call("import of all or none", [*IMPORT, "--all-or-none"], broker["2024.csv"], accounts)
+    yield Call("import of all or none that is refused", [*IMPORT, "--all-or-none"], broker["2025.csv"], [*accounts, (IMPORT, broker["2024.csv"])])
     yield Call("import of the next year", IMPORT, broker["2025.csv"], [*accounts, (IMPORT, broker["2024.csv"])])
     yield Call("post to a book of edition 1", [*POST[:-1], "b"], texts["the first purchase"], file=older)
     yield Call("import to a book of edition 1", IMPORT, broker["2024.csv"], file=older)

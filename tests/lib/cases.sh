@@ -57,15 +57,15 @@ run() {
     status=$?
 }
 
-# expect NAME STATUS FILE: `run` kept that status and exactly the bytes of FILE. Standard error is empty, or says of a refusal, a fault
-# or what may have been meant otherwise what there is to say.
+# expect NAME STATUS FILE: `run` kept that status and exactly the bytes of FILE. Standard error is empty, or says of a refusal, a fault,
+# a row that is left out or what may have been meant otherwise what there is to say.
 expect() {
     if ((status != $2)); then
         fail "$1" "status $status instead of $2"
     elif ! cmp -s "$scratch/out" "$3"; then
         fail "$1" "other output: $(diff "$3" "$scratch/out" 2>&1 | head -n 6 | cut -c 1-200 | tr '\n' '|')"
     elif [[ -s $scratch/err ]] &&
-        { grep -qv '^lotbook: ' "$scratch/err" || { ((status == 0)) && grep -qvE 'warning: |: \.\.\. and [0-9]+ more$' "$scratch/err"; }; }; then
+        { grep -qv '^lotbook: ' "$scratch/err" || { ((status == 0)) && grep -qvE 'warning: |: left out: |: no row has the ref |: \.\.\. and [0-9]+ more$' "$scratch/err"; }; }; then
         fail "$1" "on standard error: $(grep -m 1 -v '^lotbook: ' "$scratch/err" || head -n 1 "$scratch/err")"
     else
         pass "$1"

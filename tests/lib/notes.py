@@ -20,7 +20,8 @@ OF_ROWS = re.compile(r"row [1-9][0-9]* \(.*\): C2 BadRow: .+")
 REPLY = re.compile(r"([1-9][0-9]*) (accepted|repeat|refused|fault)( .*)?")
 UNWRITTEN = re.compile(
     r"standard output: [A-Z].+ \(os error [0-9]+\): (the output( of a dry run)? is cut short|the book is (made|migrated)"
-    r"|((command|row) (?P<last>[1-9][0-9]*) is the last|no (command|row)) of this call (is )?in the book; --from (?P<start>[1-9][0-9]*) goes on)"
+    r"|((command|row) (?P<last>[1-9][0-9]*) is the last|no (command|row)) of this call (is )?in the book; --from (?P<start>[1-9][0-9]*) goes on"
+    r"|the same call, sent again, tells: where all is kept, each line says `repeat`)"
 )
 # What the book says at the end of a run, which another run ends otherwise with, or that can't be read.
 OF_THE_BOOK = re.compile(
@@ -48,6 +49,12 @@ def before_the_end(errors, ample):
     return errors[: -len(last)] if last.endswith((NOTHING_KEPT, TAKES_OVER)) and errors.endswith(last) else errors
 
 
+def before_the_withdrawal(errors):
+    """The messages but for the last line, where that says that nothing is kept."""
+    last = errors[errors.rfind(b"\n", 0, -1) + 1 :]
+    return errors[: -len(last)] if last.endswith(NOTHING_KEPT) else errors
+
+
 def is_note(line, begin=""):
     """Whether a line without its end begins with `lotbook: ` and then with this text, in UTF-8 without control characters."""
     try:
@@ -72,12 +79,15 @@ def are(errors, *begins):
 def without_crumbs(lines):
     """The messages but for the last ones, which say what an account took, and these."""
     first = len(lines)
-    while first and (SUM_OF_CRUMBS if first == len(lines) else CRUMB).fullmatch(lines[first - 1]):
-        first -= 1
-    if first == len(lines):  # where memory ended before the sum
-        while first and CRUMB.fullmatch(lines[first - 1]):
+    for pattern in (SUM_OF_CRUMBS, MORE):  # neither is there where memory ended before it
+        if first and pattern.fullmatch(lines[first - 1]):
             first -= 1
-    return lines[:first], lines[first:]
+    crumbs = first
+    while crumbs and CRUMB.fullmatch(lines[crumbs - 1]):
+        crumbs -= 1
+    if crumbs == first and (first == len(lines) or MORE.fullmatch(lines[first])):
+        return lines, []
+    return lines[:crumbs], lines[crumbs:]
 
 
 def wrong(errors, status=None, output=None, may_warn=True):
@@ -98,7 +108,7 @@ def wrong(errors, status=None, output=None, may_warn=True):
             return found
         lines.pop()
     lines, of_crumbs = without_crumbs(lines)
-    if len(of_crumbs) > MOST + 1:
+    if len(of_crumbs) > MOST + 2:
         return f"{len(of_crumbs)} messages of what an account took"
     first = next((at for at, line in enumerate(lines) if WARNING.fullmatch(line)), len(lines))
     noted, warned = lines[:first], lines[first:]
@@ -150,7 +160,7 @@ def wrong_where_memory_ended(errors, ample, output):
 
 def are_first_crumbs(lines, whole):
     """Whether these messages of what an account took are some of the first of these, and perhaps a sum, which may be of fewer commands."""
-    while lines and SUM_OF_CRUMBS.fullmatch(lines[-1]):
+    while lines and (SUM_OF_CRUMBS.fullmatch(lines[-1]) or MORE.fullmatch(lines[-1])):
         lines = lines[:-1]
     return lines == whole[: len(lines)]
 
@@ -162,7 +172,15 @@ def are_first_but_for_crumbs(errors, ample):
     )
     (lines, some), (whole, all_of_them) = without_crumbs(lines), without_crumbs(whole)
     left = iter(all_of_them)
-    return lines == whole[: len(lines)] and all(line in left for line in some if not SUM_OF_CRUMBS.fullmatch(line))
+    is_one = (line for line in some if not SUM_OF_CRUMBS.fullmatch(line) and not MORE.fullmatch(line))
+    return lines == whole[: len(lines)] and all(line in left for line in is_one)
+
+
+def are_first_but_for_facts(errors, ample):
+    """Whether these messages are the first of those with ample memory, but for what the book says, which is looked up before all that was
+    made of it is dropped."""
+    lines, whole = ([OF_THE_BOOK.sub("", line, count=1) for line in text.decode().split("\n")[:-1]] for text in (errors, ample))
+    return lines == whole[: len(lines)]
 
 
 def missing(noted, said):

@@ -25,6 +25,8 @@ for ((seed = 2; seed < 2 + times; seed++)); do
         mkdir "$scratch/stops-$seed/crumbs"
         run_python tests/book/stops.py "$program" "$scratch/stops-$seed/crumbs" --seed "$seed" --crumbs
     fi
+    mkdir "$scratch/stops-$seed/batch"
+    run_python tests/book/stops.py "$program" "$scratch/stops-$seed/batch" --seed "$seed" --all-or-none
     rm -rf "$scratch/stops-$seed"
 done
 finish

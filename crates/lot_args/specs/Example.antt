@@ -1,12 +1,13 @@
 -- Words that the laws speak of.
 use Rattle.std.specs.Prelude.{Bool, ℕ, ℤ, List, [], ◌∷◌, Option, codes, option_and_then, option_map}
 use Rattle.clap.specs.Words.{Row, Text, first_of, matches_of, subcommand_of}
-use Rattle.lot_args.specs.Options.{has_row, value_of}
+use Rattle.lot_args.specs.Options.{except_of, has_row, value_of}
 use Rattle.lot_args.specs.Program.{program_app}
 use Rattle.lot_args.specs.From.{from_of}
 use Rattle.lot_args.specs.Rounding.{rounding_of}
 use Rattle.lot_rounding.specs.declared.rounding.Rounding.{Rounding}
-use Rattle.lot_args.specs.Words.{effect_of, notes_of}
+use Rattle.lot_args.specs.Words.{effect_of, keeping_of, notes_of}
+use Rattle.lot_args.specs.declared.action.Keeping.{Keeping}
 use Rattle.lot_args.specs.declared.request.Effect.{Effect}
 use Rattle.lot_args.specs.declared.request.Notes.{Notes}
 
@@ -26,6 +27,20 @@ abbrev pub a_whole_post : List Text
 a_whole_post =
     codes "lotbook" ∷ codes "post" ∷ codes "--book" ∷ codes "f" ∷ codes "--batch" ∷ codes "a" ∷ codes "--explain-all"
     ∷ codes "--all-or-none" ∷ []
+
+-- lotbook import --book f --batch a --invest Equity:R --cash Equity:R --fees Equity:R --gains Equity:R --except r --except s --from 7
+abbrev pub an_import : List Text
+an_import =
+    codes "lotbook" ∷ codes "import" ∷ codes "--book" ∷ codes "f" ∷ codes "--batch" ∷ codes "a" ∷ codes "--invest" ∷ codes "Equity:R"
+    ∷ codes "--cash" ∷ codes "Equity:R" ∷ codes "--fees" ∷ codes "Equity:R" ∷ codes "--gains" ∷ codes "Equity:R"
+    ∷ codes "--except" ∷ codes "r" ∷ codes "--except" ∷ codes "s" ∷ codes "--from" ∷ codes "7" ∷ []
+
+-- lotbook import --book f --batch a --invest Equity:R --cash Equity:R --fees Equity:R --gains Equity:R --except r --except=
+abbrev pub a_bad_import : List Text
+a_bad_import =
+    codes "lotbook" ∷ codes "import" ∷ codes "--book" ∷ codes "f" ∷ codes "--batch" ∷ codes "a" ∷ codes "--invest" ∷ codes "Equity:R"
+    ∷ codes "--cash" ∷ codes "Equity:R" ∷ codes "--fees" ∷ codes "Equity:R" ∷ codes "--gains" ∷ codes "Equity:R"
+    ∷ codes "--except" ∷ codes "r" ∷ codes "--except=" ∷ []
 
 -- lotbook post --book f --row-of a --ref r
 abbrev pub a_row : List Text
@@ -51,10 +66,15 @@ a_misplaced_rounding =
 abbrev pub a_question : List Text
 a_question = codes "lotbook" ∷ codes "explain" ∷ codes "B2" ∷ []
 
--- what a call of a word may leave in the book, and what it explains
-abbrev pub flags_of : List Text → Option (Effect × Notes)
+-- what a call of a word may leave in the book, which commits keep it, and what it explains
+abbrev pub flags_of : List Text → Option (Effect × Keeping × Notes)
 flags_of words =
-    option_map (λ asked. (effect_of asked.1, notes_of (matches_of program_app words) asked.1)) (subcommand_of program_app words)
+    option_map (λ asked. (effect_of asked.1, keeping_of asked.1, notes_of (matches_of program_app words) asked.1))
+    (subcommand_of program_app words)
+
+-- a word with the references of the rows that it leaves out, and the number of its first row
+abbrev pub left_out_of : Option (Text × List Row) → Option (Text × List Text × ℕ)
+left_out_of = option_map (λ asked. (asked.0, except_of asked.1, from_of asked.1))
 
 -- a word for a row, with its batch and its reference
 abbrev pub row_of : Option (Text × List Row) → Option (Bool × Text × Text)

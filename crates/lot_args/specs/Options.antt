@@ -1,21 +1,30 @@
 -- The values of options, and which of them are outside their rules.
 use Rattle.std.specs.Prelude.{if◌then◌else◌, ◌||◌, ◌&&◌, ◌==◌, ℤ, Bool, true, not, is_some, List, [], ◌∷◌, ◌++◌, Option, codes, find, option_and_then, unwrap_or}
 use Rattle.std.specs.Str.{bytes_eq}
+use Rattle.std.specs.List.{list_all}
 use Rattle.std.specs.Option.{option_map_or}
-use Rattle.clap.specs.Words.{Row, Text, first_of}
+use Rattle.clap.specs.Words.{Row, Text, all_of, first_of}
 use Rattle.lot_base.specs.Day.{named_day}
 use Rattle.lot_base.specs.Name.{is_account, is_label}
 use Rattle.lot_args.specs.Batch.{is_batch}
 use Rattle.lot_args.specs.From.{from_of}
 use Rattle.lot_args.specs.Rounding.{named_bound}
 use Rattle.lot_args.specs.declared.fault.BadOption.{BadOption}
-use Rattle.lot_args.specs.declared.fault.BadOption.TheVariants.{Batch, PostBatch, RowOf, Ref, From, Invest, Cash, Fees, Gains, Rounding, Within, Decimals, Day, First, Last, Format}
+use Rattle.lot_args.specs.declared.fault.BadOption.TheVariants.{Batch, PostBatch, RowOf, Ref, From, Invest, Cash, Fees, Gains, Except, Rounding, Within, Decimals, Day, First, Last, Format}
 
 -- ---- values
 
 -- the value of an option, empty where there is none
 abbrev pub value_of : Text → List Row → Text
 value_of name rows = unwrap_or (first_of name rows) []
+
+-- all values of an option, in the order in which they are given
+abbrev pub values_of : Text → List Row → List Text
+values_of name rows = unwrap_or (all_of name rows) []
+
+-- the references of the rows that are left out
+abbrev pub except_of : List Row → List Text
+except_of = values_of (codes "except")
 
 -- the day that the value of an option names, where it is given
 abbrev pub day_of : Text → List Row → Option ℤ
@@ -34,6 +43,7 @@ name_of Invest = codes "invest"
 name_of Cash = codes "cash"
 name_of Fees = codes "fees"
 name_of Gains = codes "gains"
+name_of Except = codes "except"
 name_of Rounding = codes "rounding"
 name_of Within = codes "within"
 name_of Decimals = codes "decimals"
@@ -86,6 +96,7 @@ is_good rows Invest = has_account (codes "invest") rows
 is_good rows Cash = has_account (codes "cash") rows
 is_good rows Fees = has_account (codes "fees") rows
 is_good rows Gains = has_account (codes "gains") rows
+is_good rows Except = list_all is_label (except_of rows)
 is_good rows Rounding = not (has_rounding rows) || has_account (codes "rounding") rows
 is_good rows Within = if has_rounding rows then has_bound rows else not (is_given (codes "within") rows)
 is_good rows Decimals = has_rounding rows || not (is_given (codes "decimals") rows)
@@ -107,7 +118,7 @@ rounding_options = Rounding ∷ Within ∷ Decimals ∷ []
 abbrev pub options_of : Text → List BadOption
 options_of word =
     if bytes_eq word (codes "post") then PostBatch ∷ RowOf ∷ Ref ∷ (rounding_options ++ From ∷ [])
-    else (if bytes_eq word (codes "import") then Batch ∷ (account_options ++ rounding_options)
+    else (if bytes_eq word (codes "import") then Batch ∷ (account_options ++ Except ∷ rounding_options)
     else (if bytes_eq word (codes "holdings") then Day ∷ Format ∷ []
     else (if bytes_eq word (codes "gains") then First ∷ Last ∷ Format ∷ [] else [])))
 

@@ -1,7 +1,7 @@
 -- The words that the program takes, as `clap` keeps them.
 use Rattle.std.specs.Prelude.{pos, true, List, [], ◌∷◌, ◌++◌, codes, Some}
 use Rattle.clap.specs.Words.{App, Rule, Text, new_app, new_rule, with_rule, with_subcommand}
-use Rattle.clap.specs.declared.builder.ArgAction.TheVariants.{Set, SetTrue}
+use Rattle.clap.specs.declared.builder.ArgAction.TheVariants.{Append, Set, SetTrue}
 use Rattle.clap.specs.declared.builder.value_parser.ValueParser.TheVariants.{Signed}
 use Rattle.lot_args.specs.Start.{greatest_start}
 use Rattle.lot_rounding.specs.Nearest.{most_decimals}
@@ -13,6 +13,10 @@ option_rule name = record (new_rule name) { long = Some name; value_names = 1; a
 -- one that has to be given
 abbrev pub required_rule : Text → Rule
 required_rule name = record (option_rule name) { required = true }
+
+-- one that may be given any number of times
+abbrev pub repeated_rule : Text → Rule
+repeated_rule name = record (option_rule name) { action = Some Append }
 
 -- `--from N`, 1 where it isn't given
 abbrev pub from_rule : Rule
@@ -55,19 +59,21 @@ rounding_rules = option_rule (codes "rounding") ∷ option_rule (codes "within")
 -- the options of a word whose commands are judged one after another
 abbrev pub run_rules : List Rule
 run_rules =
-    from_rule ∷ (rounding_rules ++ flag_rule (codes "dry-run") ∷ flag_rule (codes "all-or-none") ∷ flag_rule (codes "explain-all") ∷ [])
+    rounding_rules ++ flag_rule (codes "dry-run") ∷ flag_rule (codes "all-or-none") ∷ flag_rule (codes "explain-all") ∷ []
 
 abbrev pub run_app : Text → List Rule → App
 run_app name rules = with_rules (book_app name rules) run_rules
 
 abbrev pub post_app : App
-post_app = run_app (codes "post") (option_rule (codes "batch") ∷ option_rule (codes "row-of") ∷ option_rule (codes "ref") ∷ [])
+post_app =
+    run_app (codes "post")
+    (option_rule (codes "batch") ∷ option_rule (codes "row-of") ∷ option_rule (codes "ref") ∷ from_rule ∷ [])
 
 abbrev pub import_app : App
 import_app =
     run_app (codes "import")
     (required_rule (codes "batch") ∷ required_rule (codes "invest") ∷ required_rule (codes "cash")
-    ∷ required_rule (codes "fees") ∷ required_rule (codes "gains") ∷ [])
+    ∷ required_rule (codes "fees") ∷ required_rule (codes "gains") ∷ from_rule ∷ repeated_rule (codes "except") ∷ [])
 
 abbrev pub holdings_app : App
 holdings_app = book_app (codes "holdings") (option_rule (codes "day") ∷ option_rule (codes "format") ∷ [])

@@ -2,7 +2,7 @@
 use Rattle.std.specs.Prelude.{pos, ◌∷◌, [], Some, codes, map}
 use Rattle.clap.specs.Words.{App, Rule, Text}
 use Rattle.clap.specs.declared.builder.value_parser.ValueParser.TheVariants.{Signed}
-use Rattle.lot_args.specs.Program.{flag_rule, option_rule, place_rule, required_rule, word_app}
+use Rattle.lot_args.specs.Program.{flag_rule, option_rule, place_rule, repeated_rule, required_rule, word_app}
 use Rattle.lot_args.specs.Start.{greatest_start}
 use Rattle.lot_rounding.specs.Nearest.{most_decimals}
 use Rattle.lot_args.specs.declared.options.WordOption.{WordOption}
@@ -14,6 +14,7 @@ use Rattle.lot_args.specs.declared.program.Word.{Word}
 abbrev pub rule_of_form : Form → Text → Rule
 rule_of_form (form.Required value) name = required_rule name
 rule_of_form (form.Optional value) name = option_rule name
+rule_of_form (form.Repeated value) name = repeated_rule name
 rule_of_form form.Start name = record (option_rule name) { parser = Some (Signed (pos 1) (pos greatest_start)); defaults = codes "1" ∷ [] }
 rule_of_form form.Decimals name = record (option_rule name) { parser = Some (Signed (pos 0) (pos most_decimals)) }
 rule_of_form form.Flag name = flag_rule name

@@ -6,16 +6,18 @@ use Rattle.std.specs.String.{string_bytes}
 use Rattle.clap.specs.Words.{Row, Text, fault_of, first_of, matches_of, subcommand_of}
 use Rattle.lot_import.specs.declared.accounts.Accounts.{Accounts}
 use Rattle.lot_args.specs.From.{from_of}
-use Rattle.lot_args.specs.Options.{day_of, first_bad, has_row, lacks_batch, misplaced, options_of, rounding_options, value_of}
+use Rattle.lot_args.specs.Options.{day_of, except_of, first_bad, has_row, lacks_batch, misplaced, options_of, rounding_options, value_of}
 use Rattle.lot_args.specs.Program.{program_app}
 use Rattle.lot_args.specs.Rounding.{rounding_of}
 use Rattle.lot_args.specs.declared.action.Action.{Action}
 use Rattle.lot_args.specs.declared.action.Action.TheVariants.{Check, Init, Migrate, Post, PostRow, Import, Holdings, Gains, Journal, Verify}
 use Rattle.lot_args.specs.declared.action.Format.{Format}
 use Rattle.lot_args.specs.declared.action.Format.TheVariants.{Text as AsText, Csv}
+use Rattle.lot_args.specs.declared.action.Keeping.{Keeping}
+use Rattle.lot_args.specs.declared.action.Keeping.TheVariants.{AllOrNone, Each}
 use Rattle.lot_args.specs.declared.fault.BadOption.{BadOption}
 use Rattle.lot_args.specs.declared.request.Effect.{Effect}
-use Rattle.lot_args.specs.declared.request.Effect.TheVariants.{AllOrNone, DryRun, Keep}
+use Rattle.lot_args.specs.declared.request.Effect.TheVariants.{DryRun, Keep}
 use Rattle.lot_args.specs.declared.request.Notes.{Notes}
 use Rattle.lot_args.specs.declared.request.Notes.TheVariants.{All, Quiet, Ten}
 use Rattle.lot_args.specs.declared.request.Request.{Request}
@@ -41,11 +43,15 @@ accounts_of rows = record {
 abbrev pub is_set : Text → List Row → Bool
 is_set name rows = option_map_or (λ text. bytes_eq text (codes "true")) (first_of name rows) false
 
--- what the call may leave in the book: where both options are given, nothing
+-- what the call may leave in the book
 abbrev pub effect_of : List Row → Effect
-effect_of rows =
-    if is_set (codes "dry-run") rows then DryRun
-    else (if is_set (codes "all-or-none") rows then AllOrNone else Keep)
+effect_of rows = if is_set (codes "dry-run") rows then DryRun else Keep
+
+-- which commits keep its commands: a dry run has none
+abbrev pub keeping_of : List Row → Keeping
+keeping_of rows =
+    if is_set (codes "dry-run") rows then Each
+    else (if is_set (codes "all-or-none") rows then AllOrNone else Each)
 
 -- whether an option that may stand before the word or behind it is given
 abbrev pub is_in_either : Text → List Row → List Row → Bool
@@ -68,15 +74,17 @@ abbrev pub WordAsks : Text → List Row → Action → Type 0
 WordAsks word rows (Check rounding) = ⊥
 WordAsks word rows (Init book) = (word ≡ codes "init") × IsBook rows (string_bytes book)
 WordAsks word rows (Migrate book) = (word ≡ codes "migrate") × IsBook rows (string_bytes book)
-WordAsks word rows (Post book batch from rounding) =
-    (word ≡ codes "post") × (has_row rows ≡ false) × IsBook rows (string_bytes book)
-    × (batch ≡ value_of (codes "batch") rows) × (from ≡ from_of rows) × (rounding ≡ rounding_of rows)
+WordAsks word rows (Post post) =
+    (word ≡ codes "post") × (has_row rows ≡ false) × IsBook rows (string_bytes post.book)
+    × (post.batch ≡ value_of (codes "batch") rows) × (post.from ≡ from_of rows) × (post.rounding ≡ rounding_of rows)
+    × (post.keeping ≡ keeping_of rows)
 WordAsks word rows (PostRow book batch reference rounding) =
     (word ≡ codes "post") × (has_row rows ≡ true) × IsBook rows (string_bytes book)
     × (batch ≡ value_of (codes "row-of") rows) × (reference ≡ value_of (codes "ref") rows) × (rounding ≡ rounding_of rows)
-WordAsks word rows (Import book batch accounts from rounding) =
-    (word ≡ codes "import") × IsBook rows (string_bytes book) × (batch ≡ value_of (codes "batch") rows)
-    × (accounts ≡ accounts_of rows) × (from ≡ from_of rows) × (rounding ≡ rounding_of rows)
+WordAsks word rows (Import import) =
+    (word ≡ codes "import") × IsBook rows (string_bytes import.book) × (import.batch ≡ value_of (codes "batch") rows)
+    × (import.accounts ≡ accounts_of rows) × (import.from ≡ from_of rows) × (import.except.items ≡ except_of rows)
+    × (import.rounding ≡ rounding_of rows) × (import.keeping ≡ keeping_of rows)
 WordAsks word rows (Holdings book day format) =
     (word ≡ codes "holdings") × IsBook rows (string_bytes book) × (day ≡ day_of (codes "day") rows) × (format ≡ format_of rows)
 WordAsks word rows (Gains book first last format) =

@@ -13,6 +13,38 @@ pub enum Format {
     Csv,
 }
 
+/// Which commits keep the commands of a call.
+#[derive(Clone, Copy)]
+pub enum Keeping {
+    /// Each command is kept in a commit of its own.
+    Each,
+    /// All are kept in one commit, or none where one is refused.
+    AllOrNone,
+}
+
+/// Ledger text that is posted to a book.
+#[derive(Drop)]
+pub struct Post {
+    pub book: String,
+    pub batch: Batch,
+    pub from: Start,
+    pub rounding: Option<Rounding>,
+    pub keeping: Keeping,
+}
+
+/// A broker file whose rows are posted to accounts of a book.
+#[derive(Drop)]
+pub struct Import {
+    pub book: String,
+    pub batch: Batch,
+    pub accounts: Accounts,
+    pub from: Start,
+    /// The `ref`s of the rows that are left out, in the order in which they are given.
+    pub except: Vec<Label>,
+    pub rounding: Option<Rounding>,
+    pub keeping: Keeping,
+}
+
 /// What the program is asked to do. A book is named by the path of its file. Where a rounding account is named, commands are
 /// completed with it.
 #[derive(Drop)]
@@ -30,12 +62,7 @@ pub enum Action {
         book: String,
     },
     /// Ledger text is judged on a book. What is accepted is kept there.
-    Post {
-        book: String,
-        batch: Batch,
-        from: Start,
-        rounding: Option<Rounding>,
-    },
+    Post(Post),
     /// Ledger text of one command is posted to a book, in place of the row with that `ref` of a broker file.
     PostRow {
         book: String,
@@ -44,13 +71,7 @@ pub enum Action {
         rounding: Option<Rounding>,
     },
     /// The rows of a broker file are posted to accounts of a book.
-    Import {
-        book: String,
-        batch: Batch,
-        accounts: Accounts,
-        from: Start,
-        rounding: Option<Rounding>,
-    },
+    Import(Import),
     /// What a book holds is written. With a day, what its lots are worth on it is written, too.
     Holdings {
         book: String,

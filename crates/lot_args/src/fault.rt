@@ -27,6 +27,8 @@ pub enum BadOption {
     Fees,
     /// `--gains`: its value isn't an account.
     Gains,
+    /// `--except`: one of its values isn't a label.
+    Except,
     /// `--rounding`: its value isn't an account.
     Rounding,
     /// `--within`: its value isn't an amount from 0 to 1, or `--rounding` isn't given.
@@ -57,6 +59,7 @@ impl BadOption {
             BadOption::Cash => "cash",
             BadOption::Fees => "fees",
             BadOption::Gains => "gains",
+            BadOption::Except => "except",
             BadOption::Rounding => "rounding",
             BadOption::Within => "within",
             BadOption::Decimals => "decimals",

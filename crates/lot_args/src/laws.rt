@@ -1,31 +1,48 @@
 //! What holds of the definitions that the contracts of this crate cite. Each law is a function that does nothing.
-ghost use Rattle.std.specs.Prelude.{◌≡◌, None, Some, codes, pos, true};
+ghost use Rattle.std.specs.Prelude.{◌≡◌, [], ◌∷◌, None, Some, codes, pos, true};
 ghost use Rattle.clap.specs.Words.{matches_of, subcommand_of, takes};
-ghost use Rattle.lot_args.specs.Example.{a_dry_run, a_misplaced_rounding, a_post, a_question, a_whole_post};
+ghost use Rattle.lot_args.specs.Example.{a_bad_import, a_dry_run, a_misplaced_rounding, a_post, a_question, a_whole_post};
+ghost use Rattle.lot_args.specs.Example.{an_import, left_out_of};
 ghost use Rattle.lot_args.specs.Example.{a_rounded_check, a_rounded_post, a_row, code_of, crumbs_of};
 ghost use Rattle.lot_args.specs.Example.{flags_of, parts_of, row_of, word_crumbs_of};
 ghost use Rattle.lot_args.specs.Program.{program_app};
 ghost use Rattle.lot_args.specs.Rounding.{rounding_of};
 ghost use Rattle.lot_args.specs.Words.{bad_by, misplaced_by};
-ghost use Rattle.lot_args.specs.declared.fault.BadOption.TheVariants.{Rounding};
+ghost use Rattle.lot_args.specs.declared.fault.BadOption.TheVariants.{Except, Rounding};
 ghost use Rattle.lot_rounding.specs.Rounding.{half_a_cent};
-ghost use Rattle.lot_args.specs.declared.request.Effect.TheVariants.{AllOrNone, DryRun, Keep};
+ghost use Rattle.lot_args.specs.declared.action.Keeping.TheVariants.{AllOrNone, Each};
+ghost use Rattle.lot_args.specs.declared.request.Effect.TheVariants.{DryRun, Keep};
 ghost use Rattle.lot_args.specs.declared.request.Notes.TheVariants.{All, Quiet, Ten};
 
 /// `clap` accepts the arguments `post --book f --batch a --from 7`, and these are the values that it matches.
 pub fn a_post_names_its_parts()
     ensures taken { takes program_app a_post ≡ true }
     ensures parts { parts_of (subcommand_of program_app a_post) ≡ Some (codes "post", codes "f", codes "a", 7) }
-    ensures flags { flags_of a_post ≡ Some (Keep, Ten) }
+    ensures flags { flags_of a_post ≡ Some (Keep, Each, Ten) }
 {}
 
-/// `clap` accepts two calls that have options without a value, and this is what they say. One has `--dry-run` and `--quiet`,
-/// the other `--all-or-none` and `--explain-all`.
+/// `clap` accepts two calls that have options without a value, and this is what they say. One has `--dry-run`, `--all-or-none` and
+/// `--quiet`, the other `--all-or-none` and `--explain-all`.
 pub fn options_without_a_value_are_met()
     ensures dry { takes program_app a_dry_run ≡ true }
-    ensures dry_flags { flags_of a_dry_run ≡ Some (DryRun, Quiet) }
+    ensures dry_flags { flags_of a_dry_run ≡ Some (DryRun, Each, Quiet) }
     ensures whole { takes program_app a_whole_post ≡ true }
-    ensures whole_flags { flags_of a_whole_post ≡ Some (AllOrNone, All) }
+    ensures whole_flags { flags_of a_whole_post ≡ Some (Keep, AllOrNone, All) }
+{}
+
+/// `clap` accepts an import with `--except r --except s --from 7`. Its values are within their rules, and these are the references
+/// and the number.
+pub fn an_import_leaves_rows_out()
+    ensures taken { takes program_app an_import ≡ true }
+    ensures good { bad_by an_import ≡ None }
+    ensures left_out { left_out_of (subcommand_of program_app an_import)
+        ≡ Some (codes "import", codes "r" ∷ codes "s" ∷ [], 7) }
+{}
+
+/// `clap` accepts an import with `--except r --except=`, and it is the option with a bad value.
+pub fn a_row_without_a_reference_is_bad()
+    ensures taken { takes program_app a_bad_import ≡ true }
+    ensures bad { bad_by a_bad_import ≡ Some Except }
 {}
 
 /// `clap` accepts the arguments `post --book f --row-of a --ref r`. Their values are within their rules, and say this batch and

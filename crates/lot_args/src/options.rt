@@ -21,6 +21,8 @@ pub(crate) enum Form {
     Required(&'static str),
     /// It has a value and need not be given.
     Optional(&'static str),
+    /// It has a value and may be given any number of times.
+    Repeated(&'static str),
     /// It has the number at which a run starts, 1 where it isn't given.
     Start,
     /// It has a number of decimals and need not be given.
@@ -55,6 +57,7 @@ pub(crate) fn option<'a>(alloc: Global, given: &WordOption) -> Arg<'a>
             .action(ArgAction::Set)
             .required(true),
         Form::Optional(value) => arg.long(name).value_name(value).action(ArgAction::Set),
+        Form::Repeated(value) => arg.long(name).value_name(value).action(ArgAction::Append),
         Form::Start => arg
             .long(name)
             .value_name("N")

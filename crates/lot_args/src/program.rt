@@ -16,7 +16,7 @@ struct Word {
     name: &'static str,
     /// What it does, in one line: that of the subcommand in the help of the program.
     brief: &'static str,
-    /// What its own help says. That of the program stands behind its options.
+    /// What the own help of a subcommand says; of the program the man page says it.
     about: &'static str,
     options: &'static [WordOption],
 }
@@ -24,7 +24,7 @@ struct Word {
 /// The program without a subcommand.
 const PROGRAM: Word = Word {
     name: "lotbook",
-    brief: "A lot book: what an investor holds, what it cost, and what each sale earned.",
+    brief: "A lot book: holdings, cost and gains. To check a text: lotbook < year.ledger",
     about: "Without a subcommand it judges ledger text in memory: lotbook < year.ledger",
     options: &[
         WordOption {
@@ -125,7 +125,7 @@ const WORDS: [Word; 9] = [
         ],
     },
     // `import --book FILE --batch NAME --invest ACCOUNT --cash ACCOUNT --fees ACCOUNT --gains ACCOUNT
-    // [--from N] [--rounding ACCOUNT [--within AMOUNT] [--decimals N]] [--dry-run] [--all-or-none] [--explain-all]`
+    // [--from N] [--except REF]... [--rounding ACCOUNT [--within AMOUNT] [--decimals N]] [--dry-run] [--all-or-none] [--explain-all]`
     Word {
         name: "import",
         brief: "Posts the rows of a broker file from standard input to a book",
@@ -163,9 +163,14 @@ const WORDS: [Word; 9] = [
                 name: "from",
                 help: "The number of the first row to run, as in --from 120: those before it are read but not run, and a fault in one of them still stops the call",
             },
+            WordOption {
+                form: Form::Repeated("REF"),
+                name: "except",
+                help: "Leaves out the row with that ref, as in --except A17. It may be given several times. The rows that are left keep their numbers",
+            },
             ROUNDING,
             WITHIN,
-            DECIMALS,
+            ROW_DECIMALS,
             DRY_RUN,
             ALL_OR_NONE,
             EXPLAIN_ALL,
@@ -263,11 +268,18 @@ const WITHIN: WordOption = WordOption {
     help: "The most that the account takes in a currency of one command, as in --within 0.01: 1 at most, and 0.005 where it isn't given. It goes with --rounding",
 };
 
-/// `--decimals`
+/// `--decimals` of ledger text.
 const DECIMALS: WordOption = WordOption {
     form: Form::Decimals,
     name: "decimals",
-    help: "How many decimals the cash of a row has, and what a posting without an amount takes, as in --decimals 2: 0 to 8, and 8 where it isn't given. The account takes the rest. It goes with --rounding",
+    help: "How many decimals a posting without an amount takes, as in --decimals 2: 0 to 8, and 8 where it isn't given. The account takes the rest. It goes with --rounding",
+};
+
+/// `--decimals` of rows.
+const ROW_DECIMALS: WordOption = WordOption {
+    form: Form::Decimals,
+    name: "decimals",
+    help: "How many decimals the cash of a row has, as in --decimals 2: 0 to 8, and 8 where it isn't given. The account takes the rest, but of a SELL the account of --gains does. It goes with --rounding",
 };
 
 /// `--explain-all`
@@ -288,7 +300,7 @@ const DRY_RUN: WordOption = WordOption {
 const ALL_OR_NONE: WordOption = WordOption {
     form: Form::Flag,
     name: "all-or-none",
-    help: "Keeps all or nothing: where one is refused, the replies are printed and nothing is in the book. A call that stops in the middle, as where it is killed or the disk is full, leaves a part, and the same call again completes it",
+    help: "Keeps all in one commit, or nothing where one is refused: the replies are printed all the same. It is recommended for an import",
 };
 
 /// `--format`
@@ -304,7 +316,6 @@ pub(crate) fn program<'a>(alloc: Global) -> Result<Command<'a>, AllocError>
 {
     let whole = &PROGRAM;
     let bare = command(alloc, whole)?
-        .after_help(whole.about)
         .version(VERSION)
         .bin_name(whole.name)?;
     add_words(alloc, bare, &WORDS)

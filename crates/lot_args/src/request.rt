@@ -23,8 +23,6 @@ pub enum Effect {
     Keep,
     /// Nothing is kept.
     DryRun,
-    /// All is kept, or nothing.
-    AllOrNone,
 }
 
 /// Which of its refusals and faults a call explains on standard error.

@@ -1,18 +1,19 @@
 //! What the values of options say, and which are outside their rules.
 //!
 //! All values are looked at before one is kept: what keeps one knows that it is within its rule.
-ghost use Rattle.std.specs.Prelude.{◌≡◌, IfOk, IsTrue, None, codes, option_map};
+ghost use Rattle.std.specs.Prelude.{◌≡◌, IfOk, IsTrue, [], ◌∷◌, None, codes, map, option_map};
 ghost use Rattle.lot_base.specs.Name.{is_label};
+ghost use Rattle.std.specs.List.{list_all};
 ghost use Rattle.std.specs.String.{string_bytes};
-ghost use Rattle.clap.specs.Words.{first_of, found_of, rows_of};
+ghost use Rattle.clap.specs.Words.{all_of, first_of, found_of, rows_of};
 ghost use Rattle.lot_args.specs.Batch.{is_batch};
-ghost use Rattle.lot_args.specs.Options.{account_options, day_of, first_bad, has_account, has_row, has_rounding, is_format, is_good, is_given, lacks_batch, misplaced, name_of, options_of, rounding_options, value_of};
+ghost use Rattle.lot_args.specs.Options.{account_options, day_of, except_of, first_bad, has_account, has_row, has_rounding, is_format, is_good, is_given, lacks_batch, misplaced, name_of, options_of, rounding_options, value_of};
 ghost use Rattle.lot_args.specs.From.{from_of};
 ghost use Rattle.lot_args.specs.Number.{number_of};
 ghost use Rattle.lot_args.specs.Rounding.{decimals_of, named_bound, rounding_of, within_of};
-ghost use Rattle.lot_args.specs.Words.{IsCode, accounts_of, effect_of, format_of, is_set, notes_of};
+ghost use Rattle.lot_args.specs.Words.{IsCode, accounts_of, effect_of, format_of, is_set, keeping_of, notes_of};
 
-use crate::action::Format;
+use crate::action::{Format, Keeping};
 use crate::batch::{Batch, BatchFault};
 use crate::fault::BadOption;
 use crate::options::MOST_DECIMALS;
@@ -60,6 +61,7 @@ pub(crate) fn options_of(word: &str) -> &'static [BadOption]
             BadOption::Cash,
             BadOption::Fees,
             BadOption::Gains,
+            BadOption::Except,
             BadOption::Rounding,
             BadOption::Within,
             BadOption::Decimals,
@@ -103,6 +105,10 @@ fn is_good(options: &ArgMatches<'_>, option: BadOption) -> bool
         BadOption::Invest | BadOption::Cash | BadOption::Fees | BadOption::Gains => {
             Account::is_name(value(options, name))
         }
+        BadOption::Except => match all_given(options, name) {
+            Some(texts) => are_labels(texts),
+            None => true,
+        },
         BadOption::Rounding => !has_rounding(options) || Account::is_name(value(options, name)),
         BadOption::Within if has_rounding(options) => match given(options, name) {
             Some(text) => bound_of(text).is_some(),
@@ -119,6 +125,18 @@ fn is_good(options: &ArgMatches<'_>, option: BadOption) -> bool
             None => true,
         },
     }
+}
+
+/// Returns whether each text is a label.
+fn are_labels(texts: &[&str]) -> bool
+    ensures { result ≡ list_all is_label (map (λ text. text.now) texts.now) }
+{
+    for text in texts {
+        if !Label::is_name(text) {
+            return false;
+        }
+    }
+    true
 }
 
 /// Returns whether the subcommand is a `post` that names no batch, neither its own nor that of a row.
@@ -164,8 +182,40 @@ pub(crate) fn reference(alloc: Global, options: &ArgMatches<'_>) -> Result<Label
     ensures { IfOk result (λ reference.
         reference ≡ value_of (codes "ref") (rows_of (found_of options.now))) }
 {
-    match Label::new(alloc, value(options, "ref")) {
-        Ok(reference) => Ok(reference),
+    label(alloc, value(options, "ref"))
+}
+
+/// Returns the references of the rows that are left out, in the order in which they are given. They are within their rule. The
+/// only error is out of memory.
+pub(crate) fn except(alloc: Global, options: &ArgMatches<'_>) -> Result<Vec<Label>, AllocError>
+    requires { IsTrue (list_all is_label (except_of (rows_of (found_of options.now)))) }
+    ensures { IfOk result (λ except. except.items ≡ except_of (rows_of (found_of options.now))) }
+{
+    match all_given(options, "except") {
+        Some(texts) => labels(alloc, texts),
+        None => Ok(Vec::new(alloc)),
+    }
+}
+
+/// Returns the labels that texts are. The only error is out of memory.
+fn labels(alloc: Global, texts: &[&str]) -> Result<Vec<Label>, AllocError>
+    requires { IsTrue (list_all is_label (map (λ text. text.now) texts.now)) }
+    ensures { IfOk result (λ labels. labels.items ≡ map (λ text. text.now) texts.now) }
+{
+    let mut labels = Vec::new(alloc);
+    for text in texts {
+        labels.push(label(alloc, text)?)?;
+    }
+    Ok(labels)
+}
+
+/// Returns the label that a text is. The only error is out of memory.
+fn label(alloc: Global, text: &str) -> Result<Label, AllocError>
+    requires { IsTrue (is_label text.now) }
+    ensures { IfOk result (λ label. label ≡ text.now) }
+{
+    match Label::new(alloc, text) {
+        Ok(label) => Ok(label),
         Err(_) => Err(AllocError),
     }
 }
@@ -281,17 +331,27 @@ fn number_or(options: &ArgMatches<'_>, name: &str, other: u32) -> u32
     options.get_one::<u32>(name).unwrap_or(other)
 }
 
-/// Returns what a call may leave in the book. Where a dry run is asked for, `--all-or-none` changes nothing.
+/// Returns what a call may leave in the book.
 pub(crate) fn effect(options: &ArgMatches<'_>) -> Effect
     ensures { result ≡ effect_of (rows_of (found_of options.now)) }
 {
     if is_set(options, "dry-run") {
         return Effect::DryRun;
     }
-    if is_set(options, "all-or-none") {
-        return Effect::AllOrNone;
-    }
     Effect::Keep
+}
+
+/// Returns which commits keep the commands of a call. Where a dry run is asked for, `--all-or-none` changes nothing.
+pub(crate) fn keeping(options: &ArgMatches<'_>) -> Keeping
+    ensures { result ≡ keeping_of (rows_of (found_of options.now)) }
+{
+    if is_set(options, "dry-run") {
+        return Keeping::Each;
+    }
+    if is_set(options, "all-or-none") {
+        return Keeping::AllOrNone;
+    }
+    Keeping::Each
 }
 
 /// Returns which notes a call asks for, by the options before and behind its subcommand. Where `--quiet` is given,
@@ -342,6 +402,14 @@ fn is_given(options: &ArgMatches<'_>, name: &str) -> bool
     ensures { result ≡ is_given name.now (rows_of (found_of options.now)) }
 {
     given(options, name).is_some()
+}
+
+/// Returns all values of an option where it is given, in the order in which they are given.
+fn all_given<'m, 'a>(options: &'m ArgMatches<'a>, name: &str) -> Option<&'m [&'a str]>
+    ensures { option_map (λ texts. map (λ text. text.now) texts.now) result
+        ≡ all_of name.now (rows_of (found_of options.now)) }
+{
+    options.get_strs(name)
 }
 
 /// Returns the value of an option where it is given.

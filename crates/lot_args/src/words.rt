@@ -8,13 +8,13 @@ ghost use Rattle.lot_args.specs.Steps.{IsBookWord, IsWord, JudgesOptions};
 ghost use Rattle.lot_args.specs.Words.{Ask, AskFor, HaveBadIn, HaveMisplaced, LackBatch, WordAsks, WordRequests};
 ghost use Rattle.lot_args.specs.declared.fault.WordsFault.TheVariants.{BadValue, Misplaced, MissingBatch, Usage};
 
-use crate::action::Action;
+use crate::action::{Action, Import, Post};
 use crate::fault::{BadOption, WordsFault};
 use crate::program::program;
 use crate::request::{Effect, Request};
 use crate::values::{
-    accounts, batch, code, day, effect, first_bad, format, from, has_row, lacks_batch, misplaced,
-    notes, options_of, reference, rounding, rounding_options, value,
+    accounts, batch, code, day, effect, except, first_bad, format, from, has_row, keeping,
+    lacks_batch, misplaced, notes, options_of, reference, rounding, rounding_options, value,
 };
 use clap::ArgMatches;
 use std::alloc::{AllocError, Global};
@@ -132,19 +132,22 @@ fn action(alloc: Global, word: &str, options: &ArgMatches<'_>) -> Result<Action,
             reference: reference(alloc, options)?,
             rounding: rounding(alloc, options)?,
         }),
-        "post" => Ok(Action::Post {
+        "post" => Ok(Action::Post(Post {
             book,
             batch: batch(alloc, options, "batch")?,
             from: from(options),
             rounding: rounding(alloc, options)?,
-        }),
-        "import" => Ok(Action::Import {
+            keeping: keeping(options),
+        })),
+        "import" => Ok(Action::Import(Import {
             book,
             batch: batch(alloc, options, "batch")?,
             accounts: accounts(alloc, options)?,
             from: from(options),
+            except: except(alloc, options)?,
             rounding: rounding(alloc, options)?,
-        }),
+            keeping: keeping(options),
+        })),
         "holdings" => Ok(Action::Holdings {
             book,
             day: day(options, BadOption::Day),

@@ -39,7 +39,7 @@ use Rattle.lot_stored.specs.StandFor.{AreOfBook, Left, Stands}
 use Rattle.lot_table.proofs.MakeLemmas.{keeps_then, keeps_undone}
 use Rattle.lot_table.proofs.RowidLemmas.{each_in_reach, each_then}
 use Rattle.lot_table.specs.Rowids.{EachStaysInReach}
-use Rattle.lot_table.specs.Book.{Holds, always}
+use Rattle.lot_table.specs.Book.{Holds, IsUndone, always}
 use Rattle.lot_table.specs.Call.{Answers}
 use Rattle.lot_table.specs.Statement.{DiskFailed}
 use Rattle.lot_table.specs.declared.fault.Fault.{Fault}
@@ -910,6 +910,31 @@ module _ {S : Type 0} (g : Ghosts S) (old start last fin : Held S) (rounding : O
         → AppliesAll rounding asked (state g old) (state g fin) verdicts (ending.Failed (store_fault_of fault))
     ends_failed outside fault it =
         let at = at_start (Err fault) it in (at.0, all_failed g old last fin rounding asked at.0 verdicts settled back undone outside fault at.1)
+
+-- ---- what is dropped was looked at
+
+-- what only reads keeps what is rolled back
+rolled_then : (a b c : State) → IsUndone a b → IsRolledBack b c → IsRolledBack a c
+rolled_then a b c (inl same) back = record {
+  was_open = λ opened. same.0.was_open;
+  undone = λ opened. ((back.undone opened).0 ∙ same.0.committed_is, (back.undone opened).1 ∙ same.0.committed_is);
+  autocommit = back.autocommit;
+  unmarked = back.unmarked;
+  counts = record { changes = back.counts.changes ∙ same.1.changes; last_rowid = back.counts.last_rowid ∙ same.1.last_rowid };
+}
+rolled_then a b c (inr undone) back = record {
+  was_open = λ opened. undone.was_open (back.was_open opened);
+  undone = λ opened.
+      let at = (undone.undone (back.was_open opened)).1 in
+      ((back.undone opened).0 ∙ at, (back.undone opened).1 ∙ at);
+  autocommit = back.autocommit;
+  unmarked = back.unmarked;
+  counts = record { changes = back.counts.changes ∙ undone.counts.changes; last_rowid = back.counts.last_rowid ∙ undone.counts.last_rowid };
+}
+
+pub rolled_behind_look : (a b c : State) → (HasCleanDisk b → IsUndone a b) → Survives b c (λ _. ⊥) → (HasCleanDisk c → IsRolledBack b c)
+    → HasCleanDisk c → IsRolledBack a c
+rolled_behind_look a b c undone crash back clean = rolled_then a b c (undone (omega (arith, clean, crash.clean))) (back clean)
 
 -- ---- no transaction is begun
 

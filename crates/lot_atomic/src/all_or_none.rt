@@ -2,29 +2,16 @@
 //! what it made, or nothing is kept.
 ghost use Rattle.std.specs.Prelude.{
   ◌≡◌,
-  ◌+◌,
-  ◌<◌,
   ◌≤◌,
-  ◌^◌,
   [],
   false,
   IsTrue,
-  List,
   None,
-  Option,
   Some,
   length,
-  map,
   option_copied,
 };
-ghost use Rattle.lot_book.specs.Facts.{Entry};
-ghost use Rattle.lot_book.specs.Judged.{JudgesAll};
-ghost use Rattle.lot_book.specs.declared.verdict.Verdict.{Verdict as VerdictOf};
-ghost use Rattle.lot_command.specs.declared.command.Command.{Command as CommandOf};
-ghost use Rattle.lot_command.specs.declared.key.Key.{Key as KeyOf};
 ghost use Rattle.lot_load.specs.Kept.{IsOf};
-ghost use Rattle.lot_rounding.specs.declared.asked.Asked.{Asked as AskedOf};
-ghost use Rattle.lot_rounding.specs.declared.rounding.Rounding.{Rounding as RoundingOf};
 ghost use Rattle.lot_atomic.specs.AllOrNone.{
   AppliesAll,
   FailsByText,
@@ -38,11 +25,11 @@ ghost use Rattle.lot_atomic.specs.AllOrNone.{
   verdict_in,
 };
 ghost use Rattle.lot_store.specs.Apply.{commit_outcome};
-ghost use Rattle.lot_store.specs.Turned.{AreTurnedOn, handed};
 ghost use Rattle.sqlite.specs.Held.{state};
 ghost use Rattle.sqlite.specs.State.{HasCleanDisk};
 ghost use Rattle.sqlite.specs.Tree.{Trees};
 
+use crate::look::Look;
 use lot_command::{Command, Key, is_sayable};
 use lot_completion::{Note, Watch, untaken};
 use lot_ledger::{Edition, Outcome, Stop, Verdict, decide};
@@ -97,7 +84,11 @@ pub(crate) enum Together {
 ///
 /// With an account for crumbs another command may be judged in the place of what was handed in, and
 /// be the entry. `watch` is told what becomes of the crumbs as each is judged, whether the commands
-/// are kept or not. The first command has the number `from`.
+/// are kept or not. Of `numbers` each command has the one in its place.
+///
+/// Where one is refused, `watch` looks at the book that the accepted ones would have made, before
+/// that is dropped. It is called once, behind the last command, with all commands, their numbers and
+/// their verdicts. It isn't called where the commands are kept, nor where a fault comes.
 ///
 /// On a book a fault is one of these:
 ///
@@ -106,17 +97,17 @@ pub(crate) enum Together {
 /// - `Memory`: out of memory.
 ///
 /// `Damaged` comes only where the tables stand for no book.
-pub fn apply_all<S: Alter, N: Watch>(
+pub fn apply_all<S: Alter, N: Watch + Look>(
     alloc: Global,
     conn: &mut Connection<S>,
     commands: &[(Key, Asked)],
+    numbers: &[usize],
     rounding: Option<&Rounding>,
-    from: usize,
     watch: &mut N,
 ) -> AllOrNone
     requires outside { HasCleanDisk (state S.Store conn.old) → conn.old.in_transaction ≡ false }
     requires unlimited { conn.old.step_limit ≡ None }
-    requires numbers { length commands.now + from < 2 ^ 64 }
+    requires numbers { length numbers.now ≡ length commands.now }
     ensures outside { HasCleanDisk (state S.Store conn.new) → conn.new.in_transaction ≡ false }
     ensures applies { AppliesAll (option_copied rounding.entry) commands.now
         (state S.Store conn.old) (state S.Store conn.new) result.verdicts.items result.ended }
@@ -127,23 +118,31 @@ pub fn apply_all<S: Alter, N: Watch>(
         → trees ≡ (state S.Store conn.new).committed.trees }
 {
     let mut verdicts = Vec::new(alloc);
-    let ended = keep_all(alloc, conn, commands, rounding, from, watch, &mut verdicts);
+    let ended = keep_all(
+        alloc,
+        conn,
+        commands,
+        numbers,
+        rounding,
+        watch,
+        &mut verdicts,
+    );
     AllOrNone { verdicts, ended }
 }
 
 /// Applies commands all or none, and puts the verdicts on them.
-fn keep_all<S: Alter, N: Watch>(
+fn keep_all<S: Alter, N: Watch + Look>(
     alloc: Global,
     conn: &mut Connection<S>,
     commands: &[(Key, Asked)],
+    numbers: &[usize],
     rounding: Option<&Rounding>,
-    from: usize,
     watch: &mut N,
     verdicts: &mut Vec<Verdict>,
 ) -> Ended
     requires outside { HasCleanDisk (state S.Store conn.old) → conn.old.in_transaction ≡ false }
     requires unlimited { conn.old.step_limit ≡ None }
-    requires numbers { length commands.now + from < 2 ^ 64 }
+    requires numbers { length numbers.now ≡ length commands.now }
     requires none { verdicts.old.items ≡ [] }
     ensures outside { HasCleanDisk (state S.Store conn.new) → conn.new.in_transaction ≡ false }
     ensures applies { AppliesAll (option_copied rounding.entry) commands.now
@@ -156,13 +155,14 @@ fn keep_all<S: Alter, N: Watch>(
         return Ended::Failed(StoreFault::Device);
     }
     let mut tx = conn.transaction();
-    match judge_all(alloc, &mut tx, commands, rounding, from, watch, verdicts) {
+    match judge_all(alloc, &mut tx, commands, numbers, rounding, watch, verdicts) {
         Ok(Together::Accepts) => after_commit(tx.commit()),
         Ok(Together::Repeats) => {
             tx.rollback();
             Ended::Kept
         }
         Ok(Together::Refuses) => {
+            watch.look(&mut tx, commands, numbers, verdicts.as_slice());
             tx.rollback();
             Ended::Dropped
         }
@@ -193,15 +193,15 @@ fn judge_all<S: Alter, N: Watch>(
     alloc: Global,
     tx: &mut Transaction<'_, S>,
     commands: &[(Key, Asked)],
+    numbers: &[usize],
     rounding: Option<&Rounding>,
-    from: usize,
     watch: &mut N,
     verdicts: &mut Vec<Verdict>,
 ) -> Result<Together, Fault>
     requires inside { HasCleanDisk (state S.Store tx.old.conn.now)
         → IsTrue (state S.Store tx.old.conn.now).in_transaction }
     requires unlimited { tx.old.conn.now.step_limit ≡ None }
-    requires numbers { length commands.now + from < 2 ^ 64 }
+    requires numbers { length numbers.now ≡ length commands.now }
     requires none { verdicts.old.items ≡ [] }
     ensures same_reference { tx.new.conn.ghost_name ≡ tx.old.conn.ghost_name }
     ensures judges { JudgesAllAsked (option_copied rounding.entry) commands.now
@@ -211,7 +211,7 @@ fn judge_all<S: Alter, N: Watch>(
     let mut kept = None;
     let mut together = Together::Repeats;
     'commands: for (index, (key, asked)) in commands.iter().enumerate() {
-        let number = from + index;
+        let number = numbers[index];
         let verdict = judge_asked(alloc, tx, &mut kept, rounding, number, key, asked, watch)?;
         together = together.with(&verdict);
         verdicts.push(verdict)?;
@@ -356,17 +356,3 @@ fn judge_next<S: Alter>(
         Err(Stop::Memory) => Err(Fault::Memory),
     }
 }
-
-/// What is judged in the place of commands that were handed in is judged in their order, as
-/// commands are. Without an account for crumbs it is what was handed in.
-pub fn turned_commands_are_judged_in_order()
-    ensures judged { (rounding : Option RoundingOf) (entries : List Entry)
-        (asked : List (KeyOf × AskedOf)) (turned : List (KeyOf × CommandOf))
-        (verdicts : List VerdictOf) (after : List Entry)
-        → AreTurnedOn rounding entries asked turned verdicts after
-        → JudgesAll entries turned verdicts after }
-    ensures themselves { (entries : List Entry)
-        (asked : List (KeyOf × AskedOf)) (turned : List (KeyOf × CommandOf))
-        (verdicts : List VerdictOf) (after : List Entry)
-        → AreTurnedOn None entries asked turned verdicts after → turned ≡ map handed asked }
-{}

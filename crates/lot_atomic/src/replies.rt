@@ -1,10 +1,7 @@
 //! The replies to commands that were applied all or none, written behind their commit.
 ghost use Rattle.std.specs.Prelude.{
   ◌≡◌,
-  ◌+◌,
-  ◌<◌,
   ◌≤◌,
-  ◌^◌,
   ◌∷◌,
   [],
   false,
@@ -24,6 +21,7 @@ ghost use Rattle.lot_atomic.specs.Replies.{
   WritesReplies,
   ending_of,
   last_line,
+  number_at,
   replied_to,
 };
 ghost use Rattle.lot_store.specs.Run.{
@@ -39,6 +37,7 @@ ghost use Rattle.sqlite.specs.State.{HasCleanDisk};
 ghost use Rattle.sqlite.specs.Tree.{Trees};
 
 use crate::all_or_none::{AllOrNone, Ended, apply_all};
+use crate::look::Look;
 use itoa::Buffer;
 use lot_command::Key;
 use lot_completion::Watch;
@@ -64,20 +63,20 @@ struct Replied {
 /// `write_replies` does: nothing is written before their commit.
 ///
 /// Where the writer failed, the commands may be kept all the same.
-pub fn run_all<S: Alter, W: CountedWrite, N: Watch>(
+pub fn run_all<S: Alter, W: CountedWrite, N: Watch + Look>(
     alloc: Global,
     conn: &mut Connection<S>,
     commands: &[(Key, Asked)],
+    numbers: &[usize],
     rounding: Option<&Rounding>,
-    from: usize,
     writer: &mut W,
     watch: &mut N,
 ) -> RunEnd
     requires outside { HasCleanDisk (state S.Store conn.old) → conn.old.in_transaction ≡ false }
     requires unlimited { conn.old.step_limit ≡ None }
-    requires numbers { length commands.now + from < 2 ^ 64 }
+    requires numbers { length numbers.now ≡ length commands.now }
     ensures outside { HasCleanDisk (state S.Store conn.new) → conn.new.in_transaction ≡ false }
-    ensures runs { RunsAll (option_copied rounding.entry) commands.now from
+    ensures runs { RunsAll (option_copied rounding.entry) commands.now numbers.now
         (state S.Store conn.old) (state S.Store conn.new)
         (W.contents writer.old) (W.contents writer.new) result }
     // With the connection open a crash leaves the last commit, and nothing else.
@@ -91,26 +90,30 @@ pub fn run_all<S: Alter, W: CountedWrite, N: Watch>(
       after = W.calls writer.new;
     }) }
 {
-    let applied = apply_all(alloc, conn, commands, rounding, from, watch);
-    write_replies(&applied, from, writer)
+    let applied = apply_all(alloc, conn, commands, numbers, rounding, watch);
+    write_replies(&applied, numbers, writer)
 }
 
 /// Writes what came of commands that were applied all or none, and flushes it once, behind all of
-/// it. The first command has the number `from`. Returns how many replies were written, and how that
-/// ended.
+/// it. Of `numbers` each command has the one in its place. Returns how many replies were written,
+/// and how that ended.
 ///
 /// - Kept or dropped: the reply to each command. Where one says that it was refused, nothing is
 ///   kept, and the others say what their commands were judged to be.
-/// - A fault: the replies to the commands that were judged before it, then its line, with the
-///   number behind theirs. Nothing is kept, as `Ended` has it.
-/// - A commit in doubt: no reply, since nobody knows whether the verdicts hold; its line alone,
-///   with the number `from`.
+/// - A fault at a command: the replies to those that were judged before it, then its line, with its
+///   number. Nothing is kept.
+/// - A fault where all were judged, so of their commit: no reply, since nobody knows whether the
+///   verdicts hold; its line alone, with the number of the first.
 ///
 /// It stops where the writer fails. A prefix of all that is then written, or all of it, not
 /// flushed. Only replies that were written whole are counted.
-pub fn write_replies<W: CountedWrite>(applied: &AllOrNone, from: usize, writer: &mut W) -> RunEnd
-    requires numbers { length applied.now.verdicts.items + from < 2 ^ 64 }
-    ensures writes { WritesReplies from applied.now.verdicts.items applied.now.ended result
+pub fn write_replies<W: CountedWrite>(
+    applied: &AllOrNone,
+    numbers: &[usize],
+    writer: &mut W,
+) -> RunEnd
+    requires numbers { length applied.now.verdicts.items ≤ length numbers.now }
+    ensures writes { WritesReplies numbers.now applied.now.verdicts.items applied.now.ended result
         (W.contents writer.old) (W.contents writer.new) }
     // All that is written is flushed, and the writing ends early only where the writer failed. No
     // call is made again that failed, but for one that was interrupted.
@@ -119,10 +122,10 @@ pub fn write_replies<W: CountedWrite>(applied: &AllOrNone, from: usize, writer: 
       after = W.calls writer.new;
     }) }
 {
-    let verdicts = replied_to(applied);
-    let so_far = write_each(writer, from, verdicts);
+    let verdicts = replied_to(applied, numbers.len());
+    let so_far = write_each(writer, numbers, verdicts);
     let ending = match so_far.printed {
-        Ok(()) => write_last(writer, from + so_far.replied, applied.ended),
+        Ok(()) => write_last(writer, number_at(numbers, so_far.replied), applied.ended),
         Err(_) => Ending::Output,
     };
     RunEnd {
@@ -132,26 +135,34 @@ pub fn write_replies<W: CountedWrite>(applied: &AllOrNone, from: usize, writer: 
     }
 }
 
-/// Returns the verdicts that are replied to.
-fn replied_to(applied: &AllOrNone) -> &[Verdict]
-    ensures is { result.now ≡ replied_to applied.now.ended applied.now.verdicts.items }
+/// Returns the verdicts that are replied to, of so many commands.
+fn replied_to(applied: &AllOrNone, count: usize) -> &[Verdict]
+    ensures is { result.now
+        ≡ replied_to count applied.now.ended applied.now.verdicts.items }
     ensures few { length result.now ≤ length applied.now.verdicts.items }
 {
     match applied.ended {
-        Ended::Failed(StoreFault::InDoubt) => &[],
-        Ended::Kept
-        | Ended::Dropped
-        | Ended::Failed(
-            StoreFault::Device | StoreFault::NeedsReopen | StoreFault::Damaged | StoreFault::Memory,
-        ) => applied.verdicts.as_slice(),
+        Ended::Failed(_) if applied.verdicts.len() == count => &[],
+        Ended::Kept | Ended::Dropped | Ended::Failed(_) => applied.verdicts.as_slice(),
     }
 }
 
-/// Writes the replies to verdicts, up to a fault of the writer. The first has the number `from`.
-/// Nothing is flushed.
-fn write_each<W: CountedWrite>(writer: &mut W, from: usize, verdicts: &[Verdict]) -> Replied
-    requires numbers { length verdicts.now + from < 2 ^ 64 }
-    ensures lines { WritesEachReply from verdicts.now
+/// Returns the number of the command behind so many others: that of the first behind the last one,
+/// and 1 of no commands.
+fn number_at(numbers: &[usize], place: usize) -> usize
+    ensures { result ≡ number_at numbers.now place }
+{
+    match (numbers.get(place), numbers.first()) {
+        (Some(number), _) | (None, Some(number)) => *number,
+        (None, None) => 1,
+    }
+}
+
+/// Writes the replies to verdicts, each with its number, up to a fault of the writer. Nothing is
+/// flushed.
+fn write_each<W: CountedWrite>(writer: &mut W, numbers: &[usize], verdicts: &[Verdict]) -> Replied
+    requires numbers { length verdicts.now ≤ length numbers.now }
+    ensures lines { WritesEachReply numbers.now verdicts.now
         (W.contents writer.old) (W.contents writer.new)
         result.replied result.refused result.printed }
     ensures cause { OnErr result.printed (HasFailed (W.calls writer.new)) }
@@ -160,7 +171,8 @@ fn write_each<W: CountedWrite>(writer: &mut W, from: usize, verdicts: &[Verdict]
 {
     let mut refused = 0;
     'verdicts: for (index, verdict) in verdicts.iter().enumerate() {
-        match print_reply(writer, from + index, verdict) {
+        let number = numbers[index];
+        match print_reply(writer, number, verdict) {
             Ok(()) => refused += refusals(verdict),
             Err(fault) => {
                 return Replied {

@@ -1,2 +1,2 @@
-mod ShellLemmas
+mod SelectLemmas
 pub mod SumsLemmas

@@ -1,6 +1,6 @@
 -- Sums of crumbs, one crumb after another.
-use Rattle.std.proofs.Common.{◌≡◌, ◌∙◌, ℕ, true, false, List, [], ◌∷◌, ◌++◌, Option, None, Some, refl, sym, ap, subst, append_assoc, append-nil}
-use Rattle.std.specs.Prelude.{Bool, not, ℤ, pos, if◌then◌else◌}
+use Rattle.std.proofs.Common.{◌≡◌, ◌∙◌, ℕ, true, false, List, [], ◌∷◌, ◌++◌, Option, refl, sym, ap, subst, append_assoc, append-nil}
+use Rattle.std.specs.Prelude.{Bool, ℤ, pos}
 use Rattle.std.specs.Ordering.{int_eq}
 use Rattle.lot_call.specs.Sums.{AreSummed, LeaveRange, nonzero}
 use Rattle.lot_call.specs.declared.sums.Sums.{Sums}

@@ -1,4 +1,5 @@
+pub mod Fate
+pub mod Looks
 pub mod Remains
 pub mod Rounding
-pub mod Shell
 pub mod Sums

@@ -4,8 +4,10 @@ use Rattle.std.specs.Fmt.{decimal}
 use Rattle.lot_args.specs.declared.action.Action.{Action}
 use Rattle.lot_args.specs.declared.action.Action.TheVariants.{Import, Init, Migrate, Post, PostRow}
 use Rattle.lot_args.specs.declared.request.Effect.{Effect}
-use Rattle.lot_args.specs.declared.request.Effect.TheVariants.{DryRun}
+use Rattle.lot_args.specs.declared.request.Effect.TheVariants.{DryRun, Keep}
 use Rattle.lot_output.specs.declared.course.Course.{Course}
+use Rattle.lot_call.specs.declared.fate.Fate.{Fate}
+use Rattle.lot_call.specs.declared.fate.Fate.TheVariants.{Dropped, InDoubt, Kept}
 use Rattle.lot_call.specs.declared.remains.Remains.{Remains}
 use Rattle.lot_call.specs.declared.remains.Remains.TheVariants as remains
 
@@ -20,17 +22,19 @@ of_run reached course None = remains.Output
 
 -- where what is done is kept
 abbrev pub kept_of : Action → Course → Remains
-kept_of (Post book batch from rounding) course = of_run remains.Commands course course.last
+kept_of (Post post) course = of_run remains.Commands course course.last
 kept_of (PostRow book batch reference rounding) course = of_run remains.Commands course course.last
-kept_of (Import book batch accounts from rounding) course = of_run remains.Rows course course.last
+kept_of (Import «import») course = of_run remains.Rows course course.last
 kept_of (Init book) course = unless_fault course remains.Made
 kept_of (Migrate book) course = unless_fault course remains.Migrated
 kept_of _ course = remains.Output
 
--- of a dry run nothing is kept
-abbrev pub remains_of : Action → Effect → Course → Remains
-remains_of action DryRun course = remains.DryRun
-remains_of action _ course = kept_of action course
+-- of a dry run nothing is kept, nor of a call that is dropped; of one in doubt the same call tells
+abbrev pub remains_of : Action → Effect → Fate → Course → Remains
+remains_of action DryRun fate course = remains.DryRun
+remains_of action Keep Dropped course = remains.Output
+remains_of action Keep InDoubt course = remains.Whole
+remains_of action Keep Kept course = kept_of action course
 
 -- ---- What is said of it.
 
@@ -51,3 +55,4 @@ text_of remains.Made = codes "the book is made"
 text_of remains.Migrated = codes "the book is migrated"
 text_of (remains.Commands last from) = reached_text (codes "command") last from
 text_of (remains.Rows last from) = reached_text (codes "row") last from
+text_of remains.Whole = codes "the same call, sent again, tells: where all is kept, each line says `repeat`"

@@ -7,7 +7,7 @@ use Rattle.lot_rounding.specs.declared.rounding.Rounding.{Rounding}
 -- the one that it names, if it runs commands
 abbrev pub rounding_of : Action → Option Rounding
 rounding_of (Check rounding) = rounding
-rounding_of (Post book batch from rounding) = rounding
+rounding_of (Post post) = post.rounding
 rounding_of (PostRow book batch reference rounding) = rounding
-rounding_of (Import book batch accounts from rounding) = rounding
+rounding_of (Import «import») = «import».rounding
 rounding_of _ = None

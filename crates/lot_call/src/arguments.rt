@@ -5,6 +5,8 @@ use crate::remains::say_cut_short;
 use crate::status::{DONE, STOPPED, UNUSABLE, out_of_memory};
 use clap::error::ErrorKind as UsageKind;
 use lot_args::{BadOption, Notes, Request, WordsFault, parse_words};
+use lot_base::{Label, NameFault};
+use std::alloc::Global;
 use std::env;
 use std::io::{self, ErrorKind};
 
@@ -132,7 +134,11 @@ fn show_form(rt: &HostRuntime, words: &[String], option: BadOption) {
         return;
     }
     let form = form(option);
-    match value_of(words, option.name()) {
+    let value = match option {
+        BadOption::Except => bad_reference(rt.alloc(), words),
+        _ => value_of(words, option.name()),
+    };
+    match value {
         Some(value) if value.len() <= LONGEST_SHOWN => {
             let _ = eprintln!(rt; "lotbook: {value:?} isn't {form}");
         }
@@ -170,6 +176,7 @@ fn form(option: BadOption) -> &'static str {
         BadOption::PostBatch => "1 to 32 letters, digits, '.', '_' or '-', as in --batch 2024",
         BadOption::RowOf => "the batch of a broker file, as in --row-of broker --ref A17",
         BadOption::Ref => "the ref of a row, as in --row-of broker --ref A17",
+        BadOption::Except => "the ref of a row, as in --except A17",
         BadOption::From => "1 beside --row-of, whose text has one command",
         BadOption::Invest => "an account, as in --invest Assets:Broker",
         BadOption::Cash => "an account, as in --cash Assets:Cash",
@@ -183,6 +190,26 @@ fn form(option: BadOption) -> &'static str {
         BadOption::Last => "a day, as in --last 2024-12-31",
         BadOption::Format => "text or csv, as in --format csv",
     }
+}
+
+/// Returns the first value of `--except` that can't be the `ref` of a row.
+fn bad_reference<'a>(alloc: Global, words: &'a [String]) -> Option<&'a str> {
+    let mut is_value = false;
+    for word in words {
+        let word = word.as_str();
+        let value = if is_value {
+            Some(word)
+        } else {
+            word.strip_prefix("--except=")
+        };
+        is_value = !is_value && word == "--except";
+        if let Some(value) = value
+            && let Err(NameFault::BadLabel) = Label::new(alloc, value)
+        {
+            return Some(value);
+        }
+    }
+    None
 }
 
 /// Returns the value of the option of that name, as it was written.

@@ -36,8 +36,8 @@ impl Call<'_> {
     /// Returns what the call runs on a book one after another, in the plural, where it does so.
     pub fn runs(&self) -> Option<&'static str> {
         match self.action {
-            Action::Post { .. } | Action::PostRow { .. } => Some("commands"),
-            Action::Import { .. } => Some("rows"),
+            Action::Post(_) | Action::PostRow { .. } => Some("commands"),
+            Action::Import(_) => Some("rows"),
             _ => None,
         }
     }
@@ -57,13 +57,13 @@ pub fn path_of(action: &Action) -> &str {
         Action::Check { .. } => "",
         Action::Init { book }
         | Action::Migrate { book }
-        | Action::Post { book, .. }
         | Action::PostRow { book, .. }
-        | Action::Import { book, .. }
         | Action::Holdings { book, .. }
         | Action::Gains { book, .. }
         | Action::Journal { book }
         | Action::Verify { book } => book.as_str(),
+        Action::Post(post) => post.book.as_str(),
+        Action::Import(import) => import.book.as_str(),
     }
 }
 
@@ -72,10 +72,9 @@ pub fn rounding_of(action: &Action) -> Option<&Rounding>
     ensures { option_copied result ≡ rounding_of action.now }
 {
     match action {
-        Action::Check { rounding }
-        | Action::Post { rounding, .. }
-        | Action::PostRow { rounding, .. }
-        | Action::Import { rounding, .. } => rounding.as_ref(),
+        Action::Check { rounding } | Action::PostRow { rounding, .. } => rounding.as_ref(),
+        Action::Post(post) => post.rounding.as_ref(),
+        Action::Import(import) => import.rounding.as_ref(),
         _ => None,
     }
 }

@@ -3,34 +3,38 @@
 //!
 //! - `arguments`: what they ask for, and what is said of those that can't be used.
 //! - `call`: what the program is called for; `status`: how a call ends.
-//! - `told`: why commands were refused, and what the codes mean; `facts`: what the book says of it.
-//! - `notes`: what else is said of a call; `remains`: what remains of one whose output can't be
-//!   written; `standing`: what stands in the place of its book.
+//! - `told`: why commands were refused, and what the codes mean; `facts`: what the book says of it, and `remembered`: what it
+//!   said of commands that aren't kept.
+//! - `notes`: what else is said of a call; `fate`: what became of one that keeps all or none; `remains`: what remains of one whose
+//!   output can't be written; `standing`: what stands in the place of its book.
 //! - `crumbs`: what became of the crumbs of commands; `taken`: what an account took of them, with the
-//!   `sums`.
-//! - `quoted`: a path as it is written for a shell; `laws`: what holds of the definitions that the contracts cite.
+//!   `sums`. `watched`: all that is watched of commands.
 #![tactic(auto)]
 
 mod arguments;
 mod call;
 mod crumbs;
 mod facts;
-pub mod laws;
+mod fate;
 mod notes;
-mod quoted;
 mod remains;
+mod remembered;
 mod standing;
 mod status;
 mod sums;
 mod taken;
 mod told;
+mod watched;
 
 pub use arguments::understand;
 pub use call::{Call, path_of, rounding_of};
 pub use crumbs::Crumbs;
+pub use fate::Fate;
 pub use notes::{say_why, sum_up, withdraw};
-pub use remains::{say_cut_short, say_unwritten};
+pub use remains::say_unwritten;
+pub use remembered::Remembered;
 pub use standing::Standing;
 pub use status::{DONE, REFUSED, STOPPED, UNUSABLE, out_of_memory};
 pub use taken::say_taken;
 pub use told::{explain, tell};
+pub use watched::Watched;

@@ -40,7 +40,7 @@ pub fn sum_up(call: &Call<'_>, course: &Course) {
     }
     let _ = match call.effect {
         Effect::DryRun => eprintln!(rt; ": a dry run, of which nothing is kept"),
-        Effect::Keep | Effect::AllOrNone => eprintln!(rt; ""),
+        Effect::Keep => eprintln!(rt; ""),
     };
 }
 

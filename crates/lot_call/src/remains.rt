@@ -4,6 +4,7 @@ ghost use Rattle.std.specs.Prelude.{◌≡◌};
 ghost use Rattle.lot_call.specs.Remains.{kept_of, remains_of};
 
 use crate::call::Call;
+use crate::fate::Fate;
 use lot_args::{Action, Effect};
 use lot_output::{Course, Heard};
 use std::{fmt, io};
@@ -23,23 +24,25 @@ enum Remains {
     Commands { last: Option<u64>, from: u64 },
     /// The same of rows.
     Rows { last: Option<u64>, from: u64 },
+    /// All commands are in the book, or none. The same call tells.
+    Whole,
 }
 
 /// Says that standard output can't be written, why, and what remains of the call, where that is so.
-pub fn say_unwritten(call: &Call<'_>, heard: &Heard) {
+pub fn say_unwritten(call: &Call<'_>, heard: &Heard, fate: Fate) {
     if let Some(error) = heard.failure
         && !call.is_quiet()
     {
         say(
             call.rt,
             error,
-            remains_of(call.action, call.effect, &heard.course),
+            remains_of(call.action, call.effect, fate, &heard.course),
         );
     }
 }
 
 /// Says that standard output can't be written, and why.
-pub fn say_cut_short(rt: &HostRuntime, error: io::Error) {
+pub(crate) fn say_cut_short(rt: &HostRuntime, error: io::Error) {
     say(rt, error, Remains::Output);
 }
 
@@ -50,25 +53,25 @@ fn say(rt: &HostRuntime, error: io::Error, remains: Remains) {
 
 /// Returns what remains of an action that came so far. The reply to its last command isn't written,
 /// so the call goes on there: where that command stands, it is a repeat.
-fn remains_of(action: &Action, effect: Effect, course: &Course) -> Remains
-    ensures { result ≡ remains_of action.now effect course.now }
+fn remains_of(action: &Action, effect: Effect, fate: Fate, course: &Course) -> Remains
+    ensures { result ≡ remains_of action.now effect fate course.now }
 {
-    match effect {
-        Effect::DryRun => Remains::DryRun,
-        Effect::Keep | Effect::AllOrNone => kept_of(action, course),
+    match (effect, fate) {
+        (Effect::DryRun, _) => Remains::DryRun,
+        (Effect::Keep, Fate::Dropped) => Remains::Output,
+        (Effect::Keep, Fate::InDoubt) => Remains::Whole,
+        (Effect::Keep, Fate::Kept) => kept_of(action, course),
     }
 }
 
-/// Returns the same where what is done is kept.
+/// Returns the same where what was accepted is kept.
 fn kept_of(action: &Action, course: &Course) -> Remains
     ensures { result ≡ kept_of action.now course.now }
 {
     let last = course.standing;
     match (action, course.last) {
-        (Action::Post { .. } | Action::PostRow { .. }, Some(from)) => {
-            Remains::Commands { last, from }
-        }
-        (Action::Import { .. }, Some(from)) => Remains::Rows { last, from },
+        (Action::Post(_) | Action::PostRow { .. }, Some(from)) => Remains::Commands { last, from },
+        (Action::Import(_), Some(from)) => Remains::Rows { last, from },
         (Action::Init { .. }, _) if course.faults == 0 => Remains::Made,
         (Action::Migrate { .. }, _) if course.faults == 0 => Remains::Migrated,
         _ => Remains::Output,
@@ -103,6 +106,9 @@ impl fmt::Display for Remains {
                 };
                 write!(f, "{reached}")
             }
+            Remains::Whole => f.write_str(
+                "the same call, sent again, tells: where all is kept, each line says `repeat`",
+            ),
         }
     }
 }

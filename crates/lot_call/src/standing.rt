@@ -1,6 +1,6 @@
 //! What stands in the place of the book that a call is on.
 
-use crate::quoted::{BookOption, is_shown};
+use lot_explain::{LongOption, is_shown};
 use lot_files::is_missing;
 use sqlite::{Alter, Connection, Error};
 
@@ -59,7 +59,10 @@ impl Standing {
         };
         let _ = match help {
             Some((word, does)) if is_shown(path) => {
-                let book = BookOption(path);
+                let book = LongOption {
+                    name: "book",
+                    value: path,
+                };
                 eprintln!(rt; "lotbook: {path}{what}: `lotbook {word} {book}` {does}")
             }
             _ => eprintln!(rt; "lotbook: {path}{what}"),

@@ -59,17 +59,21 @@ impl Taken {
         Ok(())
     }
 
-    /// Says what an account took, from the first commands a line each, and then the sums of all. The only
-    /// error is out of memory.
+    /// Says what an account took, from the first commands a line each and from how many more, and then the
+    /// sums of all. The only error is out of memory.
     fn say(&self, call: &Call<'_>, account: &Account) -> Result<(), AllocError> {
         let alloc = call.rt.alloc();
         let what = match call.action {
-            Action::Import { .. } => "row",
+            Action::Import(_) => "row",
             _ => "command",
         };
         for (number, crumbs) in &self.first {
             let amounts = amounts_of(alloc, crumbs.as_slice())?;
             let _ = eprintln!(call.rt; "lotbook: {what} {number}: {account} takes {amounts}");
+        }
+        let more = self.count.saturating_sub(self.first.len() as u64);
+        if more > 0 {
+            let _ = eprintln!(call.rt; "lotbook: ... and {more} more");
         }
         let sums = self.sums_text(alloc)?;
         if sums.is_empty() {

@@ -4,8 +4,10 @@ use crate::call::{Call, rounding_of};
 use crate::crumbs::Crumbs;
 use crate::facts::Facts;
 use crate::remains::say_cut_short;
+use crate::remembered::Remembered;
 use crate::status::{DONE, STOPPED, UNUSABLE};
 use lot_args::Action;
+use lot_base::Label;
 use lot_explain::{Source, list, nearest_code, notes};
 use lot_output::{Heard, Kept, Output};
 use sqlite::{Alter, Connection};
@@ -39,13 +41,15 @@ fn unknown(rt: &HostRuntime, word: &str) -> u8 {
     UNUSABLE
 }
 
-/// Says on standard error why commands were refused, what a fault means, and what was perhaps read
-/// otherwise than it was meant. Where memory ends or that can't be written, less is said.
+/// Says on standard error why commands were refused, what a fault means, which rows were left out, and what was perhaps read
+/// otherwise than it was meant. What is said of commands that aren't kept is by the book that they had made, else by the book as
+/// it is. Where memory ends or that can't be written, less is said.
 pub fn explain<'a, S: Alter>(
     call: &'a Call<'a>,
     read: &'a Kept,
     heard: &'a Heard,
     crumbs: &'a Crumbs,
+    remembered: &mut Remembered,
     conn: &mut Connection<S>,
 ) {
     let (Some(input), Some(lines)) = (&read.bytes, &heard.lines.bytes) else {
@@ -62,6 +66,7 @@ pub fn explain<'a, S: Alter>(
         source,
         input: input.as_slice(),
         from,
+        except: except_of(call.action),
         lines: lines.as_slice(),
         left_out: heard.course.refused.saturating_sub(most),
         cause: cause.as_deref(),
@@ -69,24 +74,24 @@ pub fn explain<'a, S: Alter>(
         findings: &crumbs.findings,
     };
     let mut errors = call.rt.stderr();
-    let _ = notes(alloc, &mut errors, &mut Facts { alloc, conn }, &asked, most);
+    let _ = if remembered.is_dropped {
+        notes(alloc, &mut errors, remembered, &asked, most)
+    } else {
+        let mut facts = Facts { alloc, db: conn };
+        notes(alloc, &mut errors, &mut facts, &asked, most)
+    };
 }
 
 /// Returns what an action is given, and the number of the first command or row that it runs.
 fn source_of(action: &Action) -> (Source<'_>, u32) {
     match action {
-        Action::Import {
-            batch,
-            accounts,
-            from,
-            ..
-        } => {
-            let batch = batch.as_str();
-            (Source::Rows { batch, accounts }, from.number())
+        Action::Import(import) => {
+            let (batch, accounts) = (import.batch.as_str(), &import.accounts);
+            (Source::Rows { batch, accounts }, import.from.number())
         }
-        Action::Post { batch, from, .. } => {
-            let batch = batch.as_str();
-            (Source::Text { batch }, from.number())
+        Action::Post(post) => {
+            let batch = post.batch.as_str();
+            (Source::Text { batch }, post.from.number())
         }
         Action::PostRow {
             batch,
@@ -97,5 +102,13 @@ fn source_of(action: &Action) -> (Source<'_>, u32) {
             (Source::Row { batch, reference }, 1)
         }
         _ => (Source::Text { batch: "check" }, 1),
+    }
+}
+
+/// Returns the `ref` of each row that an action leaves out.
+fn except_of(action: &Action) -> &[Label] {
+    match action {
+        Action::Import(import) => import.except.as_slice(),
+        _ => &[],
     }
 }

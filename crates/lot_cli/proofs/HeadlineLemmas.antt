@@ -1,6 +1,8 @@
 -- Sessions that follow one another, and a list that is sent again.
 use Rattle.std.proofs.Common.{◌≡◌, ◌∙◌, ◌≤◌, ◌-ℤ◌, inl, inr, ap, refl, subst, sym, arith, append_assoc, append-nil, ℕ, suc, List, [], ◌∷◌, ◌++◌, length, drop, Option, Some, None, cond}
 use Rattle.std.specs.List.{AllByRecursion}
+use Rattle.lot_args.specs.declared.action.Keeping.{Keeping}
+use Rattle.lot_args.specs.declared.action.Keeping.TheVariants.{AllOrNone, Each}
 use Rattle.std.proofs.lemmas.List.{length-append}
 use Rattle.lot_base.proofs.TextLemmas.{one_text}
 use Rattle.lot_base.specs.Text.{same_text}
@@ -30,10 +32,11 @@ use Rattle.lot_laws.proofs.JudgedLaws.{judged_alike, judged_book_in, some_judged
 use Rattle.lot_laws.proofs.KeyLaws.{accepted_stands, is_repeat, remains}
 use Rattle.lot_laws.proofs.LawUnits.{held_as_bought}
 use Rattle.lot_laws.proofs.MigrationLaws.{judged_behind_place}
+use Rattle.lot_store.specs.Run.{count_refused}
 use Rattle.lot_store.specs.Session.{IsAfter, StopLeaves}
 use Rattle.lot_walk.proofs.SaleLegLemmas.{sale_legs}
-use Rattle.lot_cli.specs.Again.{AreBehind, IsOneRun, SentAgain}
-use Rattle.lot_cli.specs.Headline.{AddFirst, AddsFirst, AreUnderKeys, Headline, HoldsAcknowledged, IsLessCost, IsUnderKey, Sent, StopsLeave, count_accepted}
+use Rattle.lot_cli.specs.Again.{AllSentAgain, AreBehind, AreKeptOnce, ComesAgain, IsOneRun, SentAgain}
+use Rattle.lot_cli.specs.Headline.{AcknowledgeAll, AddFirst, AddsFirst, AllOrNoneLeaves, AreAllKept, AreUnderKeys, Headline, HoldsAcknowledged, HoldsBy, IsLessCost, IsUnderKey, LeavesBy, Sent, StopsLeave, count_accepted}
 
 -- ---- commands judged one after another
 
@@ -63,7 +66,7 @@ judges_last before after (c ∷ done) (w ∷ vs) v all =
     let rest = judges_last all.0 after done vs v all.2 in
     (c ∷ rest.0, rest.1, rest.2, ap (λ (cs : List (Key × Command)). c ∷ cs) rest.3, (all.0, all.1, rest.4), rest.5)
 
-as_many : (before after : List Entry) (done : List (Key × Command)) (vs : List Verdict) → JudgesAll before done vs after → length done ≡ length vs
+pub as_many : (before after : List Entry) (done : List (Key × Command)) (vs : List Verdict) → JudgesAll before done vs after → length done ≡ length vs
 as_many before after [] [] all = refl
 as_many before after [] (v ∷ vs) all = absurd all
 as_many before after (c ∷ done) [] all = absurd all
@@ -101,28 +104,66 @@ module _ (before : List Entry) (commands : List (Key × Command)) (book : List E
       let more = grows parts.2 whole left parts.1 parts.5 in
       (more.0, more.1 ∙ ap (λ (b : List Entry). b ++ more.0) same)
 
-adds : (before : List Entry) (sent : Sent) (book : List Entry) (vs : List Verdict) → IsAfter before sent.commands vs book
-    → count_accepted sent.replied ≤ count_accepted vs → count_accepted vs ≤ suc (count_accepted sent.replied) → AddsFirst before sent book
-adds before sent book vs after least most =
-    let g = grows before book after.1.done vs after.1.judged in
-    let run = some_judged before sent.commands in
-    let more = is_first before sent.commands book vs after run.0 run.1 run.2 in record {
-      verdicts = run.0;
-      whole = run.1;
-      judged = run.2;
-      added = g.0;
-      rest = more.0;
-      behind = g.1;
-      first = more.1;
-      least = omega (arith, g.2, least);
-      most = omega (arith, g.2, most);
-    }
+-- what a session adds that keeps these commands so, and in which these verdicts were replied to
+abbrev Adds : Keeping → List Entry → List (Key × Command) → List Verdict → List Entry → Type 0
+Adds keeping before commands replied book = AddsFirst before (record { keeping = keeping; commands = commands; replied = replied }) book
 
-adds_first : (before : List Entry) (sent : Sent) (book : List Entry) → StopLeaves before sent.commands sent.replied book → AddsFirst before sent book
-adds_first before sent book (inl after) = adds before sent book sent.replied after (omega arith) (omega arith)
-adds_first before sent book (inr after) =
-    let one = one_accepted_more sent.replied in
-    adds before sent book (sent.replied ++ Accepted ∷ []) after (omega (arith, one)) (omega (arith, one))
+module _ (before : List Entry) (commands : List (Key × Command)) (replied : List Verdict) (book : List Entry) where
+  adds : (vs : List Verdict) → IsAfter before commands vs book
+      → count_accepted replied ≤ count_accepted vs → count_accepted vs ≤ suc (count_accepted replied) → Adds Each before commands replied book
+  adds vs after least most =
+      let g = grows before book after.1.done vs after.1.judged in
+      let run = some_judged before commands in
+      let more = is_first before commands book vs after run.0 run.1 run.2 in record {
+        verdicts = run.0;
+        whole = run.1;
+        judged = run.2;
+        added = g.0;
+        rest = more.0;
+        behind = g.1;
+        first = more.1;
+        many = record { least = omega (arith, g.2, least); most = omega (arith, g.2, most) };
+      }
+
+  adds_each : StopLeaves before commands replied book → Adds Each before commands replied book
+  adds_each (inl after) = adds replied after (omega arith) (omega arith)
+  adds_each (inr after) =
+      let one = one_accepted_more replied in
+      adds (replied ++ Accepted ∷ []) after (omega (arith, one)) (omega (arith, one))
+
+  module _ (leave : AllOrNoneLeaves before commands replied book) where
+    adds_all : (count_refused leave.verdicts ≡ 0) × (book ≡ leave.whole) → Adds AllOrNone before commands replied book
+    adds_all (none, is) =
+        let g = grows before leave.whole commands leave.verdicts leave.judged in record {
+          verdicts = leave.verdicts;
+          whole = leave.whole;
+          judged = leave.judged;
+          added = g.0;
+          rest = [];
+          behind = is ∙ g.1;
+          first = sym is ∙ sym (append-nil book);
+          many = record { either = inr (none, refl); acknowledged = λ all. refl };
+        }
+
+    adds_none : (¬ AcknowledgeAll commands replied) × (book ≡ before) → Adds AllOrNone before commands replied book
+    adds_none (apart, is) =
+        let g = grows before leave.whole commands leave.verdicts leave.judged in record {
+          verdicts = leave.verdicts;
+          whole = leave.whole;
+          judged = leave.judged;
+          added = [];
+          rest = g.0;
+          behind = is ∙ sym (append-nil before);
+          first = g.1 ∙ ap (λ (b : List Entry). b ++ g.0) (sym is);
+          many = record { either = inl refl; acknowledged = λ all. absurd (apart all) };
+        }
+
+    adds_together : Adds AllOrNone before commands replied book
+    adds_together = elim leave.leaves [ inl all ↦ adds_all all | inr none ↦ adds_none none ]
+
+  adds_by : (keeping : Keeping) → LeavesBy keeping before commands replied book → Adds keeping before commands replied book
+  adds_by Each stop = adds_each stop
+  adds_by AllOrNone leave = adds_together leave
 
 -- ---- what was acknowledged
 
@@ -176,6 +217,11 @@ stand_after before after (c ∷ done) left (Repeated ∷ vs) all = (
 )
 stand_after before after (c ∷ done) left (Refused refusal ∷ vs) all = stand_after all.0 after done left vs all.2
 
+-- all of them, where all were judged
+stand_all : (before after : List Entry) (commands : List (Key × Command)) (vs : List Verdict) → JudgesAll before commands vs after → AreUnderKeys after commands vs
+stand_all before after commands vs all =
+    subst (λ (cs : List (Key × Command)). AreUnderKeys after cs vs) (append-nil commands) (stand_after before after commands [] vs all)
+
 stand_still : (a b : List Entry) → ((keyed : Key × Command) → IsUnderKey a keyed → IsUnderKey b keyed) → (commands : List (Key × Command)) (vs : List Verdict)
     → AreUnderKeys a commands vs → AreUnderKeys b commands vs
 stand_still a b still commands [] stand = tt
@@ -184,12 +230,12 @@ stand_still a b still (c ∷ commands) (Accepted ∷ vs) stand = (still c stand.
 stand_still a b still (c ∷ commands) (Repeated ∷ vs) stand = (still c stand.0, stand_still a b still commands vs stand.1)
 stand_still a b still (c ∷ commands) (Refused refusal ∷ vs) stand = stand_still a b still commands vs stand
 
-but_last : (book : List Entry) (commands : List (Key × Command)) (vs : List Verdict) (v : Verdict) → AreUnderKeys book commands (vs ++ v ∷ []) → AreUnderKeys book commands vs
-but_last book commands [] v stand = tt
-but_last book [] (w ∷ vs) v stand = absurd stand
-but_last book (c ∷ commands) (Accepted ∷ vs) v stand = (stand.0, but_last book commands vs v stand.1)
-but_last book (c ∷ commands) (Repeated ∷ vs) v stand = (stand.0, but_last book commands vs v stand.1)
-but_last book (c ∷ commands) (Refused refusal ∷ vs) v stand = but_last book commands vs v stand
+but_more : (book : List Entry) (commands : List (Key × Command)) (vs more : List Verdict) → AreUnderKeys book commands (vs ++ more) → AreUnderKeys book commands vs
+but_more book commands [] more stand = tt
+but_more book [] (w ∷ vs) more stand = absurd stand
+but_more book (c ∷ commands) (Accepted ∷ vs) more stand = (stand.0, but_more book commands vs more stand.1)
+but_more book (c ∷ commands) (Repeated ∷ vs) more stand = (stand.0, but_more book commands vs more stand.1)
+but_more book (c ∷ commands) (Refused refusal ∷ vs) more stand = but_more book commands vs more stand
 
 -- ---- one session
 
@@ -207,24 +253,54 @@ remains_at place before after commands vs all is =
     )
 
 -- it leaves a book, in which what stood before stands, and what it acknowledged
-record Passes (before : List Entry) (sent : Sent) (book : List Entry) : Type 0 where
+record Passes (keeping : Keeping) (before : List Entry) (commands : List (Key × Command)) (replied : List Verdict) (book : List Entry) : Type 0 where
   pub is_book : (place : ℕ) → IsAt place before → IsAt place book
   pub still : (keyed : Key × Command) → IsUnderKey before keyed → IsUnderKey book keyed
-  pub holds : HoldsAcknowledged book sent
+  pub holds : HoldsBy keeping book commands replied
 
-passes : (before : List Entry) (sent : Sent) (book : List Entry) → StopLeaves before sent.commands sent.replied book → Passes before sent book
-passes before sent book (inl after) = record {
-  is_book = λ place. remains_at place before book after.1.done sent.replied after.1.judged;
-  still = remains_all before book after.1.done sent.replied after.1.judged;
-  holds = subst (λ (cs : List (Key × Command)). AreUnderKeys book cs sent.replied) (sym after.1.split) (stand_after before book after.1.done after.0 sent.replied after.1.judged);
-}
-passes before sent book (inr after) =
-    let vs = sent.replied ++ Accepted ∷ [] in record {
-      is_book = λ place. remains_at place before book after.1.done vs after.1.judged;
-      still = remains_all before book after.1.done vs after.1.judged;
-      holds = but_last book sent.commands sent.replied Accepted
-          (subst (λ (cs : List (Key × Command)). AreUnderKeys book cs vs) (sym after.1.split) (stand_after before book after.1.done after.0 vs after.1.judged));
+module _ (before : List Entry) (commands : List (Key × Command)) (replied : List Verdict) (book : List Entry) where
+  -- the commands that came to these verdicts stand
+  stand_of : (vs : List Verdict) → IsAfter before commands vs book → AreUnderKeys book commands vs
+  stand_of vs (left, on) =
+      subst (λ (cs : List (Key × Command)). AreUnderKeys book cs vs) (sym on.split) (stand_after before book on.done left vs on.judged)
+
+  passes_each : StopLeaves before commands replied book → Passes Each before commands replied book
+  passes_each (inl after) = record {
+    is_book = λ place. remains_at place before book after.1.done replied after.1.judged;
+    still = remains_all before book after.1.done replied after.1.judged;
+    holds = stand_of replied after;
+  }
+  passes_each (inr after) =
+      let vs = replied ++ Accepted ∷ [] in record {
+        is_book = λ place. remains_at place before book after.1.done vs after.1.judged;
+        still = remains_all before book after.1.done vs after.1.judged;
+        holds = but_more book commands replied (Accepted ∷ []) (stand_of vs after);
+      }
+
+  module _ (leave : AllOrNoneLeaves before commands replied book) where
+    passes_all : (count_refused leave.verdicts ≡ 0) × (book ≡ leave.whole) → Passes AllOrNone before commands replied book
+    passes_all (none, is) =
+        let judged : JudgesAll before commands leave.verdicts book = subst (JudgesAll before commands leave.verdicts) (sym is) leave.judged in record {
+          is_book = λ place. remains_at place before book commands leave.verdicts judged;
+          still = remains_all before book commands leave.verdicts judged;
+          holds = λ all.
+              but_more book commands replied leave.more
+              (subst (AreUnderKeys book commands) leave.replies (stand_all before book commands leave.verdicts judged));
+        }
+
+    passes_none : (¬ AcknowledgeAll commands replied) × (book ≡ before) → Passes AllOrNone before commands replied book
+    passes_none (apart, is) = record {
+      is_book = λ place was. subst (IsAt place) (sym is) was;
+      still = λ keyed known. ap (λ (b : List Entry). text_under b keyed.0) is ∙ known;
+      holds = λ all. absurd (apart all);
     }
+
+    passes_together : Passes AllOrNone before commands replied book
+    passes_together = elim leave.leaves [ inl all ↦ passes_all all | inr none ↦ passes_none none ]
+
+  passes_by : (keeping : Keeping) → LeavesBy keeping before commands replied book → Passes keeping before commands replied book
+  passes_by Each stop = passes_each stop
+  passes_by AllOrNone leave = passes_together leave
 
 -- ---- sessions that follow one another
 
@@ -234,6 +310,11 @@ record PassAll (before : List Entry) (sessions : List Sent) (book : List Entry) 
   pub adds : AddFirst before sessions book
   pub holds : AllByRecursion (HoldsAcknowledged book) sessions
 
+holds_still : (keeping : Keeping) (a b : List Entry) → ((keyed : Key × Command) → IsUnderKey a keyed → IsUnderKey b keyed)
+    → (commands : List (Key × Command)) (vs : List Verdict) → HoldsBy keeping a commands vs → HoldsBy keeping b commands vs
+holds_still Each a b still commands vs holds = stand_still a b still commands vs holds
+holds_still AllOrNone a b still commands vs holds = λ all. stand_still a b still commands vs (holds all)
+
 pass_all : (before : List Entry) (sessions : List Sent) (book : List Entry) → StopsLeave before sessions book → PassAll before sessions book
 pass_all before [] book is = record {
   is_book = λ place was. subst (IsAt place) (sym is) was;
@@ -242,12 +323,12 @@ pass_all before [] book is = record {
   holds = tt;
 }
 pass_all before (sent ∷ more) book (mid, stop, rest) =
-    let one = passes before sent mid stop in
+    let one = passes_by before sent.commands sent.replied mid sent.keeping stop in
     let all = pass_all mid more book rest in record {
       is_book = λ place was. all.is_book place (one.is_book place was);
       still = λ keyed known. all.still keyed (one.still keyed known);
-      adds = (mid, adds_first before sent mid stop, all.adds);
-      holds = (stand_still mid book all.still sent.commands sent.replied one.holds, all.holds);
+      adds = (mid, adds_by before sent.commands sent.replied mid sent.keeping stop, all.adds);
+      holds = (holds_still sent.keeping mid book all.still sent.commands sent.replied one.holds, all.holds);
     }
 
 -- ---- gains
@@ -346,3 +427,73 @@ one_run before commands replied (next ∷ more) book (mid, inr (left, on), rest)
           (judges_append before mid book on.done left (replied ++ Accepted ∷ []) again.0 on.judged again.2));
       replies = first_accepted (next ∷ more) again.0 (next, run.verdicts, inl refl, run.replies, sym again.1);
     }
+
+-- ---- commands that are kept all or none, and come again
+
+-- of which none is refused, all stand
+all_under : (book : List Entry) (commands : List (Key × Command)) (vs : List Verdict) → AreUnderKeys book commands vs → count_refused vs ≡ 0
+    → length commands ≡ length vs → AllByRecursion (IsUnderKey book) commands
+all_under book [] vs stand none many = tt
+all_under book (c ∷ commands) [] stand none many = absurd cc
+all_under book (c ∷ commands) (Accepted ∷ vs) stand none many = (stand.0, all_under book commands vs stand.1 none (omega (arith, many)))
+all_under book (c ∷ commands) (Repeated ∷ vs) stand none many = (stand.0, all_under book commands vs stand.1 none (omega (arith, many)))
+all_under book (c ∷ commands) (Refused refusal ∷ vs) stand none many = absurd cc
+
+repeat_all : (book after : List Entry) (commands : List (Key × Command)) (again : List Verdict) → AllByRecursion (IsUnderKey book) commands
+    → JudgesAll book commands again after → AllByRecursion (λ (v : Verdict). v ≡ Repeated) again × (after ≡ book)
+repeat_all book after [] [] stand all = (tt, all)
+repeat_all book after [] (w ∷ again) stand all = absurd all
+repeat_all book after (c ∷ commands) [] stand all = absurd all
+repeat_all book after (c ∷ commands) (w ∷ again) stand all =
+    let is = is_repeat Second book all.0 c.0 c.1 w stand.0 all.1 in
+    let rest = repeat_all book after commands again stand.1 (subst (λ (b : List Entry). JudgesAll b commands again after) is.1 all.2) in
+    ((is.0, rest.0), rest.1)
+
+module _ (before : List Entry) (commands : List (Key × Command)) where
+  kept_repeats : (book after : List Entry) (again : List Verdict) → AreAllKept before commands book → JudgesAll book commands again after
+      → AllByRecursion (λ (v : Verdict). v ≡ Repeated) again × (after ≡ book)
+  kept_repeats book after again (vs, judged, none) all =
+      repeat_all book after commands again (all_under book commands vs (stand_all before book commands vs judged) none (as_many before book commands vs judged)) all
+
+  kept_of : (replied : List Verdict) (book : List Entry) (leave : AllOrNoneLeaves before commands replied book)
+      → (count_refused leave.verdicts ≡ 0) × (book ≡ leave.whole) → AreAllKept before commands book
+  kept_of replied book leave (none, is) = (leave.verdicts, subst (JudgesAll before commands leave.verdicts) (sym is) leave.judged, none)
+
+  pub comes_again : (book after : List Entry) (replied again : List Verdict) → AllOrNoneLeaves before commands replied book → JudgesAll book commands again after
+      → ComesAgain before commands book again after
+  comes_again book after replied again leave all = elim leave.leaves [
+    | inl whole ↦
+        let kept = kept_of replied book leave whole in
+        let repeats = kept_repeats book after again kept all in inl (kept, repeats.0, repeats.1)
+    | inr none ↦ inr (none.1, subst (λ (b : List Entry). JudgesAll b commands again after) none.1 all)
+  ]
+
+  -- once they are kept, no stop changes the book
+  stays_kept : (mid book : List Entry) (replied : List Verdict) → AreAllKept before commands mid → AllOrNoneLeaves mid commands replied book → book ≡ mid
+  stays_kept mid book replied kept leave = elim leave.leaves [
+    | inl whole ↦ whole.1 ∙ (kept_repeats mid leave.whole leave.verdicts kept leave.judged).1
+    | inr none ↦ none.1
+  ]
+
+  remains_kept : (mid book : List Entry) (sessions : List (List Verdict)) → AreAllKept before commands mid → AllSentAgain mid commands sessions book → book ≡ mid
+  remains_kept mid book [] kept is = is
+  remains_kept mid book (replied ∷ more) kept (next, leave, rest) =
+      let same = stays_kept mid next replied kept leave in
+      remains_kept mid book more kept (subst (λ (b : List Entry). AllSentAgain b commands more book) same rest)
+
+  acknowledged_once : (book : List Entry) (sessions : List (List Verdict)) → AreAllKept before commands book
+      → AllByRecursion (λ (replied : List Verdict). AcknowledgeAll commands replied → AreAllKept before commands book) sessions
+  acknowledged_once book [] kept = tt
+  acknowledged_once book (replied ∷ more) kept = (λ all. kept, acknowledged_once book more kept)
+
+  pub kept_once : (book : List Entry) (sessions : List (List Verdict)) → AllSentAgain before commands sessions book → AreKeptOnce before commands sessions book
+  kept_once book [] is = record { leaves = inr is; acknowledged = tt }
+  kept_once book (replied ∷ more) (mid, leave, rest) = elim leave.leaves [
+    | inl whole ↦
+        let now = kept_of replied mid leave whole in
+        let kept = subst (AreAllKept before commands) (sym (remains_kept mid book more now rest)) now in
+        record { leaves = inl kept; acknowledged = acknowledged_once book (replied ∷ more) kept }
+    | inr none ↦
+        let on = kept_once book more (subst (λ (b : List Entry). AllSentAgain b commands more book) none.1 rest) in
+        record { leaves = on.leaves; acknowledged = (λ all. absurd (none.0 all), on.acknowledged) }
+  ]

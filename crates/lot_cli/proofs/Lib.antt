@@ -6,6 +6,10 @@ pub mod InputLemmas
 pub mod ReportLemmas
 pub mod RowLemmas
 pub mod RunLemmas
+pub mod NumberLemmas
+pub mod StretchLemmas
+pub mod WholeLemmas
 pub mod HeadlineLemmas
 pub mod ReopenLemmas
+pub mod AllOrNoneLemmas
 pub mod VerificationLemmas

@@ -11,22 +11,21 @@ use Rattle.lot_command.specs.declared.key.Key.{Key}
 use Rattle.lot_stream.specs.Status.{code_of}
 use Rattle.lot_stored.specs.StandFor.{Stands}
 use Rattle.lot_rows.specs.Tables.{Has, Tables}
-use Rattle.lot_cli.specs.Runs.{RunsOn, status_of_run}
+use Rattle.lot_args.specs.declared.action.Keeping.{Keeping}
+use Rattle.lot_args.specs.declared.action.Keeping.TheVariants.{Each}
+use Rattle.lot_cli.specs.Runs.{RunsEach, RunsNumbered, RunsOn, status_of_run}
 use Rattle.lot_cli.specs.Says.{Halts, Told}
 use Rattle.lot_cli.specs.declared.halt.Halt.TheVariants as halt
 use Rattle.lot_store.proofs.ApplyLemmas.{stands_along}
 use Rattle.lot_store.proofs.ByTextLemmas.{has_along, runs_by_text_since}
 use Rattle.lot_store.specs.Create.{IsHandedBack, IsTaken, TellsBook, TellsOf}
-use Rattle.lot_report.specs.Output.{IsFlushed, WritesMade}
+use Rattle.lot_report.specs.Output.{WritesMade}
 use Rattle.lot_rounding.specs.declared.asked.Asked.{Asked}
 use Rattle.lot_rounding.specs.declared.rounding.Rounding.{Rounding}
-use Rattle.lot_store.specs.Run.{IsWrittenOut, LeavesAfter, LeavesAtAnswer, LeavesAtFault, LeavesAtVerdict, RunsSession}
-use Rattle.lot_store.specs.Turned.{RunsTurned}
+use Rattle.lot_store.specs.Run.{LeavesAfter, LeavesAtAnswer, LeavesAtFault, LeavesAtVerdict}
 use Rattle.lot_store.specs.Session.{LeavesFirst, LeavesJudged, LeavesNext}
 use Rattle.lot_store.specs.declared.book.Ack.{Ack}
 use Rattle.lot_store.specs.declared.book.Ack.TheVariants as ack
-use Rattle.lot_store.specs.declared.book.Condition.{Condition}
-use Rattle.lot_store.specs.declared.book.Condition.TheVariants.{Ready}
 use Rattle.lot_store.specs.declared.fault.AdoptFault.{AdoptFault}
 use Rattle.lot_store.specs.declared.fault.AdoptFault.TheVariants as adopt
 use Rattle.lot_store.specs.declared.fault.ApplyFault.{ApplyFault}
@@ -79,12 +78,17 @@ module _ (old mid new : State) (verdicts : List Verdict) (book : List Entry) (ma
   leaves_after left answer (Stopped fault) leaves = at_fault old mid new verdicts book may failed left fault leaves
   leaves_after left answer Output leaves = at_answer left answer leaves
 
-pub runs_after_look : (commands : List (Key × Command)) (from : ℕ) (old mid new : State) (before written : Option (List ℕ)) (answer : Result Ack ApplyFault) (end : RunEnd)
-    → (HasCleanDisk mid → IsUnchanged old mid) → Survives old mid (λ _. ⊥) → RunsSession commands from mid new before written answer end
-    → RunsSession commands from old new before written answer end
-runs_after_look commands from old mid new before written answer end same look ran = record {
+numbered_after_look : (numbers : List ℕ) (commands : List (Key × Command)) (old mid new : State) (before written : Option (List ℕ)) (answer : Result Ack ApplyFault) (end : RunEnd)
+    → (HasCleanDisk mid → IsUnchanged old mid) → Survives old mid (λ _. ⊥) → RunsNumbered numbers commands mid new before written answer end
+    → RunsNumbered numbers commands old new before written answer end
+numbered_after_look numbers commands old mid new before written answer end same look ran = record {
   verdicts = ran.verdicts;
-  writes = ran.writes;
+  replied = ran.replied;
+  refused = ran.refused;
+  lines = λ clean entries stands.
+      let calm : HasCleanDisk mid = omega (arith, clean, ran.crash.clean) in
+      ran.lines clean entries (stands_along old mid entries (same calm).0.now_is stands);
+  in_a_row = ran.in_a_row;
   place = ran.place;
   session = λ clean entries stands.
       let calm : HasCleanDisk mid = omega (arith, clean, ran.crash.clean) in
@@ -109,32 +113,33 @@ runs_after_look commands from old mid new before written answer end same look ra
       (ran.texts clean tables (has_along old mid tables (same calm).0.now_is has));
 }
 
--- commands are run on the book that was taken up
-pub runs_on : (rounding : Option Rounding) (asked : List (Key × Asked)) (from : ℕ) (old mid new : State) (before written : Option (List ℕ)) (calls : WritesMade) (was condition : Condition) (end : RunEnd) (status : ℕ)
-    → (HasCleanDisk mid → IsTaken old) → (HasCleanDisk mid → IsUnchanged old mid) → Survives old mid (λ _. ⊥) → was ≡ Ready
-    → RunsTurned rounding asked from mid new before written was condition end → (was ≡ Ready → end.ending ≢ Stopped NeedsReopen)
-    → status ≡ code_of (status_of_run end) → (IsFlushed calls.before → IsWrittenOut end.ending calls)
-    → RunsOn rounding asked from old new before written calls (record { status = status; halt = None })
-runs_on rounding asked from old mid new before written calls was condition end status found same look ready (turned, (answer, ran, usable, known), are) stops is flushed =
+-- commands are run on the book that was taken up, each in one commit
+pub runs_each : (rounding : Option Rounding) (numbers : List ℕ) (asked : List (Key × Asked)) (old mid new : State) (before written : Option (List ℕ)) (calls : WritesMade) (end : RunEnd) (status : ℕ)
+    → (HasCleanDisk mid → IsTaken old) → (HasCleanDisk mid → IsUnchanged old mid) → Survives old mid (λ _. ⊥)
+    → RunsEach rounding numbers asked mid new before written calls end → status ≡ code_of (status_of_run end)
+    → RunsOn rounding Each numbers asked old new before written calls (record { status = status; halt = None })
+runs_each rounding numbers asked old mid new before written calls end status found same look ran is =
     inl (record {
-      taken = λ clean. found (omega (arith, clean, ran.crash.clean));
-      turned = turned;
-      answer = answer;
+      taken = λ clean. found (omega (arith, clean, ran.session.crash.clean));
       end = end;
-      session = runs_after_look turned from old mid new before written answer end same look ran;
-      are_turned = λ clean entries stands.
-          are clean entries (stands_along old mid entries (same (omega (arith, clean, ran.crash.clean))).0.now_is stands);
-      never_reopens = (usable ready, stops ready);
+      runs = record {
+        turned = ran.turned;
+        answer = ran.answer;
+        session = numbered_after_look numbers ran.turned old mid new before written ran.answer end same look ran.session;
+        are_turned = λ clean entries stands.
+            ran.are_turned clean entries (stands_along old mid entries (same (omega (arith, clean, ran.session.crash.clean))).0.now_is stands);
+        never_reopens = ran.never_reopens;
+        output = ran.output;
+      };
       status = is;
       goes_on = refl;
-      output = flushed;
     })
 
 -- the book isn't taken up
-pub left_alone : (rounding : Option Rounding) (asked : List (Key × Asked)) (from : ℕ) (old new : State) (before written : Option (List ℕ)) (calls : WritesMade) (fault : AdoptFault) (told : Told)
+pub left_alone : (rounding : Option Rounding) (keeping : Keeping) (numbers : List ℕ) (asked : List (Key × Asked)) (old new : State) (before written : Option (List ℕ)) (calls : WritesMade) (fault : AdoptFault) (told : Told)
     → (HasCleanDisk new → TellsOf old new (Err fault))
     → (HasCleanDisk new → fault ≢ adopt.Device → (tables : Tables) → Has old tables → TellsBook tables.book (Err fault)) → (HasCleanDisk new → IsHandedBack old new)
     → (HasCleanDisk new → IsUndone old new) → Survives old new (λ _. ⊥) → Halts (halt.Adopt fault) before written calls told
-    → RunsOn rounding asked from old new before written calls told
-left_alone rounding asked from old new before written calls fault told tells book back undone crash said =
+    → RunsOn rounding keeping numbers asked old new before written calls told
+left_alone rounding keeping numbers asked old new before written calls fault told tells book back undone crash said =
     inr (fault, record { tells = tells; told = book; handed_back = back; undone = undone; crash = crash }, said)

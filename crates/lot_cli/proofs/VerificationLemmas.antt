@@ -1,5 +1,5 @@
 -- A book that is verified, or not.
-use Rattle.std.proofs.Common.{inl, inr, ◌≡◌, ◌≢◌, ℕ, List, Option}
+use Rattle.std.proofs.Common.{inl, inr, ◌≢◌, ℕ, List, Option}
 use Rattle.sqlite.specs.State.{HasCleanDisk, State, Survives}
 use Rattle.lot_book.specs.Facts.{Entry}
 use Rattle.lot_page.specs.Cursor.{Stays}

@@ -1,5 +1,6 @@
 -- A list that is sent again (docs/PROMISES.md, Sending again).
 use Rattle.std.specs.Prelude.{◌≡◌, ◌⊎◌, List, [], ◌∷◌, ◌++◌, drop, length}
+use Rattle.std.specs.List.{AllByRecursion}
 use Rattle.lot_command.specs.declared.command.Command.{Command}
 use Rattle.lot_command.specs.declared.key.Key.{Key}
 use Rattle.lot_book.specs.Facts.{Entry}
@@ -7,6 +8,9 @@ use Rattle.lot_book.specs.Judged.{JudgesAll}
 use Rattle.lot_book.specs.declared.verdict.Verdict.{Verdict}
 use Rattle.lot_book.specs.declared.verdict.Verdict.TheVariants.{Accepted, Repeated}
 use Rattle.lot_store.specs.Session.{StopLeaves}
+use Rattle.lot_cli.specs.Headline.{AcknowledgeAll, AllOrNoneLeaves, AreAllKept}
+
+-- ---- commands that are each kept in a commit
 
 -- The commands are sent, and after each stop those without a reply again, with nothing else in between, until a session is
 -- complete: then this book stands. Each session has the verdicts that it replied to.
@@ -33,3 +37,25 @@ pub record IsOneRun (before : List Entry) (commands : List (Key × Command)) (re
   pub verdicts : List Verdict
   pub judged : JudgesAll before commands (replied ++ verdicts) book
   pub replies : AreBehind again verdicts
+
+-- ---- commands that are kept all or none
+
+-- All are sent, and after each stop all of them again, with nothing else in between: then this book stands. Each session has the
+-- verdicts that it replied to.
+abbrev pub AllSentAgain : List Entry → List (Key × Command) → List (List Verdict) → List Entry → Type 0
+AllSentAgain before commands [] book = book ≡ before
+AllSentAgain before commands (replied ∷ more) book =
+    (mid : List Entry) × AllOrNoneLeaves before commands replied mid × AllSentAgain mid commands more book
+
+-- However often they were sent, they are kept once, or not at all; and where a session acknowledged them, they are kept.
+pub record AreKeptOnce (before : List Entry) (commands : List (Key × Command)) (sessions : List (List Verdict)) (book : List Entry)
+    : Type 0 where
+  pub leaves : AreAllKept before commands book ⊎ (book ≡ before)
+  pub acknowledged : AllByRecursion (λ replied. AcknowledgeAll commands replied → AreAllKept before commands book) sessions
+
+-- What they come to on a book that a stop left. Where they had been kept, each is a repeat, and the book stays as it is. Else it is
+-- as if they hadn't been sent.
+abbrev pub ComesAgain : List Entry → List (Key × Command) → List Entry → List Verdict → List Entry → Type 0
+ComesAgain before commands book again after =
+    (AreAllKept before commands book × AllByRecursion (λ verdict. verdict ≡ Repeated) again × (after ≡ book))
+    ⊎ ((book ≡ before) × JudgesAll before commands again after)

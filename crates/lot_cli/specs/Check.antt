@@ -96,8 +96,8 @@ abbrev pub ChecksMade : Rounding → Reading → State → Option (List ℕ) →
 ChecksMade rounding reading new before written calls told =
     ((fault : InputFault) × GivesNone IsFaultyText reading fault × (HasCleanDisk new → Stands new [])
     × Halts (halt.Input fault) before written calls told)
-    ⊎ ((asked : List (Key × Asked)) × Gives (TextMeans check_batch 1) reading asked
-    × (HasCleanDisk new → RunsCheck rounding asked before written calls told))
+    ⊎ ((given : List ℕ × List (Key × Asked)) × Gives (TextMeans check_batch 1) reading given
+    × (HasCleanDisk new → RunsCheck rounding given.1 before written calls told))
 
 -- so it is in a database without tables, or no book is made there
 abbrev pub Checks : Rounding → Reading → State → State → Option (List ℕ) → Option (List ℕ) → WritesMade → Told → Type 0

@@ -1,7 +1,9 @@
 -- The headline: what stands in a file after sessions that may each have been stopped within any write
 -- (docs/PROMISES.md, The headline).
-use Rattle.std.specs.Prelude.{◌≡◌, ℕ, suc, ◌≤◌, ◌+ℤ◌, ◌-ℤ◌, neg_ℤ, List, [], ◌∷◌, ◌++◌, length, Some, ⊤}
+use Rattle.std.specs.Prelude.{◌≡◌, ◌⊎◌, ℕ, suc, ◌≤◌, ◌+ℤ◌, ◌-ℤ◌, neg_ℤ, List, [], ◌∷◌, ◌++◌, length, Some, ⊤}
 use Rattle.std.specs.List.{AllByRecursion}
+use Rattle.lot_args.specs.declared.action.Keeping.{Keeping}
+use Rattle.lot_args.specs.declared.action.Keeping.TheVariants.{AllOrNone, Each}
 use Rattle.lot_command.specs.Canonical.{canonical}
 use Rattle.lot_command.specs.declared.command.Command.{Command}
 use Rattle.lot_command.specs.declared.key.Key.{Key}
@@ -18,21 +20,53 @@ use Rattle.lot_book.specs.declared.verdict.Verdict.{Verdict}
 use Rattle.lot_book.specs.declared.verdict.Verdict.TheVariants.{Accepted, Refused, Repeated}
 use Rattle.lot_laws.specs.Laws.{bought, sold}
 use Rattle.lot_stored.specs.Kept.{SalesOf}
+use Rattle.lot_store.specs.Run.{count_refused}
 use Rattle.lot_store.specs.Session.{StopLeaves}
 use Rattle.lot_walk.specs.Gains.{HasItsLegs}
 
+-- ---- commands that are kept all or none
+
+-- Their replies acknowledge them: each was replied to, and none is refused.
+abbrev pub AcknowledgeAll : List (Key × Command) → List Verdict → Type 0
+AcknowledgeAll commands replied = (length replied ≡ length commands) × (count_refused replied ≡ 0)
+
+-- the book after all of them, where none is refused
+abbrev pub AreAllKept : List Entry → List (Key × Command) → List Entry → Type 0
+AreAllKept before commands book =
+    (verdicts : List Verdict) × JudgesAll before commands verdicts book × (count_refused verdicts ≡ 0)
+
+-- A stop of a session whose commands are kept all or none, in which these verdicts were replied to, may leave this book.
+pub record AllOrNoneLeaves (before : List Entry) (commands : List (Key × Command)) (replied : List Verdict) (book : List Entry) : Type 0 where
+  pub verdicts : List Verdict
+  pub whole : List Entry
+  pub judged : JudgesAll before commands verdicts whole
+  -- the verdicts without a reply
+  pub more : List Verdict
+  pub replies : verdicts ≡ replied ++ more
+  -- It is the book after all of them, where none is refused, or the book before them, where the replies don't acknowledge them.
+  pub leaves : ((count_refused verdicts ≡ 0) × (book ≡ whole)) ⊎ ((¬ AcknowledgeAll commands replied) × (book ≡ before))
+
 -- ---- sessions
 
--- the commands that were sent in a session, with their keys, and the verdicts that were replied to
+-- The commands that were sent in a session, with their keys, which commits keep them, and the verdicts that were replied to. Where
+-- commands that are kept all or none end at a fault, no reply counts.
 pub record Sent : Type 0 where
+  pub keeping : Keeping
   pub commands : List (Key × Command)
   pub replied : List Verdict
+
+-- what a stop of a session may leave, by the commits that keep its commands
+abbrev pub LeavesBy : Keeping → List Entry → List (Key × Command) → List Verdict → List Entry → Type 0
+LeavesBy Each before commands replied book = StopLeaves before commands replied book
+LeavesBy AllOrNone before commands replied book = AllOrNoneLeaves before commands replied book
+
+abbrev pub SessionLeaves : List Entry → Sent → List Entry → Type 0
+SessionLeaves before sent book = LeavesBy sent.keeping before sent.commands sent.replied book
 
 -- Sessions follow one another, each on a book that a stop of the one before it leaves; a stop of the last leaves this book.
 abbrev pub StopsLeave : List Entry → List Sent → List Entry → Type 0
 StopsLeave before [] book = book ≡ before
-StopsLeave before (sent ∷ more) book =
-    (mid : List Entry) × StopLeaves before sent.commands sent.replied mid × StopsLeave mid more book
+StopsLeave before (sent ∷ more) book = (mid : List Entry) × SessionLeaves before sent mid × StopsLeave mid more book
 
 -- ---- a prefix of the accepted commands
 
@@ -43,8 +77,23 @@ count_accepted (Accepted ∷ verdicts) = suc (count_accepted verdicts)
 count_accepted (Repeated ∷ verdicts) = count_accepted verdicts
 count_accepted (Refused refusal ∷ verdicts) = count_accepted verdicts
 
--- The entries that a session adds are the first ones of those that the judge accepts of its commands, in the order sent: all
--- that were acknowledged, and at most one more. One uninterrupted run of them comes to the whole book.
+-- each in its commit: all that were acknowledged, and at most one more
+pub record AddsAcknowledged (replied : List Verdict) (added : List Entry) : Type 0 where
+  pub least : count_accepted replied ≤ length added
+  pub most : length added ≤ suc (count_accepted replied)
+
+-- in one commit: none, or all, where no command is refused; and all where they were acknowledged
+pub record AddsNoneOrAll (commands : List (Key × Command)) (replied verdicts : List Verdict) (added rest : List Entry) : Type 0 where
+  pub either : (added ≡ []) ⊎ ((count_refused verdicts ≡ 0) × (rest ≡ []))
+  pub acknowledged : AcknowledgeAll commands replied → rest ≡ []
+
+-- how many of the accepted entries are added, and how many are not, by the commits that keep them
+abbrev pub AddsBy : Keeping → List (Key × Command) → List Verdict → List Verdict → List Entry → List Entry → Type 0
+AddsBy Each commands replied verdicts added rest = AddsAcknowledged replied added
+AddsBy AllOrNone commands replied verdicts added rest = AddsNoneOrAll commands replied verdicts added rest
+
+-- The entries that a session adds are the first ones of those that the judge accepts of its commands, in the order sent. One
+-- uninterrupted run of them comes to the whole book.
 pub record AddsFirst (before : List Entry) (sent : Sent) (book : List Entry) : Type 0 where
   pub verdicts : List Verdict
   pub whole : List Entry
@@ -53,8 +102,7 @@ pub record AddsFirst (before : List Entry) (sent : Sent) (book : List Entry) : T
   pub rest : List Entry
   pub behind : book ≡ before ++ added
   pub first : whole ≡ book ++ rest
-  pub least : count_accepted sent.replied ≤ length added
-  pub most : length added ≤ suc (count_accepted sent.replied)
+  pub many : AddsBy sent.keeping sent.commands sent.replied verdicts added rest
 
 -- the same of sessions that follow one another
 abbrev pub AddFirst : List Entry → List Sent → List Entry → Type 0
@@ -75,8 +123,13 @@ AreUnderKeys book (keyed ∷ commands) (Accepted ∷ replied) = IsUnderKey book 
 AreUnderKeys book (keyed ∷ commands) (Repeated ∷ replied) = IsUnderKey book keyed × AreUnderKeys book commands replied
 AreUnderKeys book (keyed ∷ commands) (Refused refusal ∷ replied) = AreUnderKeys book commands replied
 
+-- what was acknowledged: each reply by itself, or all together
+abbrev pub HoldsBy : Keeping → List Entry → List (Key × Command) → List Verdict → Type 0
+HoldsBy Each book commands replied = AreUnderKeys book commands replied
+HoldsBy AllOrNone book commands replied = AcknowledgeAll commands replied → AreUnderKeys book commands replied
+
 abbrev pub HoldsAcknowledged : List Entry → Sent → Type 0
-HoldsAcknowledged book sent = AreUnderKeys book sent.commands sent.replied
+HoldsAcknowledged book sent = HoldsBy sent.keeping book sent.commands sent.replied
 
 -- ---- gains
 

@@ -8,3 +8,4 @@ pub mod Serve
 pub mod Headline
 pub mod Again
 pub mod Reopen
+pub mod AllOrNone

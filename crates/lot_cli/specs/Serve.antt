@@ -92,9 +92,9 @@ abbrev pub ReadsNothing : Action → Type 0
 ReadsNothing (Check rounding) = ⊥
 ReadsNothing (Init book) = ⊤
 ReadsNothing (Migrate book) = ⊤
-ReadsNothing (Post book batch from rounding) = ⊥
+ReadsNothing (Post asked) = ⊥
 ReadsNothing (PostRow book batch reference rounding) = ⊥
-ReadsNothing (Import book batch accounts from rounding) = ⊥
+ReadsNothing (Import asked) = ⊥
 ReadsNothing (Holdings book day format) = ⊤
 ReadsNothing (Gains book first last format) = ⊤
 ReadsNothing (Journal book) = ⊤
@@ -106,8 +106,8 @@ EndsWith (PostRow book batch reference rounding) status = IsStatus status ⊎ (s
 EndsWith (Check rounding) status = IsStatus status
 EndsWith (Init book) status = IsStatus status
 EndsWith (Migrate book) status = IsStatus status
-EndsWith (Post book batch from rounding) status = IsStatus status
-EndsWith (Import book batch accounts from rounding) status = IsStatus status
+EndsWith (Post asked) status = IsStatus status
+EndsWith (Import asked) status = IsStatus status
 EndsWith (Holdings book day format) status = IsStatus status
 EndsWith (Gains book first last format) status = IsStatus status
 EndsWith (Journal book) status = IsStatus status
@@ -133,9 +133,11 @@ Serves (Check None) c =
 Serves (Check (Some rounding)) c = Checks rounding c.input c.old c.new c.before c.written c.calls c.told
 Serves (Init book) c = Makes c.old c.new c.before c.written c.calls c.told
 Serves (Migrate book) c = SaysMigrated c.old c.new c.before c.written c.calls c.told
-Serves (Post book batch from rounding) c = Posts batch rounding from c.input c.old c.new c.before c.written c.calls c.told
+Serves (Post asked) c =
+    Posts asked.batch asked.rounding asked.from asked.keeping c.input c.old c.new c.before c.written c.calls c.told
 Serves (PostRow book batch reference rounding) c = PostsRow batch reference rounding c.input c.old c.new c.before c.written c.calls c.told
-Serves (Import book batch accounts from rounding) c = Imports batch accounts rounding from c.input c.old c.new c.before c.written c.calls c.told
+Serves (Import asked) c =
+    Imports asked.batch asked.accounts asked.rounding asked.from asked.except.items asked.keeping c.input c.old c.new c.before c.written c.calls c.told
 Serves (Holdings book day format) c = Reports (report.Holdings day format) c.old c.new c.before c.written c.calls c.told
 Serves (Gains book first last format) c = Reports (report.Gains first last format) c.old c.new c.before c.written c.calls c.told
 Serves (Journal book) c = Reports report.Journal c.old c.new c.before c.written c.calls c.told

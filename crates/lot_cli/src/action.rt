@@ -14,6 +14,7 @@ use crate::report::{Report, write_report};
 use crate::run::{halted, tell};
 use crate::verification::verify;
 use lot_args::Action;
+use lot_atomic::Look;
 use lot_check::check;
 use lot_completion::Watch;
 use lot_migrate::Progress;
@@ -39,8 +40,9 @@ pub struct Served<S: Alter> {
 /// - `migrate` makes a book of edition 1 one of edition 2, in one commit, and writes `book migrated`. A book of edition 2 stays
 ///   as it is. It reads nothing.
 /// - `post` reads all that the reader has as ledger text, `import` as a broker file. Then the book is taken up, and the
-///   commands, or those of the rows, are applied from the given number on, each in one commit, with a reply to each. A fault of
-///   the input changes nothing.
+///   commands, or those of the rows, are applied from the given number on, without the rows that are left out. Each is applied
+///   in one commit, with a reply to each. Or all are, in one commit, or none where one is refused; the replies are written
+///   behind that. A fault of the input changes nothing.
 /// - `post` in place of a row of a broker file applies the one command of a ledger text under the key of the row. Where the
 ///   text has no command, or several, nothing is written and nothing changes.
 /// - `holdings`, `gains` and `journal` take the book up and write the report, each row as it is read. The first two write text
@@ -53,15 +55,15 @@ pub struct Served<S: Alter> {
 ///
 /// `post`, `import` and a check may have an account that takes crumbs. Then another command may be judged in the place of one that
 /// was handed in, and be the entry. A fault is one line (docs/FORMATS.md, Faults). `progress` is told how far a migration is, what
-/// becomes of crumbs, and, without such an account, what would balance a command that is refused for crumbs. Returns the status of
-/// the program:
+/// becomes of crumbs, and, without such an account, what would balance a command that is refused for crumbs. It looks at the book
+/// that commands would have made of which none is kept. Returns the status of the program:
 ///
 /// - 0: all commands were accepted or repeated, the book was made, migrated or verified, or the report is whole;
 /// - 1: some commands were refused;
 /// - 2: the text for a row isn't one command;
 /// - 3: a fault of the input;
 /// - 4: a fault of the book, of the output or of memory. It goes before 1.
-pub fn serve<R: CountedRead, W: CountedWrite, P: Progress + Watch, S: Alter>(
+pub fn serve<R: CountedRead, W: CountedWrite, P: Progress + Watch + Look, S: Alter>(
     alloc: Global,
     action: &Action,
     reader: &mut R,
@@ -101,17 +103,7 @@ pub fn serve<R: CountedRead, W: CountedWrite, P: Progress + Watch, S: Alter>(
         } => check_with(alloc, rounding, reader, writer, progress, conn),
         Action::Init { .. } => init(alloc, writer, conn),
         Action::Migrate { .. } => migrate(alloc, writer, progress, conn),
-        Action::Post {
-            batch,
-            from,
-            rounding,
-            ..
-        } => {
-            let rounding = rounding.as_ref();
-            post(
-                alloc, batch, rounding, *from, reader, writer, progress, conn,
-            )
-        }
+        Action::Post(asked) => post(alloc, asked, reader, writer, progress, conn),
         Action::PostRow {
             batch,
             reference,
@@ -123,18 +115,7 @@ pub fn serve<R: CountedRead, W: CountedWrite, P: Progress + Watch, S: Alter>(
                 alloc, batch, reference, rounding, reader, writer, progress, conn,
             )
         }
-        Action::Import {
-            batch,
-            accounts,
-            from,
-            rounding,
-            ..
-        } => {
-            let rounding = rounding.as_ref();
-            import(
-                alloc, batch, accounts, rounding, *from, reader, writer, progress, conn,
-            )
-        }
+        Action::Import(asked) => import(alloc, asked, reader, writer, progress, conn),
         Action::Holdings { day, format, .. } => {
             let asked = Report::Holdings {
                 day: *day,

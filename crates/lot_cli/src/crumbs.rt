@@ -20,11 +20,11 @@ use crate::halt::Halt;
 use crate::report::{Report, conclude, show};
 use crate::run::{halted, say_halt, status_of_run};
 use lot_args::{Batch, Format};
-use lot_command::Key;
 use lot_completion::Watch;
+use lot_import::Numbered;
 use lot_input::{InputFault, keyed_text};
 use lot_report::CountedWrite;
-use lot_rounding::{Asked, Rounding};
+use lot_rounding::Rounding;
 use lot_store::{Book, Ending, HandedBack, RunEnd, create};
 use lot_stream::CountedRead;
 use sqlite::{Alter, Connection};
@@ -94,7 +94,12 @@ fn check_on<R: CountedRead, W: CountedWrite, N: Watch, S: Alter>(
     ensures status { IsStatus result.0 }
 {
     match commands_of(alloc, reader) {
-        Ok(commands) => {
+        Ok(
+            Numbered {
+                numbers: _,
+                commands,
+            },
+        ) => {
             let end = book.run(&commands, Some(rounding), 1, writer, watch);
             (show_behind(alloc, end, book, writer), None)
         }
@@ -106,15 +111,12 @@ fn check_on<R: CountedRead, W: CountedWrite, N: Watch, S: Alter>(
 }
 
 /// Reads all that a reader has as ledger text, and returns its commands, under the batch of checks.
-fn commands_of<R: CountedRead>(
-    alloc: Global,
-    reader: &mut R,
-) -> Result<Vec<(Key, Asked)>, InputFault>
+fn commands_of<R: CountedRead>(alloc: Global, reader: &mut R) -> Result<Numbered, InputFault>
     ensures ok { IfOk result (λ keyed. Gives (TextMeans check_batch 1) (record {
       bytes = R.remaining reader.old;
       left = R.remaining reader.new;
       calls = record { before = R.calls reader.old; after = R.calls reader.new };
-    }) keyed.items) }
+    }) (keyed.numbers.items, keyed.commands.items)) }
     ensures err { IfErr result (GivesNone IsFaultyText (record {
       bytes = R.remaining reader.old;
       left = R.remaining reader.new;

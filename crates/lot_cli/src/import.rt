@@ -6,9 +6,10 @@ ghost use Rattle.sqlite.specs.Held.{state};
 use crate::action::Served;
 use crate::halt::Halt;
 use crate::run::{halted, run};
-use lot_args::{Batch, Start};
+use lot_args::Import;
+use lot_atomic::Look;
 use lot_completion::Watch;
-use lot_import::Accounts;
+use lot_import::Numbered;
 use lot_input::keyed_rows;
 use lot_report::CountedWrite;
 use lot_rounding::{Decimals, Rounding};
@@ -16,16 +17,13 @@ use lot_stream::CountedRead;
 use sqlite::{Alter, Connection};
 use std::alloc::Global;
 
-/// Posts the rows of a broker file to accounts of the book that is there, from that number on, each under the key of the row in
-/// the batch.
+/// Posts the rows of a broker file to accounts of the book that is there, from that number on and without those that are left
+/// out, each under the key of the row in the batch.
 ///
 /// All that the reader has is read, and each row is converted, before the book is taken up.
-pub(crate) fn import<R: CountedRead, W: CountedWrite, N: Watch, S: Alter>(
+pub(crate) fn import<R: CountedRead, W: CountedWrite, N: Watch + Look, S: Alter>(
     alloc: Global,
-    batch: &Batch,
-    accounts: &Accounts,
-    rounding: Option<&Rounding>,
-    from: Start,
+    asked: &Import,
     reader: &mut R,
     writer: &mut W,
     watch: &mut N,
@@ -33,21 +31,41 @@ pub(crate) fn import<R: CountedRead, W: CountedWrite, N: Watch, S: Alter>(
 ) -> Served<S>
     requires outside { conn.in_transaction ≡ false }
     requires unlimited { conn.step_limit ≡ None }
-    ensures imports { Imports batch.now accounts.now (option_copied rounding.entry) from (record {
-      bytes = R.remaining reader.old;
-      left = R.remaining reader.new;
-      calls = record { before = R.calls reader.old; after = R.calls reader.new };
-    }) (state S.Store conn) (state S.Store result.conn)
+    ensures imports { Imports asked.now.batch asked.now.accounts asked.now.rounding asked.now.from
+        asked.now.except.items asked.now.keeping (record {
+          bytes = R.remaining reader.old;
+          left = R.remaining reader.new;
+          calls = record { before = R.calls reader.old; after = R.calls reader.new };
+        }) (state S.Store conn) (state S.Store result.conn)
         (W.contents writer.old) (W.contents writer.new) (record {
           before = W.calls writer.old;
           after = W.calls writer.new;
         }) (record { status = result.status; halt = result.halt }) }
     ensures status { IsStatus result.status }
 {
-    let first = from.number() as usize;
+    let first = asked.from.number() as usize;
+    let rounding = asked.rounding.as_ref();
     let decimals = decimals_of(rounding);
-    match keyed_rows(alloc, batch, accounts, decimals, first, reader) {
-        Ok(commands) => run(alloc, &commands, rounding, first, writer, watch, conn),
+    let given = keyed_rows(
+        alloc,
+        &asked.batch,
+        &asked.accounts,
+        decimals,
+        first,
+        &asked.except,
+        reader,
+    );
+    match given {
+        Ok(Numbered { numbers, commands }) => run(
+            alloc,
+            &numbers,
+            &commands,
+            rounding,
+            asked.keeping,
+            writer,
+            watch,
+            conn,
+        ),
         Err(fault) => halted(writer, Halt::Input(fault), conn),
     }
 }

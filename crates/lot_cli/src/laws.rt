@@ -1,5 +1,5 @@
 //! Laws of what the contract of `serve` cites. Each is the contract of a function that does nothing.
-ghost use Rattle.std.specs.Prelude.{◌≡◌, ◌≢◌, ◌≤◌, Option, Some, ℕ, List, [], length};
+ghost use Rattle.std.specs.Prelude.{◌≡◌, ◌≢◌, ◌≤◌, Option, Some, ℕ, List, [], ◌++◌, length};
 ghost use Rattle.sqlite.specs.Files.{Finds, HoldsDatabase, IsOpened, file_state, image_of};
 ghost use Rattle.sqlite.specs.Held.{Held, state};
 ghost use Rattle.sqlite.specs.State.{IsLive, Opens};
@@ -9,7 +9,7 @@ ghost use Rattle.sqlite_store.specs.declared.store.FileStore.{FileStore};
 ghost use Rattle.lot_book.specs.Book.{IsBookIn};
 ghost use Rattle.lot_book.specs.Edition.{After};
 ghost use Rattle.lot_book.specs.Facts.{Entry, text_under};
-ghost use Rattle.lot_book.specs.Judged.{JudgesOn};
+ghost use Rattle.lot_book.specs.Judged.{JudgesAll, JudgesOn};
 ghost use Rattle.lot_book.specs.declared.refusal.Refusal.TheVariants.{KeyReused};
 ghost use Rattle.lot_book.specs.declared.verdict.Verdict.{Verdict};
 ghost use Rattle.lot_book.specs.declared.verdict.Verdict.TheVariants.{Accepted, Refused, Repeated};
@@ -21,11 +21,21 @@ ghost use Rattle.lot_import.specs.declared.accounts.Accounts.{Accounts};
 ghost use Rattle.lot_import.specs.declared.row.Row.{Row};
 ghost use Rattle.lot_command.specs.Sayable.{IsSayable};
 ghost use Rattle.lot_input.specs.Keyed.{import_source, row_key};
-ghost use Rattle.lot_cli.specs.Again.{IsOneRun, SentAgain};
+ghost use Rattle.lot_atomic.specs.declared.all_or_none.Ended.{Ended};
+ghost use Rattle.lot_atomic.specs.declared.all_or_none.Ended.TheVariants.{Kept};
+ghost use Rattle.lot_cli.specs.Again.{AllSentAgain, AreKeptOnce, ComesAgain, IsOneRun, SentAgain};
+ghost use Rattle.lot_cli.specs.AllOrNone.{AppliedOn, that_count};
 ghost use Rattle.lot_rounding.specs.declared.asked.Asked.{Asked};
-ghost use Rattle.lot_cli.specs.Headline.{Headline, Sent, StopsLeave};
+ghost use Rattle.lot_rounding.specs.declared.rounding.Rounding.{Rounding};
+ghost use Rattle.lot_cli.specs.Headline.{
+  AllOrNoneLeaves,
+  AreAllKept,
+  Headline,
+  Sent,
+  SessionLeaves,
+  StopsLeave,
+};
 ghost use Rattle.lot_cli.specs.Reopen.{IsOpenedAgain, LeavesOneOf, StandsForOneOf};
-ghost use Rattle.lot_store.specs.Session.{StopLeaves};
 ghost use Rattle.lot_stored.specs.StandFor.{Left, Stands};
 
 use sqlite::Alter;
@@ -38,6 +48,10 @@ use sqlite_disk::Disk;
 /// command. In that book each commodity's units at cost are those bought less those sold. Each realised gain is its proceeds
 /// less the cost of the lots that its posting took.
 ///
+/// A session may keep each of its commands in a commit of its own. Then the prefix has at most one more than was acknowledged.
+/// Or it keeps them in one commit, all or none. Then the prefix is none of them or, where none is refused, all; and its replies
+/// acknowledge all together, or nothing.
+///
 /// A book that was made has no entries before the first session, and place of migration 0.
 pub fn the_headline()
     ensures made { (sessions : List Sent) (book : List Entry)
@@ -47,15 +61,30 @@ pub fn the_headline()
         → StopsLeave before sessions book → Headline place before sessions book }
 {}
 
-/// Commands are sent again from the first one without a reply, as often as a session is stopped. Once a session is complete,
-/// the book is that of one uninterrupted run. The replies are those of that run, but the first command of a session may get
-/// `repeat` in place of `accepted`.
+/// Commands that are each kept in a commit are sent again from the first one without a reply, as often as a session is stopped.
+/// Once a session is complete, the book is that of one uninterrupted run. The replies are those of that run, but the first
+/// command of a session may get `repeat` in place of `accepted`.
 ///
 /// Nothing else is sent in between. A list that is sent again from its first command may come to another book. A sale that was
 /// refused may then be accepted, since what was bought after it is there now.
 pub fn sending_again_is_one_run()
     ensures { (before book : List Entry) (commands : List (Key × Command)) (replied : List Verdict) (again : List (List Verdict))
         → SentAgain before commands replied again book → IsOneRun before commands replied again book }
+{}
+
+/// Commands that are kept all or none are sent again, all of them, as often as a session is stopped, and nothing else in
+/// between. They are kept once, or not at all; and where a session acknowledged them, they are kept.
+///
+/// Where they had been kept, each is a repeat when they come again, and the book stays as it is. Else it is as if they hadn't
+/// been sent.
+pub fn sending_all_or_none_again_acts_once()
+    ensures often { (before book : List Entry) (commands : List (Key × Command))
+        (sessions : List (List Verdict))
+        → AllSentAgain before commands sessions book → AreKeptOnce before commands sessions book }
+    ensures comes { (before book after : List Entry) (commands : List (Key × Command))
+        (replied again : List Verdict)
+        → AllOrNoneLeaves before commands replied book → JudgesAll book commands again after
+        → ComesAgain before commands book again after }
 {}
 
 /// A row of a broker file acts once. Where it is accepted as it is handed in, its text stands under its key. While it stands
@@ -112,9 +141,27 @@ pub fn a_stop_leaves_what_is_found_again<D: Disk>()
         → HoldsDatabase (image_of D.Disk files) trees → Left trees book
         → Finds files c → IsOpened c → Stands (file_state c) book }
     ensures session { (stopped : Held (FileStore D D.Disk)) (files : Files D)
-        (c : Held (FileStore D D.Disk))
-        (before : List Entry) (commands : List (Key × Command)) (replied : List Verdict)
-        → LeavesOneOf (StopLeaves before commands replied) (file_state stopped).may_leave
+        (c : Held (FileStore D D.Disk)) (before : List Entry) (sent : Sent)
+        → LeavesOneOf (SessionLeaves before sent) (file_state stopped).may_leave
         → IsOpenedAgain stopped files c
-        → StandsForOneOf (StopLeaves before commands replied) (file_state c) }
+        → StandsForOneOf (SessionLeaves before sent) (file_state c) }
+{}
+
+/// What is applied all or none is a session of the headline that keeps its commands so. Its commands are those that were judged
+/// in the place of what was handed in.
+///
+/// Let the book on which they are applied be all that a crash could leave before. Whatever was replied to of them, a crash then
+/// leaves a book that a stop of the session leaves; at a fault no reply counts. Where they are kept, it leaves the book after all.
+pub fn what_is_applied_all_or_none_is_a_session<S: Alter>()
+    ensures leaves { (old new : Held S) (rounding : Option Rounding) (asked : List (Key × Asked))
+        (entries : List Entry) (verdicts : List Verdict) (ended : Ended)
+        (it : AppliedOn rounding asked entries (state S.Store old) (state S.Store new) verdicts ended)
+        (replied more : List Verdict)
+        → that_count ended verdicts ≡ replied ++ more
+        → LeavesOneOf (AllOrNoneLeaves entries it.turned replied) (state S.Store new).may_leave }
+    ensures kept { (old new : Held S) (rounding : Option Rounding) (asked : List (Key × Asked))
+        (entries : List Entry) (verdicts : List Verdict) (ended : Ended)
+        (it : AppliedOn rounding asked entries (state S.Store old) (state S.Store new) verdicts ended)
+        → ended ≡ Kept
+        → LeavesOneOf (AreAllKept entries it.turned) (state S.Store new).may_leave }
 {}

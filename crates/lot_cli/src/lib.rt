@@ -6,7 +6,7 @@
 //! - `post`: ledger text posted to the book that is there; `import`: a broker file. `lot_input` says what an input gives.
 //! - `crumbs`: a check with an account that takes crumbs.
 //! - `migration`: a book of edition 1 taken over; `verification`: a book verified.
-//! - `run`: commands run on the book that is there.
+//! - `run`: commands run on the book that is there, each in one commit, or all in one or none.
 //! - `report`: reports of the book that is there.
 //! - `halt`: why an action ends before its first command.
 //! - `laws`: what becomes of a row that comes again.
@@ -26,8 +26,10 @@ mod verification;
 pub use action::{Served, serve};
 pub use halt::Halt;
 pub use lot_args::{
-    Action, BadOption, Batch, Effect, Format, Notes, Request, Start, WordsFault, parse_words,
+    Action, BadOption, Batch, Effect, Format, Import, Keeping, Notes, Post, Request, Start,
+    WordsFault, parse_words,
 };
+pub use lot_atomic::Look;
 pub use lot_completion::{Note, Watch};
 pub use lot_input::InputFault;
 pub use lot_migrate::{MigrateFault, Progress};

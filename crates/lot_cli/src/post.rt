@@ -6,9 +6,11 @@ ghost use Rattle.sqlite.specs.Held.{state};
 use crate::action::Served;
 use crate::halt::Halt;
 use crate::run::{halted, run};
-use lot_args::{Batch, Start};
+use lot_args::{Batch, Keeping, Post};
+use lot_atomic::Look;
 use lot_base::Label;
 use lot_completion::Watch;
+use lot_import::Numbered;
 use lot_input::{keyed_row, keyed_text};
 use lot_report::CountedWrite;
 use lot_rounding::Rounding;
@@ -23,11 +25,9 @@ const UNFIT: u8 = 2;
 /// batch.
 ///
 /// All that the reader has is read before the book is taken up.
-pub(crate) fn post<R: CountedRead, W: CountedWrite, N: Watch, S: Alter>(
+pub(crate) fn post<R: CountedRead, W: CountedWrite, N: Watch + Look, S: Alter>(
     alloc: Global,
-    batch: &Batch,
-    rounding: Option<&Rounding>,
-    from: Start,
+    asked: &Post,
     reader: &mut R,
     writer: &mut W,
     watch: &mut N,
@@ -35,7 +35,7 @@ pub(crate) fn post<R: CountedRead, W: CountedWrite, N: Watch, S: Alter>(
 ) -> Served<S>
     requires outside { conn.in_transaction ≡ false }
     requires unlimited { conn.step_limit ≡ None }
-    ensures posts { Posts batch.now (option_copied rounding.entry) from (record {
+    ensures posts { Posts asked.now.batch asked.now.rounding asked.now.from asked.now.keeping (record {
       bytes = R.remaining reader.old;
       left = R.remaining reader.new;
       calls = record { before = R.calls reader.old; after = R.calls reader.new };
@@ -46,9 +46,21 @@ pub(crate) fn post<R: CountedRead, W: CountedWrite, N: Watch, S: Alter>(
         }) (record { status = result.status; halt = result.halt }) }
     ensures status { IsStatus result.status }
 {
-    let first = from.number() as usize;
-    match keyed_text(alloc, batch, first, reader) {
-        Ok(commands) => run(alloc, &commands, rounding, first, writer, watch, conn),
+    let first = asked.from.number() as usize;
+    match keyed_text(alloc, &asked.batch, first, reader) {
+        Ok(Numbered { numbers, commands }) => {
+            let rounding = asked.rounding.as_ref();
+            run(
+                alloc,
+                &numbers,
+                &commands,
+                rounding,
+                asked.keeping,
+                writer,
+                watch,
+                conn,
+            )
+        }
         Err(fault) => halted(writer, Halt::Input(fault), conn),
     }
 }
@@ -57,7 +69,7 @@ pub(crate) fn post<R: CountedRead, W: CountedWrite, N: Watch, S: Alter>(
 /// files of the batch.
 ///
 /// All that the reader has is read before the book is taken up. Where the text has no command, or several, nothing is written.
-pub(crate) fn post_row<R: CountedRead, W: CountedWrite, N: Watch, S: Alter>(
+pub(crate) fn post_row<R: CountedRead, W: CountedWrite, N: Watch + Look, S: Alter>(
     alloc: Global,
     batch: &Batch,
     reference: &Label,
@@ -81,7 +93,16 @@ pub(crate) fn post_row<R: CountedRead, W: CountedWrite, N: Watch, S: Alter>(
     ensures status { IsStatus result.status ⊎ (result.status ≡ unfit) }
 {
     match keyed_row(alloc, batch, reference, reader) {
-        Ok(Some(keyed)) => run(alloc, &[keyed], rounding, 1, writer, watch, conn),
+        Ok(Some(keyed)) => run(
+            alloc,
+            &[1],
+            &[keyed],
+            rounding,
+            Keeping::Each,
+            writer,
+            watch,
+            conn,
+        ),
         Ok(None) => Served {
             status: UNFIT,
             halt: None,

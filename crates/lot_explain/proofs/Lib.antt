@@ -1,2 +1,3 @@
 pub mod FormLemmas
+mod ShellLemmas
 pub mod SiteLemmas

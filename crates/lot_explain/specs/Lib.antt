@@ -6,4 +6,5 @@ pub mod Crumbs
 pub mod Finding
 pub mod Records
 pub mod Residual
+pub mod Shell
 pub mod Site

@@ -1,4 +1,4 @@
-//! The facts of a refusal that its book has, as they stand once the run is over.
+//! The facts of a refusal that its book has, as they stand behind the last command.
 
 use crate::fact::without_sign;
 use crate::form::is_by_form;
@@ -13,8 +13,8 @@ use lot_inv::is_other_sign;
 use lot_num::Units;
 use std::alloc::{AllocError, Global};
 
-/// What a book says once a run on it is over. A call returns nothing where the book can't be read. The only error is
-/// out of memory.
+/// What a book says behind the last command of a run, whether it is kept or not. A call returns nothing where the book can't be
+/// read. The only error is out of memory.
 pub trait Known {
     /// Returns the entry under a key, given as its source and its name.
     fn entry(&mut self, source: &str, name: &str) -> Result<Option<Entry>, AllocError>;

@@ -2,11 +2,13 @@
 
 use crate::book::Known;
 use crate::finding::Findings;
+use crate::left_out::note_left_out;
 use crate::notebook::Notebook;
 use crate::reading::Reading;
 use crate::refused::note_lines;
 use crate::warning::{warn_of_rows, warn_of_text};
-use lot_import::Accounts;
+use lot_base::Label;
+use lot_import::{Accounts, Row};
 use lot_rounding::{Decimals, Rounding};
 use std::alloc::Global;
 use std::io::{self, Write};
@@ -47,6 +49,8 @@ pub struct Call<'a> {
     pub input: &'a [u8],
     /// The number of the first command or row that was to run, from 1.
     pub from: u32,
+    /// The `ref` of each row that is left out.
+    pub except: &'a [Label],
     /// The lines that say that a command was refused or that there was a fault, as they were
     /// written.
     pub lines: &'a [u8],
@@ -72,6 +76,11 @@ impl<'a> Call<'a> {
         Key { word, batch, name }
     }
 
+    /// Returns whether a row is left out.
+    pub(crate) fn leaves_out(&self, row: &Row) -> bool {
+        self.except.contains(&row.name)
+    }
+
     /// Returns to how many decimals the cash of a row was rounded, where it was.
     pub(crate) fn decimals(&self) -> Option<Decimals> {
         match self.rounding {
@@ -85,8 +94,9 @@ impl<'a> Call<'a> {
 /// where it stands in the input, its code and rule, and what is known of it from the input and from
 /// the book.
 ///
-/// Then it writes as many warnings, each of a place that may have been meant otherwise. Where
-/// memory ends, nothing more is written.
+/// Then it writes as many lines of rows that are left out, and one for each `ref` to be left out that
+/// no row has; and as many warnings, each of a place that may have been meant otherwise. Where memory
+/// ends, nothing more is written.
 pub fn notes<W: Write, B: Known>(
     alloc: Global,
     writer: &mut W,
@@ -98,6 +108,9 @@ pub fn notes<W: Write, B: Known>(
     let mut notes = Notebook::new(alloc, writer, most);
     note_lines(alloc, &mut notes, book, call, &mut reading)?;
     notes.end()?;
+    if let Reading::Rows { rows, .. } = &reading {
+        note_left_out(alloc, writer, call, rows, most)?;
+    }
     let mut warnings = Notebook::new(alloc, writer, most);
     match &reading {
         Reading::Text { .. } => warn_of_text(alloc, &mut warnings, book, call)?,

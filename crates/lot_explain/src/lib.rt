@@ -11,11 +11,12 @@
 //!   text (`residual`), and from the book once the run is over (`book`, `Known`).
 //! - `crumbs`: what was found of their crumbs as they were judged (`finding`); `bound`: how large these
 //!   are. `form`: whether an entry is a completion of a command.
-//! - `warning`: what may have been meant otherwise. `commas`: which columns of a broker file have
+//! - `left_out`: rows that are left out. `warning`: what may have been meant otherwise. `commas`: which columns of a broker file have
 //!   numbers with a comma.
 //! - `reading`: the commands of an input. `site`: on which line a command stands; `records`: the
 //!   records of a broker file.
-//! - `shown`: how texts of the input are written on a line.
+//! - `shown`: how texts of the input are written on a line; `quoted`: how a text is written for a shell.
+//! - `laws`: what holds of the definitions that the contracts cite.
 #![tactic(auto)]
 
 mod book;
@@ -31,9 +32,12 @@ mod fact;
 mod faulty;
 mod finding;
 mod form;
+pub mod laws;
+mod left_out;
 mod nearest;
 mod notebook;
 mod place;
+mod quoted;
 mod reading;
 mod records;
 mod refused;
@@ -47,3 +51,4 @@ pub use book::{Entry, Known, Latest, Lot};
 pub use call::{Call, Source, notes};
 pub use explained::{explain, list, nearest_code};
 pub use finding::{Finding, Findings};
+pub use quoted::{LongOption, Quoted, is_shown};

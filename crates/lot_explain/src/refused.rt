@@ -11,13 +11,15 @@ use crate::explained::find;
 use crate::fact::{cash, fact, named, row_cash};
 use crate::faulty::{faulty_lines, faulty_rows};
 use crate::finding::Finding;
+use crate::left_out::is_only;
 use crate::notebook::Notebook;
 use crate::place::Place;
+use crate::quoted::LongOption;
 use crate::reading::Reading;
 use crate::said::{Said, heard};
 use crate::shown::Shown;
 use lot_command::Command;
-use lot_import::{CommandFault, command};
+use lot_import::{CommandFault, Row, command};
 use lot_rounding::{Rounding, RowCash};
 use lot_token::Lines;
 use std::alloc::{AllocError, Global};
@@ -154,6 +156,7 @@ fn known<'a, B: Known>(
                     };
                     let mut text = named(alloc, &refused)?;
                     text.push_str(fact(alloc, book, &refused)?.as_str())?;
+                    text.push_str(way_out(alloc, said, row, rows)?.as_str())?;
                     text.push_str(crumbs(alloc, &refused)?.as_str())?;
                     Ok(text)
                 }
@@ -163,6 +166,19 @@ fn known<'a, B: Known>(
             None => Ok(String::new(alloc)),
         },
     }
+}
+
+/// Names the option that leaves out a row under whose key another stands, where it leaves out no other row. The only error is
+/// out of memory.
+fn way_out(alloc: Global, said: &Said<'_>, row: &Row, rows: &[Row]) -> Result<String, AllocError> {
+    if said.code != "L1" || !is_only(rows, &row.name) {
+        return Ok(String::new(alloc));
+    }
+    let except = LongOption {
+        name: "except",
+        value: row.name.as_str(),
+    };
+    format!(in alloc; "; {except} leaves it out")
 }
 
 /// Returns the item of that number, from 1.

@@ -183,8 +183,8 @@ fn warn_of_start<W: Write>(
     )
 }
 
-/// Warns of a broker file as a whole, of its columns, and then of its rows. Of a faulty file, and of
-/// one without rows, it says nothing.
+/// Warns of a broker file as a whole, of its columns, and then of its rows, without the rows that are
+/// left out. Of a faulty file, and of one without rows, it says nothing.
 pub(crate) fn warn_of_rows<W: Write>(
     alloc: Global,
     notes: &mut Notebook<'_, W>,
@@ -194,19 +194,20 @@ pub(crate) fn warn_of_rows<W: Write>(
     if rows.is_empty() {
         return Ok(());
     }
-    warn_of_order(alloc, notes, rows)?;
+    warn_of_order(alloc, notes, call, rows)?;
     warn_of_start(notes, call.from, rows.len(), "rows")?;
-    warn_of_commas(alloc, notes, call.input, rows.len())?;
-    warn_of_refs(alloc, notes, call.input, rows)
+    warn_of_commas(alloc, notes, call, rows)?;
+    warn_of_refs(alloc, notes, call, rows)
 }
 
 /// Warns of rows that are newest first.
 fn warn_of_order<W: Write>(
     alloc: Global,
     notes: &mut Notebook<'_, W>,
+    call: &Call<'_>,
     rows: &[Row],
 ) -> io::Result<()> {
-    let (Some(first), Some(last)) = (rows.first(), rows.last()) else {
+    let (Some(first), Some(last)) = ends(call, rows) else {
         return Ok(());
     };
     if first.day <= last.day {
@@ -222,25 +223,37 @@ fn warn_of_order<W: Write>(
     )
 }
 
+/// Returns the first and the last of the rows that aren't left out.
+fn ends<'a>(call: &Call<'_>, rows: &'a [Row]) -> (Option<&'a Row>, Option<&'a Row>) {
+    let (mut first, mut last) = (None, None);
+    for row in rows {
+        if !call.leaves_out(row) {
+            first = first.or(Some(row));
+            last = Some(row);
+        }
+    }
+    (first, last)
+}
+
 /// Warns of each column of numbers in which a number has a comma, at the first such row.
 fn warn_of_commas<W: Write>(
     alloc: Global,
     notes: &mut Notebook<'_, W>,
-    file: &[u8],
-    rows: usize,
+    call: &Call<'_>,
+    rows: &[Row],
 ) -> io::Result<()> {
     // A field with a comma stands in quotes.
-    if memchr(b'"', file).is_none() {
+    if memchr(b'"', call.input).is_none() {
         return Ok(());
     }
-    let commas = commas_in(alloc, file, rows)?;
+    let commas = commas_in(alloc, call, rows)?;
     for (name, place, column) in [
         ("units", UNITS, commas.units),
         ("price", PRICE, commas.price),
         ("fee", FEE, commas.fee),
     ] {
         if let Some(first) = column.first {
-            let mut records = Records::new(alloc, file)?;
+            let mut records = Records::new(alloc, call.input)?;
             records.go_to(first)?;
             warn_of_column(alloc, notes, &records, name, place, column.more)?;
         }
@@ -248,14 +261,16 @@ fn warn_of_commas<W: Write>(
     Ok(())
 }
 
-/// Returns in which columns of a file with so many rows numbers have a comma. The only error is out
-/// of memory.
-fn commas_in(alloc: Global, file: &[u8], rows: usize) -> Result<Commas, AllocError> {
-    let mut records = Records::new(alloc, file)?;
+/// Returns in which columns of a file with these rows numbers have a comma, without those that are
+/// left out. The only error is out of memory.
+fn commas_in(alloc: Global, call: &Call<'_>, rows: &[Row]) -> Result<Commas, AllocError> {
+    let mut records = Records::new(alloc, call.input)?;
     let mut commas = Commas::NONE;
-    for _row in 0..rows {
+    for row in rows {
         records.next_row()?;
-        commas = commas.with(records.row, &records.record);
+        if !call.leaves_out(row) {
+            commas = commas.with(records.row, &records.record);
+        }
     }
     Ok(commas)
 }
@@ -305,13 +320,16 @@ impl fmt::Display for Others {
 fn warn_of_refs<W: Write>(
     alloc: Global,
     notes: &mut Notebook<'_, W>,
-    file: &[u8],
+    call: &Call<'_>,
     rows: &[Row],
 ) -> io::Result<()> {
-    let mut records = Records::new(alloc, file)?;
+    let mut records = Records::new(alloc, call.input)?;
     let mut seen = BTreeMap::new(alloc);
     for row in rows {
         records.next_row()?;
+        if call.leaves_out(row) {
+            continue;
+        }
         if let Some(before) = seen.insert(row.name.as_str(), records.row)? {
             notes.note(
                 records.place(),

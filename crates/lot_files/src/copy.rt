@@ -33,7 +33,7 @@ const FEW: usize = 16;
 
 /// Opens a copy of the database in the file of that path. A file that isn't there is copied as an
 /// empty one. Nothing is written but the copy, which is in memory.
-pub fn open_copy<'a>(
+pub(crate) fn open_copy<'a>(
     rt: &HostRuntime,
     path: &str,
 ) -> Result<Connection<FileStore<BookFile<'a>>>, Cause>

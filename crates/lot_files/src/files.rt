@@ -28,7 +28,7 @@ const CANNOT_OPEN: Error = Error::SqliteFailure(ErrorCode::CannotOpen);
 
 /// Opens the database in the file of that path, and makes one where there is none. The files keep
 /// there why a call of them failed.
-pub fn open<'a>(
+pub(crate) fn open<'a>(
     rt: &HostRuntime,
     path: &str,
     failure: &'a Failure,

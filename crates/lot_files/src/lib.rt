@@ -16,8 +16,8 @@ mod noted;
 mod opened;
 
 pub use cause::Cause;
-pub use copy::{open_copy, open_nothing};
-pub use files::{ensure_openable, is_missing, library_path, open};
+pub use copy::open_nothing;
+pub use files::{ensure_openable, is_missing, library_path};
 pub use image::Image;
 pub use medium::Medium;
 pub use noted::{Failure, Noted};

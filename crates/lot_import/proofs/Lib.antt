@@ -1,5 +1,6 @@
 pub mod ColumnLaws
 pub mod DealLaws
+pub mod ExceptLaws
 pub mod FaultyLemmas
 pub mod FileLaws
 pub mod FileLemmas

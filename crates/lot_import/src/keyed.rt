@@ -1,7 +1,7 @@
-//! The commands of the rows of a file, each under its key.
-ghost use Rattle.std.specs.Prelude.{◌≡◌, ◌≤◌, ◌↔◌, ℕ, Err, IfOk, IfErr, IfSome, IfNone, IsTrue};
+//! The commands of the rows of a file, each under its key, and with the number of its row.
+ghost use Rattle.std.specs.Prelude.{◌≡◌, ◌≤◌, ◌↔◌, ◌⊎◌, ℕ, All, Err, IfOk, IfErr, IfSome, IfNone, IsTrue, length};
 ghost use Rattle.lot_import.specs.Deal.{HasCash};
-ghost use Rattle.lot_import.specs.Keyed.{AreKeyed, AreKeyedFrom, HasInexactRow, HaveCash, IsKeyed};
+ghost use Rattle.lot_import.specs.Keyed.{AreKeyedFrom, HasInexactRow, HaveCash, IsKeyed, is_left_out, is_taken, remaining};
 ghost use Rattle.lot_import.specs.declared.fault.KeyedFault.TheVariants.{InexactAmount};
 
 use crate::accounts::Accounts;
@@ -13,42 +13,85 @@ use lot_command::Key;
 use lot_rounding::{Asked, Decimals};
 use std::alloc::Global;
 
-/// Returns rows as they are handed in, each under its key in the source (docs/RULES.md, Keys and repeats). Where decimals are
-/// given, the cash of each is rounded to so many, half to even. The rows before `from`, counted from 1, are left out.
+/// Commands with the numbers that they have in their input, as many of one as of the other.
+#[derive(Drop)]
+pub struct Numbered {
+    pub numbers: Vec<usize>,
+    pub commands: Vec<(Key, Asked)>,
+}
+
+/// Returns rows as they are handed in, each under its key in the source (docs/RULES.md, Keys and repeats), and with its number.
+/// Where decimals are given, the cash of each is rounded to so many, half to even. The first row has the number 1. The rows
+/// before `from` are left out, and so is each row whose `ref` is one of `except`.
 ///
 /// The error is `InexactAmount` exactly where the cash that some row moves isn't units: out of range, or without decimals not
 /// exact. It has the number of the first such row, even where this row is before `from`: all rows are tested before a command
-/// is made. Else it is out of memory.
+/// is made, but those whose `ref` is one of `except`. Else it is out of memory.
 pub fn keyed_commands(
     alloc: Global,
     source: &Label,
     accounts: &Accounts,
     decimals: Option<Decimals>,
     from: usize,
+    except: &[Label],
     rows: &[Row],
-) -> Result<Vec<(Key, Asked)>, KeyedFault>
+) -> Result<Numbered, KeyedFault>
     requires { 1 ≤ from }
-    ensures keyed { IfOk result (λ keyed.
-        AreKeyedFrom source.now accounts.now decimals from rows.now keyed.items) }
+    ensures keyed { IfOk result (λ keyed. AreKeyedFrom
+        source.now accounts.now decimals from except.now rows.now
+        (keyed.numbers.items, keyed.commands.items)) }
+    ensures as_many { IfOk result (λ keyed.
+        length keyed.numbers.items ≡ length keyed.commands.items) }
+    ensures within { IfOk result (λ keyed.
+        All (λ number. number ≤ length rows.now) keyed.numbers.items) }
     ensures inexact { (number : ℕ) → result ≡ Err (InexactAmount number)
-        → HasInexactRow decimals rows.now number }
-    ensures memory { result ≡ Err KeyedFault.Memory → HaveCash decimals rows.now }
+        → HasInexactRow decimals except.now rows.now number }
+    ensures memory { result ≡ Err KeyedFault.Memory
+        → HaveCash decimals (remaining except.now rows.now) }
 {
-    if let Some(row) = first_inexact(rows, decimals) {
+    if let Some(row) = first_inexact(rows, except, decimals) {
         return Err(KeyedFault::InexactAmount { row });
     }
-    let mut keyed = all_keyed(alloc, source, accounts, decimals, rows)?;
-    let skipped = (from - 1).min(keyed.len());
-    Ok(keyed.split_off(skipped)?)
+    let mut numbers = Vec::new(alloc);
+    let mut commands = Vec::new(alloc);
+    for (index, row) in rows.iter().enumerate() {
+        let number = index + 1;
+        if is_taken(from, except, number, row) {
+            commands.push(keyed_command(alloc, source, accounts, decimals, row)?)?;
+            numbers.push(number)?;
+        }
+    }
+    Ok(Numbered { numbers, commands })
 }
 
-/// Returns the number, counted from 1, of the first row that has no cash.
-fn first_inexact(rows: &[Row], decimals: Option<Decimals>) -> Option<usize>
-    ensures some { IfSome result (HasInexactRow decimals rows.now) }
-    ensures none { IfNone result (HaveCash decimals rows.now) }
+/// Returns the number, counted from 1, of the first row that isn't left out and has no cash.
+fn first_inexact(rows: &[Row], except: &[Label], decimals: Option<Decimals>) -> Option<usize>
+    ensures some { IfSome result (HasInexactRow decimals except.now rows.now) }
+    ensures none { IfNone result (HaveCash decimals (remaining except.now rows.now)) }
 {
-    let index = rows.iter().position(|row| !has_cash(row, decimals))?;
+    let index = rows.iter().position(|row| !passes(row, except, decimals))?;
     Some(index + 1)
+}
+
+/// Returns whether a row is left out, or else has cash.
+fn passes(row: &Row, except: &[Label], decimals: Option<Decimals>) -> bool
+    ensures { IsTrue result ↔ (IsTrue (is_left_out except.now row.now) ⊎ HasCash decimals row.now) }
+{
+    is_left_out(except, row) || has_cash(row, decimals)
+}
+
+/// Returns whether the row of that number gives a command.
+fn is_taken(from: usize, except: &[Label], number: usize, row: &Row) -> bool
+    ensures { result ≡ is_taken from except.now (number, row.now) }
+{
+    number >= from && !is_left_out(except, row)
+}
+
+/// Returns whether the `ref` of a row is one of `except`.
+fn is_left_out(except: &[Label], row: &Row) -> bool
+    ensures { result ≡ is_left_out except.now row.now }
+{
+    except.contains(&row.name)
 }
 
 /// Returns whether a row has cash.
@@ -56,26 +99,6 @@ fn has_cash(row: &Row, decimals: Option<Decimals>) -> bool
     ensures { IsTrue result ↔ HasCash decimals row.now }
 {
     cash(row, decimals).is_some()
-}
-
-/// Returns all rows as they are handed in, each under its key. The only error is out of memory.
-fn all_keyed(
-    alloc: Global,
-    source: &Label,
-    accounts: &Accounts,
-    decimals: Option<Decimals>,
-    rows: &[Row],
-) -> Result<Vec<(Key, Asked)>, KeyedFault>
-    requires { HaveCash decimals rows.now }
-    ensures keyed { IfOk result (λ keyed.
-        AreKeyed source.now accounts.now decimals rows.now keyed.items) }
-    ensures memory { IfErr result (λ fault. fault ≡ KeyedFault.Memory) }
-{
-    let mut all = Vec::new(alloc);
-    for row in rows.iter() {
-        all.push(keyed_command(alloc, source, accounts, decimals, row)?)?;
-    }
-    Ok(all)
 }
 
 /// Returns a row as it is handed in, under its key. The only error is out of memory.

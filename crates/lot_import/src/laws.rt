@@ -1,14 +1,17 @@
 //! Laws of the definitions that the contracts of this crate cite. Each is the contract of a function that does nothing.
-ghost use Rattle.std.specs.Prelude.{◌≡◌, ◌≢◌, ◌≤◌, ◌<◌, ◌*◌, ◌⊎◌, ◌∷◌, ◌++◌, [], ℕ, ℤ, List, Option, Some, unsigned_abs};
+ghost use Rattle.std.specs.Prelude.{◌≡◌, ◌≢◌, ◌≤◌, ◌<◌, ◌*◌, ◌⊎◌, ◌∷◌, ◌++◌, ◌-◌, [], ℕ, ℤ, List, Option, Some, drop, length, unsigned_abs};
+ghost use Rattle.std.specs.List.{range_with_len};
 ghost use Rattle.lot_num.specs.Amount.{one, units_limit};
 ghost use Rattle.lot_command.specs.declared.command.Command.{Command};
 ghost use Rattle.lot_command.specs.declared.command.Command.TheVariants.{Transaction};
+ghost use Rattle.lot_command.specs.declared.key.Key.{Key};
 ghost use Rattle.lot_command.specs.declared.transaction.Transaction.{Transaction as TransactionOf};
 ghost use Rattle.lot_rounding.specs.Asked.{IsAtSomeDecimals};
 ghost use Rattle.lot_rounding.specs.Nearest.{IsRounded, most_decimals};
 ghost use Rattle.lot_rounding.specs.declared.asked.Asked.{Asked};
 ghost use Rattle.lot_import.specs.Deal.{HasCash, IsAskedOf, IsCommandOf, MayBeGiven, cash_weight};
 ghost use Rattle.lot_import.specs.File.{AreRows, HasFault};
+ghost use Rattle.lot_import.specs.Keyed.{AreKeyed, AreKeyedFrom, remaining};
 ghost use Rattle.lot_import.specs.Row.{IsFaulty, IsRow};
 ghost use Rattle.lot_import.specs.declared.accounts.Accounts.{Accounts};
 ghost use Rattle.lot_import.specs.declared.fault.Cause.{Cause};
@@ -69,4 +72,19 @@ pub fn a_row_is_known_at_other_decimals()
         (asked : Asked) (t : TransactionOf)
         → MayBeGiven decimals → IsAskedOf accounts decimals row asked
         → asked.command ≡ Transaction t → IsAtSomeDecimals asked.cash t t }
+{}
+
+/// Where no row is left out, what is given of rows is the commands of all of them without those before a number, and the
+/// numbers follow one another from this number.
+pub fn what_is_given_without_rows_left_out()
+    ensures numbers { (source : List ℕ) (accounts : Accounts) (decimals : Option ℕ) (from : ℕ)
+        (rows : List Row) (given : List ℕ × List (Key × Asked))
+        → AreKeyedFrom source accounts decimals from [] rows given
+        → 1 ≤ from → given.0 ≡ range_with_len from (length given.1) }
+    ensures commands { (source : List ℕ) (accounts : Accounts) (decimals : Option ℕ) (from : ℕ)
+        (rows : List Row) (given : List ℕ × List (Key × Asked))
+        → AreKeyedFrom source accounts decimals from [] rows given
+        → (all : List (Key × Asked)) × AreKeyed source accounts decimals rows all
+        × (given.1 ≡ drop (from - 1) all) }
+    ensures remain { (rows : List Row) → remaining [] rows ≡ rows }
 {}

@@ -7,7 +7,7 @@
 //! - `header`: whether a file may have a header, as far as its bytes show it before it is read.
 //! - `written`: the row that a record of the file says, by its columns (`column`) in that version of the file (`version`).
 //! - `faulty`: all causes for which a record is faulty (`causes_of`).
-//! - `keyed`: the commands of all rows, each under its key (`keyed_commands`).
+//! - `keyed`: the commands of the rows, each under its key and with the number of its row (`keyed_commands`).
 //! - `fault`: why there are no rows, or no commands.
 //! - `laws`: laws of the definitions that the contracts of `read_rows` and `command` cite.
 #![tactic(auto)]
@@ -31,6 +31,6 @@ pub use deal::command;
 pub use fault::{Cause, CommandFault, KeyedFault, RowsFault};
 pub use faulty::causes_of;
 pub use file::read_rows;
-pub use keyed::keyed_commands;
+pub use keyed::{Numbered, keyed_commands};
 pub use row::{Action, Row};
 pub use version::Version;

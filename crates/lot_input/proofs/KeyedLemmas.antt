@@ -1,20 +1,21 @@
 -- The keys of a batch: their texts are labels, and each command more has the key of its number.
-use Rattle.std.proofs.Common.{◌≡◌, ◌≢◌, inl, inr, ◌∙◌, ◌+◌, ◌-◌, ◌%◌, ◌^◌, ◌<◌, ◌≤◌, ◌&&◌, ℕ, suc, true, IsTrue, List, [], ◌∷◌, ◌++◌, length, drop, codes, decimal, nat_le, refl, sym, ap, append_assoc, append-nil, length-append, arith}
+use Rattle.std.proofs.Common.{◌≡◌, ◌≢◌, inl, inr, ◌∙◌, ◌+◌, ◌-◌, ◌%◌, ◌^◌, ◌<◌, ◌≤◌, ◌&&◌, ℕ, zero, suc, true, IsTrue, List, [], ◌∷◌, ◌++◌, length, get_or, drop, codes, decimal, nat_le, refl, sym, ap, subst, append_assoc, append-nil, length-append, arith}
 use Rattle.std.proofs.lemmas.Bool.{and_from, and_parts, le-leb, leb-true, or_cases}
 use Rattle.std.proofs.lemmas.Bool.Decides.{nat_tests}
 use Rattle.std.proofs.lemmas.Fmt.{decimal_by_steps, decimal_nonempty, length-decimal-le}
 use Rattle.std.proofs.lemmas.List.{drop-append-le, drop_all, length-drop}
 use Rattle.std.proofs.lemmas.List.Folds.{list_all-append}
+use Rattle.std.proofs.lemmas.List.FromFn.{get_or-range_with_len, length-range_with_len}
 use Rattle.std.specs.Char.{is_ascii_alphanumeric}
 use Rattle.std.specs.Int.{is_in_range}
-use Rattle.std.specs.List.{list_all}
+use Rattle.std.specs.List.{All, list_all, range_with_len}
 use Rattle.std.specs.Prelude.{◌||◌, ◌==◌}
 use Rattle.lot_base.specs.Name.{is_label, is_label_byte, longest_label}
 use Rattle.lot_command.specs.declared.command.Command.{Command}
 use Rattle.lot_command.specs.declared.key.Key.{Key}
 use Rattle.lot_rounding.specs.Asked.{plain}
 use Rattle.lot_rounding.specs.declared.asked.Asked.{Asked}
-use Rattle.lot_input.specs.Keyed.{keyed_from, numbered_key, source_of, under_keys}
+use Rattle.lot_input.specs.Keyed.{HaveNext, keyed_from, numbered_key, source_of, under_keys}
 use Rattle.lot_args.specs.Batch.{is_batch, is_batch_byte, longest_batch}
 
 -- ---- labels
@@ -167,3 +168,61 @@ module _ (source : List ℕ) (from : ℕ) (commands left rest : List Command) (c
         ∙ ap (under_keys source from) (drop_all (from - 1) so.done (omega (arith, numbered, so.counted, before))
         ∙ sym (drop_all (from - 1) more (omega (arith, count_more, counted_on, numbered, before))));
   }
+
+-- ---- their numbers
+
+length-under_keys : (source : List ℕ) (number : ℕ) (commands : List Command) → length (under_keys source number commands) ≡ length commands
+length-under_keys source number [] = refl
+length-under_keys source number (command ∷ commands) = ap (λ n. suc n) (length-under_keys source (suc number) commands)
+
+length-keyed_from : (source : List ℕ) (from : ℕ) (commands : List Command) → length (keyed_from source from commands) ≡ length (drop (from - 1) commands)
+length-keyed_from source from commands = length-under_keys source from (drop (from - 1) commands)
+
+range_more : (a n : ℕ) → range_with_len a n ++ (a + n) ∷ [] ≡ range_with_len a (suc n)
+range_more a zero = ap (λ k. k ∷ []) (none a)
+  where
+    none : (k : ℕ) → k + 0 ≡ k
+    none k = omega arith
+range_more a (suc n) =
+    ap (λ (ns : List ℕ). a ∷ ns) (ap (λ k. range_with_len (a + 1) n ++ k ∷ []) (counted a n) ∙ range_more (a + 1) n)
+  where
+    counted : (k m : ℕ) → k + suc m ≡ k + 1 + m
+    counted k m = omega arith
+
+-- the numbers of the commands that were taken in follow one another from the first one on
+abbrev pub AreNumbered : ℕ → List (Key × Asked) → List ℕ → Type 0
+AreNumbered from keyed numbers = numbers ≡ range_with_len from (length keyed)
+
+pub none_numbered : (from : ℕ) (keyed : List (Key × Asked)) (numbers : List ℕ) → keyed ≡ [] → numbers ≡ [] → AreNumbered from keyed numbers
+none_numbered from keyed numbers none empty = empty ∙ ap (λ (ks : List (Key × Asked)). range_with_len from (length ks)) (sym none)
+
+pub next_numbered : (source : List ℕ) (from : ℕ) (commands left : List Command) (count number : ℕ) (keyed longer : List (Key × Asked))
+    (numbers pushed_on : List ℕ) (one : Key × Asked) → TakenIn source from commands left count keyed → number ≡ count + 1 → 1 ≤ from → from ≤ number
+    → AreNumbered from keyed numbers → pushed_on ≡ numbers ++ number ∷ [] → longer ≡ keyed ++ one ∷ [] → AreNumbered from longer pushed_on
+next_numbered source from commands left count number keyed longer numbers pushed_on one so is some here numbered pushed grown =
+    let place : number ≡ from + length keyed =
+    omega (arith, is, some, here, so.counted, ap length so.taken, length-keyed_from source from so.done, length-drop (from - 1) so.done) in
+    let grows : suc (length keyed) ≡ length longer = omega (arith, ap length grown, length-append keyed (one ∷ [])) in
+    pushed ∙ ap (λ n. numbers ++ n ∷ []) place ∙ ap (λ (ns : List ℕ). ns ++ (from + length keyed) ∷ []) numbered
+    ∙ range_more from (length keyed) ∙ ap (range_with_len from) grows
+
+-- each of them is at most the number of all commands
+pub numbers_have_next : (source : List ℕ) (from : ℕ) (commands : List Command) (keyed : List (Key × Asked)) (numbers : List ℕ) → 1 ≤ from
+    → length commands < 2 ^ 63 → keyed ≡ keyed_from source from commands → AreNumbered from keyed numbers → HaveNext numbers
+numbers_have_next source from commands keyed numbers some few is numbered =
+    let count : length keyed ≡ length commands - (from - 1) =
+    ap length is ∙ length-keyed_from source from commands ∙ length-drop (from - 1) commands in
+    subst HaveNext (sym numbered)
+    (λ k d lt.
+    let within : k < length keyed = subst (λ n. k < n) (length-range_with_len from (length keyed)) lt in
+    let at : get_or (range_with_len from (length keyed)) k d ≡ from + k = get_or-range_with_len from (length keyed) k d within in
+    subst (λ n. n + 1 < 2 ^ 64) (sym at) (omega (arith, within, count, some, few)))
+
+pub small_have_next : (most : ℕ) (numbers : List ℕ) → most < 2 ^ 63 → All (λ number. number ≤ most) numbers → HaveNext numbers
+small_have_next most numbers few within = λ k d lt. let low = within k d lt in omega (arith, low, few)
+
+-- the numbers of the commands that were taken in
+pub taken_have_next : (source : List ℕ) (from : ℕ) (commands left : List Command) (count : ℕ) (keyed : List (Key × Asked)) (numbers : List ℕ)
+    → TakenIn source from commands left count keyed → AreNumbered from keyed numbers → 1 ≤ from → length commands < 2 ^ 63 → HaveNext numbers
+taken_have_next source from commands left count keyed numbers so numbered some few =
+    numbers_have_next source from so.done keyed numbers some (omega (arith, few, ap length so.split, length-append so.done left)) so.taken numbered

@@ -1,5 +1,5 @@
 -- The commands of an input under their keys (docs/RULES.md, Keys and repeats).
-use Rattle.std.specs.Prelude.{ℕ, ◌-◌, suc, List, [], ◌∷◌, ◌++◌, codes, decimal, drop}
+use Rattle.std.specs.Prelude.{ℕ, ◌+◌, ◌-◌, ◌^◌, ◌<◌, suc, All, List, [], ◌∷◌, ◌++◌, codes, decimal, drop}
 use Rattle.lot_command.specs.declared.command.Command.{Command}
 use Rattle.lot_command.specs.declared.key.Key.{Key}
 use Rattle.lot_rounding.specs.Asked.{plain}
@@ -33,3 +33,7 @@ under_keys source number (command ∷ commands) = (numbered_key source number, p
 -- those from that number on; the first of all has the number 1
 abbrev pub keyed_from : List ℕ → ℕ → List Command → List (Key × Asked)
 keyed_from source from commands = under_keys source from (drop (from - 1) commands)
+
+-- each of the numbers has a next one that is counted, too
+abbrev pub HaveNext : List ℕ → Type 0
+HaveNext numbers = All (λ number. number + 1 < 2 ^ 64) numbers

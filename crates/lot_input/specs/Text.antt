@@ -1,5 +1,6 @@
 -- The commands of an input that is ledger text, and why it isn't (docs/FORMATS.md, Ledger text).
-use Rattle.std.specs.Prelude.{◌≡◌, ℕ, List, [], ◌∷◌, Option, Some, None, option_map}
+use Rattle.std.specs.Prelude.{◌≡◌, ℕ, List, [], ◌∷◌, length, Option, Some, None, option_map}
+use Rattle.std.specs.List.{range_with_len}
 use Rattle.lot_command.specs.declared.command.Command.{Command}
 use Rattle.lot_command.specs.declared.key.Key.{Key}
 use Rattle.lot_input.specs.Keyed.{keyed_from, post_source, row_key}
@@ -9,9 +10,12 @@ use Rattle.lot_read.specs.Text.{IsFaultOf, Reads}
 use Rattle.lot_rounding.specs.Asked.{plain}
 use Rattle.lot_rounding.specs.declared.asked.Asked.{Asked}
 
--- the input is ledger text, and these are its commands from that number on, each under the key of its number in the batch
-abbrev pub TextMeans : List ℕ → ℕ → List ℕ → List (Key × Asked) → Type 0
-TextMeans batch from input keyed = (commands : List Command) × Reads input commands × (keyed ≡ keyed_from (post_source batch) from commands)
+-- the input is ledger text, and these are its commands from that number on, with their numbers, each under the key of its number
+-- in the batch
+abbrev pub TextMeans : List ℕ → ℕ → List ℕ → List ℕ × List (Key × Asked) → Type 0
+TextMeans batch from input given =
+    (commands : List Command) × Reads input commands × (given.1 ≡ keyed_from (post_source batch) from commands)
+    × (given.0 ≡ range_with_len from (length given.1))
 
 -- the one command of a list; none, where it has another number of commands
 abbrev pub only : List Command → Option Command

@@ -1,35 +1,45 @@
 ghost use Rattle.std.specs.Prelude.{◌≡◌, ◌≤◌, IfOk, IsTrue, length};
+ghost use Rattle.std.specs.List.{range_with_len};
 ghost use Rattle.lot_base.specs.Name.{is_label};
-ghost use Rattle.lot_input.specs.Keyed.{keyed_from, numbered_key, post_source, source_of};
+ghost use Rattle.lot_input.specs.Keyed.{HaveNext, keyed_from, numbered_key, post_source, source_of};
 
 use lot_args::Batch;
 use lot_base::Label;
 use lot_command::{Command, Key};
+use lot_import::Numbered;
 use lot_rounding::Asked;
 use std::alloc::{AllocError, Global};
 
-/// Returns the commands of a batch from that number on, each under the key of its number. The first command of the list
-/// has the number 1. The only error is out of memory.
+/// Returns the commands of a batch from that number on, each under the key of its number, and with this number. The first
+/// command of the list has the number 1. The only error is out of memory.
 pub(crate) fn keyed(
     alloc: Global,
     batch: &Batch,
     from: usize,
     commands: Vec<Command>,
-) -> Result<Vec<(Key, Asked)>, AllocError>
+) -> Result<Numbered, AllocError>
     requires { 1 ≤ from }
-    ensures { IfOk result (λ keyed.
-        keyed.items ≡ keyed_from (post_source batch.now) from commands.items) }
+    ensures commands { IfOk result (λ keyed.
+        keyed.commands.items ≡ keyed_from (post_source batch.now) from commands.items) }
+    ensures numbers { IfOk result (λ keyed.
+        keyed.numbers.items ≡ range_with_len from (length keyed.commands.items)) }
+    ensures next { IfOk result (λ keyed. HaveNext keyed.numbers.items) }
 {
     let source = source(alloc, "post", batch)?;
+    let mut numbers = Vec::new(alloc);
     let mut keyed = Vec::new(alloc);
     for (index, command) in commands.into_iter().enumerate() {
         let number = index + 1;
         if number >= from {
             let key = key(alloc, &source, number)?;
             keyed.push((key, Asked::plain(command)))?;
+            numbers.push(number)?;
         }
     }
-    Ok(keyed)
+    Ok(Numbered {
+        numbers,
+        commands: keyed,
+    })
 }
 
 /// Returns the source of the commands of a batch that this subcommand sends. The only error is out of memory.

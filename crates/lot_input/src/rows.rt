@@ -1,20 +1,20 @@
-ghost use Rattle.std.specs.Prelude.{◌≤◌, IfErr, IfOk};
+ghost use Rattle.std.specs.Prelude.{◌≡◌, ◌≤◌, IfErr, IfOk, length};
 ghost use Rattle.lot_input.specs.Input.{Gives, GivesNone};
+ghost use Rattle.lot_input.specs.Keyed.{HaveNext};
 ghost use Rattle.lot_input.specs.Rows.{FileMeans, HasRowsOf, IsFaultyFile};
 
 use crate::fault::InputFault;
 use crate::keyed::source;
 use lot_args::Batch;
 use lot_base::Label;
-use lot_command::Key;
-use lot_import::{Accounts, keyed_commands, read_rows};
-use lot_rounding::{Asked, Decimals};
+use lot_import::{Accounts, Numbered, keyed_commands, read_rows};
+use lot_rounding::Decimals;
 use lot_stream::{CountedRead, slurp};
 use std::alloc::Global;
 
-/// Reads all that a reader has as a broker file. Returns the commands of its rows from that number on. Each posts to the
-/// accounts, and has the key of its row in the batch. Where decimals are given, the cash of each is rounded to so many, half to
-/// even. The first row has the number 1.
+/// Reads all that a reader has as a broker file. Returns the commands of its rows from that number on, without those whose `ref`
+/// is one of `except`. Each posts to the accounts, and has the key of its row in the batch and the number of its row in the file.
+/// Where decimals are given, the cash of each is rounded to so many, half to even. The first row has the number 1.
 ///
 /// The errors are `Unasked`, `Unread`, `Rows` and `Cash`. `Unasked` is out of memory for the source of the keys. The source is
 /// made before anything is read, so that this is never told in place of a fault of the file.
@@ -24,16 +24,20 @@ pub fn keyed_rows<R: CountedRead>(
     accounts: &Accounts,
     decimals: Option<Decimals>,
     from: usize,
+    except: &[Label],
     reader: &mut R,
-) -> Result<Vec<(Key, Asked)>, InputFault>
+) -> Result<Numbered, InputFault>
     requires { 1 ≤ from }
     ensures ok { IfOk result (λ keyed. Gives
-        (FileMeans batch.now accounts.now decimals from) (record {
+        (FileMeans batch.now accounts.now decimals from except.now) (record {
           bytes = R.remaining reader.old;
           left = R.remaining reader.new;
           calls = record { before = R.calls reader.old; after = R.calls reader.new };
-        }) keyed.items) }
-    ensures err { IfErr result (GivesNone (IsFaultyFile decimals) (record {
+        }) (keyed.numbers.items, keyed.commands.items)) }
+    ensures as_many { IfOk result (λ keyed.
+        length keyed.numbers.items ≡ length keyed.commands.items) }
+    ensures next { IfOk result (λ keyed. HaveNext keyed.numbers.items) }
+    ensures err { IfErr result (GivesNone (IsFaultyFile decimals except.now) (record {
       bytes = R.remaining reader.old;
       left = R.remaining reader.new;
       calls = record { before = R.calls reader.old; after = R.calls reader.new };
@@ -43,7 +47,7 @@ pub fn keyed_rows<R: CountedRead>(
         return Err(InputFault::Unasked);
     };
     let file = slurp(alloc, reader)?;
-    let keyed = commands_in(alloc, &source, accounts, decimals, from, &file);
+    let keyed = commands_in(alloc, &source, accounts, decimals, from, except, &file);
     reader.take_back(file);
     keyed
 }
@@ -55,13 +59,18 @@ fn commands_in(
     accounts: &Accounts,
     decimals: Option<Decimals>,
     from: usize,
+    except: &[Label],
     file: &[u8],
-) -> Result<Vec<(Key, Asked)>, InputFault>
+) -> Result<Numbered, InputFault>
     requires { 1 ≤ from }
     ensures ok { IfOk result (λ keyed.
-        HasRowsOf source.now accounts.now decimals from file.now keyed.items) }
-    ensures err { IfErr result (IsFaultyFile decimals file.now) }
+        HasRowsOf source.now accounts.now decimals from except.now file.now
+        (keyed.numbers.items, keyed.commands.items)) }
+    ensures as_many { IfOk result (λ keyed.
+        length keyed.numbers.items ≡ length keyed.commands.items) }
+    ensures next { IfOk result (λ keyed. HaveNext keyed.numbers.items) }
+    ensures err { IfErr result (IsFaultyFile decimals except.now file.now) }
 {
     let rows = read_rows(alloc, file)?;
-    Ok(keyed_commands(alloc, source, accounts, decimals, from, &rows)?)
+    Ok(keyed_commands(alloc, source, accounts, decimals, from, except, &rows)?)
 }

@@ -1,5 +1,6 @@
-ghost use Rattle.std.specs.Prelude.{◌≡◌, ◌≤◌, IfErr, IfOk};
+ghost use Rattle.std.specs.Prelude.{◌≡◌, ◌≤◌, IfErr, IfOk, length};
 ghost use Rattle.lot_input.specs.Input.{Gives, GivesNone};
+ghost use Rattle.lot_input.specs.Keyed.{HaveNext};
 ghost use Rattle.lot_input.specs.Text.{IsFaultyText, RowMeans, TextMeans, only};
 
 use crate::fault::InputFault;
@@ -7,13 +8,14 @@ use crate::keyed::{keyed, source};
 use lot_args::Batch;
 use lot_base::Label;
 use lot_command::{Command, Key};
+use lot_import::Numbered;
 use lot_rounding::Asked;
 use lot_stream::{CountedRead, slurp};
 use lot_text::read;
 use std::alloc::Global;
 
 /// Reads all that a reader has as ledger text. Returns its commands from that number on, each under the key of its number in
-/// the batch. The first command of the text has the number 1.
+/// the batch, and with this number. The first command of the text has the number 1.
 ///
 /// The errors are `Unread`, `Text` and `Memory`.
 pub fn keyed_text<R: CountedRead>(
@@ -21,13 +23,16 @@ pub fn keyed_text<R: CountedRead>(
     batch: &Batch,
     from: usize,
     reader: &mut R,
-) -> Result<Vec<(Key, Asked)>, InputFault>
+) -> Result<Numbered, InputFault>
     requires { 1 ≤ from }
     ensures ok { IfOk result (λ keyed. Gives (TextMeans batch.now from) (record {
       bytes = R.remaining reader.old;
       left = R.remaining reader.new;
       calls = record { before = R.calls reader.old; after = R.calls reader.new };
-    }) keyed.items) }
+    }) (keyed.numbers.items, keyed.commands.items)) }
+    ensures as_many { IfOk result (λ keyed.
+        length keyed.numbers.items ≡ length keyed.commands.items) }
+    ensures next { IfOk result (λ keyed. HaveNext keyed.numbers.items) }
     ensures err { IfErr result (GivesNone IsFaultyText (record {
       bytes = R.remaining reader.old;
       left = R.remaining reader.new;
@@ -74,9 +79,13 @@ fn commands_in(
     batch: &Batch,
     from: usize,
     text: &[u8],
-) -> Result<Vec<(Key, Asked)>, InputFault>
+) -> Result<Numbered, InputFault>
     requires { 1 ≤ from }
-    ensures ok { IfOk result (λ keyed. TextMeans batch.now from text.now keyed.items) }
+    ensures ok { IfOk result (λ keyed. TextMeans batch.now from text.now
+        (keyed.numbers.items, keyed.commands.items)) }
+    ensures as_many { IfOk result (λ keyed.
+        length keyed.numbers.items ≡ length keyed.commands.items) }
+    ensures next { IfOk result (λ keyed. HaveNext keyed.numbers.items) }
     ensures err { IfErr result (IsFaultyText text.now) }
 {
     let commands = read(alloc, text)?;

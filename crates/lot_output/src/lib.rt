@@ -1,21 +1,19 @@
 //! What a call of the program writes as it runs, and what it read and wrote, kept for what is said of
 //! it afterwards.
 //!
-//! - `input`: standard input; `output`: standard output; `meter`: how far a run is, on standard error.
+//! - `output`: standard output; `meter`: how far a run is, on standard error.
 //! - `record`: bytes that are kept. `heard`: what was heard of a call, and a writer that hears it;
 //!   `course`: how far a run came, by its replies.
 #![tactic(auto)]
 
 mod course;
 mod heard;
-mod input;
 mod meter;
 mod output;
 mod record;
 
 pub use course::Course;
 pub use heard::{Heard, Witness};
-pub use input::Input;
 pub use meter::Meter;
 pub use output::Output;
 pub use record::Kept;

@@ -1,14 +1,11 @@
-//! Standard output, and what is held back of it.
+//! Standard output.
 
 use crate::meter::Meter;
-use crate::record::Kept;
 use std::io::{self, BufWriter, Printer, Write};
 use std::mem;
 
-/// Standard output, or what may be written there later.
-///
-/// The replies of a run are written out at once, and a meter counts them. Other text goes through a
-/// buffer. What is held back stays in memory.
+/// Standard output. The replies of a run are written out at once, and a meter counts them. Other
+/// text goes through a buffer.
 #[derive(Drop)]
 pub struct Output<'a> {
     rt: &'a HostRuntime,
@@ -22,7 +19,6 @@ enum Target<'a> {
     /// Replies, and text where there is no memory for a buffer.
     AtOnce,
     Buffered(BufWriter<Printer<'a, HostRuntime>>),
-    Held(Kept),
 }
 
 impl<'a> Output<'a> {
@@ -43,23 +39,6 @@ impl<'a> Output<'a> {
         }
     }
 
-    /// Returns an output that is held back.
-    pub fn held_back(rt: &'a HostRuntime) -> Output<'a> {
-        Output {
-            rt,
-            to: Target::Held(Kept::new(rt.alloc())),
-            replies: Meter::of_replies(rt, None),
-        }
-    }
-
-    /// Returns what was held back, if there was memory for all of it.
-    pub fn held(&self) -> Option<&[u8]> {
-        match &self.to {
-            Target::Held(Kept { bytes: Some(bytes) }) => Some(bytes),
-            _ => None,
-        }
-    }
-
     /// Ends the line that shows the progress, if there is one. What could not be written is discarded.
     pub fn end(&mut self) {
         self.replies.end();
@@ -75,7 +54,6 @@ impl Write for Output<'_> {
         match &mut self.to {
             Target::AtOnce => io::writer(self.rt).write(buf),
             Target::Buffered(buffer) => buffer.write(buf),
-            Target::Held(kept) => kept.write(buf),
         }
     }
 
@@ -87,7 +65,6 @@ impl Write for Output<'_> {
                 Ok(())
             }
             Target::Buffered(buffer) => buffer.flush(),
-            Target::Held(_) => Ok(()),
         }
     }
 }

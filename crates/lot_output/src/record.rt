@@ -1,5 +1,4 @@
-//! Bytes of what a call read or wrote that are kept: for what is said of it on standard error, and for
-//! a second run.
+//! Bytes of what a call read or wrote that are kept for what is said of it on standard error.
 
 ghost use Rattle.std.specs.Prelude.{◌≡◌, [], IfOk, None, Some, length};
 ghost use Rattle.std.specs.Io.{WritesAtMost};
@@ -38,7 +37,7 @@ impl Kept {
     }
 }
 
-/// A writer that holds back what is written, in memory. It fails where there is no memory.
+/// A writer that keeps what is written. It fails where there is no memory.
 impl Write for Kept {
     fn write(&mut self, buf: &[u8]) -> io::Result<usize>
         ensures bound { WritesAtMost result buf.now }

@@ -2,11 +2,8 @@
 
 ghost use Rattle.std.specs.Prelude.{IfOk, List};
 ghost use Rattle.lot_book.specs.Facts.{Entry};
-ghost use Rattle.lot_book.specs.declared.verdict.Verdict.{Verdict};
+ghost use Rattle.lot_cli.specs.Headline.{Sent, SessionLeaves};
 ghost use Rattle.lot_cli.specs.Reopen.{LeavesOneOf, StandsForOneOf};
-ghost use Rattle.lot_command.specs.declared.command.Command.{Command};
-ghost use Rattle.lot_command.specs.declared.key.Key.{Key};
-ghost use Rattle.lot_store.specs.Session.{StopLeaves};
 ghost use Rattle.sqlite.specs.Files.{file_state};
 ghost use Rattle.sqlite.specs.State.{HasCleanDisk};
 
@@ -26,9 +23,9 @@ pub fn stop_and_open<D: Crash + Drop>(
     options: Options,
 ) -> Result<Connection<FileStore<D>>, (Error, Leftover<D>)>
     ensures found { IfOk result (λ again. HasCleanDisk (file_state again)
-        → (before : List Entry) (commands : List (Key × Command)) (replied : List Verdict)
-        → LeavesOneOf (StopLeaves before commands replied) (file_state conn).may_leave
-        → StandsForOneOf (StopLeaves before commands replied) (file_state again)) }
+        → (before : List Entry) (sent : Sent)
+        → LeavesOneOf (SessionLeaves before sent) (file_state conn).may_leave
+        → StandsForOneOf (SessionLeaves before sent) (file_state again)) }
 {
     let mut files = conn.into_store().close();
     files.log.crash();

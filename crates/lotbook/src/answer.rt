@@ -3,19 +3,26 @@
 ghost use Rattle.std.specs.Prelude.{◌≡◌, None, false};
 
 use crate::keeper::{Keep, Keeper};
-use lot_call::{Call, Crumbs, Standing, explain, say_taken, say_unwritten, sum_up};
-use lot_cli::{
-    AdoptFault, CountedWriter, CreateFault, Halt, MigrateFault, Progress, Served, VerifyFault,
-    serve,
+use lot_book::Verdict;
+use lot_call::{
+    Call, Fate, Standing, Watched, explain, say_taken, say_unwritten, sum_up, withdraw,
 };
+use lot_cli::{
+    AdoptFault, CountedWriter, CreateFault, Halt, Look, MigrateFault, Progress, Served,
+    VerifyFault, serve,
+};
+use lot_command::Key;
 use lot_completion::{Note, Watch};
-use lot_output::{Heard, Input, Kept, Meter, Output, Witness};
+use lot_output::{Heard, Kept, Meter, Output, Witness};
+use lot_rounding::Asked;
+use lot_table::Queryable;
 use lot_verify::say_where;
 use sqlite::{Alter, Connection};
+use std::io::StdinLock;
 
-/// Does what a call is for on the book that the connection leads to, with that input, and says on
+/// Does what a call is for on the book that the connection leads to, with standard input, and says on
 /// standard error what there is to say of it.
-pub fn answer<S: Alter>(call: &Call<'_>, reader: Input<'_>, conn: Connection<S>) -> Served<S>
+pub fn answer<S: Alter>(call: &Call<'_>, conn: Connection<S>) -> Served<S>
     requires outside { conn.in_transaction ≡ false }
     requires unlimited { conn.step_limit ≡ None }
 {
@@ -25,17 +32,17 @@ pub fn answer<S: Alter>(call: &Call<'_>, reader: Input<'_>, conn: Connection<S>)
     } else {
         Keep::TakenBack
     };
-    let mut reader = Keeper::new(alloc, reader, keep);
+    let mut reader = Keeper::new(alloc, call.rt.reader(), keep);
     let mut writer = Witness::new(alloc, Output::new(call.rt, call.runs()), call.most());
-    let mut crumbs = Crumbs::of(call);
-    let mut served = do_quietly(call, &mut reader, &mut writer, &mut crumbs, conn);
+    let mut watched = Watched::of(call);
+    let mut served = do_quietly(call, &mut reader, &mut writer, &mut watched, conn);
     reader.free_room();
     writer.writer.end();
     speak(
         call,
         &reader.kept,
         &writer.heard,
-        &crumbs,
+        &mut watched,
         served.halt,
         &mut served.conn,
     );
@@ -44,11 +51,11 @@ pub fn answer<S: Alter>(call: &Call<'_>, reader: Input<'_>, conn: Connection<S>)
 
 /// Does what a call is for, and says nothing of it. All that `serve` says is left out here, so that
 /// its callers are proved without it.
-pub fn do_quietly<S: Alter>(
+fn do_quietly<S: Alter>(
     call: &Call<'_>,
-    reader: &mut Keeper<Input<'_>>,
+    reader: &mut Keeper<StdinLock<'_>>,
     writer: &mut Witness<Output<'_>>,
-    crumbs: &mut Crumbs,
+    watched: &mut Watched,
     conn: Connection<S>,
 ) -> Served<S>
     requires outside { conn.in_transaction ≡ false }
@@ -57,7 +64,7 @@ pub fn do_quietly<S: Alter>(
     let mut output = CountedWriter::new(writer);
     let mut watcher = Watcher {
         legs: Meter::of_legs(call.rt),
-        crumbs,
+        watched,
     };
     serve(
         call.rt.alloc(),
@@ -69,25 +76,40 @@ pub fn do_quietly<S: Alter>(
     )
 }
 
-/// Says on standard error what there is to say of what was read and written, and of crumbs.
-pub fn speak<S: Alter>(
+/// Says on standard error what there is to say of what was read and written, and of what was watched.
+fn speak<S: Alter>(
     call: &Call<'_>,
     read: &Kept,
     heard: &Heard,
-    crumbs: &Crumbs,
+    watched: &mut Watched,
     halt: Option<Halt>,
     conn: &mut Connection<S>,
 ) {
     if call.is_quiet() {
         return;
     }
-    explain(call, read, heard, crumbs, conn);
-    say_taken(call, crumbs);
-    match halt {
-        Some(halt) => advise(call, halt, conn),
-        None => sum_up(call, &heard.course),
+    let fate = Fate::of(call, heard, &watched.remembered);
+    explain(
+        &*call,
+        &*read,
+        &*heard,
+        &watched.crumbs,
+        &mut watched.remembered,
+        conn,
+    );
+    match (halt, fate) {
+        (Some(halt), _) => advise(call, halt, conn),
+        (None, Fate::Dropped) => {
+            sum_up(call, &heard.course);
+            withdraw(call);
+        }
+        (None, Fate::InDoubt) => sum_up(call, &heard.course),
+        (None, Fate::Kept) => {
+            say_taken(call, &watched.crumbs);
+            sum_up(call, &heard.course);
+        }
     }
-    say_unwritten(call, heard);
+    say_unwritten(call, heard, fate);
 }
 
 /// Says what helps where an action ended before its first command, since the file holds no book, or
@@ -110,11 +132,11 @@ fn advise<S: Alter>(call: &Call<'_>, halt: Halt, conn: &mut Connection<S>) {
     }
 }
 
-/// How far a migration is, on standard error, and what becomes of crumbs.
+/// How far a migration is, on standard error, and what is watched of commands.
 #[derive(Drop)]
 struct Watcher<'a, 'b> {
     legs: Meter<'a>,
-    crumbs: &'b mut Crumbs,
+    watched: &'b mut Watched,
 }
 
 impl Progress for Watcher<'_, '_> {
@@ -129,10 +151,22 @@ impl Progress for Watcher<'_, '_> {
 
 impl Watch for Watcher<'_, '_> {
     fn asks(&self) -> bool {
-        self.crumbs.asks()
+        self.watched.crumbs.asks()
     }
 
     fn tell(&mut self, number: usize, note: Note) {
-        self.crumbs.tell(number, note);
+        self.watched.crumbs.tell(number, note);
+    }
+}
+
+impl Look for Watcher<'_, '_> {
+    fn look<D: Queryable>(
+        &mut self,
+        db: &mut D,
+        commands: &[(Key, Asked)],
+        _numbers: &[usize],
+        verdicts: &[Verdict],
+    ) {
+        self.watched.remembered.look(db, commands, verdicts);
     }
 }

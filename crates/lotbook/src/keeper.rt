@@ -1,9 +1,9 @@
-//! The reader of a call, which keeps what was read for what is said of it, or for a second run.
+//! The reader of a call, which keeps what was read for what is said of it.
 
-ghost use Rattle.std.specs.Prelude.{[], ◌≡◌, ◌≢◌, IfOk, IsNone, IsSome, None, OnErr, Some, take};
+ghost use Rattle.std.specs.Prelude.{◌≡◌, IsNone, IsSome, None, Some};
 ghost use Rattle.std.specs.Io.{ReadsAtMost};
 ghost use Rattle.std.specs.Io.KnownBytes.{ReadConsumes};
-ghost use Rattle.lot_output.specs.Record.{Keeps, held};
+ghost use Rattle.lot_output.specs.Record.{held};
 ghost use Rattle.lot_stream.specs.Calls.{CountsCall};
 ghost use Rattle.lot_stream.specs.Counted.{counts_of, reader_of};
 
@@ -17,11 +17,9 @@ use std::io::{self, Read};
 const ROOM: usize = 1_048_576;
 
 /// What a reader keeps.
-#[derive(Clone, Copy, PartialEq, Eq)]
+#[derive(Clone, Copy)]
 pub enum Keep {
     Nothing,
-    /// Each piece as it is read: all of it, whatever is made of it.
-    EachRead,
     /// The whole of it, once it is taken back, so that memory holds it once. Nothing is kept where
     /// there is no memory to set aside.
     TakenBack,
@@ -31,32 +29,27 @@ pub enum Keep {
 #[derive(Drop)]
 pub struct Keeper<R> {
     reader: Counted<R>,
-    keep: Keep,
     pub kept: Kept,
     /// What is set aside.
     room: Option<Vec<u8>>,
 }
 
 impl<R> Keeper<R> {
-    /// Returns a reader over this one of which nothing is read yet.
+    /// Returns a reader over this one of which nothing is read yet, and that keeps so much.
     pub fn new(alloc: Global, reader: R, keep: Keep) -> Keeper<R>
         ensures reader { reader_of result.reader ≡ reader }
-        ensures keep { result.keep ≡ keep }
         ensures none { keep ≡ Keep.Nothing → held result.kept ≡ None }
-        ensures begun { keep ≡ Keep.EachRead → held result.kept ≡ Some [] }
     {
         let room = match keep {
             Keep::TakenBack => Vec::with_capacity(alloc, ROOM).ok(),
-            Keep::Nothing | Keep::EachRead => None,
+            Keep::Nothing => None,
         };
         let kept = match keep {
-            Keep::EachRead => Kept::new(alloc),
             Keep::TakenBack if room.is_some() => Kept::new(alloc),
             Keep::Nothing | Keep::TakenBack => Kept { bytes: None },
         };
         Keeper {
             reader: Counted::new(reader),
-            keep,
             kept,
             room,
         }
@@ -82,30 +75,19 @@ impl<R: Read> CountedRead for Keeper<R> {
             (R.remaining (reader_of self.new.reader)) result chunk.new }
         ensures calls { CountsCall (Some (counts_of self.old.reader))
             (Some (counts_of self.new.reader)) result }
-        ensures same { self.new.keep ≡ self.old.keep }
-        ensures kept { self.old.keep ≡ Keep.EachRead → IfOk result (λ count.
-            Keeps (take count chunk.new) self.old.kept self.new.kept) }
-        ensures others { self.old.keep ≢ Keep.EachRead → self.new.kept ≡ self.old.kept }
-        ensures stays { OnErr result (self.new.kept ≡ self.old.kept) }
+        ensures kept { self.new.kept ≡ self.old.kept }
     {
-        let count = self.reader.read_counted(chunk)?;
-        if self.keep == Keep::EachRead {
-            self.kept.keep(&chunk[..count]);
-        }
-        Ok(count)
+        self.reader.read_counted(chunk)
     }
 
     fn take_back(&mut self, bytes: Vec<u8>)
         ensures remaining { R.remaining (reader_of self.new.reader)
             ≡ R.remaining (reader_of self.old.reader) }
         ensures calls { Some (counts_of self.new.reader) ≡ Some (counts_of self.old.reader) }
-        ensures same { self.new.keep ≡ self.old.keep }
-        ensures taken { self.old.keep ≡ Keep.TakenBack → IsSome (held self.old.kept)
-            → held self.new.kept ≡ Some bytes.items }
-        ensures kept { self.old.keep ≢ Keep.TakenBack → self.new.kept ≡ self.old.kept }
+        ensures taken { IsSome (held self.old.kept) → held self.new.kept ≡ Some bytes.items }
         ensures none { IsNone (held self.old.kept) → IsNone (held self.new.kept) }
     {
-        if self.keep == Keep::TakenBack && self.kept.bytes.is_some() {
+        if self.kept.bytes.is_some() {
             self.kept = Kept { bytes: Some(bytes) };
         }
     }

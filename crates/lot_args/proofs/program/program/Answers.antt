@@ -17,7 +17,6 @@ words =
 
 pub returns : goal.returns
 returns c =
-    let told : app_of c.after_help.result ≡ app_of c.in_ok-command.field-0 = ap app_of_fields c.after_help.ensures in
     let bare : app_of c.in_ok-bare.bare ≡ bare_app =
-    ap app_of_fields c.in_ok-bare.ensures.0 ∙ ap app_of_fields c.version.ensures ∙ ap versioned (told ∙ c.in_ok-command.ensures) in
+    ap app_of_fields c.in_ok-bare.ensures.0 ∙ ap app_of_fields c.version.ensures ∙ ap versioned c.in_ok-command.ensures in
     IfOk-weaker c.add_words.result _ _ (λ command adds. whole_program _ _ words bare adds refl) c.add_words.ensures

@@ -5,7 +5,8 @@ use Rattle.sqlite.specs.Held.{state}
 use Rattle.lot_atomic.specs.AllOrNone.{AppliesAll, ended_by}
 use Rattle.lot_store.specs.Apply.{commit_outcome, store_fault_of}
 use Rattle.lot_atomic.specs.declared.all_or_none.Ended.TheVariants as ending
-use Rattle.lot_atomic.proofs.AllOrNoneLemmas.{ends_accepted, ends_at_once, ends_failed, ends_refused, ends_repeated, not_outside}
+use Rattle.lot_atomic.proofs.AllOrNoneLemmas.{ends_accepted, ends_at_once, ends_failed, ends_refused, ends_repeated, not_outside, rolled_behind_look}
+use Rattle.lot_rows.proofs.StateLemmas.{survives_both}
 use Rattle.lot_atomic.proofs.all_or_none.keep_all.Goals as goal
 
 pub returns-then-not-is_autocommit-clause-applies : goal.returns-then-not-is_autocommit-clause-applies
@@ -33,10 +34,15 @@ returns-in-Ok-Repeats-clause-applies g c =
 pub returns-in-Ok-Refuses-clause-applies : goal.returns-in-Ok-Refuses-clause-applies
 returns-in-Ok-Refuses-clause-applies g c =
     let same : c.rollback-in-Ok-Refuses.new.self.0 ≡ c.conn-in-Ok-Refuses-1.given.0 = search rules in
+    let last = state g.S.Store c.judge_all.new.tx.conn.now in
+    let seen = state g.S.Store c.look.new.db.conn.now in
+    let fin = state g.S.Store c.rollback-in-Ok-Refuses.new.self.0 in
     subst (λ (h : _). AppliesAll (option_copied c.args.rounding) c.args.commands.now (state g.S.Store c.args.conn.now) (state g.S.Store h) c.judge_all.new.verdicts.items ending.Dropped) same
     (ends_refused g.S.Store c.args.conn.now c.transaction-tx.result.conn.now c.judge_all.new.tx.conn.now c.rollback-in-Ok-Refuses.new.self.0 (option_copied c.args.rounding) c.args.commands.now c.judge_all.new.verdicts.items
     (λ clean. c.is_autocommit.ensures.settled c.if-not-is_autocommit.false) c.transaction-tx.ensures.begun
-    c.rollback-in-Ok-Refuses.ensures.undone c.rollback-in-Ok-Refuses.ensures.survives (rw c.in-Ok-Refuses.field-0-is at c.in-Ok-Refuses.ensures.judges))
+    (rolled_behind_look last seen fin c.look.ensures.undone c.rollback-in-Ok-Refuses.ensures.survives c.rollback-in-Ok-Refuses.ensures.undone)
+    (survives_both last seen fin c.look.ensures.crash c.rollback-in-Ok-Refuses.ensures.survives)
+    (rw c.in-Ok-Refuses.field-0-is at c.in-Ok-Refuses.ensures.judges))
 
 pub returns-in-Err-clause-applies : goal.returns-in-Err-clause-applies
 returns-in-Err-clause-applies g c =

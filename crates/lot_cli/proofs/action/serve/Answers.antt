@@ -2,13 +2,13 @@ use Rattle.std.proofs.Common.{sym}
 use Rattle.lot_cli.proofs.action.serve.Goals as goal
 
 pub returns-in-Post-clause-serves : goal.returns-in-Post-clause-serves
-returns-in-Post-clause-serves g c = rw (c.in-Post.is, sym c.as_ref-rounding.ensures.value) c.post.ensures.posts
+returns-in-Post-clause-serves g c = rw c.in-Post.is c.post.ensures.posts
 
 pub returns-in-PostRow-clause-serves : goal.returns-in-PostRow-clause-serves
-returns-in-PostRow-clause-serves g c = rw (c.in-PostRow.is, sym c.as_ref-rounding-in-PostRow.ensures.value) c.post_row.ensures.posts
+returns-in-PostRow-clause-serves g c = rw (c.in-PostRow.is, sym c.as_ref-rounding.ensures.value) c.post_row.ensures.posts
 
 pub returns-in-Import-clause-serves : goal.returns-in-Import-clause-serves
-returns-in-Import-clause-serves g c = rw (c.in-Import.is, sym c.as_ref-rounding-in-Import.ensures.value) c.import.ensures.imports
+returns-in-Import-clause-serves g c = rw c.in-Import.is c.import.ensures.imports
 
 pub returns-in-Holdings-clause-serves : goal.returns-in-Holdings-clause-serves
 returns-in-Holdings-clause-serves g c = rw c.in-Holdings.is c.write_report.ensures.reports

@@ -1,4 +1,4 @@
-use Rattle.lot_store.specs.Session.{StopLeaves}
+use Rattle.lot_cli.specs.Headline.{SessionLeaves}
 use Rattle.lot_cli.proofs.ReopenLemmas.{found_after_stop, found_in_files}
 use Rattle.lot_cli.proofs.laws.a_stop_leaves_what_is_found_again.Goals as goal
 
@@ -6,4 +6,4 @@ pub returns-clause-database : goal.returns-clause-database
 returns-clause-database c start = found_in_files
 
 pub returns-clause-session : goal.returns-clause-session
-returns-clause-session c start stopped files now before commands replied = found_after_stop stopped files now (StopLeaves before commands replied)
+returns-clause-session c start stopped files now before sent = found_after_stop stopped files now (SessionLeaves before sent)

@@ -14,8 +14,8 @@ returns-clause-ok g c =
     rw (c.take_back.ensures.remaining, c.take_back.ensures.calls)
     (gives_of _ c.in_ok-file.file.items c.deref.result.now (vec_len c.in_ok-file.file) c.deref.ensures.value c.in_ok-file.ensures.every_byte
     (omega (arith, c.deref.ensures.len, c.in_ok-file.ensures.limit)) c.in_ok-file.ensures.end (omega (arith, c.deref.ensures.len)) c.in_ok-file.ensures.calls
-    (FileMeans c.args.batch.now c.args.accounts.now c.args.decimals c.args.from) (λ keyed. keyed.items) c.commands_in-keyed.result
-    (subst (λ source. IfOk c.commands_in-keyed.result (λ keyed. HasRowsOf source c.args.accounts.now c.args.decimals c.args.from c.deref.result.now keyed.items))
+    (FileMeans c.args.batch.now c.args.accounts.now c.args.decimals c.args.from c.args.except.now) (λ keyed. (keyed.numbers.items, keyed.commands.items)) c.commands_in-keyed.result
+    (subst (λ source. IfOk c.commands_in-keyed.result (λ keyed. HasRowsOf source c.args.accounts.now c.args.decimals c.args.from c.args.except.now c.deref.result.now (keyed.numbers.items, keyed.commands.items)))
     c.in-Ok.ensures c.commands_in-keyed.ensures.ok))
 
 pub returns-clause-err : goal.returns-clause-err
@@ -23,4 +23,4 @@ returns-clause-err g c =
     rw (c.take_back.ensures.remaining, c.take_back.ensures.calls)
     (none_of _ c.in_ok-file.file.items c.deref.result.now (vec_len c.in_ok-file.file) c.deref.ensures.value c.in_ok-file.ensures.every_byte
     (omega (arith, c.deref.ensures.len, c.in_ok-file.ensures.limit)) c.in_ok-file.ensures.end (omega (arith, c.deref.ensures.len)) c.in_ok-file.ensures.calls
-    (IsFaultyFile c.args.decimals) (λ fault is. is) (λ is. is) c.commands_in-keyed.result c.commands_in-keyed.ensures.err)
+    (IsFaultyFile c.args.decimals c.args.except.now) (λ fault is. is) (λ is. is) c.commands_in-keyed.result c.commands_in-keyed.ensures.err)

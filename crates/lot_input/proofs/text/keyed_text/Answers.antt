@@ -9,7 +9,7 @@ returns-clause-ok g c =
     rw (c.take_back.ensures.remaining, c.take_back.ensures.calls)
     (gives_of _ c.in_ok-text.text.items c.deref.result.now (vec_len c.in_ok-text.text) c.deref.ensures.value c.in_ok-text.ensures.every_byte
     (omega (arith, c.deref.ensures.len, c.in_ok-text.ensures.limit)) c.in_ok-text.ensures.end (omega (arith, c.deref.ensures.len)) c.in_ok-text.ensures.calls
-    (TextMeans c.args.batch.now c.args.from) (λ keyed. keyed.items) c.commands_in-keyed.result c.commands_in-keyed.ensures.ok)
+    (TextMeans c.args.batch.now c.args.from) (λ keyed. (keyed.numbers.items, keyed.commands.items)) c.commands_in-keyed.result c.commands_in-keyed.ensures.ok)
 
 pub returns-clause-err : goal.returns-clause-err
 returns-clause-err g c =

@@ -1,5 +1,0 @@
-use Rattle.lot_call.proofs.ShellLemmas.{read_back}
-use Rattle.lot_call.proofs.laws.a_quoted_text_is_read_back.Goals as goal
-
-pub returns : goal.returns
-returns c = read_back

@@ -1,0 +1,69 @@
+//! The rows of a broker file that a call leaves out, and those that it should leave out and that aren't there.
+
+use crate::call::Call;
+use crate::notebook::Notebook;
+use crate::place::Place;
+use crate::records::Records;
+use crate::shown::Shown;
+use lot_base::Label;
+use lot_import::Row;
+use std::alloc::Global;
+use std::io::{self, Write};
+
+/// Notes each row that is left out, of those from the first on that was to run, and each `ref` to be left out that no row has.
+/// Of a faulty file, and of one without rows, it says nothing.
+pub(crate) fn note_left_out<W: Write>(
+    alloc: Global,
+    writer: &mut W,
+    call: &Call<'_>,
+    rows: &[Row],
+    most: u64,
+) -> io::Result<()> {
+    if call.except.is_empty() || rows.is_empty() {
+        return Ok(());
+    }
+    let mut notes = Notebook::new(alloc, writer, most);
+    note_rows(alloc, &mut notes, call, rows)?;
+    notes.end()?;
+    let mut notes = Notebook::new(alloc, writer, u64::MAX);
+    for name in call.except {
+        if !has_row(rows, name) {
+            let name = Shown(name.as_str().as_bytes());
+            notes.note(Place::Whole, format_args!("no row has the ref {name}"))?;
+        }
+    }
+    notes.end()
+}
+
+/// Notes each row that is left out.
+fn note_rows<W: Write>(
+    alloc: Global,
+    notes: &mut Notebook<'_, W>,
+    call: &Call<'_>,
+    rows: &[Row],
+) -> io::Result<()> {
+    let mut records = Records::new(alloc, call.input)?;
+    for row in rows {
+        records.next_row()?;
+        if records.row >= call.from as usize && call.leaves_out(row) {
+            notes.note(records.place(), "left out")?;
+        }
+    }
+    Ok(())
+}
+
+/// Returns whether some row has that `ref`.
+fn has_row(rows: &[Row], name: &Label) -> bool {
+    rows.iter().any(|row| row.name == *name)
+}
+
+/// Returns whether one row alone has that `ref`.
+pub(crate) fn is_only(rows: &[Row], name: &Label) -> bool {
+    let mut count = 0usize;
+    for row in rows {
+        if row.name == *name {
+            count = count.saturating_add(1);
+        }
+    }
+    count == 1
+}
