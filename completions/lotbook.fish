@@ -3,7 +3,7 @@
 # The subcommand of the line is one of these, or there is none where none is given.
 function __lotbook_word_is
     for token in (commandline -opc)
-        if contains -- $token init migrate post import holdings gains journal verify explain help
+        if contains -- $token init migrate post import holdings gains journal dump verify explain help
             contains -- $token $argv
             return
         end
@@ -19,6 +19,7 @@ complete -c lotbook -n '__lotbook_word_is' -a import -d 'Posts the rows of a bro
 complete -c lotbook -n '__lotbook_word_is' -a holdings -d 'Prints what a book holds now and what it cost'
 complete -c lotbook -n '__lotbook_word_is' -a gains -d 'Prints what each sale of a book earned, lot by lot'
 complete -c lotbook -n '__lotbook_word_is' -a journal -d 'Prints the accepted commands of a book as ledger text'
+complete -c lotbook -n '__lotbook_word_is' -a dump -d 'Prints a whole book as a text that says if it was changed'
 complete -c lotbook -n '__lotbook_word_is' -a verify -d 'Judges a book again from its entries and compares its tables'
 complete -c lotbook -n '__lotbook_word_is' -a explain -d 'Says what a code means that the program prints, and what helps'
 complete -c lotbook -n '__lotbook_word_is' -a help -d 'Prints the help, of a subcommand where one is given'
@@ -80,11 +81,15 @@ complete -c lotbook -n '__lotbook_word_is gains' -s h -l help -d 'Prints the hel
 complete -c lotbook -n '__lotbook_word_is journal' -l book -r -F -d 'The file of the book'
 complete -c lotbook -n '__lotbook_word_is journal' -l quiet -d 'Explains nothing on standard error, also where --explain-all is given'
 complete -c lotbook -n '__lotbook_word_is journal' -s h -l help -d 'Prints the help'
+complete -c lotbook -n '__lotbook_word_is dump' -l book -r -F -d 'The file of the book'
+complete -c lotbook -n '__lotbook_word_is dump' -l quiet -d 'Explains nothing on standard error, also where --explain-all is given'
+complete -c lotbook -n '__lotbook_word_is dump' -s h -l help -d 'Prints the help'
 complete -c lotbook -n '__lotbook_word_is verify' -l book -r -F -d 'The file of the book'
+complete -c lotbook -n '__lotbook_word_is verify' -l digest -d 'Prints a second line, that with which the dump of the book ends'
 complete -c lotbook -n '__lotbook_word_is verify' -l quiet -d 'Explains nothing on standard error, also where --explain-all is given'
 complete -c lotbook -n '__lotbook_word_is verify' -s h -l help -d 'Prints the help'
 complete -c lotbook -n '__lotbook_word_is explain' -s h -l help -d 'Prints the help'
-complete -c lotbook -n '__lotbook_word_is help' -a 'init migrate post import holdings gains journal verify explain help'
+complete -c lotbook -n '__lotbook_word_is help' -a 'init migrate post import holdings gains journal dump verify explain help'
 complete -c lotbook -n '__lotbook_word_is explain' -a N1 -d 'Syntax: the text is no number'
 complete -c lotbook -n '__lotbook_word_is explain' -a N2 -d 'TooManyDecimals: a number has more than eight decimals'
 complete -c lotbook -n '__lotbook_word_is explain' -a N3 -d 'TooLarge: a number is too large'

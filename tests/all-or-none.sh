@@ -40,7 +40,7 @@ whole() {
         if [[ $(kept) == "$before" ]]; then pass "$1: the file is as it was"; else fail "$1: the file is as it was" "it changed"; fi
     fi
     if ((status == 1)); then
-        wanted="lotbook: $book: nothing is kept, since not all was accepted"
+        wanted="lotbook: $book: nothing is kept, since not all was accepted: entries and lots are named above as the call would have made them"
         if grep -qxF "$wanted" "$scratch/err"; then pass "$1: it says so"; else fail "$1: it says so" "$(tail -n 1 "$scratch/err")"; fi
     fi
     if [[ $(entries "$book") == "$3" ]]; then pass "$1: $3 commands"; else fail "$1: $3 commands" "there are $(entries "$book")"; fi
@@ -120,7 +120,7 @@ else
 fi
 cat "$scratch/many" >&8 && printf '2020-01-01 open Assets:A1\n' >&8 && exec 8>&-
 wait
-if [[ $(tail -n 1 "$scratch/posted") == "lotbook: $book: nothing is kept, since not all was accepted" && $(entries "$book") == 2011 ]]; then
+if [[ $(tail -n 1 "$scratch/posted") == "lotbook: $book: nothing is kept, since not all was accepted: entries and lots are named above as the call would have made them" && $(entries "$book") == 2011 ]]; then
     pass "that program keeps nothing, since its last command was refused"
 else
     fail "that program keeps nothing" "$(tail -n 1 "$scratch/posted"), $(entries "$book") commands"
@@ -133,7 +133,7 @@ tables damage "$book"
 stood=$(entries "$book")
 printf '2020-04-01 open Assets:Copper\n2020-04-01 *\n  Assets:Cash 5 USD\n  Assets:Cash\n2020-04-01 open Assets:Tin\n' >"$scratch/touching"
 prints "a command that touches damage" 4 $'1 accepted\n2 fault S7 Damaged' post --book "$book" --batch g --all-or-none <"$scratch/touching"
-if [[ $(tail -n 1 "$scratch/err") == "lotbook: $book: nothing is kept, since not all was accepted" && $(entries "$book") == "$stood" ]]; then
+if [[ $(tail -n 1 "$scratch/err") == "lotbook: $book: nothing is kept, since the call stopped: send it again whole" && $(entries "$book") == "$stood" ]]; then
     pass "nothing is kept of those before it"
 else
     fail "nothing is kept of those before it" "$(entries "$book") commands, $(tail -n 1 "$scratch/err")"
@@ -145,7 +145,7 @@ rm -f "$book"* && cp "$scratch/sound" "$book"
 again='the same call, sent again, tells: where all is kept, each line says `repeat`'
 stood=$(entries "$book")
 "$program" post --book "$book" --batch f --all-or-none <"$scratch/mixed" >/dev/full 2>"$scratch/err" && status=0 || status=$?
-if ((status == 4)) && [[ $(entries "$book") == "$stood" && $(tail -n 2 "$scratch/err") == "lotbook: $book: nothing is kept, since not all was accepted
+if ((status == 4)) && [[ $(entries "$book") == "$stood" && $(tail -n 2 "$scratch/err") == "lotbook: $book: nothing is kept, since not all was accepted: entries and lots are named above as the call would have made them
 lotbook: standard output: No space left on device (os error 28): the output is cut short" ]]; then
     pass "refused, with a full disk"
 else
@@ -205,6 +205,7 @@ for room in {0..1600..100}; do
     if ((status == 0 && at == 2000 && stood == 2000)); then
         met+=" kept" && pass "with room for $room KiB, kept"
     elif ((status == 4 && at == 1)) && [[ $last == "1 fault S5 InDoubt" && $stood =~ ^(0|2000)$ ]] &&
+        [[ $(tail -n 1 "$scratch/err") == "lotbook: $book: all is kept or nothing: send the call again whole, and what is kept is a repeat" ]] &&
         grep -qxE 'lotbook: line 1, command 1: S5 InDoubt: .*: File too large \(os error 27\): 2020-01-01 open Assets:A0' "$scratch/err"; then
         met+=" doubt" && pass "with room for $room KiB, a commit in doubt"
     elif ((status == 4 && at <= 1 && stood == 0)) && [[ $last == "" || $last == *"fault open" || $last == *"fault S4 Device" ]]; then
@@ -229,7 +230,7 @@ if ((status == 4 && at > 1 && at < 4500 && stood == 0)) && cmp -s "$scratch/out"
 else
     fail "a disk without room ahead of the commit" "status $status, $at lines, the last $(tail -n 1 "$scratch/out"), $stood commands"
 fi
-if [[ $(tail -n 1 "$scratch/err") == "lotbook: $book: nothing is kept, since not all was accepted" ]]; then
+if [[ $(tail -n 1 "$scratch/err") == "lotbook: $book: nothing is kept, since the call stopped: send it again whole" ]]; then
     pass "a disk without room ahead of the commit: it says so"
 else
     fail "a disk without room ahead of the commit: it says so" "$(tail -n 1 "$scratch/err")"

@@ -64,7 +64,7 @@ for word in $words; do
     for option in $(options_in_help "$word"); do
         case $option in
             --book) offers "$word $option" "family.book" "$word" "$option" fa ;;
-            --quiet | --dry-run | --all-or-none | --explain-all | --help)
+            --quiet | --dry-run | --all-or-none | --explain-all | --digest | --help)
                 offers "$word $option" "$(options_in_help "$word")" "$word" "$option" ""
                 ;;
             --format) offers "$word $option" $'csv\ntext' "$word" "$option" "" ;;

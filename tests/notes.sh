@@ -604,7 +604,7 @@ printf '2024-01-02 * "Buy"\n  Assets:Broker 3 HOOL {500 USD}\n  Assets:Cash\n202
 fact='line 5, command 2: B3 NotEnough: the lots that fit hold less than the units: held now: 3; wanted: 5: Assets:Broker -5 HOOL {}'
 echo "lotbook: $fact" >"$scratch/told"
 notes "facts of a dry run" 1 "${post[@]}" --dry-run
-echo "lotbook: $book: nothing is kept, since not all was accepted" >>"$scratch/told"
+echo "lotbook: $book: nothing is kept, since not all was accepted: entries and lots are named above as the call would have made them" >>"$scratch/told"
 notes "facts of a call that keeps all or nothing" 1 "${post[@]}" --all-or-none
 
 # They are of the book that all its commands had made: an account, a lot and an entry that aren't kept.
@@ -632,7 +632,7 @@ END
     echo 'lotbook: line 10, command 5: L10 BackDated: a later day of this account and commodity is booked at cost already: the latest is 2024-02-03, of entry 8: Assets:Depot 1 HOOL {490 USD}'
     echo "lotbook: line 16, command 7: B2 Ambiguous: several lots fit the braces, and STRICT doesn't choose among them: lots that fit now: 2, with 7 units; they differ in day, cost: Assets:Depot -2 HOOL {}"
     echo 'lotbook: line 18: warning: the account is closed, and still holds USD: 2024-02-04 close Assets:Money'
-    echo "lotbook: $book: nothing is kept, since not all was accepted"
+    echo "lotbook: $book: nothing is kept, since not all was accepted: entries and lots are named above as the call would have made them"
 } >"$scratch/told"
 notes "facts of what isn't kept" 1 "${post[@]}" --all-or-none
 

@@ -248,11 +248,11 @@ helps "--last 2024-12-31" gains -h
 for word in help --help -h; do
     run "$word" </dev/null
     lines=$(wc -l <"$scratch/out") columns=$(wc -L <"$scratch/out")
-    if ((lines == 24 && columns <= 80)); then pass "the size of $word"; else fail "the size of $word" "$lines lines, $columns columns"; fi
+    if ((lines == 25 && columns <= 80)); then pass "the size of $word"; else fail "the size of $word" "$lines lines, $columns columns"; fi
     [[ $word == help ]] && cp "$scratch/out" "$scratch/help"
     cmp -s "$scratch/help" "$scratch/out" && pass "$word is the help" || fail "$word is the help" "other than help"
 done
-for word in init migrate post import holdings gains journal verify explain help; do
+for word in init migrate post import holdings gains journal dump verify explain help; do
     found=$(grep -cE "^  $word +[A-Z]" "$scratch/help")
     ((found == 1)) && pass "the line of $word" || fail "the line of $word" "$found lines"
 done

@@ -17,7 +17,7 @@ state() {
 reports() {
     local word before
     before=$(state "$2")
-    for word in holdings gains journal verify; do
+    for word in holdings gains journal dump verify; do
         run "$word" --book "$2/family.book" </dev/null
         expect "$1: $word" 0 "$scratch/$word"
     done
@@ -28,7 +28,7 @@ home=$scratch/home book=$scratch/home/family.book
 mkdir "$home"
 "$program" init --book "$book" </dev/null >/dev/null
 "$program" post --book "$book" --batch a <"$first" >/dev/null
-for word in holdings gains journal verify; do "$program" "$word" --book "$book" </dev/null >"$scratch/$word"; done
+for word in holdings gains journal dump verify; do "$program" "$word" --book "$book" </dev/null >"$scratch/$word"; done
 
 # ---- without rights; root may do all, so root runs the program as nobody
 
@@ -51,7 +51,7 @@ chmod 755 "$home" && rm "$book-wal" && chmod 555 "$home"
 program=$scratch/unprivileged reports "without a log" "$home"
 chmod 755 "$home" && cp "$book" "$scratch/whole"
 (trap '' XFSZ && ulimit -f 6000 && exec "$program" post --book "$book" --batch many < <(seq -f '2020-01-01 open Assets:A%g' 2000)) >/dev/null 2>&1
-for word in holdings gains journal verify; do
+for word in holdings gains journal dump verify; do
     cp -a "$home" "$scratch/copy" && "$program" "$word" --book "$scratch/copy/family.book" </dev/null >"$scratch/$word" && rm -r "$scratch/copy"
 done
 chmod 444 "$book" "$book-wal" && chmod 555 "$home"
@@ -243,7 +243,7 @@ sums "the sum of a post" "0 accepted, 3 repeated, 0 refused $time" "$first" post
 sums "of a post with refusals" "1 accepted, 0 repeated, 2 refused $time" "$first" post --book "$book" --batch c
 sums "of a dry run" "1 accepted, 0 repeated, 2 refused $time: a dry run, of which nothing is kept" "$first" \
     post --book "$book" --batch d --dry-run
-sums "of all or none" "lotbook: $book: nothing is kept, since not all was accepted" "$first" post --book "$book" --batch d --all-or-none
+sums "of all or none" "lotbook: $book: nothing is kept, since not all was accepted: entries and lots are named above as the call would have made them" "$first" post --book "$book" --batch d --all-or-none
 printf '2020-01-01 open Assets:Kept\n' >"$scratch/kept"
 sums "of all or none that is kept" "1 accepted, 0 repeated, 0 refused $time" "$scratch/kept" post --book "$book" --batch e --all-or-none
 sums "none with --quiet" "" "$first" post --book "$book" --batch a --quiet

@@ -241,6 +241,9 @@ says_of 0 "nothing is said of repeats" Equity:Rounding
 run post --book "$book" --batch e --from 12 "${rounding[@]}" <"$scratch/twelve.ledger"
 answers "the last of twelve under another batch" 0 "12 accepted"
 says_of 1 "it is told under its number" "command 12: Equity:Rounding takes -0\.003 EUR"
+run post --book "$book" --batch f --from 12 --all-or-none "${rounding[@]}" <"$scratch/twelve.ledger"
+answers "the last of twelve under a third batch, all or none" 0 "12 accepted"
+says_of 1 "so it is of a call that keeps all or nothing" "command 12: Equity:Rounding takes -0\.003 EUR"
 run post --book "$book" --batch d --dry-run "${rounding[@]}" <"$scratch/twelve.ledger"
 replies "a dry run" 0 accepted 12
 says_of 1 "a dry run says what would go to the account" Equity:Rounding "[ -]0\.0066 USD"
@@ -388,5 +391,5 @@ if [[ ! -s $scratch/err ]]; then pass "nor is anything of a quiet call"; else fa
 for code in B5 L12 L14 C4; do
     if "$program" explain "$code" </dev/null | grep -qF -- --rounding; then pass "explain $code names the option"; else fail "explain $code names the option" "it doesn't"; fi
 done
-for word in init holdings gains journal verify migrate; do unusable "$word takes no rounding account" U1 "$word" --book "$book" "${rounding[@]}"; done
+for word in init holdings gains journal dump verify migrate; do unusable "$word takes no rounding account" U1 "$word" --book "$book" "${rounding[@]}"; done
 finish

@@ -70,7 +70,7 @@ step "the newest row first" 1 $'1 refused B4 IncompleteCost posting 1\n2 accepte
     "row 4 (N1): L10 BackDated: a later day of this account and commodity is booked at cost already: the latest is 2024-03-15, of entry 6" \
     "warning: the first row is of 2024-11-04, the last of 2024-01-15: rows stand in the order of their days, the oldest first" \
     "row 3 (N2): warning: units 1,000 is read as 1000" \
-    "nothing is kept, since not all was accepted"
+    "nothing is kept, since not all was accepted: entries and lots are named above as the call would have made them"
 { head -n 1 "$scratch/without.csv" && tail -n +2 "$scratch/without.csv" | tac; } >"$scratch/oldest.csv"
 import north oldest.csv --all-or-none
 step "the oldest row first" 0 $'1 accepted\n2 accepted\n3 accepted\n4 accepted' "row 2 (N2): warning: units 1,000 is read as 1000"
@@ -107,7 +107,7 @@ step "a split" 0 "1 accepted"
 import south later.csv --all-or-none
 step "a file that overlaps, with the row by hand" 1 $'1 repeat\n2 repeat\n3 refused L1 KeyReused\n4 accepted' \
     "row 3 (S3): L1 KeyReused: another command has this key already: entry 13, with the line \`Assets:South -5 WIDG {2024-02-01} @ 130 EUR\`; --except S3 leaves it out" \
-    "nothing is kept, since not all was accepted"
+    "nothing is kept, since not all was accepted: entries and lots are named above as the call would have made them"
 import south later.csv --all-or-none --except S3
 step "the same without that row" 0 $'1 repeat\n2 repeat\n4 accepted' "row 3 (S3): left out: S3,2024-09-02,SELL,WIDG,8,130.00,EUR,"
 { cat "$scratch/oldest.csv" && echo "N6,2024-12-10,BUY,BOND,100,1.05,USD,"; } >"$scratch/further.csv"

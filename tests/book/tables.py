@@ -14,6 +14,7 @@
 import contextlib
 import csv
 import datetime
+import hashlib
 import io
 import os
 import shutil
@@ -217,6 +218,17 @@ def journal(path):
         for number, source, name, body in db.execute("SELECT number, source, name, body FROM entry ORDER BY number"):
             lines += [f"; entry {number} key {source} {name}", *body.splitlines()]
     return lines
+
+
+def dump(path):
+    """The lines of a dump of these rows (docs/FORMATS.md, Dump)."""
+    with connect(path) as db:
+        rows = db.execute("SELECT number, source, name, body FROM entry ORDER BY number").fetchall()
+        (place,) = db.execute("SELECT entries FROM migration").fetchone()
+    count = rows[-1][0] if rows else 0
+    text = f"; lotbook dump 1 edition 2 migrated {place} entries {count}\n"
+    text += "".join(f"; entry {number} key {source} {name}\n{body}" for number, source, name, body in rows)
+    return [*text.splitlines(), f"; end {count} sha256 {hashlib.sha256(text.encode()).hexdigest()}"]
 
 
 def damage(db):

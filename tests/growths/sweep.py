@@ -459,7 +459,7 @@ def longer_calls(texts, crumbs, broker, older):
     books = {"an empty book": [MAKE], "a book with a sale": filled, "a book of every kind": [MAKE, (POST, texts["every kind"])]}
     for book, before in books.items():
         day, table = ["--day", "2020-12-31"], ["--format", "csv"]
-        for words in (["holdings"], ["holdings", *day], ["holdings", *day, *table], ["gains"], ["gains", *table], ["journal"]):
+        for words in (["holdings"], ["holdings", *day], ["holdings", *day, *table], ["gains"], ["gains", *table], ["journal"], ["dump"], ["verify", "--digest"]):
             yield Call(f"{' '.join(words)} of {book}", [words[0], "--book", BOOK, *words[1:]], before=before)
 
 

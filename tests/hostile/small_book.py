@@ -27,6 +27,7 @@ REPORTS = {
     "gains": (["gains"], tables.gains),
     "gains as CSV": (["gains", "--format", "csv"], tables.gains_csv),
     "journal": (["journal"], tables.journal),
+    "dump": (["dump"], tables.dump),
 }
 WRITERS = {
     "post": (["--batch", "a"], POST),

@@ -378,7 +378,7 @@ def limited_reports(ground, whole):
     full = ground.changed("full.book", lambda book: sweep.call(ground.program, ["post", "--book", book, *POST], DEALS))
     held = sweep.bytes_of(full.first)
     calls = [([], sweep.first_purchase())]
-    for word, *more in (["holdings"], ["holdings", "--day", "2020-12-31"], ["gains"], ["journal"]):
+    for word, *more in (["holdings"], ["holdings", "--day", "2020-12-31"], ["gains"], ["journal"], ["dump"]):
         calls.append(([word, "--book", full.book, *more], b""))
     for words, text in calls:
         report = full.call(words, text).output

@@ -68,12 +68,14 @@ TABLE = re.compile(
 )
 REPLY = re.compile(rf"{COUNT} (accepted|repeat|refused [LB][0-9]+ [A-Za-z]+( posting {COUNT}| {COMMODITY})?)")
 KEY = re.compile(rf"; entry {COUNT} key [^\x00-\x1f\x7f]+")
+NUMBER = r"(0|[1-9][0-9]*)"
+DUMP = re.compile(rf"; lotbook dump 1 edition 2 migrated {NUMBER} entries {NUMBER}|(; end )?{NUMBER} sha256 [0-9a-f]{{64}}")
 
 
 def is_ours(line):
-    """Whether the program may write this line: a reply, a fault, a row of a report or of a table, or a line of a journal, which is
-    ledger text."""
-    if any(kind.fullmatch(line) for kind in (FAULT, REPORT, TABLE, REPLY, KEY)):
+    """Whether the program may write this line: a reply, a fault, a row of a report or of a table, or a line of a journal or of a
+    dump, which is ledger text."""
+    if any(kind.fullmatch(line) for kind in (FAULT, REPORT, TABLE, REPLY, KEY, DUMP)):
         return True
     try:
         if line.startswith(" "):  # a posting is one of the transaction before it

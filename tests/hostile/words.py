@@ -28,6 +28,7 @@ OPTIONS = {
     "holdings": {"--book": "f", "--day": "2020-01-01", "--format": "csv"},
     "gains": {"--book": "f", "--first": "2020-01-01", "--last": "2020-01-01", "--format": "text"},
     "journal": {"--book": "f"},
+    "dump": {"--book": "f"},
     "migrate": {"--book": "f"},
     "verify": {"--book": "f"},
 }  # fmt: skip

@@ -38,7 +38,11 @@ OF_ITS_CRUMBS = re.compile(
 HELD = re.compile(r".*: warning: the account is closed, and still holds .+")
 
 
-NOTHING_KEPT = b": nothing is kept, since not all was accepted\n"
+NOTHING_KEPT = (
+    b": nothing is kept, since not all was accepted: entries and lots are named above as the call would have made them\n",
+    b": nothing is kept, since the call stopped: send it again whole\n",
+)
+IN_DOUBT = b": all is kept or nothing: send the call again whole, and what is kept is a repeat\n"
 TAKES_OVER = b"` takes it over\n"
 
 
@@ -46,13 +50,13 @@ def before_the_end(errors, ample):
     """The messages but for the last line of those with ample memory, where that says that nothing is kept, or what helps with a book of
     edition 1, and ends these, too."""
     last = ample[ample.rfind(b"\n", 0, -1) + 1 :]
-    return errors[: -len(last)] if last.endswith((NOTHING_KEPT, TAKES_OVER)) and errors.endswith(last) else errors
+    return errors[: -len(last)] if last.endswith((*NOTHING_KEPT, IN_DOUBT, TAKES_OVER)) and errors.endswith(last) else errors
 
 
 def before_the_withdrawal(errors):
-    """The messages but for the last line, where that says that nothing is kept."""
+    """The messages but for the last line, where that says that nothing is kept, or that nobody knows."""
     last = errors[errors.rfind(b"\n", 0, -1) + 1 :]
-    return errors[: -len(last)] if last.endswith(NOTHING_KEPT) else errors
+    return errors[: -len(last)] if last.endswith((*NOTHING_KEPT, IN_DOUBT)) else errors
 
 
 def is_note(line, begin=""):

@@ -85,8 +85,11 @@ gains_app =
 abbrev pub journal_app : App
 journal_app = book_app (codes "journal") []
 
+abbrev pub dump_app : App
+dump_app = book_app (codes "dump") []
+
 abbrev pub verify_app : App
-verify_app = book_app (codes "verify") []
+verify_app = book_app (codes "verify") (flag_rule (codes "digest") ∷ [])
 
 abbrev pub explain_app : App
 explain_app = word_app (codes "explain") (place_rule (codes "code") ∷ [])
@@ -111,4 +114,4 @@ abbrev pub program_app : App
 program_app =
     with_words bare_app
     (init_app ∷ migrate_app ∷ post_app ∷ import_app ∷ holdings_app ∷ gains_app ∷ journal_app
-    ∷ verify_app ∷ explain_app ∷ [])
+    ∷ dump_app ∷ verify_app ∷ explain_app ∷ [])

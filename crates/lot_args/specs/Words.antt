@@ -10,11 +10,13 @@ use Rattle.lot_args.specs.Options.{day_of, except_of, first_bad, has_row, lacks_
 use Rattle.lot_args.specs.Program.{program_app}
 use Rattle.lot_args.specs.Rounding.{rounding_of}
 use Rattle.lot_args.specs.declared.action.Action.{Action}
-use Rattle.lot_args.specs.declared.action.Action.TheVariants.{Check, Init, Migrate, Post, PostRow, Import, Holdings, Gains, Journal, Verify}
+use Rattle.lot_args.specs.declared.action.Action.TheVariants.{Check, Init, Migrate, Post, PostRow, Import, Holdings, Gains, Journal, Dump, Verify}
 use Rattle.lot_args.specs.declared.action.Format.{Format}
 use Rattle.lot_args.specs.declared.action.Format.TheVariants.{Text as AsText, Csv}
 use Rattle.lot_args.specs.declared.action.Keeping.{Keeping}
 use Rattle.lot_args.specs.declared.action.Keeping.TheVariants.{AllOrNone, Each}
+use Rattle.lot_args.specs.declared.action.Saying.{Saying}
+use Rattle.lot_args.specs.declared.action.Saying.TheVariants.{Digest, Verified}
 use Rattle.lot_args.specs.declared.fault.BadOption.{BadOption}
 use Rattle.lot_args.specs.declared.request.Effect.{Effect}
 use Rattle.lot_args.specs.declared.request.Effect.TheVariants.{DryRun, Keep}
@@ -52,6 +54,10 @@ abbrev pub keeping_of : List Row → Keeping
 keeping_of rows =
     if is_set (codes "dry-run") rows then Each
     else (if is_set (codes "all-or-none") rows then AllOrNone else Each)
+
+-- what is written of a verified book
+abbrev pub saying_of : List Row → Saying
+saying_of rows = if is_set (codes "digest") rows then Digest else Verified
 
 -- whether an option that may stand before the word or behind it is given
 abbrev pub is_in_either : Text → List Row → List Row → Bool
@@ -91,7 +97,9 @@ WordAsks word rows (Gains book first last format) =
     (word ≡ codes "gains") × IsBook rows (string_bytes book) × (first ≡ day_of (codes "first") rows)
     × (last ≡ day_of (codes "last") rows) × (format ≡ format_of rows)
 WordAsks word rows (Journal book) = (word ≡ codes "journal") × IsBook rows (string_bytes book)
-WordAsks word rows (Verify book) = (word ≡ codes "verify") × IsBook rows (string_bytes book)
+WordAsks word rows (Dump book) = (word ≡ codes "dump") × IsBook rows (string_bytes book)
+WordAsks word rows (Verify book saying) =
+    (word ≡ codes "verify") × IsBook rows (string_bytes book) × (saying ≡ saying_of rows)
 
 -- ---- the request
 

@@ -22,6 +22,15 @@ pub enum Keeping {
     AllOrNone,
 }
 
+/// What is written of a book that is verified.
+#[derive(Clone, Copy)]
+pub enum Saying {
+    /// That it is verified.
+    Verified,
+    /// That, and the last line of its dump: how many entries it has, and their digest.
+    Digest,
+}
+
 /// Ledger text that is posted to a book.
 #[derive(Drop)]
 pub struct Post {
@@ -90,8 +99,13 @@ pub enum Action {
     Journal {
         book: String,
     },
+    /// The entries of a book are written, between two lines by which the book can be made again.
+    Dump {
+        book: String,
+    },
     /// A book is judged again from its entries, and every table is compared.
     Verify {
         book: String,
+        saying: Saying,
     },
 }

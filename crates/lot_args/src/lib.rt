@@ -21,7 +21,7 @@ mod start;
 mod values;
 mod words;
 
-pub use action::{Action, Format, Import, Keeping, Post};
+pub use action::{Action, Format, Import, Keeping, Post, Saying};
 pub use batch::Batch;
 pub use fault::{BadOption, WordsFault};
 pub use request::{Effect, Notes, Request};

@@ -56,7 +56,7 @@ const PROGRAM: Word = Word {
 };
 
 /// The subcommands, in the order in which the help lists them.
-const WORDS: [Word; 9] = [
+const WORDS: [Word; 10] = [
     // `init --book FILE [--dry-run]`
     Word {
         name: "init",
@@ -220,12 +220,27 @@ const WORDS: [Word; 9] = [
         about: "Prints the accepted commands of a book as ledger text: lotbook journal --book family.book > family.ledger",
         options: &[BOOK, QUIET],
     },
-    // `verify --book FILE`
+    // `dump --book FILE`
+    Word {
+        name: "dump",
+        brief: "Prints a whole book as a text that says if it was changed",
+        about: "Prints a whole book as ledger text: lotbook dump --book family.book > family.dump\n\nThe first line says of which edition the book is and how many entries it has, the last line the SHA-256 of all before it: a copy that was cut short or changed is known to be. Between them stands the journal, each entry under its key.",
+        options: &[BOOK, QUIET],
+    },
+    // `verify --book FILE [--digest]`
     Word {
         name: "verify",
         brief: "Judges a book again from its entries and compares its tables",
         about: "Judges a book again from its entries, compares every table, and prints book verified where they are those of a book: lotbook verify --book family.book\n\nElse it prints fault S7 Damaged, and on standard error the first table that differs, or the first entry that isn't accepted again. It changes nothing.",
-        options: &[BOOK, QUIET],
+        options: &[
+            BOOK,
+            QUIET,
+            WordOption {
+                form: Form::Flag,
+                name: "digest",
+                help: "Prints a second line, that with which the dump of the book ends: two books are the same where these are",
+            },
+        ],
     },
     // `explain [CODE]`
     Word {

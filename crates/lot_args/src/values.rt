@@ -11,9 +11,9 @@ ghost use Rattle.lot_args.specs.Options.{account_options, day_of, except_of, fir
 ghost use Rattle.lot_args.specs.From.{from_of};
 ghost use Rattle.lot_args.specs.Number.{number_of};
 ghost use Rattle.lot_args.specs.Rounding.{decimals_of, named_bound, rounding_of, within_of};
-ghost use Rattle.lot_args.specs.Words.{IsCode, accounts_of, effect_of, format_of, is_set, keeping_of, notes_of};
+ghost use Rattle.lot_args.specs.Words.{IsCode, accounts_of, effect_of, format_of, is_set, keeping_of, notes_of, saying_of};
 
-use crate::action::{Format, Keeping};
+use crate::action::{Format, Keeping, Saying};
 use crate::batch::{Batch, BatchFault};
 use crate::fault::BadOption;
 use crate::options::MOST_DECIMALS;
@@ -352,6 +352,16 @@ pub(crate) fn keeping(options: &ArgMatches<'_>) -> Keeping
         return Keeping::AllOrNone;
     }
     Keeping::Each
+}
+
+/// Returns what is written of a book that is verified.
+pub(crate) fn saying(options: &ArgMatches<'_>) -> Saying
+    ensures { result ≡ saying_of (rows_of (found_of options.now)) }
+{
+    if is_set(options, "digest") {
+        return Saying::Digest;
+    }
+    Saying::Verified
 }
 
 /// Returns which notes a call asks for, by the options before and behind its subcommand. Where `--quiet` is given,

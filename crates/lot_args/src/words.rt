@@ -14,7 +14,8 @@ use crate::program::program;
 use crate::request::{Effect, Request};
 use crate::values::{
     accounts, batch, code, day, effect, except, first_bad, format, from, has_row, keeping,
-    lacks_batch, misplaced, notes, options_of, reference, rounding, rounding_options, value,
+    lacks_batch, misplaced, notes, options_of, reference, rounding, rounding_options, saying,
+    value,
 };
 use clap::ArgMatches;
 use std::alloc::{AllocError, Global};
@@ -160,6 +161,10 @@ fn action(alloc: Global, word: &str, options: &ArgMatches<'_>) -> Result<Action,
             format: format(options),
         }),
         "journal" => Ok(Action::Journal { book }),
-        _ => Ok(Action::Verify { book }),
+        "dump" => Ok(Action::Dump { book }),
+        _ => Ok(Action::Verify {
+            book,
+            saying: saying(options),
+        }),
     }
 }

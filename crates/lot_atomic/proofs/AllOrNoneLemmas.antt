@@ -932,9 +932,16 @@ rolled_then a b c (inr undone) back = record {
   counts = record { changes = back.counts.changes ∙ undone.counts.changes; last_rowid = back.counts.last_rowid ∙ undone.counts.last_rowid };
 }
 
-pub rolled_behind_look : (a b c : State) → (HasCleanDisk b → IsUndone a b) → Survives b c (λ _. ⊥) → (HasCleanDisk c → IsRolledBack b c)
-    → HasCleanDisk c → IsRolledBack a c
-rolled_behind_look a b c undone crash back clean = rolled_then a b c (undone (omega (arith, clean, crash.clean))) (back clean)
+rolled_behind : {D : Type 0} (shown : D → State) (old new : D) (fin : State) → (new ≡ old) ⊎ IsUndone (shown old) (shown new)
+    → IsRolledBack (shown new) fin → IsRolledBack (shown old) fin
+rolled_behind shown old new fin (inl same) back = subst (λ (d : _). IsRolledBack (shown d) fin) same back
+rolled_behind shown old new fin (inr undone) back = rolled_then (shown old) (shown new) fin undone back
+
+pub rolled_behind_look : {D : Type 0} (shown : D → State) (old new : D) (fin : State)
+    → (HasCleanDisk (shown new) → (new ≡ old) ⊎ IsUndone (shown old) (shown new)) → Survives (shown new) fin (λ _. ⊥)
+    → (HasCleanDisk fin → IsRolledBack (shown new) fin) → HasCleanDisk fin → IsRolledBack (shown old) fin
+rolled_behind_look shown old new fin reads crash back clean =
+    rolled_behind shown old new fin (reads (omega (arith, clean, crash.clean))) (back clean)
 
 -- ---- no transaction is begun
 

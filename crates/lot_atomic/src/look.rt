@@ -1,5 +1,5 @@
 //! Looking at a book that commands would have made which aren't kept.
-ghost use Rattle.std.specs.Prelude.{◌≡◌};
+ghost use Rattle.std.specs.Prelude.{◌≡◌, ◌⊎◌};
 ghost use Rattle.lot_table.specs.Book.{IsUndone};
 ghost use Rattle.sqlite.specs.State.{HasCleanDisk, Survives};
 
@@ -20,7 +20,7 @@ pub trait Look {
         verdicts: &[Verdict],
     )
         ensures same_reference { D.reference db.new ≡ D.reference db.old }
-        ensures undone { HasCleanDisk (D.shown db.new)
-            → IsUndone (D.shown db.old) (D.shown db.new) }
+        ensures reads { HasCleanDisk (D.shown db.new)
+            → (db.new ≡ db.old) ⊎ IsUndone (D.shown db.old) (D.shown db.new) }
         ensures crash { Survives (D.shown db.old) (D.shown db.new) (λ _. ⊥) };
 }

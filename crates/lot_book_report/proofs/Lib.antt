@@ -6,3 +6,5 @@ pub mod HoldingLemmas
 pub mod JournalLemmas
 pub mod PriceLemmas
 pub mod ReadLemmas
+pub mod HeardLemmas
+pub mod DumpLemmas

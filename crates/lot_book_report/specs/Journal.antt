@@ -39,3 +39,20 @@ ShowsSomeJournal start now result = (rows : List EntryRow) × ShowsJournal rows 
 -- where no fault ends it, the journal is that of all rows of the table
 abbrev pub ShowsAllEntries : Tables → Option (List ℕ) → Option (List ℕ) → Result (Unit {0}) ShowFault → Type 0
 ShowsAllEntries tables start now result = OnOk result (Appends start now (journal_text tables.entry))
+
+-- ---- what is heard of it
+
+-- what was heard before is heard still, and this text behind it
+abbrev pub HearsMore : (List ℕ → Type 0) → (List ℕ → Type 0) → List ℕ → Type 0
+HearsMore Was Is text = (before : List ℕ) → Was before → Is (before ++ text)
+
+-- the journal is written, and where it is whole, its text is heard
+abbrev pub ShowsHeard : (List ℕ → Type 0) → List EntryRow → Option (List ℕ) → Option (List ℕ) → Result (Unit {0}) ShowFault → Type 0
+ShowsHeard Heard all start now result = ShowsJournal all start now result × OnOk result (Heard (journal_text all))
+
+abbrev pub ShowsSomeHeard : (List ℕ → Type 0) → Option (List ℕ) → Option (List ℕ) → Result (Unit {0}) ShowFault → Type 0
+ShowsSomeHeard Heard start now result = (rows : List EntryRow) × ShowsHeard Heard rows start now result
+
+abbrev pub ShowsAllHeard : (List ℕ → Type 0) → Tables → Option (List ℕ) → Option (List ℕ) → Result (Unit {0}) ShowFault → Type 0
+ShowsAllHeard Heard tables start now result =
+    OnOk result (Appends start now (journal_text tables.entry) × Heard (journal_text tables.entry))

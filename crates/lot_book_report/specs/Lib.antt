@@ -1,4 +1,5 @@
 pub mod Csv
+pub mod Dump
 pub mod Fault
 pub mod Gains
 pub mod Holdings

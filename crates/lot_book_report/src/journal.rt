@@ -1,9 +1,10 @@
 ghost use Rattle.lot_stored.specs.Rows.{entry_rows};
 ghost use Rattle.lot_book_report.specs.Fault.{HasCause};
-ghost use Rattle.lot_book_report.specs.Journal.{ShowsAllEntries, ShowsJournal, ShowsSomeJournal};
+ghost use Rattle.lot_book_report.specs.Journal.{HearsMore, ShowsAllEntries, ShowsAllHeard, ShowsHeard, ShowsJournal, ShowsSomeHeard, ShowsSomeJournal};
 ghost use Rattle.lot_book_report.specs.Show.{HoldsOfBook, HoldsOfTables, ReadsBook};
 
 use crate::fault::ShowFault;
+use crate::heard::{Hear, Nobody};
 use lot_report::{CountedWrite, Journal};
 use lot_store::{Book, StoreFault};
 use sqlite::Alter;
@@ -28,6 +29,31 @@ pub fn show_journal<S: Alter, W: CountedWrite>(
       after = W.calls writer.new;
     }) }
 {
+    write_entries(book, &mut Nobody {}, writer)
+}
+
+/// Writes the entries of a book in their order, each as it is read, and has each heard that is written. Nothing is flushed.
+///
+/// What is written is what `show_journal` writes.
+pub(crate) fn write_entries<S: Alter, H: Hear, W: CountedWrite>(
+    book: &mut Book<S>,
+    heard: &mut H,
+    writer: &mut W,
+) -> Result<(), ShowFault>
+    ensures shows { HoldsOfBook S.Store book.old book.new
+        (λ entries. ShowsHeard (HearsMore (H.has_heard heard.old) (H.has_heard heard.new))
+        (entry_rows 1 entries) (W.contents writer.old) (W.contents writer.new) result) }
+    ensures lines { ShowsSomeHeard (HearsMore (H.has_heard heard.old) (H.has_heard heard.new))
+        (W.contents writer.old) (W.contents writer.new) result }
+    ensures rows { HoldsOfTables S.Store book.old book.new
+        (λ tables. ShowsAllHeard (HearsMore (H.has_heard heard.old) (H.has_heard heard.new))
+        tables (W.contents writer.old) (W.contents writer.new) result) }
+    ensures reads { ReadsBook S.Store book.old book.new result }
+    ensures cause { HasCause result (record {
+      before = W.calls writer.old;
+      after = W.calls writer.new;
+    }) }
+{
     let mut journal = Journal::new();
     let mut walk = book.journal();
     'entries: for _ in 0..u64::MAX {
@@ -35,6 +61,7 @@ pub fn show_journal<S: Alter, W: CountedWrite>(
             return Ok(journal.end(writer)?);
         };
         journal.row(&entry, writer)?;
+        heard.hear(&entry);
     }
     // No book has so many entries.
     Err(ShowFault::from(StoreFault::Memory))

@@ -61,7 +61,8 @@ pub fn path_of(action: &Action) -> &str {
         | Action::Holdings { book, .. }
         | Action::Gains { book, .. }
         | Action::Journal { book }
-        | Action::Verify { book } => book.as_str(),
+        | Action::Dump { book }
+        | Action::Verify { book, .. } => book.as_str(),
         Action::Post(post) => post.book.as_str(),
         Action::Import(import) => import.book.as_str(),
     }

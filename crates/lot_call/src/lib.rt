@@ -30,7 +30,7 @@ pub use arguments::understand;
 pub use call::{Call, path_of, rounding_of};
 pub use crumbs::Crumbs;
 pub use fate::Fate;
-pub use notes::{say_why, sum_up, withdraw};
+pub use notes::{say_fate, say_why, sum_up};
 pub use remains::say_unwritten;
 pub use remembered::Remembered;
 pub use standing::Standing;

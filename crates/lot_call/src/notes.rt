@@ -1,6 +1,7 @@
 //! What is said of a call on standard error, beside why commands were refused.
 
 use crate::call::Call;
+use crate::fate::Fate;
 use lot_args::Effect;
 use lot_files::Cause;
 use lot_output::Course;
@@ -44,10 +45,29 @@ pub fn sum_up(call: &Call<'_>, course: &Course) {
     };
 }
 
-/// Says that nothing is kept of a call that keeps all or nothing.
-pub fn withdraw(call: &Call<'_>) {
-    let path = call.path;
-    if !call.is_quiet() {
-        let _ = eprintln!(call.rt; "lotbook: {path}: nothing is kept, since not all was accepted");
+/// Says what is kept of a call that keeps all or none, where it isn't all: of one that refused commands, of one that stopped at a
+/// fault, and of one whose commit is in doubt.
+pub fn say_fate(call: &Call<'_>, fate: Fate, course: &Course) {
+    if call.is_quiet() {
+        return;
+    }
+    let (rt, path) = (call.rt, call.path);
+    match fate {
+        Fate::Dropped if course.refused > 0 => {
+            let _ = eprintln!(rt;
+                "lotbook: {path}: nothing is kept, since not all was accepted: entries and lots are named above as the call would have made them"
+            );
+        }
+        Fate::Dropped => {
+            let _ = eprintln!(rt;
+                "lotbook: {path}: nothing is kept, since the call stopped: send it again whole"
+            );
+        }
+        Fate::InDoubt if course.faults > 0 => {
+            let _ = eprintln!(rt;
+                "lotbook: {path}: all is kept or nothing: send the call again whole, and what is kept is a repeat"
+            );
+        }
+        Fate::InDoubt | Fate::Kept => {}
     }
 }

@@ -1,18 +1,27 @@
 -- A report of a database that was only looked at before is a report of the database as it was.
-use Rattle.std.proofs.Common.{◌≡◌, ◌≢◌, ◌∙◌, inl, inr, ℕ, IsTrue, List, None, Ok, Err, Option, Result, refl, sym}
+use Rattle.std.proofs.Common.{◌≡◌, ◌≢◌, ◌∙◌, ◌++◌, inl, inr, ℕ, IsTrue, List, None, Ok, Err, Option, Result, refl, subst, sym}
+use Rattle.std.proofs.KnownBytes.{Appends-nil}
 use Rattle.std.proofs.lemmas.Bool.{true≢false}
 use Rattle.sqlite.specs.Held.{state}
 use Rattle.sqlite.specs.State.{HasCleanDisk, IsUnchanged, State, Survives}
 use Rattle.sqlite.specs.Store.{Ghosts}
+use Rattle.lot_book.specs.Facts.{Entry}
 use Rattle.lot_page.specs.Cursor.{Stays}
 use Rattle.lot_rows.specs.Tables.{Has, Tables}
-use Rattle.lot_cli.specs.Reports.{Concludes, IsRead, Reports, ShowsAllRows, ShowsBook, ShowsReport, ShowsSome}
+use Rattle.lot_cli.specs.Reports.{Concludes, Reports, ShowsAllRows, ShowsBook, ShowsDigest, ShowsReport, ShowsSome, digest_text, verified_line}
 use Rattle.lot_report.specs.Output.{HasFailed, WriteCalls, WritesMade}
+use Rattle.lot_report.specs.Report.{report_fault}
+use Rattle.lot_report.specs.Written.{AppendsPrefix, WritesLine}
+use Rattle.lot_report.specs.declared.fault.RowFault.TheVariants.{Report as OfReport}
+use Rattle.lot_report.specs.declared.line.PrintFault.{PrintFault}
+use Rattle.lot_report.specs.declared.line.PrintFault.TheVariants as print
 use Rattle.lot_cli.specs.Says.{Halts, Told}
 use Rattle.lot_cli.specs.declared.halt.Halt.TheVariants as halt
 use Rattle.lot_cli.specs.declared.report.Report.{Report}
 use Rattle.lot_book_report.specs.Fault.{HasCause, is_of_writer}
-use Rattle.lot_book_report.specs.Show.{HoldsOfBook, HoldsOfTables, ReadsBook, UnlessStopped}
+use Rattle.lot_book_report.specs.Dump.{HoldsOfPlacedBook, digest_line}
+use Rattle.lot_book_report.specs.Show.{HoldsOfBook, HoldsOfTables, IsOfBook, ReadsBook, UnlessStopped}
+use Rattle.lot_book_report.specs.declared.digest.BookDigest.{BookDigest}
 use Rattle.lot_book_report.specs.declared.fault.ShowFault.{ShowFault}
 use Rattle.lot_book_report.specs.declared.fault.ShowFault.TheVariants.{Row as AtRow, Walk as AtWalk}
 use Rattle.lot_store.proofs.ApplyLemmas.{stands_along}
@@ -23,6 +32,7 @@ use Rattle.lot_store.specs.declared.book.Book.{Book}
 use Rattle.lot_store.specs.declared.book.Condition.TheVariants.{NeedsReopen as Unusable, Ready}
 use Rattle.lot_store.specs.declared.fault.AdoptFault.{AdoptFault}
 use Rattle.lot_store.specs.declared.fault.AdoptFault.TheVariants as adopt
+use Rattle.lot_store.specs.declared.walk.WalkFault.TheVariants.{Ended, Failed}
 use Rattle.lot_table.specs.Book.{IsUndone}
 
 unless : (shown : Result (Unit {0}) ShowFault) (P Q : Type 0) → (P → Q) → UnlessStopped shown P → UnlessStopped shown Q
@@ -30,61 +40,56 @@ unless (Ok done) P Q f p = f p
 unless (Err (AtWalk fault)) P Q f p = tt
 unless (Err (AtRow fault)) P Q f p = f p
 
--- the book is read once it was taken up
-pub reads_on : {S : Type 0} (g : Ghosts S) (old : State) (book later : Book S g) (shown : Result (Unit {0}) ShowFault)
-    → (HasCleanDisk (state g book.conn) → IsUnchanged old (state g book.conn)) → Survives old (state g book.conn) (λ _. ⊥) → book.condition ≡ Ready
-    → ReadsBook g book later shown → IsRead old (state g later.conn) shown
-reads_on g old book later shown same look ready reads =
-    let mid = state g book.conn in
-    let new = state g later.conn in
-    let still : HasCleanDisk new → Stays old mid = λ clean. unchanged_stays old mid (same (early mid new reads.crash clean)) in
+-- what holds of a book, whatever its place of migration is
+pub placed : {S : Type 0} (g : Ghosts S) (old new : Book S g) (Fact : List Entry → Type 0) → HoldsOfBook g old new Fact
+    → HoldsOfPlacedBook g old new (λ place. Fact)
+placed g old new Fact it = record { holds = λ clean entries stands. it.holds clean entries stands }
+
+-- a report of a book that was only looked at before is one of the book as it was
+pub shows_after : (report : Report) (old mid new : State) (before written : Option (List ℕ)) (calls : WritesMade) (status : ℕ)
+    → (HasCleanDisk mid → Stays old mid) → Survives old mid (λ _. ⊥) → ShowsBook report mid new before written calls status
+    → ShowsBook report old new before written calls status
+shows_after report old mid new before written calls status same look shows =
+    let read = shows.read in
+    let still : HasCleanDisk new → Stays old mid = λ clean. same (early mid new read.crash clean) in
     record {
-      device = λ clean is. failed_after old mid new (still clean) look (reads.failed clean is);
-      damaged = λ clean is entries stands. reads.damaged clean is entries (stands_along old mid entries (still clean).now stands);
-      reopened = λ is. let none : Ready ≡ Unusable = sym ready ∙ reads.reopen.0 is in absurd cc;
-      sure = reads.sure;
-      going = reads.going;
-      unspent = reads.unspent;
-      same = λ clean. unless shown (Stays mid new) (Stays old new) (stays_then old mid new (still clean)) (reads.same clean);
-      left = λ clean still_open. let kept = reads.left clean still_open in (kept.0 ∙ (still clean).now, kept.1 ∙ (still clean).committed);
-      crash = survives_both old mid new look reads.crash;
+      shown = shows.shown;
+      mid = shows.mid;
+      between = shows.between;
+      read = record {
+        device = λ clean is. failed_after old mid new (still clean) look (read.device clean is);
+        damaged = λ clean is entries stands. read.damaged clean is entries (stands_along old mid entries (still clean).now stands);
+        reopened = read.reopened;
+        sure = read.sure;
+        going = read.going;
+        unspent = read.unspent;
+        same = λ clean. unless shows.shown (Stays mid new) (Stays old new) (stays_then old mid new (still clean)) (read.same clean);
+        left = λ clean still_open. let kept = read.left clean still_open in (kept.0 ∙ (still clean).now, kept.1 ∙ (still clean).committed);
+        crash = survives_both old mid new look read.crash;
+      };
+      of_book = λ clean entries stands. shows.of_book clean entries (stands_along old mid entries (still clean).now stands);
+      some = shows.some;
+      rows = λ clean tables has. shows.rows clean tables (has_still old mid tables (still clean) has);
+      cause = shows.cause;
+      concludes = shows.concludes;
     }
 
 -- a report of the book that was taken up
-pub reported : {S : Type 0} (g : Ghosts S) (report : Report) (old : State) (book later : Book S g) (shown : Result (Unit {0}) ShowFault)
-    (before mid written : Option (List ℕ)) (first between last : Option WriteCalls) (status : ℕ)
-    → (HasCleanDisk (state g book.conn) → IsTaken old) → (HasCleanDisk (state g book.conn) → IsUnchanged old (state g book.conn)) → Survives old (state g book.conn) (λ _. ⊥) → book.condition ≡ Ready
-    → ReadsBook g book later shown
-    → HoldsOfBook g book later (λ entries. ShowsReport report entries before mid shown)
-    → ShowsSome report before mid shown
-    → HoldsOfTables g book later (λ tables. ShowsAllRows report tables before mid shown)
-    → HasCause shown (record { before = first; after = between }) → Concludes shown mid written (record { before = between; after = last }) status
-    → Reports report old (state g later.conn) before written (record { before = first; after = last })
-    (record { status = status; halt = None })
-reported g report old book later shown before mid written first between last status found same look ready reads shows some rows cause concludes =
-    let taken = state g book.conn in
-    let calm : HasCleanDisk (state g later.conn) → HasCleanDisk taken = early taken (state g later.conn) reads.crash in
+pub reported : (report : Report) (old mid new : State) (before written : Option (List ℕ)) (calls : WritesMade) (told : Told)
+    → (HasCleanDisk mid → IsTaken old) → (HasCleanDisk mid → IsUnchanged old mid) → Survives old mid (λ _. ⊥)
+    → ShowsBook report mid new before written calls told.status → told.halt ≡ None → Reports report old new before written calls told
+reported report old mid new before written calls told found same look shows none =
     inl (
-      (λ clean. found (calm clean)),
-      record {
-        shown = shown;
-        mid = mid;
-        between = between;
-        read = reads_on g old book later shown same look ready reads;
-        of_book = λ clean entries stands. shows.holds clean entries (stands_along old taken entries (same (calm clean)).0.now_is stands);
-        some = some;
-        rows = λ clean tables has. rows.holds clean tables (has_still old taken tables (unchanged_stays old taken (same (calm clean))) has);
-        cause = cause;
-        concludes = concludes;
-      },
-      refl,
+      λ clean. found (early mid new shows.read.crash clean),
+      shows_after report old mid new before written calls told.status (λ clean. unchanged_stays old mid (same clean)) look shows,
+      none,
     )
 
 -- a report of a book that can be used
 pub shows_book : {S : Type 0} (g : Ghosts S) (report : Report) (book later : Book S g) (shown : Result (Unit {0}) ShowFault)
     (before mid written : Option (List ℕ)) (first between last : Option WriteCalls) (status : ℕ) → book.condition ≡ Ready
     → ReadsBook g book later shown
-    → HoldsOfBook g book later (λ entries. ShowsReport report entries before mid shown)
+    → HoldsOfPlacedBook g book later (λ place entries. ShowsReport report place entries before mid shown)
     → ShowsSome report before mid shown
     → HoldsOfTables g book later (λ tables. ShowsAllRows report tables before mid shown)
     → HasCause shown (record { before = first; after = between }) → Concludes shown mid written (record { before = between; after = last }) status
@@ -110,6 +115,19 @@ shows_book g report book later shown before mid written first between last statu
   cause = cause;
   concludes = concludes;
 }
+
+-- a digest that the book stops: nothing is written
+pub digest_stops : (digest : BookDigest) (start : Option (List ℕ)) (fault : ShowFault) → IsOfBook fault → fault ≢ AtWalk Ended
+    → ShowsDigest digest start start (Err fault)
+digest_stops digest start (AtWalk (Failed fault)) is going = Appends-nil start
+digest_stops digest start (AtWalk Ended) is going = absurd (going refl)
+digest_stops digest start (AtRow fault) is going = absurd is
+
+-- one that isn't written whole
+pub digest_cut : (digest other : BookDigest) → digest ≡ other → (start now : Option (List ℕ)) (fault : PrintFault) → fault ≡ print.Write
+    → WritesLine start now (Err fault) (verified_line ++ digest_line digest) → ShowsDigest other start now (Err (AtRow (OfReport (report_fault fault))))
+digest_cut digest other same start now print.Write is part = subst (λ (d : BookDigest). AppendsPrefix start now (digest_text d)) same part
+digest_cut digest other same start now print.Memory is part = cc
 
 -- a report that ends for the writer ends so where a call of it failed
 pub failed_writer : (fault : ShowFault) (calls : WritesMade) → HasCause (Err fault) calls → IsTrue (is_of_writer fault) → HasFailed calls.after

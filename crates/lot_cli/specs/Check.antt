@@ -12,18 +12,17 @@ use Rattle.lot_rounding.specs.declared.rounding.Rounding.{Rounding}
 use Rattle.lot_stored.specs.StandFor.{Stands}
 use Rattle.lot_table.specs.Shape.{schema_of}
 use Rattle.lot_report.specs.Output.{IsFlushed, WriteCalls, WritesMade}
-use Rattle.lot_args.specs.declared.action.Format.TheVariants.{Text}
 use Rattle.lot_input.specs.Input.{Gives, GivesNone, Reading}
 use Rattle.lot_input.specs.Text.{IsFaultyText, TextMeans}
 use Rattle.lot_input.specs.declared.fault.InputFault.{InputFault}
 use Rattle.lot_book_report.specs.Fault.{HasCause}
+use Rattle.lot_book_report.specs.Holdings.{ShowsHoldings}
 use Rattle.lot_book_report.specs.declared.fault.ShowFault.{ShowFault}
 use Rattle.lot_cli.specs.Init.{IsNotMade}
-use Rattle.lot_cli.specs.Reports.{Concludes, ShowsReport}
+use Rattle.lot_cli.specs.Reports.{Concludes}
 use Rattle.lot_cli.specs.Runs.{NeverReopens, status_of_run}
 use Rattle.lot_cli.specs.Says.{Halts, Told}
 use Rattle.lot_cli.specs.declared.halt.Halt.TheVariants as halt
-use Rattle.lot_cli.specs.declared.report.Report.TheVariants.{Holdings}
 use Rattle.lot_store.specs.Run.{EndsBehind, IsWrittenOut, Writes}
 use Rattle.lot_store.specs.Session.{Session}
 use Rattle.lot_store.specs.Turned.{AreTurned}
@@ -46,7 +45,7 @@ pub record ShowsHeld (book : List Entry) (before written : Option (List ℕ)) (c
   pub shown : Result (Unit {0}) ShowFault
   pub mid : Option (List ℕ)
   pub between : Option WriteCalls
-  pub shows : ShowsReport (Holdings None Text) book before mid shown
+  pub shows : ShowsHoldings book None before mid shown
   pub cause : HasCause shown (record { before = calls.before; after = between })
   pub concludes : Concludes shown mid written (record { before = between; after = calls.after }) status
 

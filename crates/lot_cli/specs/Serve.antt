@@ -12,7 +12,7 @@ use Rattle.lot_report.specs.Output.{WritesMade}
 use Rattle.lot_report.specs.Printed.{line}
 use Rattle.lot_cli.specs.Check.{Checks}
 use Rattle.lot_cli.specs.Init.{Makes}
-use Rattle.lot_cli.specs.Reports.{Reports}
+use Rattle.lot_cli.specs.Reports.{Reports, ShowsBook, verified_line}
 use Rattle.lot_cli.specs.Runs.{Imports, IsUntouched, Posts, PostsRow, unfit}
 use Rattle.lot_cli.specs.Says.{Halts, Succeeds, Told}
 use Rattle.lot_cli.specs.declared.halt.Halt.TheVariants as halt
@@ -24,8 +24,10 @@ use Rattle.lot_verify.specs.Verify.{NotVerified}
 use Rattle.lot_verify.specs.declared.fault.VerifyFault.{VerifyFault}
 use Rattle.lot_verify.specs.declared.fault.VerifyFault.TheVariants as verify
 use Rattle.lot_args.specs.declared.action.Action.{Action}
+use Rattle.lot_args.specs.declared.action.Saying.{Saying}
+use Rattle.lot_args.specs.declared.action.Saying.TheVariants.{Digest, Verified}
 use Rattle.lot_input.specs.Input.{Reading}
-use Rattle.lot_args.specs.declared.action.Action.TheVariants.{Check, Init, Migrate, Post, PostRow, Import, Holdings, Gains, Journal, Verify}
+use Rattle.lot_args.specs.declared.action.Action.TheVariants.{Check, Init, Migrate, Post, PostRow, Import, Holdings, Gains, Journal, Dump, Verify}
 use Rattle.std.specs.Io.KnownBytes.{Appends}
 
 -- ---- taking over a book of edition 1
@@ -58,9 +60,6 @@ SaysMigrated old new before written calls told =
 
 -- ---- verifying a book
 
-abbrev pub verified_line : List ℕ
-verified_line = line (codes "book verified")
-
 -- The database is marked as a book of this edition, and where it has the tables of a book alone, they stand for one. Nothing is
 -- changed.
 pub record IsVerified (old new : State) : Type 0 where
@@ -78,10 +77,22 @@ pub record IsNotVerified (old new : State) (fault : VerifyFault) : Type 0 where
   pub handed_back : HasCleanDisk new → IsHandedBack old new
   pub crash : Survives old new (λ _. ⊥)
 
-abbrev pub SaysVerified : State → State → Option (List ℕ) → Option (List ℕ) → WritesMade → Told
+-- it was verified, and what is asked for beside that is read of it
+pub record WasVerified (old new : State) : Type 0 where
+  pub stands : HasCleanDisk new → (tables : Tables) → Has old tables → (entries : List Entry) × Stands old entries
+  pub taken : HasCleanDisk new → IsTaken old
+
+-- what is written of a verified book: that it is one, or behind that what the last line of its dump says
+abbrev pub SaysOfVerified : Saying → State → State → Option (List ℕ) → Option (List ℕ) → WritesMade → Told → Type 0
+SaysOfVerified Verified old new before written calls told =
+    IsVerified old new × Succeeds verified_line before written calls told
+SaysOfVerified Digest old new before written calls told =
+    WasVerified old new × ShowsBook report.Digest old new before written calls told.status × (told.halt ≡ None)
+
+abbrev pub SaysVerified : Saying → State → State → Option (List ℕ) → Option (List ℕ) → WritesMade → Told
     → Type 0
-SaysVerified old new before written calls told =
-    (IsVerified old new × Succeeds verified_line before written calls told)
+SaysVerified saying old new before written calls told =
+    SaysOfVerified saying old new before written calls told
     ⊎ ((fault : VerifyFault) × IsNotVerified old new fault
     × Halts (halt.Verify fault) before written calls told)
 
@@ -98,7 +109,8 @@ ReadsNothing (Import asked) = ⊥
 ReadsNothing (Holdings book day format) = ⊤
 ReadsNothing (Gains book first last format) = ⊤
 ReadsNothing (Journal book) = ⊤
-ReadsNothing (Verify book) = ⊤
+ReadsNothing (Dump book) = ⊤
+ReadsNothing (Verify book saying) = ⊤
 
 -- the numbers with which an action ends: a post in place of a row may find that its text doesn't fit
 abbrev pub EndsWith : Action → ℕ → Type 0
@@ -111,7 +123,8 @@ EndsWith (Import asked) status = IsStatus status
 EndsWith (Holdings book day format) status = IsStatus status
 EndsWith (Gains book first last format) status = IsStatus status
 EndsWith (Journal book) status = IsStatus status
-EndsWith (Verify book) status = IsStatus status
+EndsWith (Dump book) status = IsStatus status
+EndsWith (Verify book saying) status = IsStatus status
 
 -- a call: what is known of the reader; the database before and after it; what is known of the bytes that were written before
 -- and after it, and of the calls of the writer; and what it tells of its end
@@ -141,4 +154,5 @@ Serves (Import asked) c =
 Serves (Holdings book day format) c = Reports (report.Holdings day format) c.old c.new c.before c.written c.calls c.told
 Serves (Gains book first last format) c = Reports (report.Gains first last format) c.old c.new c.before c.written c.calls c.told
 Serves (Journal book) c = Reports report.Journal c.old c.new c.before c.written c.calls c.told
-Serves (Verify book) c = SaysVerified c.old c.new c.before c.written c.calls c.told
+Serves (Dump book) c = Reports report.Dump c.old c.new c.before c.written c.calls c.told
+Serves (Verify book saying) c = SaysVerified saying c.old c.new c.before c.written c.calls c.told

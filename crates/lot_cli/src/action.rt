@@ -45,11 +45,11 @@ pub struct Served<S: Alter> {
 ///   behind that. A fault of the input changes nothing.
 /// - `post` in place of a row of a broker file applies the one command of a ledger text under the key of the row. Where the
 ///   text has no command, or several, nothing is written and nothing changes.
-/// - `holdings`, `gains` and `journal` take the book up and write the report, each row as it is read. The first two write text
-///   or CSV. They read no input and change nothing. Where a report ends before its end, one line with the fault follows, unless
+/// - `holdings`, `gains`, `journal` and `dump` take the book up and write the report, each row as it is read. The first two write
+///   text or CSV. They read no input and change nothing. Where a report ends before its end, one line with the fault follows, unless
 ///   the writer failed.
-/// - `verify` judges the book again from its entries, compares every table, and writes `book verified`. It reads no input and
-///   changes nothing.
+/// - `verify` judges the book again from its entries, compares every table, and writes `book verified`, and where that is asked
+///   for, what the last line of its dump says. It reads no input and changes nothing.
 /// - Without a subcommand a check is done. It leaves the book alone. With an account for crumbs it makes a book in a database
 ///   without tables, posts the commands to it, and writes what it holds.
 ///
@@ -137,7 +137,8 @@ pub fn serve<R: CountedRead, W: CountedWrite, P: Progress + Watch + Look, S: Alt
             write_report(alloc, asked, writer, conn)
         }
         Action::Journal { .. } => write_report(alloc, Report::Journal, writer, conn),
-        Action::Verify { .. } => verify(alloc, writer, conn),
+        Action::Dump { .. } => write_report(alloc, Report::Dump, writer, conn),
+        Action::Verify { saying, .. } => verify(alloc, *saying, writer, conn),
     }
 }
 

@@ -17,7 +17,7 @@ ghost use Rattle.sqlite.specs.State.{HasCleanDisk, Survives};
 
 use crate::action::Served;
 use crate::halt::Halt;
-use crate::report::{Report, conclude, show};
+use crate::report::{Report, write_whole};
 use crate::run::{halted, say_halt, status_of_run};
 use lot_args::{Batch, Format};
 use lot_completion::Watch;
@@ -149,29 +149,16 @@ fn show_behind<W: CountedWrite, S: Alter>(
 {
     let status = status_of_run(end).code();
     match end.ending {
-        Ending::Complete => status_behind(status, show_holdings(alloc, book, writer)),
+        Ending::Complete => {
+            let report = Report::Holdings {
+                day: None,
+                format: Format::Text,
+            };
+            status_behind(status, write_whole(alloc, report, book, writer))
+        }
         Ending::Stopped(_) => status,
         Ending::Output => status,
     }
-}
-
-/// Writes what a book holds, and returns the status of that.
-fn show_holdings<W: CountedWrite, S: Alter>(alloc: Global, book: &mut Book<S>, writer: &mut W) -> u8
-    requires { book.old.condition ≡ Ready }
-    ensures shows { ShowsBook (report.Holdings None Text)
-        (state S.Store book.old.conn) (state S.Store book.new.conn)
-        (W.contents writer.old) (W.contents writer.new) (record {
-          before = W.calls writer.old;
-          after = W.calls writer.new;
-        }) result }
-    ensures status { IsStatus result }
-{
-    let report = Report::Holdings {
-        day: None,
-        format: Format::Text,
-    };
-    let shown = show(alloc, report, book, writer);
-    conclude(writer, shown)
 }
 
 /// Returns the status of commands, unless the holdings behind them couldn't be written.

@@ -155,13 +155,15 @@ pub fn a_stop_leaves_what_is_found_again<D: Disk>()
 pub fn what_is_applied_all_or_none_is_a_session<S: Alter>()
     ensures leaves { (old new : Held S) (rounding : Option Rounding) (asked : List (Key × Asked))
         (entries : List Entry) (verdicts : List Verdict) (ended : Ended)
-        (it : AppliedOn rounding asked entries (state S.Store old) (state S.Store new) verdicts ended)
+        (it : AppliedOn rounding asked entries (state S.Store old) (state S.Store new)
+        verdicts ended)
         (replied more : List Verdict)
         → that_count ended verdicts ≡ replied ++ more
         → LeavesOneOf (AllOrNoneLeaves entries it.turned replied) (state S.Store new).may_leave }
     ensures kept { (old new : Held S) (rounding : Option Rounding) (asked : List (Key × Asked))
         (entries : List Entry) (verdicts : List Verdict) (ended : Ended)
-        (it : AppliedOn rounding asked entries (state S.Store old) (state S.Store new) verdicts ended)
+        (it : AppliedOn rounding asked entries (state S.Store old) (state S.Store new)
+        verdicts ended)
         → ended ≡ Kept
         → LeavesOneOf (AreAllKept entries it.turned) (state S.Store new).may_leave }
 {}

@@ -4,9 +4,14 @@ ghost use Rattle.lot_report.specs.Output.{WriteCalls};
 ghost use Rattle.lot_stream.specs.Status.{IsStatus};
 ghost use Rattle.lot_stream.specs.declared.status.Status.TheVariants.{Stopped};
 ghost use Rattle.lot_cli.specs.Reports.{Concludes, Reports, ShowsReport, ShowsAllRows, ShowsSome, report_line};
+ghost use Rattle.lot_cli.specs.Reports.{ShowsBook, ShowsDigest, ShowsDigestOfTables, ShowsSomeDigest};
 ghost use Rattle.lot_cli.specs.Says.{Says};
+ghost use Rattle.lot_book_report.specs.Dump.{HoldsOfPlacedBook, digest_of};
 ghost use Rattle.lot_book_report.specs.Fault.{HasCause};
-ghost use Rattle.lot_book_report.specs.Show.{HoldsOfBook, HoldsOfTables, ReadsBook};
+ghost use Rattle.lot_book_report.specs.Show.{HoldsOfTables, ReadsBook};
+ghost use Rattle.lot_store.specs.Extent.{extent_of};
+ghost use Rattle.lot_store.specs.declared.book.Condition.TheVariants.{Ready};
+ghost use Rattle.lot_stored.specs.Rows.{entry_rows};
 ghost use Rattle.sqlite.specs.Held.{state};
 
 use crate::action::Served;
@@ -15,7 +20,8 @@ use crate::run::{halted, tell};
 use lot_args::Format;
 use lot_base::Day;
 use lot_book_report::{
-    ShowFault, show_gains, show_gains_csv, show_holdings, show_holdings_csv, show_journal,
+    ShowFault, digest_book, show_dump, show_gains, show_gains_csv, show_holdings,
+    show_holdings_csv, show_journal,
 };
 use lot_report::{CountedWrite, print_texts};
 use lot_store::{Book, HandedBack, adopt};
@@ -39,6 +45,10 @@ pub(crate) enum Report {
     },
     /// Its entries.
     Journal,
+    /// Its entries, between two lines by which the book can be made again.
+    Dump,
+    /// That it is verified, and what the last line of its dump says.
+    Digest,
 }
 
 /// Writes a report of the book that is there.
@@ -58,27 +68,64 @@ pub(crate) fn write_report<W: CountedWrite, S: Alter>(
     ensures status { IsStatus result.status }
 {
     match adopt(alloc, conn) {
-        Ok(mut book) => {
-            let shown = show(alloc, report, &mut book, writer);
-            Served {
-                status: conclude(writer, shown),
-                halt: None,
-                conn: book.into_connection(),
-            }
-        }
+        Ok(book) => write_report_of(alloc, report, writer, book),
         Err(HandedBack { fault, conn }) => halted(writer, Halt::Adopt(fault), conn),
     }
 }
 
+/// Writes a report of a book that can be used.
+pub(crate) fn write_report_of<W: CountedWrite, S: Alter>(
+    alloc: Global,
+    report: Report,
+    writer: &mut W,
+    book: Book<S>,
+) -> Served<S>
+    requires ready { book.condition ≡ Ready }
+    ensures shows { ShowsBook report (state S.Store book.conn) (state S.Store result.conn)
+        (W.contents writer.old) (W.contents writer.new) (record {
+          before = W.calls writer.old;
+          after = W.calls writer.new;
+        }) result.status }
+    ensures goes_on { result.halt ≡ None }
+    ensures status { IsStatus result.status }
+{
+    let mut book = book;
+    let status = write_whole(alloc, report, &mut book, writer);
+    Served {
+        status,
+        halt: None,
+        conn: book.into_connection(),
+    }
+}
+
+/// Writes a report of a book that can be used, with what stands behind it, and returns the status of the program.
+pub(crate) fn write_whole<W: CountedWrite, S: Alter>(
+    alloc: Global,
+    report: Report,
+    book: &mut Book<S>,
+    writer: &mut W,
+) -> u8
+    requires ready { book.old.condition ≡ Ready }
+    ensures shows { ShowsBook report (state S.Store book.old.conn) (state S.Store book.new.conn)
+        (W.contents writer.old) (W.contents writer.new) (record {
+          before = W.calls writer.old;
+          after = W.calls writer.new;
+        }) result }
+    ensures status { IsStatus result }
+{
+    let shown = show(alloc, report, book, writer);
+    conclude(writer, shown)
+}
+
 /// Writes a report of a book, as far as its fault lets it. Nothing is flushed.
-pub(crate) fn show<W: CountedWrite, S: Alter>(
+fn show<W: CountedWrite, S: Alter>(
     alloc: Global,
     report: Report,
     book: &mut Book<S>,
     writer: &mut W,
 ) -> Result<(), ShowFault>
-    ensures shows { HoldsOfBook S.Store book.old book.new
-        (λ entries. ShowsReport report entries (W.contents writer.old) (W.contents writer.new) result) }
+    ensures shows { HoldsOfPlacedBook S.Store book.old book.new (λ place entries.
+        ShowsReport report place entries (W.contents writer.old) (W.contents writer.new) result) }
     ensures some { ShowsSome report (W.contents writer.old) (W.contents writer.new) result }
     ensures rows { HoldsOfTables S.Store book.old book.new
         (λ tables. ShowsAllRows report tables (W.contents writer.old) (W.contents writer.new) result) }
@@ -108,12 +155,35 @@ pub(crate) fn show<W: CountedWrite, S: Alter>(
             format: Format::Csv,
         } => show_gains_csv(alloc, book, first, last, writer),
         Report::Journal => show_journal(book, writer),
+        Report::Dump => show_dump(book, writer),
+        Report::Digest => show_digest(book, writer),
     }
+}
+
+/// Writes that a book is verified, and behind it what the last line of its dump says. Where the book stops, nothing is written.
+fn show_digest<W: CountedWrite, S: Alter>(
+    book: &mut Book<S>,
+    writer: &mut W,
+) -> Result<(), ShowFault>
+    ensures shows { HoldsOfPlacedBook S.Store book.old book.new (λ place entries.
+        ShowsDigest (digest_of (extent_of place entries) (entry_rows 1 entries))
+        (W.contents writer.old) (W.contents writer.new) result) }
+    ensures some { ShowsSomeDigest (W.contents writer.old) (W.contents writer.new) result }
+    ensures rows { HoldsOfTables S.Store book.old book.new (λ tables.
+        ShowsDigestOfTables tables (W.contents writer.old) (W.contents writer.new) result) }
+    ensures reads { ReadsBook S.Store book.old book.new result }
+    ensures cause { HasCause result (record {
+      before = W.calls writer.old;
+      after = W.calls writer.new;
+    }) }
+{
+    let digest = digest_book(book)?;
+    Ok(digest.print_behind("book verified\n", writer)?)
 }
 
 /// Ends a report: flushes it where it is whole, else reports why it isn't. Nothing more is asked of a writer that failed.
 /// Returns the status of the program.
-pub(crate) fn conclude<W: CountedWrite>(writer: &mut W, shown: Result<(), ShowFault>) -> u8
+fn conclude<W: CountedWrite>(writer: &mut W, shown: Result<(), ShowFault>) -> u8
     ensures concludes { (before : Option WriteCalls) → HasCause shown (record {
       before = before;
       after = W.calls writer.old;

@@ -5,22 +5,25 @@ ghost use Rattle.sqlite.specs.Held.{state};
 
 use crate::action::Served;
 use crate::halt::Halt;
+use crate::report::{Report, write_report_of};
 use crate::run::{halted, tell};
+use lot_args::Saying;
 use lot_report::{CountedWrite, print_texts};
-use lot_store::HandedBack;
+use lot_store::{Book, HandedBack};
 use lot_stream::Status;
 use sqlite::{Alter, Connection};
 use std::alloc::Global;
 
-/// Verifies the book that is there.
+/// Verifies the book that is there, and writes what is asked for.
 pub(crate) fn verify<W: CountedWrite, S: Alter>(
     alloc: Global,
+    saying: Saying,
     writer: &mut W,
     conn: Connection<S>,
 ) -> Served<S>
     requires outside { conn.in_transaction ≡ false }
     requires unlimited { conn.step_limit ≡ None }
-    ensures verifies { SaysVerified (state S.Store conn) (state S.Store result.conn)
+    ensures verifies { SaysVerified saying (state S.Store conn) (state S.Store result.conn)
         (W.contents writer.old) (W.contents writer.new) (record {
           before = W.calls writer.old;
           after = W.calls writer.new;
@@ -28,14 +31,20 @@ pub(crate) fn verify<W: CountedWrite, S: Alter>(
     ensures status { IsStatus result.status }
 {
     match lot_verify::verify(alloc, conn) {
-        Ok(conn) => {
-            let printed = print_texts(writer, &["book verified\n"]);
-            Served {
-                status: tell(writer, printed, Status::Accepted),
-                halt: None,
-                conn,
+        Ok(conn) => match saying {
+            Saying::Verified => {
+                let printed = print_texts(writer, &["book verified\n"]);
+                Served {
+                    status: tell(writer, printed, Status::Accepted),
+                    halt: None,
+                    conn,
+                }
             }
-        }
+            Saying::Digest => {
+                let book = Book::ready_over(alloc, conn);
+                write_report_of(alloc, Report::Digest, writer, book)
+            }
+        },
         Err(HandedBack { fault, conn }) => halted(writer, Halt::Verify(fault), conn),
     }
 }

@@ -18,6 +18,12 @@ use std::io::{self, ErrorKind, Read};
 use std::os::unix::fs::MetadataExt;
 use std::path::Path;
 
+/// How many pages that were read are kept in memory.
+const CACHE_PAGES: usize = 1_000;
+
+/// How many pages that were written are kept in memory before they go to the log: a large transaction takes no more.
+const SPILL_PAGES: usize = 500;
+
 /// The most bytes that the name of a book's file may have. Its log stands beside it, and a journal of another program
 /// may. Their names have up to eight bytes more, and no file's name has more than 255.
 const LONGEST_NAME: usize = 247;
@@ -46,7 +52,12 @@ pub(crate) fn open<'a>(
     let Ok(seed) = RandomState::new(rt) else {
         return Err(why(rt, path, CANNOT_OPEN));
     };
-    match Connection::open_files(rt.alloc(), files, Options::new(seed.hash_one(&0u8))) {
+    let options = Options {
+        cache_pages: CACHE_PAGES,
+        spill_pages: SPILL_PAGES,
+        ..Options::new(seed.hash_one(&0u8))
+    };
+    match Connection::open_files(rt.alloc(), files, options) {
         Ok(conn) => Ok(conn),
         Err((error, _left)) => Err(why(rt, path, error).or_of(failure.cause())),
     }

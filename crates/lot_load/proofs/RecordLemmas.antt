@@ -20,13 +20,13 @@ use Rattle.lot_command.specs.declared.key.Key.{Key}
 use Rattle.lot_book.specs.Agree.{Agrees}
 use Rattle.lot_book.specs.Book.{IsBook, entry_of}
 use Rattle.lot_book.specs.Booking.{TieRule}
-use Rattle.lot_book.specs.Change.{day_listed}
-use Rattle.lot_book.specs.Edition.{After}
+use Rattle.lot_book.specs.Change.{IsAcceptedUnder, day_listed}
+use Rattle.lot_book.specs.Edition.{After, Edition, ties_in}
 use Rattle.lot_book.specs.Facts.{Entry, Facts, declares, facts_of, legs_of}
 use Rattle.lot_book.specs.Leg.{inventory_of, same_position, with_leg, with_legs}
 use Rattle.lot_book.specs.Recorded.{facts_in, recorded, standing_after}
 use Rattle.lot_book.specs.OpeningNumber.{opening_in, opening_with_leg, opening_with_legs, posting_number}
-use Rattle.lot_book.specs.Openings.{AgreesWithOpenings, FactsWithOpenings, HaveSameOpenings, IsAcceptedWith, facts_with_openings, ties_on, with_listed}
+use Rattle.lot_book.specs.Openings.{AgreesWithOpenings, FactsWithOpenings, HaveSameOpenings, facts_with_openings, ties_for, with_listed}
 use Rattle.lot_book.specs.Step.{Accept, JudgesUnder, first_conditions, first_of}
 use Rattle.lot_book.specs.declared.change.Change.{Change}
 use Rattle.lot_book.specs.declared.change.Pair.{Pair}
@@ -35,13 +35,13 @@ use Rattle.lot_book.specs.declared.leg.Position.{Position}
 use Rattle.lot_book.specs.declared.standing.Standing.{Standing}
 use Rattle.lot_book.proofs.CaseLemmas.{by_bool}
 use Rattle.lot_book.proofs.HeldLemmas.{get-with_legs, get-with_rows, no_zeros-empty, no_zeros-legs}
+use Rattle.lot_laws.proofs.LawBooks.{accepted}
 use Rattle.lot_laws.proofs.RecordedBook.{closes_opened, declared-recorded, inventory_of-append, key_was_new, legs_of-append, standing-recorded}
 use Rattle.lot_laws.proofs.RecordedDays.{latest-recorded}
 use Rattle.lot_laws.proofs.SameOpenings.{same_after_legs}
 use Rattle.lot_laws.proofs.StepAgree.{alike_all}
 use Rattle.lot_laws.proofs.StepHeld.{same_with_leg, same_with_legs}
-use Rattle.lot_laws.proofs.StepLooks.{same_decision}
-use Rattle.lot_laws.proofs.StepOpenings.{numbers_after}
+use Rattle.lot_laws.proofs.StepOpenings.{numbers_after, step_where_agreed}
 use Rattle.lot_stored.proofs.BookedLemmas.{booked_as}
 use Rattle.lot_stored.proofs.KnownLemmas.{IsSameAt, same_at_legs}
 use Rattle.lot_stored.proofs.NumberLemmas.{legs_for, one_longer}
@@ -139,14 +139,15 @@ module _ (account commodity : List ℕ) (lot : LotKey) where
 
 -- ---- all facts
 
-module _ (entries : List Entry) (key : Key) (command : Command) (change : Change) (known : FactsWithOpenings) (is_book : IsBook entries)
-    (agrees : AgreesWithOpenings known (facts_with_openings entries key) command) (comes : IsAcceptedWith known command change)
+module _ (edition : Edition) (entries : List Entry) (key : Key) (command : Command) (change : Change) (known : FactsWithOpenings)
+    (is_book : IsBook entries) (agrees : AgreesWithOpenings known (facts_with_openings entries key) command)
+    (comes : IsAcceptedUnder (ties_for edition known) known.facts command change)
     (part : IsPart (facts_in entries) known.facts) where
   abbrev facts : Facts
   facts = known.facts
 
   abbrev ties : TieRule
-  ties = ties_on known
+  ties = ties_for edition known
 
   abbrev book : Facts
   book = facts_in entries
@@ -160,15 +161,15 @@ module _ (entries : List Entry) (key : Key) (command : Command) (change : Change
   abbrev after : Facts
   after = recorded facts command change
 
-  judges : JudgesUnder (ties_on (facts_with_openings entries key)) (facts_of entries key) command (Accept change.legs)
+  judges : JudgesUnder (ties_in edition entries) (facts_of entries key) command (Accept change.legs)
   judges =
-      (key_was_new (ties_on (facts_with_openings entries key)) (facts_of entries key) command change.legs (facts_of entries key).text
-      (same_decision known (facts_with_openings entries key) command (Accept change.legs) agrees comes.0)).1
+      (accepted edition entries key command change.legs
+      (step_where_agreed edition known entries key command (Accept change.legs) agrees comes.0)).1
 
   -- ---- how accounts stand, what is declared, and the latest days
 
   stands : (account : List ℕ) → standing_after account command (book.standing account) ≡ now.standing account
-  stands = standing-recorded (ties_on (facts_with_openings entries key)) entries key command change.legs
+  stands = standing-recorded (ties_in edition entries) entries key command change.legs
       (closes_opened (After is_book.place) entries is_book.is) judges
 
   is_declared : (commodity : List ℕ) → (declares commodity command || book.is_declared commodity) ≡ now.is_declared commodity
@@ -177,7 +178,7 @@ module _ (entries : List Entry) (key : Key) (command : Command) (change : Change
   latest : (account commodity : List ℕ)
       → option_or (day_listed change.heads account commodity) (book.latest_at_cost account commodity) ≡ now.latest_at_cost account commodity
   latest account commodity =
-      latest-recorded (ties_on (facts_with_openings entries key)) entries key (entry_of key command change.legs) account commodity (day_listed change.heads account commodity) judges
+      latest-recorded (ties_in edition entries) entries key (entry_of key command change.legs) account commodity (day_listed change.heads account commodity) judges
       (comes.1.heads account commodity)
 
   -- ---- what is held

@@ -1,8 +1,10 @@
 ghost use Rattle.std.specs.Prelude.{◌≡◌, ◌<◌, [], ◌∷◌, ◌++◌, IfOk, List, length, option_map};
 ghost use Rattle.std.specs.String.{string_bytes};
 ghost use Rattle.lot_book.specs.Book.{IsBook, entry_of};
+ghost use Rattle.lot_book.specs.Change.{IsAcceptedUnder};
+ghost use Rattle.lot_book.specs.Edition.{Edition};
 ghost use Rattle.lot_book.specs.Facts.{Entry};
-ghost use Rattle.lot_book.specs.Openings.{AgreesWithOpenings, IsAcceptedWith, facts_with_openings};
+ghost use Rattle.lot_book.specs.Openings.{AgreesWithOpenings, facts_with_openings, ties_for};
 ghost use Rattle.lot_book.specs.Refusals.{most_entries};
 ghost use Rattle.lot_command.specs.declared.key.Key.{Key};
 ghost use Rattle.lot_load.specs.Kept.{Keeps, seen, seen_with_openings};
@@ -62,14 +64,16 @@ impl Kept {
         &self.view
     }
 
-    /// Records an accepted command and what it changes. The error is out of memory, and what was known is then lost.
+    /// Records a command that an edition accepts, and what it changes. The error is out of memory, and what was known is then
+    /// lost.
     pub fn record(self, command: &Command, change: &Change) -> Result<Kept, AllocError>
         requires { (seen self).entries < most_entries }
-        ensures { IfOk result (λ after. (entries : List Entry) (key : Key) → IsBook entries
-            → Keeps self entries
+        ensures { IfOk result (λ after. (edition : Edition) (entries : List Entry) (key : Key)
+            → IsBook entries → Keeps self entries
             → AgreesWithOpenings (seen_with_openings self) (facts_with_openings entries key)
             command.now
-            → IsAcceptedWith (seen_with_openings self) command.now change.now
+            → IsAcceptedUnder (ties_for edition (seen_with_openings self)) (seen self)
+            command.now change.now
             → Keeps after (entries ++ entry_of key command.now change.now.legs ∷ [])) }
     {
         let Kept { view, whole } = self;

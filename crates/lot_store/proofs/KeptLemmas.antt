@@ -4,8 +4,10 @@ use Rattle.std.specs.Result.{result_ok}
 use Rattle.lot_command.specs.declared.command.Command.{Command}
 use Rattle.lot_command.specs.declared.key.Key.{Key}
 use Rattle.lot_book.specs.Book.{IsBook, entry_of}
+use Rattle.lot_book.specs.Change.{IsAcceptedUnder}
+use Rattle.lot_book.specs.Edition.{Edition, Second}
 use Rattle.lot_book.specs.Facts.{Entry}
-use Rattle.lot_book.specs.Openings.{AgreesWithOpenings, IsAcceptedWith, facts_with_openings, ties_on}
+use Rattle.lot_book.specs.Openings.{AgreesWithOpenings, IsAcceptedWith, facts_with_openings, ties_for, ties_on}
 use Rattle.lot_book.specs.declared.change.Change.{Change}
 use Rattle.lot_book.specs.declared.refusal.Stop.{Stop}
 use Rattle.lot_ledger.specs.Decide.{Comes, StopsStep}
@@ -37,9 +39,9 @@ module _ (looked : Kept) (view : View) (same : view ≡ looked.view) (command : 
 
 -- what recording gives is kept of the book with the entry; out of memory nothing is kept
 pub kept_then : {E : Type 0} (looked : Kept) (key : Key) (command : Command) (change : Change) (recorded : Result Kept E)
-    → IfOk recorded (λ after. (entries : List Entry) (other : Key) → IsBook entries → Keeps looked entries → AgreesWithOpenings (seen_with_openings looked) (facts_with_openings entries other) command
-    → IsAcceptedWith (seen_with_openings looked) command change → Keeps after (entries ++ entry_of other command change.legs ∷ []))
+    → IfOk recorded (λ after. (edition : Edition) (entries : List Entry) (other : Key) → IsBook entries → Keeps looked entries → AgreesWithOpenings (seen_with_openings looked) (facts_with_openings entries other) command
+    → IsAcceptedUnder (ties_for edition (seen_with_openings looked)) (seen looked) command change → Keeps after (entries ++ entry_of other command change.legs ∷ []))
     → IsAcceptedWith (seen_with_openings looked) command change → (entries : List Entry) → IsBook entries → Keeps looked entries → AgreesWithOpenings (seen_with_openings looked) (facts_with_openings entries key) command
     → IsOf (result_ok recorded) (entries ++ entry_of key command change.legs ∷ [])
-kept_then looked key command change (Ok after) records comes entries book keeps agrees = records entries key book keeps agrees comes
+kept_then looked key command change (Ok after) records comes entries book keeps agrees = records Second entries key book keeps agrees comes
 kept_then looked key command change (Err out) records comes entries book keeps agrees = tt

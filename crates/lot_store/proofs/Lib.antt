@@ -4,6 +4,7 @@ pub mod ByTextLemmas
 pub mod CommitLemmas
 pub mod CreateLemmas
 pub mod DamageLemmas
+pub mod ExtentLemmas
 pub mod HandedLemmas
 pub mod KeptLemmas
 pub mod RefusalLemmas

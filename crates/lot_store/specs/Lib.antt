@@ -2,6 +2,7 @@ pub mod Apply
 pub mod ByText
 pub mod Create
 pub mod Damage
+pub mod Extent
 pub mod Run
 pub mod Session
 pub mod Step

@@ -3,6 +3,7 @@ ghost use Rattle.lot_load.specs.Kept.{IsOf};
 ghost use Rattle.lot_store.specs.Apply.{Applies, AppliesWith, RefusedByDevice, RefusedByDeviceWith, condition_after, ready_of, verdict_of};
 ghost use Rattle.lot_store.specs.ByText.{IsByText};
 ghost use Rattle.lot_store.specs.Damage.{MeetsDamage};
+ghost use Rattle.lot_store.specs.Extent.{Measures};
 ghost use Rattle.lot_store.specs.Step.{LeavesTables, condition_from};
 ghost use Rattle.lot_store.specs.Turned.{TurnsTo};
 ghost use Rattle.lot_walk.specs.Step.{Steps, StepsOverRows};
@@ -13,6 +14,7 @@ ghost use Rattle.sqlite.specs.State.{HasCleanDisk};
 ghost use Rattle.sqlite.specs.Tree.{Trees};
 
 use crate::commit::commit;
+use crate::extent::{Extent, measure};
 use crate::fault::{ApplyFault, StoreFault};
 use crate::turn::{Turn, turn_of};
 use lot_command::{Command, Key, is_sayable};
@@ -146,8 +148,9 @@ impl<S: Alter> Book<S> {
         conn
     }
 
-    /// Returns the book over a connection, ready for use.
-    pub(crate) fn ready_over(alloc: Global, conn: Connection<S>) -> Book<S>
+    /// Returns the book over a connection, ready for use. It reads nothing: `adopt` tells whether the database is marked as a
+    /// book.
+    pub fn ready_over(alloc: Global, conn: Connection<S>) -> Book<S>
         requires outside { HasCleanDisk (state S.Store conn) → conn.in_transaction ≡ false }
         requires unlimited { conn.step_limit ≡ None }
         ensures { (result.conn ≡ conn) × (result.condition ≡ Condition.Ready) }
@@ -180,6 +183,26 @@ impl<S: Alter> Book<S> {
             self.condition = Condition::NeedsReopen;
         }
         Ok(found?)
+    }
+
+    /// Returns how far the book goes: how many entries it has, and its place of migration. It reads two rows, and changes
+    /// nothing.
+    ///
+    /// After `Device`, and only then, the book needs reopening. The error is `Damaged` only where the tables stand for no book.
+    pub fn extent(&mut self) -> Result<Extent, StoreFault>
+        ensures measures { Measures (state S.Store self.old.conn) (state S.Store self.new.conn) result }
+        ensures reopen { (result ≡ Err StoreFault.NeedsReopen) ↔ (self.old.condition ≡ Condition.NeedsReopen) }
+        ensures condition { self.new.condition ≡ condition_from self.old.condition result }
+        ensures sure { result ≢ Err StoreFault.InDoubt }
+        ensures left { HasCleanDisk (state S.Store self.new.conn)
+            → OnErr result (LeavesTables (state S.Store self.old.conn) (state S.Store self.new.conn)) }
+    {
+        self.ready()?;
+        let measured = measure(self.alloc, &mut self.conn);
+        if let Err(Fault::Device) = measured {
+            self.condition = Condition::NeedsReopen;
+        }
+        Ok(measured?)
     }
 
     /// Returns the allocator that the book was made with.

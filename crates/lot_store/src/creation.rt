@@ -60,7 +60,7 @@ pub fn create<S: Alter>(
 }
 
 /// Returns whether a database has neither tables, nor indexes, nor views.
-fn is_empty(schema: &Schema) -> bool
+pub fn is_empty(schema: &Schema) -> bool
     ensures { IsTrue result ↔ (schema.now ≡ schema_of []) }
 {
     schema.tables.as_slice().is_empty()
@@ -100,7 +100,7 @@ pub fn edition_row(alloc: Global) -> Result<BookRow, AllocError>
 
 /// Makes the tables in the open transaction, with the two rows of a book that is empty: that of its edition, and its place of
 /// migration, 0.
-fn make_tables<S: Alter>(tx: &mut Transaction<'_, S>, row: &BookRow) -> Result<(), CreateFault>
+pub fn make_tables<S: Alter>(tx: &mut Transaction<'_, S>, row: &BookRow) -> Result<(), CreateFault>
     requires inside { HasCleanDisk (state S.Store tx.old.conn.now) → IsTrue (state S.Store tx.old.conn.now).in_transaction }
     requires unlimited { tx.old.conn.now.step_limit ≡ None }
     requires row { row.now ≡ this_edition }

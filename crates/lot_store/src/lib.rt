@@ -5,6 +5,7 @@
 //! - `commit`: rows written in one commit.
 //! - `run`: commands applied one after another, with a reply to each.
 //! - `turn`: which command is judged in the place of one that was handed in.
+//! - `extent`: how far a book goes.
 //! - `walk`: walks over the rows of a book, and why one gives none.
 //! - `fault`: why a call fails.
 #![tactic(auto)]
@@ -13,6 +14,7 @@ mod adoption;
 mod book;
 mod commit;
 mod creation;
+mod extent;
 mod fault;
 mod run;
 mod turn;
@@ -20,7 +22,8 @@ mod walk;
 
 pub use adoption::adopt;
 pub use book::{Ack, Book};
-pub use creation::{create, edition_row};
+pub use creation::{create, edition_row, is_empty, make_tables};
+pub use extent::Extent;
 pub use fault::{AdoptFault, ApplyFault, CreateFault, HandedBack, StoreFault};
 pub use lot_walk::{PairPrice, laws};
 pub use run::{Ending, RunEnd};

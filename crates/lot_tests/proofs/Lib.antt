@@ -1,2 +1,1 @@
 pub mod RangeLemmas
-pub mod SelectLemmas

@@ -1,5 +1,7 @@
 //! What is done to books whose disks stop: ledgers are sent to them, and they are made, migrated and verified.
 
+use crate::disk::PAGES;
+
 /// Commands that are sent to a book, or one other call of the program, done over again until all is done.
 pub(crate) struct Course {
     pub name: &'static str,
@@ -7,7 +9,9 @@ pub(crate) struct Course {
     pub made_by: &'static [&'static str],
     pub before: &'static str,
     pub call: Call,
-    /// Commands, or none for another call, each with what is said where nothing stops.
+    /// How many written pages are kept in memory before they go to the log.
+    pub pages: usize,
+    /// Commands, or the text of one other call, each with what is said where nothing stops.
     pub sent: &'static [(&'static str, &'static str)],
     /// What is posted before the book is asked what it says.
     pub behind: &'static str,
@@ -20,6 +24,8 @@ pub(crate) struct Course {
 pub(crate) enum Call {
     /// The post of commands, from the first without a reply on. Each line of the answer has the number of its command.
     Post,
+    /// A call that keeps commands all or none, by its words, and what it says where all are kept.
+    AllOrNone(&'static str, &'static str),
     /// Another call, by its words, and what it says where all is done.
     Other(&'static str, &'static str),
 }
@@ -36,6 +42,7 @@ pub(crate) const SALE: Course = Course {
     made_by: MADE,
     before: "",
     call: Call::Post,
+    pages: PAGES,
     sent: &[
         ("2020-01-01 open Assets:Broker \"FIFO\"\n", "1 accepted\n"),
         ("2020-01-01 open Assets:Cash\n", "2 accepted\n"),
@@ -73,6 +80,7 @@ pub(crate) const DOUBT: Course = Course {
   Equity:Start
 ",
     call: Call::Post,
+    pages: PAGES,
     sent: &[
         (
             "2020-02-01 *\n  Assets:Broker -5 HOOL {120 USD} @ 130 USD\n  Assets:Cash 650 USD\n  Income:Gains\n",
@@ -112,6 +120,7 @@ pub(crate) const PRICES: Course = Course {
     made_by: MADE,
     before: TWO_LOTS,
     call: Call::Post,
+    pages: PAGES,
     sent: &[
         ("2020-02-10 price HOOL 125 USD\n", "1 accepted\n"),
         ("2020-02-10 price HOOL 126 USD\n", "2 accepted\n"),
@@ -128,6 +137,7 @@ pub(crate) const EVERY_KIND: Course = Course {
     made_by: MADE,
     before: "",
     call: Call::Post,
+    pages: PAGES,
     sent: &[
         (
             "2020-01-01 open Assets:Broker USD,HOOL,GOLD \"FIFO\"\n",
@@ -243,6 +253,7 @@ pub(crate) const MAKING: Course = Course {
     made_by: &[],
     before: "",
     call: Call::Other("lotbook init --book b", "fault S1 NotABook"),
+    pages: PAGES,
     sent: &[("", "book ready\n")],
     behind: "",
     first: "fault S1 NotABook\nfault S1 NotABook\nfault S1 NotABook\nfault S1 NotABook\n",
@@ -280,6 +291,7 @@ pub(crate) const MIGRATING: Course = Course {
 2020-01-05 close Equity:Start
 ",
     call: Call::Other("lotbook migrate --book b", "book migrated"),
+    pages: PAGES,
     sent: &[("", "book migrated\n")],
     behind: "\
 2020-01-06 *
@@ -311,6 +323,7 @@ pub(crate) const VERIFYING: Course = Course {
     made_by: MADE,
     before: TWO_LOTS,
     call: Call::Other("lotbook verify --book b", "book verified"),
+    pages: PAGES,
     sent: &[("", "book verified\n")],
     behind: "",
     first: "no gains\n",
@@ -327,8 +340,114 @@ pub(crate) const FINDING_DAMAGE: Course = Course {
     ],
     before: TWO_LOTS,
     call: Call::Other("lotbook verify --book b", "fault S7 Damaged"),
+    pages: PAGES,
     sent: &[("", "fault S7 Damaged\n")],
     behind: "",
     first: "",
     last: "",
+};
+
+/// How commands are posted of which all are kept or none.
+const POST_ALL: &str = "lotbook post --book b --batch q --all-or-none";
+
+/// A book with two lots, and a price.
+const TWO_LOTS_AND_A_PRICE: &str = "\
+2020-01-01 open Assets:Broker \"FIFO\"
+2020-01-01 open Assets:Cash
+2020-01-01 open Income:Gains
+2020-01-01 open Equity:Start
+2020-01-01 *
+  Assets:Broker 10 HOOL {100 USD}
+  Equity:Start
+2020-02-01 *
+  Assets:Broker 10 HOOL {120 USD}
+  Equity:Start
+2020-02-10 price HOOL 125 USD
+";
+
+/// A purchase, a price, and a sale that takes one lot whole, kept all or none.
+pub(crate) const BATCH: Course = Course {
+    name: "batch",
+    made_by: MADE,
+    before: TWO_LOTS_AND_A_PRICE,
+    call: Call::AllOrNone(POST_ALL, "1 repeat\n2 repeat\n3 repeat"),
+    pages: PAGES,
+    sent: &[(
+        "\
+2020-03-01 *
+  Assets:Broker 5 HOOL {130 USD}
+  Equity:Start
+2020-03-02 price HOOL 140 USD
+2020-03-15 *
+  Assets:Broker -12 HOOL {} @ 140 USD
+  Assets:Cash 1680 USD
+  Income:Gains
+",
+        "1 accepted\n2 accepted\n3 accepted\n",
+    )],
+    behind: "",
+    first: "no gains\n",
+    last: "2020-03-15 Assets:Broker -12 HOOL proceeds 1680.00 cost 1240.00 gain 440.00 USD\n",
+};
+
+/// The same where written pages go to the log before the commit.
+pub(crate) const SPILLED: Course = Course {
+    name: "spilled",
+    pages: 3,
+    ..BATCH
+};
+
+/// Rows of a broker file, kept all or none, but for one that is left out.
+pub(crate) const ROWS: Course = Course {
+    name: "rows",
+    made_by: MADE,
+    before: TWO_LOTS_AND_A_PRICE,
+    call: Call::AllOrNone(
+        "lotbook import --book b --batch q --invest Assets:Broker --cash Assets:Cash --fees Equity:Start --gains Income:Gains \
+        --except x2 --all-or-none",
+        "1 repeat\n3 repeat",
+    ),
+    pages: PAGES,
+    sent: &[(
+        "\
+ref,date,action,symbol,units,price,currency,fee
+x1,2020-03-01,BUY,HOOL,5,130,USD,1
+x2,2020-03-01,SELL,HOOL,99,130,USD,1
+x3,2020-03-15,SELL,HOOL,12,140,USD,1
+",
+        "1 accepted\n3 accepted\n",
+    )],
+    behind: "",
+    first: "no gains\n",
+    last: "2020-03-15 Assets:Broker -12 HOOL proceeds 1680.00 cost 1240.00 gain 440.00 USD\n",
+};
+
+/// Commands of which one is refused: none is kept.
+pub(crate) const DROPPED: Course = Course {
+    name: "dropped",
+    made_by: MADE,
+    before: TWO_LOTS_AND_A_PRICE,
+    call: Call::AllOrNone(
+        POST_ALL,
+        "1 accepted\n2 refused B3 NotEnough posting 1\n3 accepted",
+    ),
+    pages: PAGES,
+    sent: &[(
+        "\
+2020-03-01 *
+  Assets:Broker 5 HOOL {130 USD}
+  Equity:Start
+2020-03-02 *
+  Assets:Broker -99 HOOL {}
+  Equity:Start
+2020-03-15 *
+  Assets:Broker -12 HOOL {} @ 140 USD
+  Assets:Cash 1680 USD
+  Income:Gains
+",
+        "1 accepted\n2 refused B3 NotEnough posting 1\n3 accepted\n",
+    )],
+    behind: "",
+    first: "no gains\n",
+    last: "no gains\n",
 };

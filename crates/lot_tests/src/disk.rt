@@ -12,11 +12,17 @@ use std::process::Abort;
 pub(crate) struct Stop {
     pub log: u64,
     pub db: u64,
+    /// How many written pages are kept in memory before they go to the log.
+    pub pages: usize,
 }
+
+/// How many written pages the program keeps in memory.
+pub(crate) const PAGES: usize = 2_000;
 
 pub(crate) const NO_STOP: Stop = Stop {
     log: u64::MAX,
     db: u64::MAX,
+    pages: PAGES,
 };
 
 /// What the two files hold.
@@ -56,7 +62,11 @@ fn open(
     if !files.may_be_used() {
         return Err(files);
     }
-    match Connection::open_files(rt.alloc(), files, Options::new(7)) {
+    let options = Options {
+        spill_pages: stop.pages,
+        ..Options::new(7)
+    };
+    match Connection::open_files(rt.alloc(), files, options) {
         Ok(conn) => Ok(conn),
         Err((_, left)) => Err(left.into_files()),
     }
@@ -159,7 +169,7 @@ fn action(rt: &(impl Abort + AllocGlobal), words: &str) -> Action {
     asked.expect(rt, words)
 }
 
-/// What is left of files, each of which holds all that was written to it, or what it had synced alone.
+/// What is left of files, each of which holds what it had synced alone, that and a part of the rest, or all that was written to it.
 fn left_of(rt: &(impl Abort + AllocGlobal), files: Files<Fuse<Memory>>) -> Remains {
     let Files { log, db } = files;
     let (mut log, mut db) = (log, db);
@@ -183,7 +193,7 @@ fn is_stopped(disk: &mut Fuse<Memory>) -> bool {
     !disk.may_be_used() || disk.len().is_err()
 }
 
-/// What a file had synced, where that is less, and all that was written to it.
+/// What a file may hold: where it hadn't synced all, what it had synced, and that with a torn write; and all that was written to it.
 fn contents(rt: &(impl Abort + AllocGlobal), disk: Fuse<Memory>) -> Vec<Vec<u8>> {
     let mut disk = disk;
     let mut contents = Vec::new(rt.alloc());
@@ -191,9 +201,33 @@ fn contents(rt: &(impl Abort + AllocGlobal), disk: Fuse<Memory>) -> Vec<Vec<u8>>
     disk.crash();
     let synced = disk.inner().bytes();
     if synced != written.as_slice() {
+        contents
+            .push(torn(rt, synced, &written))
+            .expect(rt, "memory");
         let synced = synced.to_vec(rt.alloc()).expect(rt, "memory");
         contents.push(synced).expect(rt, "memory");
     }
     contents.push(written).expect(rt, "memory");
     contents
+}
+
+/// What a torn write leaves of a file: of what isn't synced the first half is written, and each byte behind it is the old one.
+fn torn(rt: &(impl Abort + AllocGlobal), synced: &[u8], written: &[u8]) -> Vec<u8> {
+    let first = first_apart(synced, written);
+    let middle = first.saturating_add(written.len()) / 2;
+    let new = written.get(..middle).unwrap_or(written);
+    let mut torn = new.to_vec(rt.alloc()).expect(rt, "memory");
+    let old = synced.get(middle..).unwrap_or(&[]);
+    torn.extend_from_slice(old).expect(rt, "memory");
+    torn
+}
+
+/// Where two contents of a file begin to differ.
+fn first_apart(synced: &[u8], written: &[u8]) -> usize {
+    for (index, byte) in written.iter().enumerate() {
+        if synced.get(index) != Some(byte) {
+            return index;
+        }
+    }
+    written.len()
 }

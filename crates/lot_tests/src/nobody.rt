@@ -27,12 +27,9 @@ impl Watch for Nobody {
 impl Look for Nobody {
     fn look<D: Queryable>(
         &mut self,
-        db: &mut D,
+        _db: &mut D,
         _commands: &[(Key, Asked)],
         _numbers: &[usize],
         _verdicts: &[Verdict],
-    ) {
-        // What it hears of the book is of no use to it.
-        let _entries = db.ask("SELECT number FROM entry", &[]);
-    }
+    ) {}
 }

@@ -5,7 +5,8 @@
 
 use crate::assert_that;
 use crate::courses::{
-    Call, Course, DOUBT, EVERY_KIND, FINDING_DAMAGE, MAKING, MIGRATING, PRICES, SALE, VERIFYING,
+    BATCH, Call, Course, DOUBT, DROPPED, EVERY_KIND, FINDING_DAMAGE, MAKING, MIGRATING, PRICES,
+    ROWS, SALE, SPILLED, VERIFYING,
 };
 use crate::disk::{Image, NO_STOP, Stop, all_written, run};
 use std::process::Abort;
@@ -72,19 +73,24 @@ fn words(rt: &(impl Abort + AllocGlobal), course: &Course, next: usize) -> Strin
     let from = next.saturating_add(1);
     let words = match course.call {
         Call::Post => format!(in rt.alloc(); "lotbook post --book b --batch q --from {from}"),
-        Call::Other(words, _) => String::from_str(rt.alloc(), words),
+        Call::AllOrNone(words, _) | Call::Other(words, _) => String::from_str(rt.alloc(), words),
     };
     words.expect(rt, "memory")
 }
 
-/// A line that is said at an index of a course. It has a number where the course is posted.
+/// A line that is said at an index of a course. It has a number where commands are posted.
 fn line(rt: &(impl Abort + AllocGlobal), course: &Course, index: usize, said: &str) -> String {
     let number = index.saturating_add(1);
     let line = match course.call {
-        Call::Post => format!(in rt.alloc(); "{number} {said}\n"),
+        Call::Post | Call::AllOrNone(_, _) => format!(in rt.alloc(); "{number} {said}\n"),
         Call::Other(_, _) => format!(in rt.alloc(); "{said}\n"),
     };
     line.expect(rt, "memory")
+}
+
+/// A text and a line end.
+fn ended(rt: &(impl Abort + AllocGlobal), said: &str) -> String {
+    format!(in rt.alloc(); "{said}\n").expect(rt, "memory")
 }
 
 /// The reply at an index of a course, where the book has so many already.
@@ -92,7 +98,7 @@ fn reply(rt: &(impl Abort + AllocGlobal), course: &Course, index: usize, kept: u
     if index < kept {
         return match course.call {
             Call::Post => line(rt, course, index, "repeat"),
-            Call::Other(_, again) => line(rt, course, index, again),
+            Call::AllOrNone(_, again) | Call::Other(_, again) => ended(rt, again),
         };
     }
     let (_, reply) = course.sent.get(index).expect(rt, "a reply");
@@ -155,6 +161,20 @@ fn uninterrupted<'a>(rt: &(impl Abort + AllocGlobal), course: &'a Course) -> Who
     }
 }
 
+/// Whether what was written are replies to the first of some commands, and that the disk failed at the next.
+fn is_stopped_inside(rt: &(impl Abort + AllocGlobal), replies: &str, written: &[u8]) -> bool {
+    let mut before = String::new(rt.alloc());
+    for reply in replies.split_inclusive('\n') {
+        let number = reply.split(' ').next().unwrap_or("");
+        let stopped = format!(in rt.alloc(); "{before}{number} fault S4 Device\n");
+        if stopped.expect(rt, "memory").as_bytes() == written {
+            return true;
+        }
+        before.push_str(reply).expect(rt, "memory");
+    }
+    false
+}
+
 /// What a run told that may have been stopped. Asserts that nothing stands behind the replies, where all were replied to or the
 /// files weren't opened, or else the line of a fault of the disk.
 fn judge(
@@ -176,7 +196,10 @@ fn judge(
         }
     }
     let is_in_doubt = rest == line(rt, course, replied, "fault S5 InDoubt").as_bytes();
-    let is_device = rest == line(rt, course, replied, "fault S4 Device").as_bytes();
+    let is_device = match course.call {
+        Call::AllOrNone(_, _) => is_stopped_inside(rt, &reply(rt, course, 0, from.kept), rest),
+        _ => rest == line(rt, course, replied, "fault S4 Device").as_bytes(),
+    };
     let is_at_once = rest.len() == written.len();
     let is_all = replied == course.sent.len();
     let is_told = match rest {
@@ -192,7 +215,7 @@ fn judge(
     Told {
         next: match course.call {
             Call::Post => replied,
-            Call::Other(_, _) => 0,
+            Call::AllOrNone(_, _) | Call::Other(_, _) => 0,
         },
         least,
         most: most.max(least),
@@ -285,6 +308,7 @@ fn stops(
             let stop = Stop {
                 log: calls,
                 db: u64::MAX,
+                pages: whole.course.pages,
             };
             stops_log = assert_stop(rt, whole, from, &stop, &mut met);
         }
@@ -292,6 +316,7 @@ fn stops(
             let stop = Stop {
                 log: u64::MAX,
                 db: calls,
+                pages: whole.course.pages,
             };
             stops_db = assert_stop(rt, whole, from, &stop, &mut met);
         }
@@ -335,6 +360,23 @@ fn a_stop_at_each_call(rt: HostRuntime) {
         let whole = uninterrupted(&rt, course);
         stops(&rt, &whole, &whole.start, 0, 1);
     }
+}
+
+/// Commands that are kept all or none.
+const KEPT_WHOLE: &[&Course] = &[&BATCH, &SPILLED, &ROWS, &DROPPED];
+
+/// The book before them or behind them, never one between.
+#[test]
+fn stops_of_commands_that_are_kept_all_or_none(rt: HostRuntime) {
+    for course in KEPT_WHOLE {
+        let whole = uninterrupted(&rt, course);
+        stops(&rt, &whole, &whole.start, 0, 2);
+    }
+}
+
+#[test]
+fn two_stops_on_a_grid_of_a_batch(rt: HostRuntime) {
+    stops_twice(&rt, &uninterrupted(&rt, &BATCH), 3, 7);
 }
 
 /// All pairs of stops while a book is made.

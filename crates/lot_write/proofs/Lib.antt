@@ -10,6 +10,7 @@ pub mod SaleLemmas
 pub mod NamedLemmas
 pub mod TransactionLemmas
 pub mod FitLemmas
+pub mod PlaceLemmas
 pub mod LawLemmas
 pub mod CallLemmas
 pub mod RowLemmas

@@ -27,7 +27,7 @@ use Rattle.lot_command.specs.declared.key.Key.{Key}
 use Rattle.lot_book.specs.Agree.{Agrees}
 use Rattle.lot_book.specs.Book.{entry_of}
 use Rattle.lot_book.specs.Booking.{TieRule}
-use Rattle.lot_book.specs.Edition.{After, Second, ties_in}
+use Rattle.lot_book.specs.Edition.{After, Edition, ties_in}
 use Rattle.lot_book.specs.Facts.{Entry, Facts, closing_of, facts_of, is_declared, opening_by, opening_of, standing_by, standing_of, text_under}
 use Rattle.lot_book.specs.Leg.{position_cmp}
 use Rattle.lot_book.specs.Recorded.{closed_on, standing_after}
@@ -74,24 +74,25 @@ use Rattle.lot_write.specs.declared.write.Write.TheVariants as write
 
 -- ---- an accepted command
 
--- it was accepted on what a book says, where ties are decided as edition 2 does on it
+-- it was accepted on what a book says, where ties are decided as an edition does on it
 pub record IsAccepted (entries : List Entry) (known : Facts) (key : Key) (command : Command) (change : Change) : Type 0 where
   pub agrees : Agrees known (facts_of entries key) command
+  pub edition : Edition
   pub ties : TieRule
-  pub alike : AllByRecursion (TiesAlike ties (ties_in Second entries) known) (pairs_in command)
+  pub alike : AllByRecursion (TiesAlike ties (ties_in edition entries) known) (pairs_in command)
   pub comes : IsAcceptedUnder ties known command change
 
 module _ (entries : List Entry) (known : Facts) (key : Key) (change : Change) where
-  pub accepting_step : (command : Command) → IsAccepted entries known key command change
-      → StepIn Second entries key command (Accept change.legs)
+  pub accepting_step : (command : Command) (is : IsAccepted entries known key command change)
+      → StepIn is.edition entries key command (Accept change.legs)
   accepting_step command is =
-      same_decision_under is.ties (ties_in Second entries) known (facts_of entries key) command (Accept change.legs)
+      same_decision_under is.ties (ties_in is.edition entries) known (facts_of entries key) command (Accept change.legs)
       is.agrees is.alike is.comes.0
 
-  pub judged : (command : Command) → IsAccepted entries known key command change
+  pub judged : (command : Command) (is : IsAccepted entries known key command change)
       → (text_under entries key ≡ None)
-      × JudgesUnder (ties_in Second entries) (facts_of entries key) command (Accept change.legs)
-  judged command is = accepted Second entries key command change.legs (accepting_step command is)
+      × JudgesUnder (ties_in is.edition entries) (facts_of entries key) command (Accept change.legs)
+  judged command is = accepted is.edition entries key command change.legs (accepting_step command is)
 
 -- ---- writes of a transaction
 
@@ -339,7 +340,7 @@ module _ (tables : Tables) (entries : List Entry) (known : Facts) (key : Key) (c
   standing_so : (command : Command) → IsAccepted entries known key command change → (name : List ℕ)
       → standing_after name command (standing_of entries name) ≡ standing_of (entries ++ entry_for command ∷ []) name
   standing_so command is name =
-      standing-recorded (ties_in Second entries) entries key command change.legs
+      standing-recorded (ties_in is.edition entries) entries key command change.legs
       (closes_opened (After stand.place) entries stand.judged) (judged entries known key change command is).1 name
 
   -- an account's row, where another's or its own is written
@@ -387,7 +388,7 @@ module _ (tables : Tables) (entries : List Entry) (known : Facts) (key : Key) (c
       facts : Facts
       facts = facts_of entries key
 
-      judges : JudgesUnder (ties_in Second entries) facts (Closing c) (Accept change.legs)
+      judges : JudgesUnder (ties_in is.edition entries) facts (Closing c) (Accept change.legs)
       judges = (judged entries known key change (Closing c) is).1
 
       open_still : was_closed (facts.standing c.account) ≡ false
@@ -400,7 +401,7 @@ module _ (tables : Tables) (entries : List Entry) (known : Facts) (key : Key) (c
 
       by : (standing : Option Standing) → standing_of entries c.account ≡ standing
           → (found : Standing) × (known.standing c.account ≡ Some found) × (standing_of entries c.account ≡ Some found) × (found.closed ≡ None)
-      by None e = absurd (true≢false (sym (ap is_none e) ∙ closing_is_known (ties_in Second entries) facts c change.legs judges))
+      by None e = absurd (true≢false (sym (ap is_none e) ∙ closing_is_known (ties_in is.edition entries) facts c change.legs judges))
       by (Some found) e = (found, is.agrees.standing.0 ∙ e, e, not_closed (standing_of entries c.account) found e open_still)
 
   pub account-after : (command : Command) → IsAccepted entries known key command change → (name : List ℕ)
@@ -547,7 +548,7 @@ module _ (tables : Tables) (entries : List Entry) (known : Facts) (key : Key) (c
       opened = with_put account_table (account_row o.account (standing_by None o)) (with_entry (Opening o))
 
       new : standing_of entries o.account ≡ None
-      new = opening_is_new (ties_in Second entries) (facts_of entries key) o change.legs (judged entries known key change (Opening o) is).1
+      new = opening_is_new (ties_in is.edition entries) (facts_of entries key) o change.legs (judged entries known key change (Opening o) is).1
 
       unopened : opening_of entries o.account ≡ None
       unopened = not_mapped (standing_by (closing_of entries o.account)) (opening_of entries o.account) new

@@ -21,7 +21,7 @@ use Rattle.lot_cost.specs.declared.lot_key.LotKey.{LotKey}
 use Rattle.lot_book.specs.Book.{entry_of}
 use Rattle.lot_book.specs.Booking.{All as AllBooked}
 use Rattle.lot_book.specs.Change.{day_listed}
-use Rattle.lot_book.specs.Edition.{After, Edition, Second, edition_on, ties_in}
+use Rattle.lot_book.specs.Edition.{After, Edition, edition_on, ties_in}
 use Rattle.lot_book.specs.Facts.{Entry, Facts, day_at_cost, facts_of, latest_at_cost, legs_of}
 use Rattle.lot_book.specs.Leg.{inventory_of, position_cmp, same_position, sum_at}
 use Rattle.lot_book.specs.OpeningNumber.{opening_number}
@@ -33,7 +33,6 @@ use Rattle.lot_book.specs.declared.leg.Position.{Position}
 use Rattle.lot_book.specs.declared.standing.Standing.{Standing}
 use Rattle.lot_book.proofs.OrderLemmas.{one_position}
 use Rattle.lot_book.proofs.SumLemmas.{sum_where-append, sum_where-none}
-use Rattle.lot_laws.proofs.LawBooks.{second_there}
 use Rattle.lot_laws.proofs.RecordedBook.{key_was_new, legs_of-append}
 use Rattle.lot_laws.proofs.RecordedDays.{latest-recorded}
 use Rattle.lot_laws.proofs.StepAgree.{Alike, alike_all, same_books}
@@ -188,11 +187,11 @@ module _ (entries : List Entry) (known : Facts) (key : Key) (t : TransactionOf) 
   same_legs = same_at_legs is.ties known (facts_of entries key) t change.legs alike booked
 
   -- the sales of the transaction are its sales on the book
-  same_sales : AreSalesUnder (ties_in Second entries) (facts_of entries key) (Transaction t) change.sales
+  same_sales : AreSalesUnder (ties_in is.edition entries) (facts_of entries key) (Transaction t) change.sales
   same_sales =
       let sales = is.comes.1.sales in (
         sales.0,
-        same_books is.ties (ties_in Second entries) known (facts_of entries key) is.agrees.entries t.day [] 1 t.postings
+        same_books is.ties (ties_in is.edition entries) known (facts_of entries key) is.agrees.entries t.day [] 1 t.postings
             (AllBooked sales.0) alike is.alike sales.1,
         sales.2,
       )
@@ -371,27 +370,11 @@ module _ (tables : Tables) (entries : List Entry) (known : Facts) (key : Key) (c
 
   -- ---- sales
 
-  -- the sales of the book with the entry
-  abbrev pub Sold : Command → Type 0
-  Sold command =
-      (sales : List (ℕ × (ℕ × SaleParts))) × SalesOf (After stand.place) (book command) sales
+  -- the sales of the book with the entry, by a place of migration
+  abbrev pub Sold : ℕ → Command → Type 0
+  Sold place command =
+      (sales : List (ℕ × (ℕ × SaleParts))) × SalesOf (After place) (book command) sales
       × ((after command).sale ≡ map sale_row sales)
-
-  -- the sales of a command on the book, by the edition there
-  sold_by : (command : Command) (sales : List (ℕ × SaleParts))
-      → AreSalesUnder (ties_in Second entries) (facts_of entries key) command sales
-      → AreSalesUnder (ties_in (edition_on (After stand.place) entries) entries) (facts_of entries key) command sales
-  sold_by command sales are =
-      subst (λ (edition : Edition). AreSalesUnder (ties_in edition entries) (facts_of entries key) command sales)
-      (sym (second_there stand.place entries stand.placed)) are
-
-  other_sold : (command : Command) → (after command).sale ≡ tables.sale → change.sales ≡ []
-      → AreSalesUnder (ties_in Second entries) (facts_of entries key) command [] → Sold command
-  other_sold command same none are = (
-    stand.sales ++ [],
-    sales_with (After stand.place) entries (entry_of key command change.legs) stand.sales [] stand.sold (sold_by command [] are),
-    same ∙ stand.sale ∙ ap (map sale_row) (sym (append-nil stand.sales)),
-  )
 
   other_sales : (command : Command) → IsOther command → (after command).sale ≡ tables.sale
   other_sales command other =
@@ -399,20 +382,39 @@ module _ (tables : Tables) (entries : List Entry) (known : Facts) (key : Key) (c
       left-written_all rows (own_writes known command change) (entered command)
       (other_keeps rows (λ row s. refl) (λ row s. refl) (λ row s. refl) (λ row s. refl) known command change other)
 
-  pub sales_stand : (command : Command) → IsAccepted entries known key command change → Sold command
-  sales_stand (Transaction t) is = (
-    stand.sales ++ numbered (suc (length entries)) change.sales,
-    sales_with (After stand.place) entries (entry_of key (Transaction t) change.legs) stand.sales change.sales stand.sold
-        (sold_by (Transaction t) change.sales (same_sales entries known key t change is)),
-    changed_sales tables known key t change
-        ∙ (λ i. put_each sale_cells 2
-        (map (λ (sale : ℕ × SaleParts). sale_row (suc (is.agrees.entries i), sale)) change.sales) (stand.sale i))
-        ∙ sales_last (After stand.place) entries stand.sales change.sales stand.sold (own_rise entries known key t change is),
-  )
-  sales_stand (Opening o) is = other_sold (Opening o) (other_sales (Opening o) tt) is.comes.1.sales refl
-  sales_stand (Closing c) is = other_sold (Closing c) (other_sales (Closing c) tt) is.comes.1.sales refl
-  sales_stand (Declaring d) is = other_sold (Declaring d) (other_sales (Declaring d) tt) is.comes.1.sales refl
-  sales_stand (Quoting q) is = other_sold (Quoting q) (other_sales (Quoting q) tt) is.comes.1.sales refl
+  -- a place by which the book has these sales, and an edition judges on it
+  module _ (place : ℕ) (sold : SalesOf (After place) entries stand.sales) where
+    -- behind them come those of the entry, by that edition
+    sold_next : (command : Command) (edition : Edition) → edition_on (After place) entries ≡ edition → (own : List (ℕ × SaleParts))
+        → AreSalesUnder (ties_in edition entries) (facts_of entries key) command own
+        → SalesOf (After place) (book command) (stand.sales ++ numbered (suc (length entries)) own)
+    sold_next command edition judges own are =
+        sales_with (After place) entries (entry_of key command change.legs) stand.sales own sold
+        (subst (λ (e : Edition). AreSalesUnder (ties_in e entries) (facts_of entries key) command own) (sym judges) are)
+
+    other_sold : (command : Command) (edition : Edition) → edition_on (After place) entries ≡ edition
+        → (after command).sale ≡ tables.sale → AreSalesUnder (ties_in edition entries) (facts_of entries key) command []
+        → Sold place command
+    other_sold command edition judges same are = (
+      stand.sales ++ [],
+      sold_next command edition judges [] are,
+      same ∙ stand.sale ∙ ap (map sale_row) (sym (append-nil stand.sales)),
+    )
+
+    pub sales_stand : (command : Command) (is : IsAccepted entries known key command change)
+        → edition_on (After place) entries ≡ is.edition → Sold place command
+    sales_stand (Transaction t) is judges = (
+      stand.sales ++ numbered (suc (length entries)) change.sales,
+      sold_next (Transaction t) is.edition judges change.sales (same_sales entries known key t change is),
+      changed_sales tables known key t change
+          ∙ (λ i. put_each sale_cells 2
+          (map (λ (sale : ℕ × SaleParts). sale_row (suc (is.agrees.entries i), sale)) change.sales) (stand.sale i))
+          ∙ sales_last (After place) entries stand.sales change.sales sold (own_rise entries known key t change is),
+    )
+    sales_stand (Opening o) is judges = other_sold (Opening o) is.edition judges (other_sales (Opening o) tt) refl
+    sales_stand (Closing c) is judges = other_sold (Closing c) is.edition judges (other_sales (Closing c) tt) refl
+    sales_stand (Declaring d) is judges = other_sold (Declaring d) is.edition judges (other_sales (Declaring d) tt) refl
+    sales_stand (Quoting q) is judges = other_sold (Quoting q) is.edition judges (other_sales (Quoting q) tt) refl
 
   -- ---- positions
 
@@ -526,7 +528,7 @@ module _ (tables : Tables) (entries : List Entry) (known : Facts) (key : Key) (c
       → listed ≡ day_at_cost account commodity command
       → option_or listed (latest_at_cost entries account commodity) ≡ latest_at_cost (book command) account commodity
   latest command is account commodity listed same =
-      latest-recorded (ties_in Second entries) entries key (entry_of key command change.legs) account commodity listed
+      latest-recorded (ties_in is.edition entries) entries key (entry_of key command change.legs) account commodity listed
       (judged entries known key change command is).1 same
 
   other_head : (command : Command) → IsOther command → IsAccepted entries known key command change → (account commodity : List ℕ)

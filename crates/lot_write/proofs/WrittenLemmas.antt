@@ -21,7 +21,7 @@ use Rattle.lot_stored.specs.Rows.{lot_key, pair_key}
 use Rattle.lot_stored.specs.StandFor.{AreGood, AreOrdered}
 use Rattle.lot_stored.proofs.OrderLemmas.{IsRising, all-put_in, all-without_key, rises-put_in, rises-without_key}
 use Rattle.lot_write.proofs.AsPutLemmas.{AreFit, Fits, written, written_all}
-use Rattle.lot_write.specs.Write.{IsGood}
+use Rattle.lot_write.specs.Write.{IsGood, placed_at}
 use Rattle.lot_write.specs.declared.write.Write.{Write}
 use Rattle.lot_write.specs.declared.write.Write.TheVariants as write
 
@@ -94,9 +94,10 @@ kept_all : (writes : List Write) (tables : Tables) → AllByRecursion IsGood wri
 kept_all [] tables are kept = kept
 kept_all (one ∷ more) tables are kept = kept_all more (written one tables) are.1 (kept_written one tables are.0 kept)
 
-pub kept-written_all : (writes : List Write) (tables : Tables) → All IsGood writes → AreGood tables → AreOrdered tables
-    → AreGood (written_all writes tables) × AreOrdered (written_all writes tables)
-kept-written_all writes tables are g up =
+-- whatever place of migration they then have
+pub kept-written_all : (place : ℕ) (writes : List Write) (tables : Tables) → All IsGood writes → AreGood tables → AreOrdered tables
+    → AreGood (placed_at place (written_all writes tables)) × AreOrdered (placed_at place (written_all writes tables))
+kept-written_all place writes tables are g up =
     let k : AreKept (written_all writes tables) =
     kept_all writes tables (recursion_from_All IsGood writes are) (
       (g.account, up.account),

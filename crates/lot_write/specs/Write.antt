@@ -1,5 +1,5 @@
 -- What writes make of the tables of a book.
-use Rattle.std.specs.Prelude.{List, [], ◌∷◌}
+use Rattle.std.specs.Prelude.{ℕ, List, [], ◌∷◌}
 use Rattle.sqlite.specs.Order.{Row}
 use Rattle.lot_table.specs.Book.{BookTable}
 use Rattle.lot_table.specs.Call.{LacksKey}
@@ -17,7 +17,7 @@ use Rattle.lot_rows.specs.Plain.{IsPlainRow}
 use Rattle.lot_rows.specs.Price.{IsPriceRow}
 use Rattle.lot_rows.specs.Sale.{IsSaleRow}
 use Rattle.lot_rows.specs.Tables.{IsNewEntry, Tables, account_table, allowed_table, commodity_table, entry_table, head_table, leg_table, lot_table, opening_table, plain_table, price_table, sale_table}
-use Rattle.lot_stored.specs.Rows.{lot_key, pair_key}
+use Rattle.lot_stored.specs.Rows.{lot_key, migration_row, pair_key}
 use Rattle.lot_write.specs.declared.write.Write.{Write}
 use Rattle.lot_write.specs.declared.write.Write.TheVariants as write
 
@@ -97,3 +97,9 @@ written_all (one ∷ more) tables = written_all more (written one tables)
 abbrev pub AreFit : List Write → Tables → Type 0
 AreFit [] tables = Unit {0}
 AreFit (one ∷ more) tables = Fits one tables × AreFit more (written one tables)
+
+-- ---- the place of migration
+
+-- the tables with that place of migration
+abbrev pub placed_at : ℕ → Tables → Tables
+placed_at place tables = record tables { migration = migration_row place ∷ [] }

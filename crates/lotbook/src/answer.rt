@@ -5,7 +5,7 @@ ghost use Rattle.std.specs.Prelude.{◌≡◌, None, false};
 use crate::keeper::{Keep, Keeper};
 use lot_book::Verdict;
 use lot_call::{
-    Call, Fate, Standing, Watched, explain, say_taken, say_unwritten, sum_up, withdraw,
+    Call, Fate, Standing, Watched, explain, say_fate, say_taken, say_unwritten, sum_up,
 };
 use lot_cli::{
     AdoptFault, CountedWriter, CreateFault, Halt, Look, MigrateFault, Progress, Served,
@@ -99,11 +99,10 @@ fn speak<S: Alter>(
     );
     match (halt, fate) {
         (Some(halt), _) => advise(call, halt, conn),
-        (None, Fate::Dropped) => {
+        (None, Fate::Dropped | Fate::InDoubt) => {
             sum_up(call, &heard.course);
-            withdraw(call);
+            say_fate(call, fate, &heard.course);
         }
-        (None, Fate::InDoubt) => sum_up(call, &heard.course),
         (None, Fate::Kept) => {
             say_taken(call, &watched.crumbs);
             sum_up(call, &heard.course);

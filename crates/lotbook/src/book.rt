@@ -57,6 +57,7 @@ fn on_path(call: &Call<'_>, path: &str) -> Result<u8, Cause> {
             Action::Holdings { .. }
             | Action::Gains { .. }
             | Action::Journal { .. }
+            | Action::Dump { .. }
             | Action::Verify { .. },
             _,
         ) => Access::Read,

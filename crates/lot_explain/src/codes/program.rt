@@ -79,10 +79,11 @@ $ head -c 16777216 /dev/zero | tr '\0' '\n' | lotbook
         name: "Memory",
         brief: "memory ended",
         rule: "Memory ended. The commands with a reply before the line are in the book; the \
-            command whose number the line has may be.",
+            command whose number the line has may be. Of a call with --all-or-none nothing is, or \
+            all where the line stands alone.",
         examples: Examples::Absent,
         help: "With more memory send the same text again under the same batch, with --from and \
-            the number of the line.",
+            the number of the line; a call with --all-or-none whole.",
         page: "docs/RULES.md, Out of memory",
     },
     Code {

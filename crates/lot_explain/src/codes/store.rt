@@ -45,10 +45,11 @@ $ lotbook holdings --book family.book
         name: "Device",
         brief: "the disk refused before the commit",
         rule: "The disk, or a limit of the database's size, refused before the commit began. \
-            Nothing of this command is in the book; those before it are.",
+            Nothing of this command is in the book. Those before it are, but of a call with \
+            --all-or-none nothing is.",
         examples: Examples::Absent,
         help: "Make room, then send the same text again under the same batch, with --from and the \
-            number of this command.",
+            number of this command; a call with --all-or-none whole.",
         page: "docs/GUIDE.md, Send it again",
     },
     Code {
@@ -56,10 +57,11 @@ $ lotbook holdings --book family.book
         name: "InDoubt",
         brief: "the commit failed, and may have been made",
         rule: "The commit failed, as it does on a full disk. The command is in the book or isn't; \
-            those before it are.",
+            those before it are. Of a call with --all-or-none all is in the book, or nothing.",
         examples: Examples::Absent,
         help: "Make room, then send the same text again under the same batch, with --from and the \
-            number of this command: if it is in the book, it is a repeat.",
+            number of this command; a call with --all-or-none whole. What is in the book is a \
+            repeat.",
         page: "docs/GUIDE.md, Send it again",
     },
     Code {

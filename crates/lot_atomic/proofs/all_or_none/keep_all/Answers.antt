@@ -40,7 +40,7 @@ returns-in-Ok-Refuses-clause-applies g c =
     subst (λ (h : _). AppliesAll (option_copied c.args.rounding) c.args.commands.now (state g.S.Store c.args.conn.now) (state g.S.Store h) c.judge_all.new.verdicts.items ending.Dropped) same
     (ends_refused g.S.Store c.args.conn.now c.transaction-tx.result.conn.now c.judge_all.new.tx.conn.now c.rollback-in-Ok-Refuses.new.self.0 (option_copied c.args.rounding) c.args.commands.now c.judge_all.new.verdicts.items
     (λ clean. c.is_autocommit.ensures.settled c.if-not-is_autocommit.false) c.transaction-tx.ensures.begun
-    (rolled_behind_look last seen fin c.look.ensures.undone c.rollback-in-Ok-Refuses.ensures.survives c.rollback-in-Ok-Refuses.ensures.undone)
+    (rolled_behind_look (λ (tx : _). state g.S.Store tx.conn.now) c.judge_all.new.tx c.look.new.db fin c.look.ensures.reads c.rollback-in-Ok-Refuses.ensures.survives c.rollback-in-Ok-Refuses.ensures.undone)
     (survives_both last seen fin c.look.ensures.crash c.rollback-in-Ok-Refuses.ensures.survives)
     (rw c.in-Ok-Refuses.field-0-is at c.in-Ok-Refuses.ensures.judges))
 

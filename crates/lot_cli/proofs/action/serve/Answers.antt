@@ -18,3 +18,6 @@ returns-in-Gains-clause-serves g c = rw c.in-Gains.is c.write_report-in-Gains.en
 
 pub returns-in-Journal-clause-serves : goal.returns-in-Journal-clause-serves
 returns-in-Journal-clause-serves g c = rw c.in-Journal.is c.write_report-in-Journal.ensures.reports
+
+pub returns-in-Dump-clause-serves : goal.returns-in-Dump-clause-serves
+returns-in-Dump-clause-serves g c = rw c.in-Dump.is c.write_report-in-Dump.ensures.reports

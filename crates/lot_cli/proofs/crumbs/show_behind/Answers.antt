@@ -9,7 +9,7 @@ use Rattle.lot_cli.proofs.crumbs.show_behind.Goals as goal
 pub returns-in-Complete-clause-behind : goal.returns-in-Complete-clause-behind
 returns-in-Complete-clause-behind g c clean entries stands =
     let posted = c.code-status.ensures.value ∙ ap code_of c.status_of_run.ensures in
-    let status = c.status_behind.ensures ∙ ap (λ p. status_behind p c.show_holdings.result) posted in
-    shows_behind c.args.end.ending c.in-Complete.is (state g.S.Store c.args.book.now.conn) (state g.S.Store c.show_holdings.new.book.conn) (g.W.CountedWrite.contents c.args.writer.now)
-    (g.W.CountedWrite.contents c.show_holdings.new.writer) _ _ c.show_holdings.result c.status_behind.result c.show_holdings.ensures.shows status clean entries
+    let status = c.status_behind.ensures ∙ ap (λ p. status_behind p c.write_whole.result) posted in
+    shows_behind c.args.end.ending c.in-Complete.is (state g.S.Store c.args.book.now.conn) (state g.S.Store c.write_whole.new.book.conn) (g.W.CountedWrite.contents c.args.writer.now)
+    (g.W.CountedWrite.contents c.write_whole.new.writer) _ _ c.write_whole.result c.status_behind.result c.write_whole.ensures.shows status clean entries
     (stands c.in-Complete.is)

@@ -1,4 +1,4 @@
-use Rattle.std.proofs.Common.{None, subst, sym}
+use Rattle.std.proofs.Common.{subst, sym}
 use Rattle.sqlite.specs.Held.{state}
 use Rattle.lot_cli.specs.Reports.{Reports}
 use Rattle.lot_cli.proofs.ReportLemmas.{report_refused, reported}
@@ -6,11 +6,10 @@ use Rattle.lot_cli.proofs.report.write_report.Goals as goal
 
 pub returns-in-Ok-clause-reports : goal.returns-in-Ok-clause-reports
 returns-in-Ok-clause-reports g c =
-    subst (λ conn. Reports c.args.report (state g.S.Store c.args.conn) (state g.S.Store conn) (g.W.CountedWrite.contents c.args.writer.now) (g.W.CountedWrite.contents c.conclude.new.writer) (record { before = g.W.CountedWrite.calls c.args.writer.now; after = g.W.CountedWrite.calls c.conclude.new.writer }) (record { status = c.conclude.result; halt = None }))
-    (sym c.into_connection.ensures.same)
-    (reported g.S.Store c.args.report (state g.S.Store c.args.conn) c.in-Ok.book c.show-shown.new.book c.show-shown.result _ _ _ (g.W.CountedWrite.calls c.args.writer.now) (g.W.CountedWrite.calls c.show-shown.new.writer) (g.W.CountedWrite.calls c.conclude.new.writer) c.conclude.result
-    c.in-Ok.ensures.taken c.in-Ok.ensures.same c.in-Ok.ensures.crash_ok c.in-Ok.ensures.ready c.show-shown.ensures.reads c.show-shown.ensures.shows c.show-shown.ensures.some c.show-shown.ensures.rows c.show-shown.ensures.cause
-    (c.conclude.ensures.concludes (g.W.CountedWrite.calls c.args.writer.now) c.show-shown.ensures.cause))
+    reported c.args.report (state g.S.Store c.args.conn) (state g.S.Store c.in-Ok.book.conn) (state g.S.Store c.write_report_of.result.conn) _ _
+    (record { before = g.W.CountedWrite.calls c.args.writer.now; after = g.W.CountedWrite.calls c.write_report_of.new.writer })
+    (record { status = c.write_report_of.result.status; halt = c.write_report_of.result.halt })
+    c.in-Ok.ensures.taken c.in-Ok.ensures.same c.in-Ok.ensures.crash_ok c.write_report_of.ensures.shows c.write_report_of.ensures.goes_on
 
 pub returns-in-Err-clause-reports : goal.returns-in-Err-clause-reports
 returns-in-Err-clause-reports g c =

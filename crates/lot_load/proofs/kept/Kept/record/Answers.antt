@@ -11,17 +11,17 @@ use Rattle.lot_view.specs.View.{known_with_openings}
 use Rattle.lot_load.proofs.kept.Kept.record.Goals as goal
 
 pub returns : goal.returns
-returns c entries key book keeps agrees comes =
+returns c edition entries key book keeps agrees comes =
     let command = c.args.command.now in
     let change = c.args.change.now in
     let facts = seen_with_openings c.args.self in
     let grown : List Entry = entries ++ entry_of key command change.legs ∷ [] in
     let is = c.in_ok-view.ensures.facts in record {
       count = ap (λ (f : Facts). f.entries) is
-          ∙ recorded_count entries key command change facts book agrees comes keeps.part keeps.count;
-      part = subst (IsPart (facts_in grown)) (sym is) (recorded_part entries key command change facts book agrees comes keeps.part);
-      openings = recorded_openings entries key command change facts book agrees comes keeps.part
+          ∙ recorded_count edition entries key command change facts book agrees comes keeps.part keeps.count;
+      part = subst (IsPart (facts_in grown)) (sym is) (recorded_part edition entries key command change facts book agrees comes keeps.part);
+      openings = recorded_openings edition entries key command change facts book agrees comes keeps.part
           (known_with_openings c.in_ok-view.view) is keeps.openings c.in_ok-view.ensures.openings;
       whole = subst (KnowsTouched c.args.self.whole (facts_in grown)) (sym is)
-          (recorded_whole entries key command change facts book agrees comes keeps.part c.args.self.whole keeps.whole);
+          (recorded_whole edition entries key command change facts book agrees comes keeps.part c.args.self.whole keeps.whole);
     }

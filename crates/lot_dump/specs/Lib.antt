@@ -1,0 +1,3 @@
+pub mod Form
+pub mod Cutting
+pub mod Lines

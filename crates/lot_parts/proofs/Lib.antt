@@ -1,0 +1,5 @@
+pub mod LineLemmas
+pub mod DumpLemmas
+pub mod ReadLemmas
+pub mod StepLemmas
+pub mod EntryLemmas

@@ -1,0 +1,34 @@
+-- Whatever line comes behind, the end isn't all that was left.
+use Rattle.std.proofs.Common.{◌≡◌, Err, ap}
+use Rattle.std.specs.Io.KnownBytes.{prepend_known}
+use Rattle.std.proofs.lemmas.Result.{err_from_is_err_and}
+use Rattle.lot_dump.proofs.LineLemmas.{between}
+use Rattle.lot_parts.proofs.ReadLemmas.{line_cause, line_too_long, long_line, more_behind, no_calls_fail}
+use Rattle.lot_parts.specs.Fault.{fault_of_line}
+use Rattle.lot_parts.specs.declared.fault.DumpFault.TheVariants.{TooLong}
+use Rattle.lot_parts.proofs.feed.Feed.read_end.Goals as goal
+
+pub returns-in-Some-2-clause-no_dump : goal.returns-in-Some-2-clause-no_dump
+returns-in-Some-2-clause-no_dump g c =
+    λ says.
+    more_behind (prepend_known c.args.self.now.lines (g.R.CountedRead.remaining c.args.reader.now))
+    (prepend_known c.next_line.new.self (g.R.CountedRead.remaining c.next_line.new.reader)) c.next_line.new.line.items c.args.self.now.line.items
+    c.in_ok-next_line.field-0 c.in-Some-2.field-0 c.in-Some-2.is c.in_ok-next_line.ensures.bytes c.in_ok-next_line.ensures.end
+
+pub returns-in_err-next_line-clause-cause : goal.returns-in_err-next_line-clause-cause
+returns-in_err-next_line-clause-cause g c =
+    let fault = err_from_is_err_and c.from_residual.result c.from_residual.ensures.1 in
+    rw (fault.1, fault.2)
+    (line_cause (between (g.R.CountedRead.calls c.args.reader.now) (g.R.CountedRead.calls c.next_line.new.reader)) c.in_err-next_line.field-0.0
+    c.in_err-next_line.ensures.cause)
+
+pub returns-in_default-clause-cause : goal.returns-in_default-clause-cause
+returns-in_default-clause-cause g c = no_calls_fail (g.R.CountedRead.calls c.args.reader.now)
+
+pub returns-in_err-next_line-clause-too_long : goal.returns-in_err-next_line-clause-too_long
+returns-in_err-next_line-clause-too_long g c =
+    let fault = err_from_is_err_and c.from_residual.result c.from_residual.ensures.1 in
+    rw (fault.1, fault.2) (λ is.
+    let this : fault_of_line c.in_err-next_line.field-0.0 ≡ TooLong = cc in
+    long_line (prepend_known c.args.self.now.lines (g.R.CountedRead.remaining c.args.reader.now))
+    (c.in_err-next_line.ensures.too_long (ap Err (line_too_long c.in_err-next_line.field-0.0 this))))

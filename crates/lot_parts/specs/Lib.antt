@@ -1,0 +1,5 @@
+pub mod Dump
+pub mod Entries
+pub mod Fault
+pub mod Reading
+pub mod Sum

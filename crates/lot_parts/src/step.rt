@@ -1,0 +1,31 @@
+use lot_dump::{End, Heading};
+
+/// What comes next in a dump.
+#[derive(Debug)]
+pub enum Step {
+    /// An entry, whose text is in the buffer.
+    Entry(Heading),
+    /// The end, with nothing behind it.
+    End(Sum),
+}
+
+impl Drop for Step {
+    /// It is written out, so that callers don't prove again how each part is dropped.
+    fn drop(self) {
+        match self {
+            Step::Entry(_heading) => {}
+            Step::End(_sum) => {}
+        }
+    }
+}
+
+/// What the end of a dump says, beside what was found above it.
+#[derive(Clone, Copy, Debug, PartialEq, Eq)]
+pub struct Sum {
+    /// What the last line says.
+    pub end: End,
+    /// The SHA-256 of all bytes above it.
+    pub digest: [u8; 32],
+    /// How many headings stand above it.
+    pub headings: u64,
+}

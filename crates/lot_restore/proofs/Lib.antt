@@ -1,0 +1,4 @@
+mod BeginLemmas
+mod JudgeLemmas
+mod PlaceLemmas
+pub mod RestoredLemmas

@@ -1,0 +1,36 @@
+//! Laws of restoring. Each is the contract of a function that does nothing.
+ghost use Rattle.std.specs.Prelude.{◌≡◌, ◌≤◌, ℕ, [], List, length};
+ghost use Rattle.lot_book.specs.Book.{IsBookIn};
+ghost use Rattle.lot_book.specs.Edition.{After};
+ghost use Rattle.lot_book.specs.Facts.{Entry};
+ghost use Rattle.lot_book.specs.declared.verdict.Verdict.{Verdict};
+ghost use Rattle.lot_restore.specs.Restored.{NeverFall, Restores, all_accepted, dumped_from, place_after};
+ghost use Rattle.lot_restore.specs.declared.dumped.Dumped.{Dumped};
+
+/// Restoring the dump of a book accepts each of its commands, and gives its entries and its place of migration.
+pub fn restoring_a_dump_gives_its_book()
+    ensures entries { (place : ℕ) (entries : List Entry) → IsBookIn (After place) entries
+        → Restores place [] (dumped_from 1 entries) (all_accepted entries) entries }
+    ensures place { (place : ℕ) (entries : List Entry) → place ≤ length entries
+        → place_after place (dumped_from 1 entries) (all_accepted entries) 0 ≡ place }
+    ensures rising { (entries : List Entry) → NeverFall 0 (dumped_from 1 entries) }
+{}
+
+/// Commands of a dump come to one list of verdicts, and to one book.
+pub fn restoring_gives_one_book()
+    ensures { (place : ℕ) (before : List Entry) (dumped : List Dumped)
+        (verdicts others : List Verdict) (after other : List Entry)
+        → Restores place before dumped verdicts after → Restores place before dumped others other
+        → (verdicts ≡ others) × (after ≡ other) }
+{}
+
+/// What is restored of commands whose numbers never fall is a book, whatever becomes of each, and as many of its entries are of
+/// edition 1 as were accepted by it.
+pub fn what_is_restored_is_a_book()
+    ensures book { (place : ℕ) (dumped : List Dumped) (verdicts : List Verdict)
+        (after : List Entry) → NeverFall 0 dumped → Restores place [] dumped verdicts after
+        → IsBookIn (After (place_after place dumped verdicts 0)) after }
+    ensures within { (place : ℕ) (dumped : List Dumped) (verdicts : List Verdict)
+        (after : List Entry) → Restores place [] dumped verdicts after
+        → place_after place dumped verdicts 0 ≤ length after }
+{}
