@@ -92,8 +92,12 @@ accepted_line number = line (decimal number ++ codes " accepted")
 abbrev pub repeated_line : ℕ → List ℕ
 repeated_line number = line (decimal number ++ codes " repeat")
 
+-- why something was refused, behind what names it
+abbrev pub refusal_text : Refusal → List ℕ
+refusal_text refusal = codes " refused " ++ name_text refusal ++ argument_text refusal
+
 abbrev pub refused_line : ℕ → Refusal → List ℕ
-refused_line number refusal = line (decimal number ++ codes " refused " ++ name_text refusal ++ argument_text refusal)
+refused_line number refusal = line (decimal number ++ refusal_text refusal)
 
 -- the reply to the command of that number
 abbrev pub reply : ℕ → Verdict → List ℕ

@@ -30,4 +30,4 @@ pub use journal::{Entry, Journal, JournalFault};
 pub use line::{PrintFault, print_line, print_texts};
 pub use lot::Valuation;
 pub use output::{CountedWrite, CountedWriter};
-pub use reply::print_reply;
+pub use reply::{print_refusal, print_reply};

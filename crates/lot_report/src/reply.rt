@@ -1,6 +1,6 @@
-ghost use Rattle.std.specs.Prelude.{◌≡◌, IfErr, OnErr, OnOk};
+ghost use Rattle.std.specs.Prelude.{◌≡◌, ◌++◌, IfErr, OnErr, OnOk};
 ghost use Rattle.lot_report.specs.Output.{HasFailed, NoneFailed};
-ghost use Rattle.lot_report.specs.Printed.{argument_text, name_text, refused_line, reply, shown};
+ghost use Rattle.lot_report.specs.Printed.{argument_text, line, name_text, refusal_text, reply, shown};
 ghost use Rattle.lot_report.specs.Written.{WritesLine};
 
 use crate::line::{PrintFault, print_texts};
@@ -26,35 +26,35 @@ pub fn print_reply<W: CountedWrite>(
     match verdict {
         Verdict::Accepted => print_texts(writer, &[digits.format(number), " accepted\n"]),
         Verdict::Repeated => print_texts(writer, &[digits.format(number), " repeat\n"]),
-        Verdict::Refused(refusal) => print_refused(writer, number, refusal),
+        Verdict::Refused(refusal) => print_refusal(writer, digits.format(number), refusal),
     }
 }
 
-/// Writes why the command of that number was refused.
-fn print_refused<W: CountedWrite>(
+/// Writes why what that text names was refused.
+///
+/// It takes no memory. The only fault is that of the writer. A prefix of the line is then written, but not all of it.
+pub fn print_refusal<W: CountedWrite>(
     writer: &mut W,
-    number: usize,
+    named: &str,
     refusal: &Refusal,
 ) -> Result<(), PrintFault>
     ensures bytes { WritesLine (W.contents writer.old) (W.contents writer.new) result
-        (refused_line number refusal.now) }
+        (line (named.now ++ refusal_text refusal.now)) }
     ensures fault { IfErr result (λ fault. fault ≡ PrintFault.Write) }
     ensures cause { OnErr result (HasFailed (W.calls writer.new)) }
     ensures none_failed { OnOk result (NoneFailed (W.calls writer.old) (W.calls writer.new)) }
 {
-    let mut digits = Buffer::new();
-    let number = digits.format(number);
     let name = name(refusal);
     match argument_of(refusal) {
-        Argument::None => print_texts(writer, &[number, " refused ", name, "\n"]),
+        Argument::None => print_texts(writer, &[named, " refused ", name, "\n"]),
         Argument::Posting(posting) => {
             let mut digits = Buffer::new();
             let posting = digits.format(posting);
-            let texts = [number, " refused ", name, " posting ", posting, "\n"];
+            let texts = [named, " refused ", name, " posting ", posting, "\n"];
             print_texts(writer, &texts)
         }
         Argument::Currency(currency) => {
-            let texts = [number, " refused ", name, " ", currency.as_str(), "\n"];
+            let texts = [named, " refused ", name, " ", currency.as_str(), "\n"];
             print_texts(writer, &texts)
         }
     }
