@@ -10,7 +10,7 @@ use Rattle.lot_base.proofs.TextLemmas.{one_text, same_text-ordered}
 use Rattle.lot_cost.proofs.OrderLemmas.{eq_then}
 use Rattle.lot_table.specs.Rows.{has_key}
 
-same_name : (key row : List ℕ) → is_eq (value_cmp (Text row) (Text key)) ≡ true → row ≡ key
+pub same_name : (key row : List ℕ) → is_eq (value_cmp (Text row) (Text key)) ≡ true → row ≡ key
 same_name key row same = sym (one_text key row (sym (ap is_eq (value_cmp-Text row key) ∙ same_text-ordered row key) ∙ same))
 
 pub same_pair : (account commodity other what : List ℕ) (rest left : Row) → has_key 2 (Text account ∷ Text commodity ∷ rest) (Text other ∷ Text what ∷ left) ≡ true
