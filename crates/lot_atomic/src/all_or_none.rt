@@ -3,10 +3,12 @@
 ghost use Rattle.std.specs.Prelude.{
   ◌≡◌,
   ◌≤◌,
+  ◌⊎◌,
   [],
   false,
   IsTrue,
   None,
+  OnOk,
   Some,
   length,
   option_copied,
@@ -24,6 +26,7 @@ ghost use Rattle.lot_atomic.specs.AllOrNone.{
   joined,
   verdict_in,
 };
+ghost use Rattle.lot_atomic.specs.declared.all_or_none.Ended.TheVariants as end;
 ghost use Rattle.lot_store.specs.Apply.{commit_outcome};
 ghost use Rattle.sqlite.specs.Held.{state};
 ghost use Rattle.sqlite.specs.State.{HasCleanDisk};
@@ -112,6 +115,9 @@ pub fn apply_all<S: Alter, N: Watch + Look>(
     ensures applies { AppliesAll (option_copied rounding.entry) commands.now
         (state S.Store conn.old) (state S.Store conn.new) result.verdicts.items result.ended }
     ensures few { length result.verdicts.items ≤ length commands.now }
+    // Unless a fault came, each command has its verdict.
+    ensures each { (result.ended ≡ end.Kept) ⊎ (result.ended ≡ end.Dropped)
+        → length result.verdicts.items ≡ length commands.now }
     // With the connection open a crash leaves the last commit, and nothing else.
     ensures safe { IsTrue (state S.Store conn.new).is_open
         → (trees : Trees) → (state S.Store conn.new).may_leave trees
@@ -148,6 +154,8 @@ fn keep_all<S: Alter, N: Watch + Look>(
     ensures applies { AppliesAll (option_copied rounding.entry) commands.now
         (state S.Store conn.old) (state S.Store conn.new) verdicts.new.items result }
     ensures few { length verdicts.new.items ≤ length commands.now }
+    ensures each { (result ≡ end.Kept) ⊎ (result ≡ end.Dropped)
+        → length verdicts.new.items ≡ length commands.now }
 {
     // A disk that has lied may have left anything, a transaction too. Outside one the tables are
     // those of the last commit.
@@ -207,6 +215,7 @@ fn judge_all<S: Alter, N: Watch>(
     ensures judges { JudgesAllAsked (option_copied rounding.entry) commands.now
         (state S.Store tx.old.conn.now) (state S.Store tx.new.conn.now) verdicts.new.items result }
     ensures few { length verdicts.new.items ≤ length commands.now }
+    ensures each { OnOk result (length verdicts.new.items ≡ length commands.now) }
 {
     let mut kept = None;
     let mut together = Together::Repeats;

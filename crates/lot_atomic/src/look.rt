@@ -1,5 +1,7 @@
 //! Looking at a book that commands would have made which aren't kept.
-ghost use Rattle.std.specs.Prelude.{◌≡◌, ◌⊎◌};
+ghost use Rattle.std.specs.Prelude.{◌≡◌, ◌⊎◌, length};
+ghost use Rattle.lot_atomic.specs.AllOrNone.{together};
+ghost use Rattle.lot_atomic.specs.declared.all_or_none.Together.TheVariants.{Refuses};
 ghost use Rattle.lot_table.specs.Book.{IsUndone};
 ghost use Rattle.sqlite.specs.State.{HasCleanDisk, Survives};
 
@@ -19,6 +21,9 @@ pub trait Look {
         numbers: &[usize],
         verdicts: &[Verdict],
     )
+        requires each { length verdicts.now ≡ length commands.now }
+        requires numbers { length numbers.now ≡ length commands.now }
+        requires refused { together verdicts.now ≡ Refuses }
         ensures same_reference { D.reference db.new ≡ D.reference db.old }
         ensures reads { HasCleanDisk (D.shown db.new)
             → (db.new ≡ db.old) ⊎ IsUndone (D.shown db.old) (D.shown db.new) }

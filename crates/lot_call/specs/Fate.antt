@@ -38,3 +38,8 @@ fate_by (Some lines) course written =
 
 abbrev pub fate_heard : Heard → Fate
 fate_heard heard = fate_by (held heard.lines) heard.course (is_none heard.failure)
+
+-- What became of what a call was to keep, whose commands were dropped, or not. What each call keeps for itself is never in doubt.
+abbrev pub fate_of : Bool → Action → Heard → Fate
+fate_of dropped action heard =
+    if dropped then Dropped else (if keeps_all_or_none action then fate_heard heard else Kept)

@@ -1,5 +1,7 @@
+pub mod Except
 pub mod Fate
 pub mod Looks
+pub mod Pair
 pub mod Remains
 pub mod Rounding
 pub mod Sums

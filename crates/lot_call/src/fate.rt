@@ -1,7 +1,7 @@
 //! What became of a call that keeps all or none.
 
 ghost use Rattle.std.specs.Prelude.{◌≡◌};
-ghost use Rattle.lot_call.specs.Fate.{fate_heard, keeps_all_or_none, stops_before_commit};
+ghost use Rattle.lot_call.specs.Fate.{fate_heard, fate_of, keeps_all_or_none, stops_before_commit};
 
 use crate::call::Call;
 use crate::remembered::Remembered;
@@ -21,7 +21,10 @@ pub enum Fate {
 
 impl Fate {
     /// Returns what became of what a call was to keep. Of one that keeps all or none nothing is kept where a command was refused.
-    pub fn of(call: &Call<'_>, heard: &Heard, remembered: &Remembered) -> Fate {
+    pub fn of(call: &Call<'_>, heard: &Heard, remembered: &Remembered) -> Fate
+        ensures fate { result
+            ≡ fate_of remembered.now.is_dropped call.now.action.now heard.now }
+    {
         if remembered.is_dropped {
             return Fate::Dropped;
         }

@@ -1,7 +1,8 @@
 //! What the book of commands that aren't kept said of them, for what is said once it is dropped.
 
-ghost use Rattle.std.specs.Prelude.{◌≡◌, IsTrue};
+ghost use Rattle.std.specs.Prelude.{◌≡◌, IfOk, IsTrue};
 ghost use Rattle.lot_call.specs.Looks.{Looks};
+ghost use Rattle.lot_call.specs.Pair.{pair, pair_at};
 ghost use Rattle.lot_table.specs.Book.{IsUndone};
 ghost use Rattle.sqlite.specs.State.{HasCleanDisk, Survives};
 
@@ -284,7 +285,9 @@ impl Known for Remembered {
 
 /// Returns the account and the commodity of a posting of a command, by its place from 1, if it has both. The only error is out of
 /// memory.
-fn pair_at(command: &Command, place: usize) -> Result<Option<Pair>, AllocError> {
+fn pair_at(command: &Command, place: usize) -> Result<Option<Pair>, AllocError>
+    ensures { IfOk result (λ found. found ≡ pair_at command.now place) }
+{
     let (Command::Transaction(transaction), Some(index)) = (command, place.checked_sub(1)) else {
         return Ok(None);
     };
@@ -298,7 +301,9 @@ fn pair_at(command: &Command, place: usize) -> Result<Option<Pair>, AllocError> 
 }
 
 /// Returns an account and a commodity as a pair. The only error is out of memory.
-fn pair(account: &Account, commodity: &Commodity) -> Result<Pair, AllocError> {
+fn pair(account: &Account, commodity: &Commodity) -> Result<Pair, AllocError>
+    ensures { IfOk result (λ both. both ≡ pair account.now commodity.now) }
+{
     Ok(Pair {
         account: account.copy()?,
         commodity: commodity.copy()?,

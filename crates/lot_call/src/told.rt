@@ -1,5 +1,8 @@
 //! What the codes mean, and why the commands of a call were refused.
 
+ghost use Rattle.std.specs.Prelude.{◌≡◌};
+ghost use Rattle.lot_call.specs.Except.{except_of};
+
 use crate::call::{Call, rounding_of};
 use crate::crumbs::Crumbs;
 use crate::facts::Facts;
@@ -106,7 +109,9 @@ fn source_of(action: &Action) -> (Source<'_>, u32) {
 }
 
 /// Returns the `ref` of each row that an action leaves out.
-fn except_of(action: &Action) -> &[Label] {
+fn except_of(action: &Action) -> &[Label]
+    ensures { result.now ≡ except_of action.now }
+{
     match action {
         Action::Import(import) => import.except.as_slice(),
         _ => &[],

@@ -5,6 +5,7 @@ pub mod CommodityLemmas
 pub mod EntryLemmas
 pub mod HeadLemmas
 pub mod LegLemmas
+pub mod LotKeyLemmas
 pub mod LotLemmas
 pub mod MakeLemmas
 pub mod MigrationLemmas

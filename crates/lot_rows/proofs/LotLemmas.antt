@@ -1,10 +1,11 @@
 -- The statements on the table `lot`.
-use Rattle.std.proofs.Common.{Result, Vec, ◌≡◌, ℕ, pos, All, List, [], ◌∷◌, codes, refl, arith}
+use Rattle.std.proofs.Common.{Result, Vec, ◌≡◌, ℕ, pos, All, List, [], ◌∷◌, codes, refl, arith, ap, ◌++◌}
 use Rattle.sqlite.specs.Collation.TheVariants.{Binary}
 use Rattle.sqlite.specs.Listing.{understood}
 use Rattle.sqlite.specs.State.{State}
 use Rattle.sqlite.specs.Term.{Term, col, lit}
-use Rattle.sqlite.specs.declared.types.Value.TheVariants.{Null, Text}
+use Rattle.sqlite.specs.Order.{Row}
+use Rattle.sqlite.specs.declared.types.Value.TheVariants.{Int, Null, Text}
 use Rattle.sqlite_tied.specs.Compute.{everything}
 use Rattle.sqlite_value.specs.Keys.{ascending}
 use Rattle.sqlite_value.specs.declared.keys.Key.{Key}
@@ -12,14 +13,15 @@ use Rattle.lot_table.specs.Rows.{has_key, with_key}
 use Rattle.lot_table.proofs.ReadLemmas.{key_terms}
 use Rattle.lot_table.proofs.WriteLemmas.{cast_int}
 use Rattle.lot_rows.specs.Lot.{IsLotRow, lot_cells}
+use Rattle.lot_rows.proofs.LotKeyLemmas.{same_lot}
 use Rattle.lot_rows.specs.LotKey.{lot_key}
 use Rattle.lot_rows.specs.Tables.{lot_table, shapes, layout}
 use Rattle.lot_rows.specs.declared.lot.LotRow.{LotRow}
 use Rattle.lot_cost.specs.declared.lot_key.LotKey.{LotKey}
-use Rattle.lot_table.specs.Call.{Deletes, ListsColumns, Puts, Runs, Selects}
+use Rattle.lot_table.specs.Call.{Deletes, ListsColumns, Puts, Runs, Selects, Sets}
 use Rattle.lot_table.specs.declared.fault.Fault.{Fault}
 use Rattle.lot_table.proofs.ShapeLemmas.{free}
-use Rattle.lot_table.proofs.StatementLemmas.{IsDelete, IsPut, IsTable, deletes_key, puts}
+use Rattle.lot_table.proofs.StatementLemmas.{IsDelete, IsPut, IsSet, IsTable, deletes_key, puts, sets}
 use Rattle.lot_table.proofs.QueryLemmas.{Asks, IsQuery, keyed, lists_columns}
 use Rattle.sqlite_rules.proofs.ListLemmas.{has_got}
 use Rattle.std.specs.declared.alloc.Global.{Global}
@@ -53,6 +55,27 @@ put_is x = record { count = 8; terms = put_terms; means = refl; bare = (refl, re
 
 pub puts_row : (old new : State) (x : LotRow) {A : Type 0} (result : Result A Fault) → Runs put_text (lot_cells x) old new result → Puts layout lot_table x old new result
 puts_row old new x = puts layout lot_table is_table old new put_text x (λ _ _ _. refl) (put_is x)
+
+-- ---- set
+
+abbrev set_text : List ℕ
+set_text = codes "UPDATE lot SET units = ?7 WHERE account = ?1 AND commodity = ?2 AND cost_day = ?3 AND cost_currency = ?4 AND cost_number = ?5 AND cost_label = ?6"
+
+set_is : (x : LotRow) → IsSet layout lot_table is_table x set_text
+unfolding understood everything
+set_is x = record {
+  shows = col 1 0 ∷ col 1 0 ∷ col 1 1 ∷ col 1 2 ∷ col 1 3 ∷ col 1 4 ∷ col 1 5 ∷ col 1 6 ∷ col 0 6 ∷ [];
+  means = refl;
+  bare = (refl, refl);
+  whole = (omega arith, refl);
+  typed = refl;
+  becomes = λ y rowid same.
+      ap (λ (key : Row). rowid ∷ rowid ∷ key ++ Int x.units ∷ [])
+      (same_lot x.account x.commodity x.lot y.account y.commodity y.lot (Int x.units ∷ []) (Int y.units ∷ []) same);
+}
+
+pub sets_row : (old new : State) (x : LotRow) {A : Type 0} (result : Result A Fault) → Runs set_text (lot_cells x) old new result → Sets layout lot_table x old new result
+sets_row old new x = sets layout lot_table is_table old new set_text x (set_is x) (λ _ _ _. refl)
 
 -- ---- delete
 

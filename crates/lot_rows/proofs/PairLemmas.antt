@@ -1,5 +1,5 @@
 -- Rows with the same account and commodity as their key.
-use Rattle.std.proofs.Common.{◌≡◌, ℕ, true, List, [], ◌∷◌, Equal, is_eq, sym, ap, ◌∙◌}
+use Rattle.std.proofs.Common.{◌≡◌, ℕ, true, List, ◌∷◌, Equal, is_eq, sym, ap, ◌∙◌}
 use Rattle.std.specs.Ordering.{ordering_then}
 use Rattle.std.proofs.lemmas.Bool.{and_parts}
 use Rattle.sqlite.specs.Order.{Row}
@@ -10,7 +10,7 @@ use Rattle.lot_base.proofs.TextLemmas.{one_text, same_text-ordered}
 use Rattle.lot_cost.proofs.OrderLemmas.{eq_then}
 use Rattle.lot_table.specs.Rows.{has_key}
 
-same_name : (key row : List ℕ) → is_eq (value_cmp (Text row) (Text key)) ≡ true → row ≡ key
+pub same_name : (key row : List ℕ) → is_eq (value_cmp (Text row) (Text key)) ≡ true → row ≡ key
 same_name key row same = sym (one_text key row (sym (ap is_eq (value_cmp-Text row key) ∙ same_text-ordered row key) ∙ same))
 
 pub same_pair : (account commodity other what : List ℕ) (rest left : Row) → has_key 2 (Text account ∷ Text commodity ∷ rest) (Text other ∷ Text what ∷ left) ≡ true

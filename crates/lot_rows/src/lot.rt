@@ -2,7 +2,7 @@ ghost use Rattle.std.specs.Prelude.{◌≡◌, ◌∷◌, [], IsTrue};
 ghost use Rattle.lot_rows.specs.Lot.{IsLotRow, lot_cells};
 ghost use Rattle.lot_rows.specs.LotKey.{lot_key};
 ghost use Rattle.lot_rows.specs.Tables.{layout, lot_table};
-ghost use Rattle.lot_table.specs.Call.{Deletes, ListsColumns, Puts};
+ghost use Rattle.lot_table.specs.Call.{Deletes, ListsColumns, Puts, Sets};
 ghost use Rattle.lot_table.specs.Rows.{with_key};
 ghost use Rattle.sqlite.specs.Held.{state};
 ghost use Rattle.sqlite.specs.State.{HasCleanDisk};
@@ -57,6 +57,21 @@ pub fn put<S: Alter>(tx: &mut Transaction<'_, S>, row: &LotRow) -> Result<(), Fa
     change(
         tx,
         "INSERT OR REPLACE INTO lot (account, commodity, cost_day, cost_currency, cost_number, cost_label, units) VALUES (?1, ?2, ?3, ?4, ?5, ?6, ?7)",
+        &lot_key::cells_with(&row.account, &row.commodity, &row.lot, row.units.to_cell()),
+    )
+}
+
+/// Changes the units of the row of the same key. Where there is none, nothing changes.
+pub fn set<S: Alter>(tx: &mut Transaction<'_, S>, row: &LotRow) -> Result<(), Fault>
+    requires { HasCleanDisk (state S.Store tx.old.conn.now)
+        → IsTrue (state S.Store tx.old.conn.now).in_transaction }
+    ensures same_reference { tx.new.conn.ghost_name ≡ tx.old.conn.ghost_name }
+    ensures sets { Sets layout lot_table row.now
+        (state S.Store tx.old.conn.now) (state S.Store tx.new.conn.now) result }
+{
+    change(
+        tx,
+        "UPDATE lot SET units = ?7 WHERE account = ?1 AND commodity = ?2 AND cost_day = ?3 AND cost_currency = ?4 AND cost_number = ?5 AND cost_label = ?6",
         &lot_key::cells_with(&row.account, &row.commodity, &row.lot, row.units.to_cell()),
     )
 }

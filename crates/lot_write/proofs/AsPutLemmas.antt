@@ -3,8 +3,9 @@ use Rattle.std.specs.Prelude.{◌≡◌, cond, List, [], ◌∷◌}
 use Rattle.std.specs.List.{AllByRecursion}
 use Rattle.std.proofs.Common.{refl, sym, ap, subst, ◌∙◌}
 use Rattle.lot_rows.specs.Head.{head_cells}
+use Rattle.lot_rows.specs.Lot.{lot_cells}
 use Rattle.lot_rows.specs.Plain.{plain_cells}
-use Rattle.lot_rows.specs.Tables.{Tables, head_table, plain_table}
+use Rattle.lot_rows.specs.Tables.{Tables, head_table, lot_table, plain_table}
 use Rattle.lot_table.specs.Call.{HasKey}
 use Rattle.lot_table.specs.Rows.{put_in}
 use Rattle.lot_write.specs.Write as made
@@ -12,6 +13,7 @@ use Rattle.lot_write.specs.declared.write.Write.{Write}
 use Rattle.lot_write.specs.declared.write.Write.TheVariants as write
 
 abbrev as_put : Write → Write
+as_put (write.SetLot row) = write.Lot row
 as_put (write.SetPlain row) = write.Plain row
 as_put (write.SetHead row) = write.Head row
 as_put one = one
@@ -25,6 +27,7 @@ written_all (one ∷ more) tables = written_all more (written one tables)
 
 -- the tables take the write, and a row that is set is there
 abbrev pub Fits : Write → Tables → Type 0
+Fits (write.SetLot row) tables = HasKey lot_table row tables
 Fits (write.SetPlain row) tables = HasKey plain_table row tables
 Fits (write.SetHead row) tables = HasKey head_table row tables
 Fits one tables = made.Fits one tables
@@ -36,6 +39,8 @@ AreFit (one ∷ more) tables = Fits one tables × AreFit more (written one table
 -- ---- they make the same
 
 as_written : (one : Write) (tables : Tables) → Fits one tables → made.written one tables ≡ written one tables
+as_written (write.SetLot row) tables there =
+    ap (λ b. lot_table.with_rows (cond b (put_in lot_cells 6 row tables.lot) tables.lot) tables) there
 as_written (write.SetPlain row) tables there =
     ap (λ b. plain_table.with_rows (cond b (put_in plain_cells 2 row tables.plain) tables.plain) tables) there
 as_written (write.SetHead row) tables there =
@@ -43,6 +48,7 @@ as_written (write.SetHead row) tables there =
 as_written _ tables fit = refl
 
 as_fit : (one : Write) (tables : Tables) → Fits one tables → made.Fits one tables
+as_fit (write.SetLot row) tables there = tt
 as_fit (write.SetPlain row) tables there = tt
 as_fit (write.SetHead row) tables there = tt
 as_fit _ tables fit = fit

@@ -4,6 +4,7 @@ use Rattle.std.specs.BTreeMap.{get}
 use Rattle.std.specs.List.{AllByRecursion}
 use Rattle.std.specs.Ordering.{int_eq}
 use Rattle.std.proofs.Common.{refl, ap, ◌∙◌}
+use Rattle.sqlite_keyed.proofs.ListLemmas.{all-append}
 use Rattle.lot_cost.specs.declared.lot_key.LotKey.{LotKey}
 use Rattle.lot_book.specs.Change.{units_before}
 use Rattle.lot_book.specs.Facts.{Facts}
@@ -17,7 +18,7 @@ use Rattle.lot_rows.specs.Tables.{Tables}
 use Rattle.lot_stored.specs.Rows.{head_row, leg_row, lot_row, opening_row, plain_row, sale_row}
 use Rattle.lot_write.proofs.WrittenLemmas.{left-written_all, written_all-append}
 use Rattle.lot_write.proofs.AsPutLemmas.{written, written_all}
-use Rattle.lot_write.specs.Writes.{head_write, heads_written, legs_written, listed_write, number_written, opening_written, plain_write, position_write, positions_written, sales_written, units_listed}
+use Rattle.lot_write.specs.Writes.{head_written, heads_written, legs_written, listed_write, lot_write, number_written, opening_written, plain_write, position_write, positions_written, sales_written, units_listed}
 use Rattle.lot_write.specs.declared.write.Write.{Write}
 use Rattle.lot_write.specs.declared.write.Write.TheVariants as write
 
@@ -37,16 +38,22 @@ module _ {A : Type 0} (rows : Tables → A) where
   sales_keep keeps number (sale ∷ sales) = (keeps (number, sale), sales_keep keeps number sales)
 
   head_keeps : ((account commodity : List ℕ) (day : ℤ) → Keeps rows (write.Head (head_row account commodity day)))
-      → (before : Option ℤ) (account commodity : List ℕ) (day : ℤ) → Keeps rows (head_write before account commodity day)
-  head_keeps keeps None account commodity day = keeps account commodity day
-  head_keeps keeps (Some before) account commodity day = keeps account commodity day
+      → (before : Option ℤ) (account commodity : List ℕ) (day : ℤ)
+      → AllByRecursion (Keeps rows) (head_written before account commodity day)
+  head_keeps keeps None account commodity day = (keeps account commodity day, tt)
+  head_keeps keeps (Some before) account commodity day =
+      elim (int_eq before day) as (λ b. AllByRecursion (Keeps rows) (cond b [] (write.SetHead (head_row account commodity day) ∷ []))) [
+        | true ↦ tt
+        | false ↦ (keeps account commodity day, tt)
+      ]
 
   pub heads_keep : ((account commodity : List ℕ) (day : ℤ) → Keeps rows (write.Head (head_row account commodity day)))
       → (facts : Facts) (heads : List (Pair × ℤ)) → AllByRecursion (Keeps rows) (heads_written facts heads)
   heads_keep keeps facts [] = tt
   heads_keep keeps facts (head ∷ heads) =
       let before = facts.latest_at_cost head.0.account head.0.commodity in
-      (head_keeps keeps before head.0.account head.0.commodity head.1, heads_keep keeps facts heads)
+      all-append (Keeps rows) (head_written before head.0.account head.0.commodity head.1) (heads_written facts heads)
+      (head_keeps keeps before head.0.account head.0.commodity head.1) (heads_keep keeps facts heads)
 
   pub plain_keeps : ((account commodity : List ℕ) (units : ℤ) → Keeps rows (write.Plain (plain_row account commodity units)))
       → (account commodity : List ℕ) (before units : ℤ) → Keeps rows (plain_write account commodity before units)
@@ -55,6 +62,15 @@ module _ {A : Type 0} (rows : Tables → A) where
       (write.SetPlain (plain_row account commodity units)))) [
         | true ↦ plain account commodity units
         | false ↦ plain account commodity units
+      ]
+
+  pub lot_keeps : ((account commodity : List ℕ) (lot : LotKey) (units : ℤ) → Keeps rows (write.Lot (lot_row account commodity lot units)))
+      → (account commodity : List ℕ) (lot : LotKey) (before units : ℤ) → Keeps rows (lot_write account commodity lot before units)
+  lot_keeps at_lot account commodity lot before units =
+      elim (int_eq before (pos 0)) as (λ b. Keeps rows (cond b (write.Lot (lot_row account commodity lot units))
+      (write.SetLot (lot_row account commodity lot units)))) [
+        | true ↦ at_lot account commodity lot units
+        | false ↦ at_lot account commodity lot units
       ]
 
   pub position_keeps : ((account commodity : List ℕ) (units : ℤ) → Keeps rows (write.Plain (plain_row account commodity units)))
@@ -71,9 +87,9 @@ module _ {A : Type 0} (rows : Tables → A) where
       ]
   position_keeps plain no_plain at_lot no_lot account commodity (Some lot) before units =
       elim (int_eq units (pos 0)) as (λ b. Keeps rows (cond b (write.NoLot account commodity lot)
-      (write.Lot (lot_row account commodity lot units)))) [
+      (lot_write account commodity lot before units))) [
         | true ↦ no_lot account commodity lot
-        | false ↦ at_lot account commodity lot units
+        | false ↦ lot_keeps at_lot account commodity lot before units
       ]
 
   pub opening_keeps : ((account commodity : List ℕ) (lot : LotKey) (number : ℕ)

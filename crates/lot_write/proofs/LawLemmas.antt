@@ -72,7 +72,7 @@ module _ (tables : Tables) (entries : List Entry) (known : Facts) (key : Key) (c
       }
 
   made_so : made.AreFit writes tables × (made.written_all writes tables ≡ written_all writes tables)
-  made_so = all_as_written writes tables (writes_fit tables entries known key change stand command is)
+  made_so = all_as_written writes tables (writes_fit tables entries known key change stand command is listed good)
 
   -- edition 2 leaves the place as it is
   pub stand_by_second : is.edition ≡ Second → made.AreFit writes tables × StandFor (made.written_all writes tables) grown

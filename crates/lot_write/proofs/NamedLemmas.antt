@@ -59,7 +59,7 @@ use Rattle.lot_rows.specs.declared.commodity.CommodityRow.{CommodityRow}
 use Rattle.lot_rows.specs.declared.migration.MigrationRow.{MigrationRow}
 use Rattle.lot_rows.specs.declared.price.PriceRow.{PriceRow}
 use Rattle.lot_stored.specs.Kept.{currencies_in, currencies_of, declared_on, declaring_by, rate_by, rate_on}
-use Rattle.lot_stored.specs.Rows.{account_row, allowed_rows, commodity_row, entry_row, entry_rows, name_key, plain_row, price_key, price_row, row_at}
+use Rattle.lot_stored.specs.Rows.{account_row, allowed_rows, commodity_row, entry_row, entry_rows, head_row, lot_row, name_key, plain_row, price_key, price_row, row_at}
 use Rattle.lot_stored.specs.StandFor.{StandFor}
 use Rattle.lot_stored.proofs.KeptLemmas.{declared_on-append, declared_on-none, entry_rows-append, entry_rows-below, rate_on-append}
 use Rattle.lot_stored.proofs.KeyLemmas.{has_name, has_price, number_below, same_first}
@@ -68,7 +68,7 @@ use Rattle.lot_stored.proofs.OrderLemmas.{IsRising, all-put_in, rises-put_in, ro
 use Rattle.lot_write.proofs.WrittenLemmas.{IsNoEntry, left-written_all}
 use Rattle.lot_write.proofs.AsPutLemmas.{written, written_all}
 use Rattle.lot_write.specs.Write.{with_put}
-use Rattle.lot_write.specs.Writes.{closing_written, head_write, heads_written, legs_written, listed_write, number_written, opening_written, own_writes, plain_write, position_write, positions_written, sales_written, units_listed, writes_of}
+use Rattle.lot_write.specs.Writes.{closing_written, head_written, heads_written, legs_written, listed_write, lot_write, number_written, opening_written, own_writes, plain_write, position_write, positions_written, sales_written, units_listed, writes_of}
 use Rattle.lot_write.specs.declared.write.Write.{Write}
 use Rattle.lot_write.specs.declared.write.Write.TheVariants as write
 
@@ -112,6 +112,14 @@ plain_is account commodity before units =
       | false ↦ tt
     ]
 
+lot_is : (account commodity : List ℕ) (lot : LotKey) (before units : ℤ) → IsOfTransaction (lot_write account commodity lot before units)
+lot_is account commodity lot before units =
+    elim (int_eq before (pos 0)) as (λ b. IsOfTransaction (cond b (write.Lot (lot_row account commodity lot units))
+    (write.SetLot (lot_row account commodity lot units)))) [
+      | true ↦ tt
+      | false ↦ tt
+    ]
+
 position_is : (account commodity : List ℕ) (lot : Option LotKey) (before units : ℤ)
     → IsOfTransaction (position_write account commodity lot before units)
 position_is account commodity None before units =
@@ -121,9 +129,10 @@ position_is account commodity None before units =
       | false ↦ plain_is account commodity before units
     ]
 position_is account commodity (Some lot) before units =
-    elim (int_eq units (pos 0)) as (λ b. IsOfTransaction (cond b (write.NoLot account commodity lot) (write.Lot (record { account = account; commodity = commodity; lot = lot; units = units })))) [
+    elim (int_eq units (pos 0)) as (λ b. IsOfTransaction (cond b (write.NoLot account commodity lot)
+    (lot_write account commodity lot before units))) [
       | true ↦ tt
-      | false ↦ tt
+      | false ↦ lot_is account commodity lot before units
     ]
 
 opening_is : (account commodity : List ℕ) (lot : Option LotKey) (units : ℤ) (listed : Option ℕ)
@@ -152,24 +161,32 @@ all_of : {A X : Type 0} (P : X → Type 0) (f : A → List X) → ((a : A) → A
 all_of P f each [] = tt
 all_of P f each (x ∷ xs) = (each x, all_of P f each xs)
 
-head_is : (before : Option ℤ) (account commodity : List ℕ) (day : ℤ) → IsOfTransaction (head_write before account commodity day)
-head_is None account commodity day = tt
-head_is (Some before) account commodity day = tt
+head_is : (before : Option ℤ) (account commodity : List ℕ) (day : ℤ)
+    → AllByRecursion IsOfTransaction (head_written before account commodity day)
+head_is None account commodity day = (tt, tt)
+head_is (Some before) account commodity day =
+    elim (int_eq before day) as (λ b. AllByRecursion IsOfTransaction (cond b [] (write.SetHead (head_row account commodity day) ∷ []))) [
+      | true ↦ tt
+      | false ↦ (tt, tt)
+    ]
 
 pub transaction_is : (facts : Facts) (change : Change)
     → AllByRecursion IsOfTransaction (legs_written change.legs ++ (sales_written (suc facts.entries) change.sales
     ++ (positions_written facts change change.legs ++ heads_written facts change.heads.entries)))
 transaction_is facts change =
     let written_at : Leg → List Write = λ leg. listed_write facts change leg.position in
+    let head_at : Pair × ℤ → List Write =
+    λ head. head_written (facts.latest_at_cost head.0.account head.0.commodity) head.0.account head.0.commodity head.1 in
     all-append IsOfTransaction (legs_written change.legs) _ (all-map IsOfTransaction _ (λ leg. tt) change.legs)
     (all-append IsOfTransaction (sales_written (suc facts.entries) change.sales) _
     (all-map IsOfTransaction _ (λ sale. tt) change.sales)
     (all-append IsOfTransaction (positions_written facts change change.legs) _
     (all-flat_map IsOfTransaction written_at change.legs
     (all_of IsOfTransaction written_at (λ leg. listed_is facts change leg.position) change.legs))
-    (all-map IsOfTransaction _
+    (all-flat_map IsOfTransaction head_at change.heads.entries
+    (all_of IsOfTransaction head_at
     (λ (head : Pair × ℤ). head_is (facts.latest_at_cost head.0.account head.0.commodity) head.0.account head.0.commodity head.1)
-    change.heads.entries)))
+    change.heads.entries))))
 
 -- the tables that it leaves
 abbrev named : Tables → List AccountRow × List AllowedRow × List CommodityRow × List PriceRow

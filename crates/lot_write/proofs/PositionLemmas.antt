@@ -32,10 +32,10 @@ use Rattle.sqlite.specs.declared.types.Value.TheVariants.{Int}
 use Rattle.lot_stored.specs.Rows.{lot_key, lot_row, opening_row, pair_key, plain_row, row_at}
 use Rattle.lot_stored.proofs.KeyLemmas.{at_lot, has_lot, has_pair}
 use Rattle.lot_stored.proofs.LookupLemmas.{row-put, row-without}
-use Rattle.lot_write.proofs.KeepLemmas.{opening_keeps, plain_keeps, position_keeps}
+use Rattle.lot_write.proofs.KeepLemmas.{lot_keeps, opening_keeps, plain_keeps, position_keeps}
 use Rattle.lot_write.proofs.WrittenLemmas.{left-written_all, written_all-append}
 use Rattle.lot_write.proofs.AsPutLemmas.{written, written_all}
-use Rattle.lot_write.specs.Writes.{listed_write, number_written, opening_written, plain_write, position_write, positions_written, units_listed}
+use Rattle.lot_write.specs.Writes.{listed_write, lot_write, number_written, opening_written, plain_write, position_write, positions_written, units_listed}
 use Rattle.lot_write.specs.declared.write.Write.TheVariants as write
 
 -- ---- all legs
@@ -115,6 +115,16 @@ module _ (account commodity : List ℕ) (lot : LotKey) (good : IsLotKey lot) whe
   abbrev lot_there : Tables → Option LotRow
   lot_there = row_at lot_table (lot_key account commodity lot)
 
+  -- a row is put, whether or not there was one
+  lot_put : (other what : List ℕ) (there : LotKey) (before units : ℤ) (tables : Tables)
+      → written (lot_write other what there before units) tables ≡ written (write.Lot (lot_row other what there units)) tables
+  lot_put other what there before units tables =
+      elim (int_eq before (pos 0)) as (λ b. written (cond b (write.Lot (lot_row other what there units))
+      (write.SetLot (lot_row other what there units))) tables ≡ written (write.Lot (lot_row other what there units)) tables) [
+        | true ↦ refl
+        | false ↦ refl
+      ]
+
   lot_written : (other what : List ℕ) (there : LotKey) (before units : ℤ) (tables : Tables) → IsLotKey there
       → lot_there (written (position_write other what (Some there) before units) tables)
       ≡ cond (same_position (at_lot account commodity lot) (at_lot other what there)) (option_map (lot_row account commodity lot) (non_zero units)) (lot_there tables)
@@ -128,14 +138,15 @@ module _ (account commodity : List ℕ) (lot : LotKey) (good : IsLotKey lot) whe
       row_of false apart = refl
 
       by : (zero : Bool)
-          → lot_there (written (cond zero (write.NoLot other what there) (write.Lot (lot_row other what there units))) tables)
+          → lot_there (written (cond zero (write.NoLot other what there) (lot_write other what there before units)) tables)
           ≡ cond (same_position (at_lot account commodity lot) (at_lot other what there))
           (option_map (lot_row account commodity lot) (cond zero None (Some units))) (lot_there tables)
       by true =
           row-without lot_cells 6 (lot_key account commodity lot) (lot_key other what there) tables.lot
           ∙ ap (λ b. cond b None (lot_there tables)) (has_lot account commodity other what lot there [] good.label good_there.label)
       by false =
-          row-put lot_cells 6 (lot_key account commodity lot) (lot_row other what there units) tables.lot
+          ap lot_there (lot_put other what there before units tables)
+          ∙ row-put lot_cells 6 (lot_key account commodity lot) (lot_row other what there units) tables.lot
           ∙ ap (λ b. cond b (Some (lot_row other what there units)) (lot_there tables))
           (has_lot account commodity other what lot there (Int units ∷ []) good.label good_there.label)
           ∙ row_of (same_position (at_lot account commodity lot) (at_lot other what there)) refl
@@ -235,9 +246,9 @@ module _ (account commodity : List ℕ) where
       → plain_there (written (position_write other what (Some there) before units) tables) ≡ plain_there tables
   plain_kept other what there before units tables =
       elim (int_eq units (pos 0)) as (λ b. plain_there (written (cond b (write.NoLot other what there)
-      (write.Lot (lot_row other what there units))) tables) ≡ plain_there tables) [
+      (lot_write other what there before units)) tables) ≡ plain_there tables) [
         | true ↦ refl
-        | false ↦ refl
+        | false ↦ lot_keeps plain_there (λ a c l u s. refl) other what there before units tables
       ]
 
   -- the row of plain units once units are written at a position

@@ -1,16 +1,14 @@
 -- Rows that are put one after another.
-use Rattle.std.specs.Prelude.{◌≡◌, ℕ, List, [], ◌∷◌, ◌++◌, map, Option, None, Some, ℤ}
+use Rattle.std.specs.Prelude.{◌≡◌, ℕ, List, [], ◌∷◌, ◌++◌, map, ℤ}
 use Rattle.std.specs.List.{AllByRecursion}
 use Rattle.std.specs.declared.cmp.Ordering.TheVariants.{Less}
 use Rattle.std.proofs.Common.{refl, sym, ap, ◌∙◌, append_assoc}
 use Rattle.std.proofs.lemmas.List.{append-nil}
 use Rattle.sqlite.specs.Order.{Row}
 use Rattle.sqlite_keyed.proofs.ListLemmas.{all-append, all_weaker}
-use Rattle.lot_book.specs.Facts.{Facts}
 use Rattle.lot_book.specs.Sale.{SaleParts}
 use Rattle.lot_book.specs.declared.change.Pair.{Pair}
 use Rattle.lot_book.specs.declared.leg.Leg.{Leg}
-use Rattle.lot_rows.specs.Head.{head_cells}
 use Rattle.lot_rows.specs.Leg.{leg_cells}
 use Rattle.lot_rows.specs.Sale.{sale_cells}
 use Rattle.lot_rows.specs.Tables.{Tables}
@@ -20,7 +18,7 @@ use Rattle.lot_stored.specs.Rows.{head_row, leg_row, sale_row}
 use Rattle.lot_stored.proofs.LookupLemmas.{put_in-last}
 use Rattle.lot_stored.proofs.OrderLemmas.{IsRising, row_order}
 use Rattle.lot_write.proofs.AsPutLemmas.{written, written_all}
-use Rattle.lot_write.specs.Writes.{head_write, heads_written, legs_written, sales_written}
+use Rattle.lot_write.specs.Writes.{legs_written, sales_written}
 use Rattle.lot_write.specs.declared.write.Write.TheVariants as write
 
 -- rows once others are put, one after another
@@ -60,17 +58,3 @@ sales_put number (sale ∷ sales) tables = sales_put number sales (written (writ
 -- the row of a pair and its day
 abbrev pub head_of : Pair × ℤ → HeadRow
 head_of head = head_row head.0.account head.0.commodity head.1
-
--- it is put, whether or not there was one
-pub head_put : (before : Option ℤ) (head : Pair × ℤ) (tables : Tables)
-    → written (head_write before head.0.account head.0.commodity head.1) tables ≡ written (write.Head (head_of head)) tables
-head_put None head tables = refl
-head_put (Some before) head tables = refl
-
-pub heads_put : (facts : Facts) (heads : List (Pair × ℤ)) (tables : Tables)
-    → (written_all (heads_written facts heads) tables).head ≡ put_each head_cells 2 (map head_of heads) tables.head
-heads_put facts [] tables = refl
-heads_put facts (head ∷ heads) tables =
-    ap (λ (t : Tables). (written_all (heads_written facts heads) t).head)
-    (head_put (facts.latest_at_cost head.0.account head.0.commodity) head tables)
-    ∙ heads_put facts heads (written (write.Head (head_of head)) tables)

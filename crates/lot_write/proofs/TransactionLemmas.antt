@@ -1,5 +1,5 @@
 -- The tables leg, sale, lot, plain, opening and head after what an accepted command writes.
-use Rattle.std.specs.Prelude.{◌≡◌, ℕ, suc, Bool, true, false, cond, List, [], ◌∷◌, ◌++◌, length, map, Option, None, Some, All, ℤ, ◌+ℤ◌}
+use Rattle.std.specs.Prelude.{◌≡◌, ℕ, suc, Bool, true, false, cond, is_some, List, [], ◌∷◌, ◌++◌, length, map, Option, None, Some, All, ℤ, ◌+ℤ◌}
 use Rattle.std.specs.BTreeMap.{get}
 use Rattle.std.specs.FinMap as finite
 use Rattle.std.specs.List.{AllByRecursion, list_any}
@@ -10,6 +10,8 @@ use Rattle.std.proofs.lemmas.Bool.{cases_Bool}
 use Rattle.std.proofs.lemmas.List.{append-nil}
 use Rattle.std.proofs.lemmas.List.Elements.{recursion_from_All}
 use Rattle.sqlite.specs.Tree.{IsAscending}
+use Rattle.sqlite_rules.specs.Lists.{Has}
+use Rattle.sqlite_rules.proofs.ListLemmas.{all_from}
 use Rattle.sqlite_keyed.proofs.ListLemmas.{all-map, all_both, all_of, all_unmap, all_weaker}
 use Rattle.lot_command.specs.declared.command.Closing.{Closing as ClosingOf}
 use Rattle.lot_command.specs.declared.command.Command.{Command}
@@ -22,12 +24,13 @@ use Rattle.lot_book.specs.Book.{entry_of}
 use Rattle.lot_book.specs.Booking.{All as AllBooked}
 use Rattle.lot_book.specs.Change.{day_listed}
 use Rattle.lot_book.specs.Edition.{After, Edition, edition_on, ties_in}
-use Rattle.lot_book.specs.Facts.{Entry, Facts, day_at_cost, facts_of, latest_at_cost, legs_of}
+use Rattle.lot_book.specs.Facts.{Entry, Facts, day_at_cost, facts_of, latest_at_cost, legs_of, posts_at_cost}
 use Rattle.lot_book.specs.Leg.{inventory_of, position_cmp, same_position, sum_at}
 use Rattle.lot_book.specs.OpeningNumber.{opening_number}
 use Rattle.lot_book.specs.Sale.{SaleParts, AreSalesUnder}
 use Rattle.lot_book.specs.Step.{Accept, JudgesUnder, first_conditions, first_of}
 use Rattle.lot_book.specs.declared.change.Change.{Change}
+use Rattle.lot_book.specs.declared.change.Pair.{Pair}
 use Rattle.lot_book.specs.declared.leg.Leg.{Leg}
 use Rattle.lot_book.specs.declared.leg.Position.{Position}
 use Rattle.lot_book.specs.declared.standing.Standing.{Standing}
@@ -36,7 +39,6 @@ use Rattle.lot_book.proofs.SumLemmas.{sum_where-append, sum_where-none}
 use Rattle.lot_laws.proofs.RecordedBook.{key_was_new, legs_of-append}
 use Rattle.lot_laws.proofs.RecordedDays.{latest-recorded}
 use Rattle.lot_laws.proofs.StepAgree.{Alike, alike_all, same_books}
-use Rattle.lot_rows.specs.Head.{head_cells}
 use Rattle.lot_rows.specs.Leg.{IsLegRow, leg_cells}
 use Rattle.lot_rows.specs.LotKey.{IsLotKey, IsLotOrPlain}
 use Rattle.lot_rows.specs.Sale.{sale_cells}
@@ -55,13 +57,12 @@ use Rattle.lot_stored.specs.Kept.{SalesOf, legs_of_posting, numbered}
 use Rattle.lot_stored.specs.Rows.{allowed_rows, entry_row, head_row, leg_row, lot_key, lot_row, opening_row, pair_key, plain_row, posting_key, row_at, sale_row}
 use Rattle.lot_stored.specs.StandFor.{StandFor, sum_in}
 use Rattle.lot_stored.proofs.KeyLemmas.{at_lot}
-use Rattle.lot_stored.proofs.LookupLemmas.{first_with_key}
 use Rattle.lot_write.proofs.AsPutLemmas.{written, written_all}
 use Rattle.lot_write.specs.Write.{IsGood}
 use Rattle.lot_write.specs.Writes.{ListsInOrder, closing_written, heads_written, legs_written, listed_write, own_writes, positions_written, sales_written, units_listed, writes_of}
 use Rattle.lot_write.specs.declared.write.Write.TheVariants as write
 use Rattle.lot_stored.proofs.BookedLemmas.{IsBookedAs, booked_as, walks}
-use Rattle.lot_write.proofs.HeadLemmas.{heads_row}
+use Rattle.lot_write.proofs.HeadLemmas.{SaysDay, has_listed, heads_row, same_day}
 use Rattle.lot_write.proofs.KeepLemmas.{Keeps, heads_keep, legs_keep, listed_keeps, positions_keep, sales_keep}
 use Rattle.lot_stored.proofs.KnownLemmas.{IsSameAt, listed_sum, same_at_legs}
 use Rattle.lot_write.proofs.LegLemmas.{put_all}
@@ -69,7 +70,7 @@ use Rattle.lot_write.proofs.NamedLemmas.{IsAccepted, judged}
 use Rattle.lot_stored.proofs.NumberLemmas.{legs_for, numbered_legs, own_legs, precede_next}
 use Rattle.lot_write.proofs.OpeningLemmas.{number_apart, or_mapped, row_settled}
 use Rattle.lot_write.proofs.PositionLemmas.{Settles, lot_step, numbered_row, opening_step, plain_at, plain_step, positions_stand}
-use Rattle.lot_write.proofs.PutLemmas.{head_of, heads_put, legs_put, put_each, sales_put}
+use Rattle.lot_write.proofs.PutLemmas.{legs_put, put_each, sales_put}
 use Rattle.lot_write.proofs.SaleLemmas.{IsEarlier, sales_last, sales_rise, sales_with}
 use Rattle.lot_write.proofs.WrittenLemmas.{left-written_all, written_all-append}
 
@@ -151,19 +152,6 @@ module _ (tables : Tables) (known : Facts) (key : Key) (t : TransactionOf) (chan
       ∙ sales_put number change.sales with_legs
       ∙ ap (put_each sale_cells 2 (map (λ (sale : ℕ × SaleParts). sale_row (number, sale)) change.sales))
       (left-written_all rows (legs_written change.legs) start (legs_keep rows (λ leg s. refl) change.legs))
-
-  changed_heads : (written_all (writes_of known key (Transaction t) change) tables).head
-      ≡ put_each head_cells 2 (map head_of change.heads.entries) tables.head
-  changed_heads =
-      let rows : Tables → List HeadRow = λ (s : Tables). s.head in
-      ap rows in_parts
-      ∙ heads_put known change.heads.entries with_positions
-      ∙ ap (put_each head_cells 2 (map head_of change.heads.entries))
-      (positions_keep rows known change (listed_keeps rows known change (λ a c u s. refl) (λ a c s. refl) (λ a c l u s. refl)
-      (λ a c l s. refl) (λ a c l n s. refl) (λ a c l s. refl)) change.legs with_sales
-      ∙ left-written_all rows (sales_written (suc known.entries) change.sales) with_legs
-      (sales_keep rows (λ sold s. refl) (suc known.entries) change.sales)
-      ∙ left-written_all rows (legs_written change.legs) start (legs_keep rows (λ leg s. refl) change.legs))
 
 -- ---- what is known of an accepted transaction
 
@@ -315,7 +303,7 @@ all_front : {X : Type 0} (P : X → Type 0) (xs ys : List X) → AllByRecursion 
 all_front P [] ys all = tt
 all_front P (x ∷ xs) ys all = (all.0, all_front P xs ys all.1)
 
-fine_lots : (known : Facts) (key : Key) (t : TransactionOf) (change : Change) → All IsGood (writes_of known key (Transaction t) change)
+pub fine_lots : (known : Facts) (key : Key) (t : TransactionOf) (change : Change) → All IsGood (writes_of known key (Transaction t) change)
     → AllByRecursion (λ (leg : Leg). IsLotOrPlain leg.position.lot) change.legs
 fine_lots known key t change good =
     let writes = writes_of known key (Transaction t) change in
@@ -542,6 +530,47 @@ module _ (tables : Tables) (entries : List Entry) (known : Facts) (key : Key) (c
       ∙ stand.head account commodity
       ∙ ap (option_map (head_row account commodity)) (latest command is account commodity None (sym none))
 
+  -- the row of a pair once the positions are written
+  head_had : (t : TransactionOf) (account commodity : List ℕ)
+      → row_at head_table (pair_key account commodity) (with_positions tables known key t change)
+      ≡ option_map (head_row account commodity) (latest_at_cost entries account commodity)
+  head_had t account commodity =
+      let there : Tables → Option HeadRow = row_at head_table (pair_key account commodity) in
+      let legs = with_legs tables known key t change in
+      let sales = with_sales tables known key t change in
+      positions_keep there known change (listed_keeps there known change (λ a c u s. refl) (λ a c s. refl) (λ a c l u s. refl)
+      (λ a c l s. refl) (λ a c l n s. refl) (λ a c l s. refl)) change.legs sales
+      ∙ left-written_all there (sales_written (suc known.entries) change.sales) legs
+      (sales_keep there (λ sold s. refl) (suc known.entries) change.sales)
+      ∙ left-written_all there (legs_written change.legs) (start tables known key t change)
+      (legs_keep there (λ leg s. refl) change.legs)
+      ∙ stand.head account commodity
+
+  -- the day that is known of a pair that is listed is that of the book
+  known_day : (t : TransactionOf) → IsAccepted entries known key (Transaction t) change → (head : Pair × ℤ)
+      → Has change.heads.entries head
+      → known.latest_at_cost head.0.account head.0.commodity ≡ latest_at_cost entries head.0.account head.0.commodity
+  known_day t is head has =
+      let account = head.0.account in
+      let commodity = head.0.commodity in
+      let posts = list_any (posts_at_cost account commodity) t.postings in
+      let listed : is_some (day_listed change.heads account commodity) ≡ true = has_listed change.heads.entries head has in
+      same_day known (facts_of entries key) account commodity t.postings
+      (said posts ∙ ap is_some (sym (is.comes.1.heads account commodity)) ∙ listed) (alike entries known key t change is)
+    where
+      said : (b : Bool) → b ≡ is_some (cond b (Some t.day) None)
+      said true = refl
+      said false = refl
+
+  -- so its row says that day
+  pub heads_say : (t : TransactionOf) → IsAccepted entries known key (Transaction t) change
+      → AllByRecursion (SaysDay known (with_positions tables known key t change)) change.heads.entries
+  heads_say t is =
+      all_from (SaysDay known (with_positions tables known key t change)) change.heads.entries
+      (λ head has day before.
+      head_had t head.0.account head.0.commodity
+      ∙ ap (option_map (head_row head.0.account head.0.commodity)) (sym (known_day t is head has) ∙ before))
+
   pub heads_stand : (command : Command) → IsAccepted entries known key command change → ListsInOrder command change
       → (account commodity : List ℕ)
       → row_at head_table (pair_key account commodity) (after command)
@@ -549,9 +578,9 @@ module _ (tables : Tables) (entries : List Entry) (known : Facts) (key : Key) (c
   heads_stand (Transaction t) is ordered account commodity =
       let row = head_row account commodity in
       let listed = day_listed change.heads account commodity in
-      ap (first_with_key head_cells 2 (pair_key account commodity)) (changed_heads tables known key t change)
-      ∙ heads_row account commodity change.heads.entries tables.head ordered
-      ∙ ap (option_or (option_map row listed)) (stand.head account commodity)
+      ap (row_at head_table (pair_key account commodity)) (in_parts tables known key t change)
+      ∙ heads_row account commodity known change.heads.entries (with_positions tables known key t change) ordered (heads_say t is)
+      ∙ ap (option_or (option_map row listed)) (head_had t account commodity)
       ∙ or_mapped row listed (latest_at_cost entries account commodity)
       ∙ ap (option_map row) (latest (Transaction t) is account commodity listed (is.comes.1.heads account commodity))
   heads_stand (Opening o) is ordered account commodity = other_head (Opening o) tt is account commodity refl

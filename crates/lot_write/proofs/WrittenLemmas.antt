@@ -72,6 +72,8 @@ kept_written (write.Sale row) t is k =
     (k.0, k.1, k.2, k.3, k.4, k.5, put sale_cells 2 IsSaleRow row t.sale is k.6, k.7, k.8, k.9, k.10)
 kept_written (write.Lot row) t is k =
     (k.0, k.1, k.2, k.3, k.4, k.5, k.6, put lot_cells 6 IsLotRow row t.lot is k.7, k.8, k.9, k.10)
+kept_written (write.SetLot row) t is k =
+    (k.0, k.1, k.2, k.3, k.4, k.5, k.6, put lot_cells 6 IsLotRow row t.lot is k.7, k.8, k.9, k.10)
 kept_written (write.NoLot account commodity lot) t is k =
     (k.0, k.1, k.2, k.3, k.4, k.5, k.6, deleted lot_cells 6 IsLotRow (lot_key account commodity lot) t.lot k.7, k.8, k.9, k.10)
 kept_written (write.Opening row) t is k =

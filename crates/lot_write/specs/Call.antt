@@ -28,6 +28,7 @@ LacksRoomFor (write.Entry row) = LacksRoomIn entry_table row
 LacksRoomFor (write.Leg row) = LacksRoomIn leg_table row
 LacksRoomFor (write.Sale row) = LacksRoomIn sale_table row
 LacksRoomFor (write.Lot row) = LacksRoomIn lot_table row
+LacksRoomFor (write.SetLot row) = LacksRoomInPlace layout lot_table row
 LacksRoomFor (write.NoLot account commodity lot) = λ trees. ⊥
 LacksRoomFor (write.Opening row) = LacksRoomIn opening_table row
 LacksRoomFor (write.NoOpening account commodity lot) = λ trees. ⊥

@@ -32,12 +32,18 @@ plain_write account commodity before units =
     if int_eq before (pos 0) then write.Plain (plain_row account commodity units)
     else write.SetPlain (plain_row account commodity units)
 
+-- units of a lot, of which there is a row where there were some before
+abbrev pub lot_write : List ℕ → List ℕ → LotKey → ℤ → ℤ → Write
+lot_write account commodity lot before units =
+    if int_eq before (pos 0) then write.Lot (lot_row account commodity lot units)
+    else write.SetLot (lot_row account commodity lot units)
+
 -- the units of a position, and those before, which holds none where they are zero
 abbrev pub position_write : List ℕ → List ℕ → Option LotKey → ℤ → ℤ → Write
 position_write account commodity None before units =
     if int_eq units (pos 0) then write.NoPlain account commodity else plain_write account commodity before units
 position_write account commodity (Some lot) before units =
-    if int_eq units (pos 0) then write.NoLot account commodity lot else write.Lot (lot_row account commodity lot units)
+    if int_eq units (pos 0) then write.NoLot account commodity lot else lot_write account commodity lot before units
 
 -- the opening number that is listed of a lot; one that is added to keeps its row
 abbrev pub number_written : List ℕ → List ℕ → LotKey → Option ℕ → List Write
@@ -73,14 +79,17 @@ legs_written legs = map (λ (leg : Leg). write.Leg (leg_row leg)) legs
 abbrev pub sales_written : ℕ → List (ℕ × SaleParts) → List Write
 sales_written number sales = map (λ (sale : ℕ × SaleParts). write.Sale (sale_row (number, sale))) sales
 
--- the latest day of a pair, of which there is a row where there was one before
-abbrev pub head_write : Option ℤ → List ℕ → List ℕ → ℤ → Write
-head_write None account commodity day = write.Head (head_row account commodity day)
-head_write (Some before) account commodity day = write.SetHead (head_row account commodity day)
+-- the latest day of a pair, of which there is a row where there was one before; that row stays where the day does
+abbrev pub head_written : Option ℤ → List ℕ → List ℕ → ℤ → List Write
+head_written None account commodity day = write.Head (head_row account commodity day) ∷ []
+head_written (Some before) account commodity day =
+    if int_eq before day then [] else write.SetHead (head_row account commodity day) ∷ []
 
 abbrev pub heads_written : Facts → List (Pair × ℤ) → List Write
 heads_written facts heads =
-    map (λ (head : Pair × ℤ). head_write (facts.latest_at_cost head.0.account head.0.commodity) head.0.account head.0.commodity head.1) heads
+    flat_map
+    (λ (head : Pair × ℤ). head_written (facts.latest_at_cost head.0.account head.0.commodity) head.0.account head.0.commodity head.1)
+    heads
 
 -- ---- any command
 

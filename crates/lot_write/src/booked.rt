@@ -1,8 +1,8 @@
 ghost use Rattle.std.specs.Prelude.{◌≡◌, ◌≢◌, ◌++◌, All, Err, IfOk, IfSome, IsSome, OnOk};
 ghost use Rattle.std.specs.BTreeMap.{IsOrdered};
 ghost use Rattle.lot_book.specs.Change.{pair_cmp, units_before};
-ghost use Rattle.lot_stored.specs.Rows.{leg_row, sale_row};
-ghost use Rattle.lot_write.specs.Writes.{AreNumbered, AreOpened, IsNumbered, IsPlaced, head_write, heads_written, legs_written, listed_write, opening_written, plain_write, position_write, positions_written, sales_written, units_listed};
+ghost use Rattle.lot_stored.specs.Rows.{head_row, leg_row, sale_row};
+ghost use Rattle.lot_write.specs.Writes.{AreNumbered, AreOpened, IsNumbered, IsPlaced, head_written, heads_written, legs_written, listed_write, lot_write, opening_written, plain_write, position_write, positions_written, sales_written, units_listed};
 ghost use Rattle.lot_table.specs.Cell.{IsOpeningNumber};
 ghost use Rattle.lot_table.specs.declared.fault.Fault.TheVariants.{Damaged, Device};
 ghost use Rattle.lot_view.specs.View.{known};
@@ -11,6 +11,7 @@ use crate::number::{opening_number, ordinal, place};
 use crate::write::Write;
 use lot_base::{Account, Commodity, Day};
 use lot_book::{Change, Leg, Pair, Position, Sale};
+use lot_cost::LotKey;
 use lot_num::Units;
 use lot_rows::head::HeadRow;
 use lot_rows::leg::LegRow;
@@ -218,13 +219,31 @@ fn position_write(view: &View, position: &Position, units: Units) -> Result<Writ
         (None, None) => Write::NoPlain(account, commodity),
         (None, Some(units)) => plain_write(account, commodity, before, units),
         (Some(lot), None) => Write::NoLot(account, commodity, lot),
-        (Some(lot), Some(units)) => Write::Lot(LotRow {
-            account,
-            commodity,
-            lot,
-            units,
-        }),
+        (Some(lot), Some(units)) => lot_write(account, commodity, lot, before, units),
     })
+}
+
+/// Returns the row of a lot: a new one where the position held none before.
+fn lot_write(
+    account: Account,
+    commodity: Commodity,
+    lot: LotKey,
+    before: Units,
+    units: Sum,
+) -> Write
+    ensures { result ≡ lot_write account commodity lot before units }
+{
+    let row = LotRow {
+        account,
+        commodity,
+        lot,
+        units,
+    };
+    if Sum::new(before).is_none() {
+        Write::Lot(row)
+    } else {
+        Write::SetLot(row)
+    }
 }
 
 /// Returns the row of plain units: a new one where the position held none before.
@@ -254,26 +273,35 @@ fn push_heads(
     ensures ordered { OnOk result (IsOrdered pair_cmp heads.now) }
 {
     for (pair, day) in heads {
-        writes.push(head_write(view, pair, *day)?)?;
+        push_head(writes, view, pair, *day)?;
     }
     Ok(())
 }
 
-/// Returns the row of a pair with that day: a new one where it had none before.
-fn head_write(view: &View, pair: &Pair, day: Day) -> Result<Write, AllocError>
-    ensures { IfOk result (λ write. write
-        ≡ head_write ((known view.now).latest_at_cost pair.now.account pair.now.commodity)
+/// Adds the row of a pair with that day: a new one where it had none before, and nothing where it had that day.
+fn push_head(writes: &mut Vec<Write>, view: &View, pair: &Pair, day: Day) -> Result<(), AllocError>
+    ensures { OnOk result (writes.new.items ≡ writes.old.items
+        ++ head_written ((known view.now).latest_at_cost pair.now.account pair.now.commodity)
         pair.now.account pair.now.commodity day) }
 {
-    let before = view.latest_at_cost(&pair.account, &pair.commodity);
+    match view.latest_at_cost(&pair.account, &pair.commodity) {
+        None => writes.push(Write::Head(head_row(pair, day)?))?,
+        Some(before) => {
+            if before != day {
+                writes.push(Write::SetHead(head_row(pair, day)?))?;
+            }
+        }
+    }
+    Ok(())
+}
+
+fn head_row(pair: &Pair, day: Day) -> Result<HeadRow, AllocError>
+    ensures { IfOk result (λ row. row ≡ head_row pair.now.account pair.now.commodity day) }
+{
     let Pair { account, commodity } = pair.copy()?;
-    let row = HeadRow {
+    Ok(HeadRow {
         account,
         commodity,
         day,
-    };
-    Ok(match before {
-        None => Write::Head(row),
-        Some(_) => Write::SetHead(row),
     })
 }

@@ -49,7 +49,7 @@ fn is_good(write: &Write)
         Write::Entry(row) => is_entry_row(row),
         Write::Leg(row) => is_leg_row(row),
         Write::Sale(row) => is_sale_row(row),
-        Write::Lot(row) => is_lot_row(row),
+        Write::Lot(row) | Write::SetLot(row) => is_lot_row(row),
         Write::NoLot(_, _, lot) => is_lot_key(lot),
         Write::Opening(row) => is_opening_row(row),
         Write::NoOpening(_, _, lot) => is_lot_key(lot),

@@ -32,6 +32,8 @@ pub enum Write {
     Leg(LegRow),
     Sale(SaleRow),
     Lot(LotRow),
+    /// The units of the row of its key change; the row is there.
+    SetLot(LotRow),
     /// The row of a lot goes, if there is one.
     NoLot(Account, Commodity, LotKey),
     Opening(OpeningRow),
@@ -76,6 +78,7 @@ fn write_one<S: Alter>(tx: &mut Transaction<'_, S>, write: &Write) -> Result<(),
         Write::Leg(row) => leg::add(tx, row),
         Write::Sale(row) => sale::add(tx, row),
         Write::Lot(row) => lot::put(tx, row),
+        Write::SetLot(row) => lot::set(tx, row),
         Write::NoLot(account, commodity, lot) => lot::delete(tx, account, commodity, lot),
         Write::Opening(row) => opening::put(tx, row),
         Write::NoOpening(account, commodity, lot) => opening::delete(tx, account, commodity, lot),
