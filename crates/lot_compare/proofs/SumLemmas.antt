@@ -1,5 +1,5 @@
 -- The sums of two books, amount by amount.
-use Rattle.std.proofs.Common.{◌≡◌, List, [], ◌∷◌, ◌++◌, refl, sym, ap, ◌∙◌}
+use Rattle.std.proofs.Common.{◌≡◌, List, [], ◌∷◌, ◌++◌, append_assoc, append-nil, refl, sym, ap, ◌∙◌, subst}
 use Rattle.std.specs.Prelude.{Bool, true, false, cond, Option, Some, ℤ, pos, ◌+ℤ◌}
 use Rattle.std.specs.Cmp.{IsTotalOrder, Equal-is, tied_itself}
 use Rattle.std.specs.List.Sorted.{IsStrictlySortedBy}
@@ -11,7 +11,7 @@ use Rattle.std.proofs.lemmas.Map.Lookups.{CmpEqualImpliesEq, exact_bytes}
 use Rattle.lot_base.specs.Text.{text_cmp}
 use Rattle.lot_base.proofs.OrderLemmas.{equal_parts}
 use Rattle.lot_book.proofs.SumLemmas.{sum_where-push}
-use Rattle.lot_compare.specs.Sums.{Amount, Amounts, AreSums, plus, same_subject, sides_at, sides_in, subject_cmp, sum_at, with_more}
+use Rattle.lot_compare.specs.Sums.{AddsAmounts, Amount, Amounts, AreSums, plus, same_subject, sides_at, sides_in, subject_cmp, sum_at, with_more}
 use Rattle.lot_compare.specs.declared.subject.Subject.{Subject}
 use Rattle.lot_compare.specs.declared.sums.Side.{Side}
 use Rattle.lot_compare.specs.declared.sums.Side.TheVariants.{New, Old}
@@ -88,3 +88,22 @@ sums_step side amounts sums new subject amount sides are updated order is = reco
         are.each s
         ∙ sym (sides_more side amounts subject amount s
         ∙ ap (λ (b : Bool). cond b (plus side (sides_at amounts s) amount) (sides_at amounts s)) (same_subject-turned s subject ∙ e))
+
+-- ---- further amounts
+
+with_none : (side : Side) (amounts : Amounts) → with_more side amounts [] ≡ amounts
+with_none New amounts = ap (λ (all : List Amount). record { new = all; old = amounts.old }) (append-nil amounts.new)
+with_none Old amounts = ap (λ (all : List Amount). record { new = amounts.new; old = all }) (append-nil amounts.old)
+
+with_both : (side : Side) (amounts : Amounts) (one two : List Amount)
+    → with_more side (with_more side amounts one) two ≡ with_more side amounts (one ++ two)
+with_both New amounts one two = ap (λ (all : List Amount). record { new = all; old = amounts.old }) (append_assoc amounts.new one two)
+with_both Old amounts one two = ap (λ (all : List Amount). record { new = amounts.new; old = all }) (append_assoc amounts.old one two)
+
+pub adds_none : (side : Side) (sums : List (Subject × Sides)) → AddsAmounts side [] sums sums
+adds_none side sums amounts are = subst (λ (all : Amounts). AreSums all sums) (sym (with_none side amounts)) are
+
+pub adds_both : (side : Side) (one two : List Amount) (before mid after : List (Subject × Sides))
+    → AddsAmounts side one before mid → AddsAmounts side two mid after → AddsAmounts side (one ++ two) before after
+adds_both side one two before mid after first second amounts are =
+    subst (λ (all : Amounts). AreSums all after) (with_both side amounts one two) (second (with_more side amounts one) (first amounts are))

@@ -65,6 +65,10 @@ pub record AreSums (amounts : Amounts) (sums : List (Subject × Sides)) : Type 0
   pub in_order : IsStrictlySortedBy subject_cmp (keys_of sums)
   pub each : (subject : Subject) → sides_in sums subject ≡ sides_at amounts subject
 
+-- further amounts of one book are in the sums
+abbrev pub AddsAmounts : Side → List Amount → List (Subject × Sides) → List (Subject × Sides) → Type 0
+AddsAmounts side more before after = (amounts : Amounts) → AreSums amounts before → AreSums (with_more side amounts more) after
+
 -- ---- where they differ
 
 -- whether both come to the same

@@ -1,6 +1,6 @@
 ghost use Rattle.std.specs.Prelude.{◌≡◌, ◌≢◌, ◌∷◌, [], List, ℤ, ◌+ℤ◌, IfErr, IsErrOf, OnOk, FitsSigned, SomeIff};
 ghost use Rattle.std.specs.Int.{w128};
-ghost use Rattle.lot_compare.specs.Sums.{Amounts, AreSums, no_amounts, plus, sides_in, sum_on, with_more, sides_at};
+ghost use Rattle.lot_compare.specs.Sums.{AddsAmounts, Amounts, AreSums, no_amounts, plus, sides_at, sides_in, sum_on};
 
 use crate::subject::Subject;
 use lot_report::ReportFault;
@@ -65,8 +65,7 @@ impl Sums {
         subject: Subject,
         amount: i128,
     ) -> Result<(), ReportFault>
-        ensures added { (amounts : Amounts) → AreSums amounts self.old.sums.entries
-            → OnOk result (AreSums (with_more side amounts ((subject, amount) ∷ [])) self.new.sums.entries) }
+        ensures added { OnOk result (AddsAmounts side ((subject, amount) ∷ []) self.old.sums.entries self.new.sums.entries) }
         ensures range { (amounts : Amounts) → AreSums amounts self.old.sums.entries
             → IsErrOf result ReportFault.Range → FitsSigned w128 (sum_on side (sides_at amounts subject) +ℤ amount) → ⊥ }
         ensures memory { (amounts : Amounts) → AreSums amounts self.old.sums.entries
