@@ -20,7 +20,8 @@ pub(crate) fn add_sale(
     sale: &Sale,
     sums: &mut Sums,
 ) -> Result<(), RowFault>
-    ensures added { OnOk result (AddsAmounts side (year_amounts sale.now) sums.old.sums.entries sums.new.sums.entries) }
+    ensures added { OnOk result
+        (AddsAmounts side (year_amounts sale.now) sums.old.sums.entries sums.new.sums.entries) }
     ensures cause { IfErr result IsOfSum }
 {
     let Some((currency, gain)) = priced(sale) else {
@@ -29,6 +30,7 @@ pub(crate) fn add_sale(
     Ok(add_gain(alloc, side, sale.day(), currency, gain, sums)?)
 }
 
+/// Adds a gain to the year of a day and a currency.
 fn add_gain(
     alloc: Global,
     side: Side,
@@ -38,7 +40,8 @@ fn add_gain(
     sums: &mut Sums,
 ) -> Result<(), ReportFault>
     ensures added { OnOk result (AddsAmounts side
-        ((record { what = year_text day; commodity = currency.now }, gain.gain) ∷ []) sums.old.sums.entries sums.new.sums.entries) }
+        ((record { what = year_text day; commodity = currency.now }, gain.gain) ∷ [])
+        sums.old.sums.entries sums.new.sums.entries) }
     ensures cause { IfErr result (λ fault. fault ≢ ReportFault.Write) }
 {
     let subject = Subject {
@@ -56,19 +59,22 @@ pub(crate) fn add_holding(
     holding: &Holding,
     sums: &mut Sums,
 ) -> Result<(), RowFault>
-    ensures added { OnOk result (AddsAmounts side (held_amount holding.now ∷ []) sums.old.sums.entries sums.new.sums.entries) }
+    ensures added { OnOk result (AddsAmounts side (held_amount holding.now ∷ [])
+        sums.old.sums.entries sums.new.sums.entries) }
     ensures cause { IfErr result IsOfSum }
 {
     Ok(add_units(alloc, side, holding, sums)?)
 }
 
+/// Adds the units of a holding, with the fault of a report.
 fn add_units(
     alloc: Global,
     side: Side,
     holding: &Holding,
     sums: &mut Sums,
 ) -> Result<(), ReportFault>
-    ensures added { OnOk result (AddsAmounts side (held_amount holding.now ∷ []) sums.old.sums.entries sums.new.sums.entries) }
+    ensures added { OnOk result (AddsAmounts side (held_amount holding.now ∷ [])
+        sums.old.sums.entries sums.new.sums.entries) }
     ensures cause { IfErr result (λ fault. fault ≢ ReportFault.Write) }
 {
     let subject = Subject {

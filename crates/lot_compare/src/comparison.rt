@@ -26,7 +26,8 @@ pub fn compare<S: Alter, T: Alter, W: CountedWrite>(
     writer: &mut W,
 ) -> Result<(), CompareFault>
     ensures shows { HoldsOfBoth S.Store T.Store new.old new.new old.old old.new
-        (λ in_new in_old. ShowsDifferences in_new in_old (W.contents writer.old) (W.contents writer.new) result) }
+        (λ in_new in_old. ShowsDifferences in_new in_old
+        (W.contents writer.old) (W.contents writer.new) result) }
     ensures reads_new { ReadsNew S.Store new.old new.new result }
     ensures reads_old { ReadsOld T.Store old.old old.new result }
     ensures cause { HasCause result (record {
@@ -58,7 +59,8 @@ fn print_both<W: CountedWrite>(
     writer: &mut W,
 ) -> Result<(), ReportFault>
     ensures lines { WritesLines
-        (of_kind Kind.Gained (differing gains.now.sums.entries) ++ of_kind Kind.Held (differing held.now.sums.entries))
+        (of_kind Kind.Gained (differing gains.now.sums.entries)
+        ++ of_kind Kind.Held (differing held.now.sums.entries))
         (W.contents writer.old) (W.contents writer.new) result }
     ensures cause { IsErrOf result ReportFault.Write → HasFailed (W.calls writer.new) }
     ensures none_failed { OnOk result (NoneFailed (W.calls writer.old) (W.calls writer.new)) }

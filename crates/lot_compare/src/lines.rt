@@ -79,7 +79,8 @@ pub(crate) fn print_differing<W: CountedWrite>(
     sums: &Sums,
     writer: &mut W,
 ) -> Result<(), ReportFault>
-    ensures lines { WritesLines (of_kind kind (differing sums.now.sums.entries)) (W.contents writer.old) (W.contents writer.new) result }
+    ensures lines { WritesLines (of_kind kind (differing sums.now.sums.entries))
+        (W.contents writer.old) (W.contents writer.new) result }
     ensures cause { IsErrOf result ReportFault.Write → HasFailed (W.calls writer.new) }
     ensures none_failed { OnOk result (NoneFailed (W.calls writer.old) (W.calls writer.new)) }
 {
@@ -97,7 +98,8 @@ fn print_if_differing<W: CountedWrite>(
     sides: Sides,
     writer: &mut W,
 ) -> Result<(), ReportFault>
-    ensures lines { WritesLines (of_kind kind (differing ((subject.now, sides) ∷ []))) (W.contents writer.old) (W.contents writer.new) result }
+    ensures lines { WritesLines (of_kind kind (differing ((subject.now, sides) ∷ [])))
+        (W.contents writer.old) (W.contents writer.new) result }
     ensures cause { IsErrOf result ReportFault.Write → HasFailed (W.calls writer.new) }
     ensures none_failed { OnOk result (NoneFailed (W.calls writer.old) (W.calls writer.new)) }
 {
@@ -115,7 +117,8 @@ fn print_difference<W: CountedWrite>(
     sides: Sides,
     writer: &mut W,
 ) -> Result<(), ReportFault>
-    ensures line { WritesOne (kind, (subject.now, sides)) (W.contents writer.old) (W.contents writer.new) result }
+    ensures line { WritesOne (kind, (subject.now, sides))
+        (W.contents writer.old) (W.contents writer.new) result }
     ensures cause { IsErrOf result ReportFault.Write → HasFailed (W.calls writer.new) }
     ensures none_failed { OnOk result (NoneFailed (W.calls writer.old) (W.calls writer.new)) }
 {
@@ -133,7 +136,8 @@ fn print_parts<W: CountedWrite>(
     new: &str,
     old: &str,
 ) -> Result<(), PrintFault>
-    ensures line { WritesLine (W.contents writer.old) (W.contents writer.new) result (line_with kind subject.now new.now old.now) }
+    ensures line { WritesLine (W.contents writer.old) (W.contents writer.new) result
+        (line_with kind subject.now new.now old.now) }
     ensures cause { IsErrOf result PrintFault.Write → HasFailed (W.calls writer.new) }
     ensures none_failed { OnOk result (NoneFailed (W.calls writer.old) (W.calls writer.new)) }
 {

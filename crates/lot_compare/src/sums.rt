@@ -27,7 +27,8 @@ impl Sides {
 
     /// Returns the sums with an amount more on one side, or `None` where that sum leaves the range of `i128`.
     fn plus(self, side: Side, amount: i128) -> Option<Sides>
-        ensures { SomeIff result (FitsSigned w128 (sum_on side self +ℤ amount)) (plus side self amount) }
+        ensures { SomeIff result (FitsSigned w128 (sum_on side self +ℤ amount))
+            (plus side self amount) }
     {
         match side {
             Side::New => Some(Sides {
@@ -65,11 +66,14 @@ impl Sums {
         subject: Subject,
         amount: i128,
     ) -> Result<(), ReportFault>
-        ensures added { OnOk result (AddsAmounts side ((subject, amount) ∷ []) self.old.sums.entries self.new.sums.entries) }
+        ensures added { OnOk result (AddsAmounts side ((subject, amount) ∷ [])
+            self.old.sums.entries self.new.sums.entries) }
         ensures range { (amounts : Amounts) → AreSums amounts self.old.sums.entries
-            → IsErrOf result ReportFault.Range → FitsSigned w128 (sum_on side (sides_at amounts subject) +ℤ amount) → ⊥ }
+            → IsErrOf result ReportFault.Range
+            → FitsSigned w128 (sum_on side (sides_at amounts subject) +ℤ amount) → ⊥ }
         ensures memory { (amounts : Amounts) → AreSums amounts self.old.sums.entries
-            → IsErrOf result ReportFault.Memory → FitsSigned w128 (sum_on side (sides_at amounts subject) +ℤ amount) }
+            → IsErrOf result ReportFault.Memory
+            → FitsSigned w128 (sum_on side (sides_at amounts subject) +ℤ amount) }
         ensures cause { IfErr result (λ fault. fault ≢ ReportFault.Write) }
     {
         let Some(sides) = self.sides(&subject).plus(side, amount) else {
