@@ -25,6 +25,13 @@ ShowsDifferences new old start now (Err (Old fault)) = Appends start now []
 ShowsDifferences new old start now (Err (Lines fault)) =
     (found : List Difference) × AreAllDifferences new old found × WritesLines found start now (Err fault)
 
+-- the same of some lines, whatever the tables are
+abbrev pub ShowsSomeLines : Option (List ℕ) → Option (List ℕ) → Result (Unit {0}) CompareFault → Type 0
+ShowsSomeLines start now (Ok done) = (found : List Difference) × WritesLines found start now (Ok done)
+ShowsSomeLines start now (Err (New fault)) = Appends start now []
+ShowsSomeLines start now (Err (Old fault)) = Appends start now []
+ShowsSomeLines start now (Err (Lines fault)) = (found : List Difference) × WritesLines found start now (Err fault)
+
 -- what holds of two books whose entries the tables stand for, on disks that returned what was written
 pub record HoldsOfBoth {S T : Type 0} (g : Ghosts S) (h : Ghosts T) (new_before new_after : Book S g) (old_before old_after : Book T h)
     (Fact : List Entry → List Entry → Type 0) : Type 0 where

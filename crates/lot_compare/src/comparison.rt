@@ -1,5 +1,5 @@
 ghost use Rattle.std.specs.Prelude.{◌++◌, IsErrOf, OnOk};
-ghost use Rattle.lot_compare.specs.Books.{HoldsOfBoth, ReadsNew, ReadsOld, ShowsDifferences};
+ghost use Rattle.lot_compare.specs.Books.{HoldsOfBoth, ReadsNew, ReadsOld, ShowsDifferences, ShowsSomeLines};
 ghost use Rattle.lot_compare.specs.Fault.{HasCause};
 ghost use Rattle.lot_compare.specs.Lines.{WritesLines, of_kind};
 ghost use Rattle.lot_compare.specs.Sums.{differing};
@@ -28,6 +28,7 @@ pub fn compare<S: Alter, T: Alter, W: CountedWrite>(
     ensures shows { HoldsOfBoth S.Store T.Store new.old new.new old.old old.new
         (λ in_new in_old. ShowsDifferences in_new in_old
         (W.contents writer.old) (W.contents writer.new) result) }
+    ensures lines { ShowsSomeLines (W.contents writer.old) (W.contents writer.new) result }
     ensures reads_new { ReadsNew S.Store new.old new.new result }
     ensures reads_old { ReadsOld T.Store old.old old.new result }
     ensures cause { HasCause result (record {

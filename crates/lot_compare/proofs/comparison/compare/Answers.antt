@@ -25,3 +25,9 @@ returns-clause-shows g c =
     c.new-held.result.sums.entries c.add_book.new.held.sums.entries c.add_book-2.new.held.sums.entries
     c.new-gains.ensures c.new-held.ensures c.in-Ok.ensures.gains c.in-Ok.ensures.held c.in-Ok-add_book.ensures.gains c.in-Ok-add_book.ensures.held)
     c.in-Err-print_both.ensures.lines
+
+pub returns-in-Ok-print_both-clause-lines : goal.returns-in-Ok-print_both-clause-lines
+returns-in-Ok-print_both-clause-lines g c = (_, c.in-Ok-print_both.ensures.lines)
+
+pub returns-clause-lines : goal.returns-clause-lines
+returns-clause-lines g c = (_, c.in-Err-print_both.ensures.lines)
