@@ -1,0 +1,9 @@
+pub mod AddLemmas
+pub mod AmountLemmas
+pub mod CompareLemmas
+pub mod DifferenceLemmas
+pub mod LawLemmas
+pub mod LegLemmas
+pub mod LineLemmas
+pub mod SumLemmas
+pub mod YearLemmas

@@ -1,0 +1,5 @@
+pub mod Amounts
+pub mod Books
+pub mod Fault
+pub mod Lines
+pub mod Sums
