@@ -1,2 +1,3 @@
 pub mod Without
 pub mod Value
+pub mod Given
