@@ -1,4 +1,4 @@
--- What a book gained in each year and holds in each account, and where two books differ (docs/FORMATS.md, Restoring).
+-- What a book gained in each year and holds in each account, and where two books differ.
 use Rattle.std.specs.Prelude.{◌≡◌, ℕ, ℤ, List, ◌++◌, map, filter, flat_map, None, ⊤}
 use Rattle.lot_num.specs.Sum.{sum_of}
 use Rattle.lot_base.specs.Day.{four_digits, year_of}

@@ -1,4 +1,4 @@
--- What comparing two books comes to: the lines that are written, and what is left of the books (docs/FORMATS.md, Restoring).
+-- What comparing two books comes to: the lines that are written, and what is left of the books.
 use Rattle.std.specs.Prelude.{◌≡◌, ℕ, List, [], Option, Result, Ok, Err}
 use Rattle.std.specs.Io.KnownBytes.{Appends}
 use Rattle.sqlite.specs.Held.{state}

@@ -1,4 +1,4 @@
--- The lines of what two books differ in (docs/FORMATS.md, Restoring).
+-- The lines of what two books differ in.
 use Rattle.std.specs.Prelude.{◌≡◌, ℕ, Bool, true, false, ◌&&◌, nat_le, nat_lt, List, [], ◌∷◌, ◌++◌, flat_map, map, Option, Result, Ok, Err, String, ⊤, ℤ, codes, unsigned_abs}
 use Rattle.std.specs.Io.KnownBytes.{Appends}
 use Rattle.std.specs.String.{string_bytes}

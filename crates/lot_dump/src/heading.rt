@@ -10,21 +10,11 @@ use lot_command::Key;
 use std::alloc::{AllocError, Global};
 
 /// The line above an entry: `; entry NUMBER key SOURCE NAME`.
-#[derive(Debug, PartialEq, Eq)]
+#[derive(Debug, PartialEq, Eq, Drop)]
 pub struct Heading {
     /// The place of the entry in its book, from 1.
     pub number: u32,
     pub key: Key,
-}
-
-impl Drop for Heading {
-    /// It is written out, so that callers don't prove again how each part is dropped.
-    fn drop(self) {
-        let Heading {
-            number: _number,
-            key: _key,
-        } = self;
-    }
 }
 
 /// Returns what the heading of an entry says, or none where the line isn't one. It is given without its line end.

@@ -3,3 +3,4 @@ pub mod DumpLemmas
 pub mod ReadLemmas
 pub mod StepLemmas
 pub mod EntryLemmas
+pub mod CommandLemmas

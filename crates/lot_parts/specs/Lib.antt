@@ -1,3 +1,4 @@
+pub mod Commands
 pub mod Dump
 pub mod Entries
 pub mod Fault

@@ -28,6 +28,8 @@ pub record Reading : Type 0 where
   pub last : ℕ
   -- how many entries there were, up to the largest number of 64 bits
   pub headings : ℕ
+  -- the number of the line that was read last: the next heading or the end
+  pub line : ℕ
 
 -- the message of a hasher grows by these bytes
 abbrev pub Hears : Sha256 → Sha256 → List ℕ → Type 0
@@ -86,9 +88,9 @@ BeginsOther text =
     (other : List ℕ) × (rest : List ℕ) × IsLine other × (IsText other → ⊥) × (text ≡ line other ++ rest)
 
 -- The head and the text above the first entry were taken of a reader.
-abbrev pub Begins : Option (List ℕ) → Option (List ℕ) → Head → Reading → Type 0
-Begins old new head reading =
-    IsHead head × (above : List ℕ) × IsLedger above
+abbrev pub Begins : Option (List ℕ) → Option (List ℕ) → Head → List ℕ → Reading → Type 0
+Begins old new head above reading =
+    IsHead head × IsLedger above
     × Consumes old (prepend_known reading.ahead new) (line (head_text head) ++ above)
     × BeginsOther reading.ahead × Holds256 reading.hasher (line (head_text head) ++ above) × (reading.last ≡ 0) × (reading.headings ≡ 0)
 

@@ -1,4 +1,4 @@
-ghost use Rattle.std.specs.Prelude.{IfErr, IfOk, IfSome, IsErrOf, OnOk};
+ghost use Rattle.std.specs.Prelude.{◌≡◌, IfErr, IfOk, IfSome, IsErrOf, OnOk};
 ghost use Rattle.std.specs.Io.KnownBytes.{prepend_known};
 ghost use Rattle.lot_report.specs.Printed.{line};
 ghost use Rattle.lot_stream.specs.Input.{NoneFailed};
@@ -39,20 +39,22 @@ impl Model for DumpReader {
       hasher = r.hasher;
       last = r.last;
       headings = r.headings;
+      line = r.feed.count;
     } };
 
     ghost invariant = { λ r. IsLine r.feed.line.items };
 }
 
 impl DumpReader {
-    /// Reads the head of a dump and the ledger text above its first entry, which is let go. Returns what the head says, and a
-    /// reader of what stands below.
+    /// Reads the head of a dump and the ledger text above its first entry, which is put into a buffer in place of what it holds.
+    /// Returns what the head says, and a reader of what stands below.
     pub fn begin<R: CountedRead>(
         alloc: Global,
         reader: &mut R,
+        above: &mut Vec<u8>,
     ) -> Result<(Head, DumpReader), DumpFault>
-        ensures begins { IfOk result (λ begun.
-            Begins (R.remaining reader.old) (R.remaining reader.new) begun.0 begun.1) }
+        ensures begins { IfOk result (λ begun. Begins (R.remaining reader.old)
+            (R.remaining reader.new) begun.0 above.new.items begun.1) }
         ensures no_dump { IfErr result (λ fault. SaysNoDump fault
             → IfSome (R.remaining reader.old) IsNoDump) }
         ensures newer { IsErrOf result DumpFault.NewerFormat
@@ -68,8 +70,7 @@ impl DumpReader {
         let mut hasher = Sha256::new();
         let head = feed.read_head(reader)?;
         hear_line(&mut hasher, &feed.line);
-        let mut above = Vec::new(alloc);
-        feed.read_text(reader, &mut above)?;
+        feed.read_text(reader, above)?;
         hasher.update(above.as_slice());
         Ok((
             head,
@@ -80,6 +81,13 @@ impl DumpReader {
                 headings: 0,
             },
         ))
+    }
+
+    /// Returns the number of the line that was read last, from 1: that of the next heading, or of the end.
+    pub fn line(&self) -> u64
+        ensures { result ≡ self.now.line }
+    {
+        self.feed.count
     }
 
     /// Reads the next entry, whose text is put into a buffer in place of what it holds, each line with its line end. At the end

@@ -1,22 +1,12 @@
 use lot_dump::{End, Heading};
 
 /// What comes next in a dump.
-#[derive(Debug)]
+#[derive(Debug, Drop)]
 pub enum Step {
     /// An entry, whose text is in the buffer.
     Entry(Heading),
     /// The end, with nothing behind it.
     End(Sum),
-}
-
-impl Drop for Step {
-    /// It is written out, so that callers don't prove again how each part is dropped.
-    fn drop(self) {
-        match self {
-            Step::Entry(_heading) => {}
-            Step::End(_sum) => {}
-        }
-    }
 }
 
 /// What the end of a dump says, beside what was found above it.

@@ -1,4 +1,9 @@
 mod BeginLemmas
+mod LoopLemmas
+mod RestoreLemmas
+mod SaidLemmas
+mod SoFarLemmas
 mod JudgeLemmas
 mod PlaceLemmas
 pub mod RestoredLemmas
+mod WholeLemmas

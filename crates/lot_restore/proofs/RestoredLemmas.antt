@@ -16,7 +16,7 @@ use Rattle.lot_laws.proofs.LawBooks.{second_there}
 use Rattle.lot_laws.proofs.MigrationLaws.{up_to_place}
 use Rattle.lot_restore.specs.Judge.{AreRestored, JudgesNextBy, MayJudge, StandsAt}
 use Rattle.lot_restore.specs.Restored.{NeverFall, Restores, all_accepted, dumped_from, edition_at, last_number, place_after, place_by}
-use Rattle.lot_restore.specs.declared.dumped.Dumped.{Dumped}
+use Rattle.lot_parts.specs.declared.dumped.Dumped.{Dumped}
 
 -- ---- by which edition
 

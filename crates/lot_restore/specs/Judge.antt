@@ -24,7 +24,7 @@ use Rattle.lot_write.specs.Write.{AreFit, placed_at, written_all}
 use Rattle.lot_write.specs.Writes.{AreNumbered, writes_of}
 use Rattle.lot_write.specs.declared.write.Write.{Write}
 use Rattle.lot_restore.specs.Restored.{Restores, edition_at, place_after, place_by}
-use Rattle.lot_restore.specs.declared.dumped.Dumped.{Dumped}
+use Rattle.lot_parts.specs.declared.dumped.Dumped.{Dumped}
 use Rattle.lot_restore.specs.declared.restorer.Restorer.{Restorer}
 
 -- ---- the place of migration of the tables

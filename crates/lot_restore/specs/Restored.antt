@@ -5,7 +5,7 @@ use Rattle.lot_book.specs.Facts.{Entry}
 use Rattle.lot_book.specs.Judged.{JudgesBy}
 use Rattle.lot_book.specs.declared.verdict.Verdict.{Verdict}
 use Rattle.lot_book.specs.declared.verdict.Verdict.TheVariants.{Accepted, Repeated, Refused}
-use Rattle.lot_restore.specs.declared.dumped.Dumped.{Dumped}
+use Rattle.lot_parts.specs.declared.dumped.Dumped.{Dumped}
 
 -- ---- the dump of a book
 

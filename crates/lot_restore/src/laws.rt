@@ -5,7 +5,7 @@ ghost use Rattle.lot_book.specs.Edition.{After};
 ghost use Rattle.lot_book.specs.Facts.{Entry};
 ghost use Rattle.lot_book.specs.declared.verdict.Verdict.{Verdict};
 ghost use Rattle.lot_restore.specs.Restored.{NeverFall, Restores, all_accepted, dumped_from, place_after};
-ghost use Rattle.lot_restore.specs.declared.dumped.Dumped.{Dumped};
+ghost use Rattle.lot_parts.specs.declared.dumped.Dumped.{Dumped};
 
 /// Restoring the dump of a book accepts each of its commands, and gives its entries and its place of migration.
 pub fn restoring_a_dump_gives_its_book()

@@ -33,7 +33,6 @@ returns-clause-begins g c =
     ap (λ (t : List ℕ). line t ++ c.as_slice.result.now) (c.deref.ensures.value ∙ c.in_ok-head.ensures.head.1)
     ∙ ap (λ (t : List ℕ). line (head_text c.in_ok-head.head) ++ t) c.as_slice.ensures.value in (
       c.in_ok-head.ensures.head.0,
-      c.read_text.new.text.items,
       c.in_ok-read_text.ensures.ledger,
       begun (g.R.CountedRead.remaining c.args.reader.now)
           (prepend_known c.read_head.new.self.lines (g.R.CountedRead.remaining c.read_head.new.reader))
