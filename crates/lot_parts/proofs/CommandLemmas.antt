@@ -1,5 +1,5 @@
 -- A dump is read command by command, and why one isn't read.
-use Rattle.std.proofs.Common.{◌≡◌, ◌≢◌, ◌∙◌, ◌⊎◌, inl, inr, ◌+◌, ◌++◌, List, ℕ, [], ◌∷◌, Option, None, Some, Ok, Bool, true, false, ap, append-nil, append_assoc, arith, flat_map, length, length-append, refl, subst, sym}
+use Rattle.std.proofs.Common.{◌≡◌, ◌≢◌, ◌∙◌, inr, ◌+◌, ◌++◌, List, ℕ, [], ◌∷◌, Option, None, Some, Ok, true, false, ap, append-nil, append_assoc, arith, length, length-append, refl, subst, sym}
 use Rattle.std.specs.Prelude.{IfSome, ◌==◌}
 use Rattle.std.proofs.lemmas.Bool.{eqb-false, eqb-true}
 use Rattle.std.specs.Io.KnownBytes.{Consumes, prepend_known}
@@ -11,9 +11,9 @@ use Rattle.lot_stream.specs.Calls.{counted}
 use Rattle.lot_dump.specs.Form.{IsHead, end_text, head_text}
 use Rattle.lot_dump.specs.declared.head.Head.{Head}
 use Rattle.lot_dump.specs.declared.heading.Heading.{Heading}
-use Rattle.lot_parts.specs.Commands.{FaultAbove, FaultNext, GoesOn, HasCommands, IsFaultBelow, IsFaultIn, IsReadTo, IsReadWhole, SayAll, Says, front_of, front_text}
+use Rattle.lot_parts.specs.Commands.{FaultAbove, FaultNext, HasCommands, IsFaultBelow, IsFaultIn, IsReadTo, IsReadWhole, SayAll, Says, front_of, front_text}
 use Rattle.lot_parts.specs.Dump.{AreParts, Dump, Front, IsLedger, Part, dump_text, part_text, with_end, with_part}
-use Rattle.lot_parts.specs.Reading.{Begins, BeginsOther, Reading, SaysNext, Takes, part_of}
+use Rattle.lot_parts.specs.Reading.{Begins, BeginsOther, Reading, SaysNext, part_of}
 use Rattle.lot_parts.specs.declared.commands.CommandFault.{CommandFault}
 use Rattle.lot_parts.specs.declared.commands.CommandFault.TheVariants.{Dump as OfDump, Text}
 use Rattle.lot_parts.specs.declared.dumped.Dumped.{Dumped}

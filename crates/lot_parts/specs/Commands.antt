@@ -4,7 +4,6 @@ use Rattle.std.specs.Io.KnownBytes.{Consumes, prepend_known}
 use Rattle.sha2.specs.Hashers.{Holds256}
 use Rattle.lot_command.specs.declared.command.Command.{Command}
 use Rattle.lot_read.specs.Text.{IsFaultAt, Reads}
-use Rattle.lot_read.specs.declared.fault.LineFault.{LineFault}
 use Rattle.lot_read.specs.declared.fault.TextFault.{TextFault}
 use Rattle.lot_read.specs.declared.fault.TextFault.TheVariants as Texts
 use Rattle.lot_report.specs.Printed.{line}
@@ -21,7 +20,6 @@ use Rattle.lot_parts.specs.declared.commands.CommandFault.TheVariants.{Dump as O
 use Rattle.lot_parts.specs.declared.commands.Next.{Next}
 use Rattle.lot_parts.specs.declared.commands.Next.TheVariants.{Command as NextCommand, End as AtEnd}
 use Rattle.lot_parts.specs.declared.dumped.Dumped.{Dumped}
-use Rattle.lot_parts.specs.declared.fault.DumpFault.{DumpFault}
 use Rattle.lot_parts.specs.declared.fault.DumpFault.TheVariants.{Memory, NewerFormat, NotADump, Read, TooLong}
 use Rattle.lot_parts.specs.declared.step.Sum.{Sum}
 

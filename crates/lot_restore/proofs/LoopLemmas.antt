@@ -1,9 +1,9 @@
 -- The commands of a dump, one after another.
-use Rattle.std.proofs.Common.{◌≡◌, ◌∙◌, List, ℕ, [], ◌∷◌, ◌++◌, Err, IsTrue, None, Ok, Option, arith, inr, refl, subst, sym}
+use Rattle.std.proofs.Common.{◌≡◌, List, ℕ, [], ◌∷◌, ◌++◌, IsTrue, Ok, Option, arith, inr, refl}
 use Rattle.std.specs.Io.KnownBytes.{prepend_known}
 use Rattle.sqlite.specs.State.{HasCleanDisk, KeepsCommit, State, Survives}
-use Rattle.lot_parts.specs.Commands.{FaultNext, GoesOn, IsReadTo, IsReadWhole}
-use Rattle.lot_parts.specs.Dump.{Dump, Front, with_end, with_part}
+use Rattle.lot_parts.specs.Commands.{FaultNext, GoesOn, IsReadTo}
+use Rattle.lot_parts.specs.Dump.{Front, with_end, with_part}
 use Rattle.lot_parts.specs.Reading.{Reading}
 use Rattle.lot_parts.specs.declared.commands.CommandFault.{CommandFault}
 use Rattle.lot_parts.specs.declared.commands.Next.TheVariants.{Command as NextCommand, End as AtEnd}
@@ -13,7 +13,7 @@ use Rattle.lot_report.specs.Output.{WriteCalls}
 use Rattle.lot_rows.proofs.StateLemmas.{survives_both}
 use Rattle.lot_table.proofs.MakeLemmas.{keeps_then}
 use Rattle.lot_restore.specs.Restored.{NeverFall}
-use Rattle.lot_restore.specs.Restoring.{FailsAt, FailsBehind, IsBehindAll, Point}
+use Rattle.lot_restore.specs.Restoring.{FailsBehind, IsBehindAll, Point}
 use Rattle.lot_restore.specs.SoFar.{JudgeFails, SoFar}
 use Rattle.lot_restore.specs.declared.fault.RestoreFault.{RestoreFault}
 use Rattle.lot_restore.specs.declared.fault.RestoreFault.TheVariants.{Text}

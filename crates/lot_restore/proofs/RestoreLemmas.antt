@@ -1,7 +1,6 @@
 -- What a dump comes to whose transaction is committed, or rolled back.
-use Rattle.std.proofs.Common.{◌≡◌, ◌≢◌, ◌∙◌, ◌⊎◌, inl, inr, ℕ, List, [], ◌∷◌, Option, IsTrue, Result, Ok, Err, None, OnErr, OnOk, Bool, true, false, ap, arith, refl, sym}
+use Rattle.std.proofs.Common.{◌≡◌, ◌≢◌, ◌∙◌, ◌⊎◌, inl, inr, ℕ, List, [], Option, IsTrue, Result, Ok, Err, None, OnErr, OnOk, Bool, true, false, ap, arith, refl, sym}
 use Rattle.std.specs.Prelude.{IfErr, IfOk}
-use Rattle.std.specs.Io.KnownBytes.{Appends}
 use Rattle.sqlite.specs.Held.{Held, state}
 use Rattle.sqlite.specs.State.{HasCause, HasCleanDisk, IsRolledBack, KeepsCommit, KeepsCounts, Shows, State, Survives, store_error}
 use Rattle.sqlite_trees.specs.declared.error.StoreError.{StoreError}
@@ -21,8 +20,7 @@ use Rattle.lot_store.proofs.CommitLemmas.{commit_leaves}
 use Rattle.lot_rows.specs.Tables.{Tables}
 use Rattle.lot_write.specs.declared.write.Write.{Write as WriteOf}
 use Rattle.lot_store.specs.Step.{LeavesTables}
-use Rattle.lot_table.specs.Shape.{schema_of}
-use Rattle.lot_restore.specs.Judge.{AreRestored, StandsAt}
+use Rattle.lot_restore.specs.Judge.{StandsAt}
 use Rattle.lot_restore.specs.Restoring.{Fails, FailsInside, IsOpenWith, JudgesWhole, LacksRoom, LeavesAs, LeavesBook, MayMake, RestoresDump, Terms, how_of, place_of, restored_outcome}
 use Rattle.lot_restore.specs.declared.fault.RestoreFault.{RestoreFault}
 use Rattle.lot_restore.specs.declared.fault.RestoreFault.TheVariants.{Book, Sum as OfSum, Text, Write}

@@ -1,11 +1,11 @@
 -- The lines that restoring writes, as their texts.
-use Rattle.std.proofs.Common.{◌≡◌, ◌∙◌, ℕ, List, [], ◌∷◌, ◌++◌, Err, None, Ok, Option, Some, Result, ap, append-nil, append_assoc, refl, subst, sym}
-use Rattle.std.specs.Prelude.{IfErr, codes, decimal, flat_map}
+use Rattle.std.proofs.Common.{◌≡◌, ◌∙◌, ℕ, List, [], ◌∷◌, ◌++◌, Err, None, Ok, Option, Some, Result, ap, append-nil, append_assoc, sym}
+use Rattle.std.specs.Prelude.{IfErr, codes, decimal}
 use Rattle.std.specs.Io.KnownBytes.{Appends}
 use Rattle.lot_command.specs.declared.key.Key.{Key as KeyOf}
 use Rattle.lot_report.proofs.PrintLemmas.{prefix_behind}
 use Rattle.lot_report.specs.Printed.{line}
-use Rattle.lot_report.specs.Written.{AppendsPrefix, WritesLine}
+use Rattle.lot_report.specs.Written.{WritesLine}
 use Rattle.lot_report.specs.declared.line.PrintFault.{PrintFault}
 use Rattle.lot_report.specs.declared.line.PrintFault.TheVariants.{Memory, Write}
 use Rattle.lot_restore.specs.Lines.{entry_text, unmet_line}

@@ -12,12 +12,12 @@ use Rattle.lot_load.specs.Kept.{IsOf}
 use Rattle.lot_parts.specs.declared.dumped.Dumped.{Dumped}
 use Rattle.lot_without.specs.declared.without.Without.{Without}
 use Rattle.lot_restore.specs.Fault.{fault_of_table}
-use Rattle.lot_restore.specs.Judge.{AreRestored, HasNoRoomBy, JudgesNextBy, MayJudge}
+use Rattle.lot_restore.specs.Judge.{HasNoRoomBy, JudgesNextBy, MayJudge}
 use Rattle.lot_restore.specs.LeftOut.{is_left_out, is_of, kept_of, meets_none, unmet_of}
 use Rattle.lot_restore.specs.Lines.{verdict_line, verdict_lines}
 use Rattle.lot_restore.specs.Restored.{NeverFall, edition_at, place_after}
 use Rattle.lot_restore.specs.Restoring.{FailsAt, LacksRoom}
-use Rattle.lot_restore.specs.SoFar.{HasNoRoomBehind, JudgeFails, SoFar, refused_behind, refused_of, refused_with}
+use Rattle.lot_restore.specs.SoFar.{HasNoRoomBehind, JudgeFails, SoFar, refused_behind, refused_with}
 use Rattle.lot_restore.specs.declared.restoration.Refused.{Refused}
 use Rattle.lot_restore.specs.declared.restoration.Restoration.{Restoration}
 use Rattle.lot_restore.specs.declared.fault.RestoreFault.{RestoreFault}

@@ -1,14 +1,13 @@
 -- A whole dump, from its head on.
-use Rattle.std.proofs.Common.{◌≡◌, ◌∙◌, ◌⊎◌, inl, inr, Bool, true, false, not, IsTrue, List, ℕ, [], ◌∷◌, ◌++◌, Err, None, Ok, Option, Some, ap, append-nil, arith, flat_map, map, refl, subst, sym}
+use Rattle.std.proofs.Common.{◌≡◌, ◌∙◌, ◌⊎◌, inl, inr, Bool, true, false, IsTrue, List, ℕ, [], ◌∷◌, ◌++◌, None, Option, Some, ap, append-nil, flat_map, map, refl, subst, sym}
 use Rattle.std.specs.Borrow.{Bor}
 use Rattle.std.specs.Io.KnownBytes.{Appends}
 use Rattle.sqlite.specs.State.{HasCleanDisk, IsLive, KeepsCommit, State, Survives}
 use Rattle.sqlite_catalog.specs.Listing.{IsSound}
 use Rattle.lot_load.specs.Kept.{IsOf}
 use Rattle.lot_dump.specs.declared.head.Head.{Head}
-use Rattle.lot_parts.specs.Commands.{BeginsCommands, IsReadTo, IsReadWhole, front_of}
+use Rattle.lot_parts.specs.Commands.{BeginsCommands, IsReadWhole, front_of}
 use Rattle.lot_parts.specs.Dump.{Dump, IsUnchanged}
-use Rattle.lot_parts.specs.Reading.{Reading}
 use Rattle.lot_parts.specs.Sum.{IsSumOf, SaysOtherwise}
 use Rattle.lot_parts.specs.declared.compare.SumFault.{SumFault}
 use Rattle.lot_parts.specs.declared.dumped.Dumped.{Dumped}
@@ -23,8 +22,8 @@ use Rattle.lot_without.specs.declared.without.Without.{Without}
 use Rattle.lot_restore.specs.Judge.{AreRestored, StandsAt}
 use Rattle.lot_restore.specs.LeftOut.{kept_of, unmet_of}
 use Rattle.lot_restore.specs.Lines.{unmet_line, unmet_lines, verdict_lines}
-use Rattle.lot_restore.specs.Restoring.{FailsAt, FailsBehind, FailsInside, IsBehindAll, IsFresh, JudgesWhole, LacksRoom, Point, SumFails, Terms, outcome_of}
-use Rattle.lot_restore.specs.SoFar.{SoFar, refused_of}
+use Rattle.lot_restore.specs.Restoring.{FailsAt, FailsInside, IsBehindAll, IsFresh, JudgesWhole, LacksRoom, Point, SumFails, Terms, outcome_of}
+use Rattle.lot_restore.specs.SoFar.{SoFar}
 use Rattle.lot_restore.specs.declared.fault.RestoreFault.{RestoreFault}
 use Rattle.lot_restore.specs.declared.fault.RestoreFault.TheVariants.{Book, Sum as OfSum, Text, Write}
 use Rattle.lot_restore.specs.declared.restoration.Refused.TheVariants as refused

@@ -1,7 +1,7 @@
 -- What comes of a dump that is restored.
-use Rattle.std.specs.Prelude.{◌≡◌, ◌≢◌, ◌⊎◌, ◌+◌, ℕ, List, [], ◌∷◌, ◌++◌, IfSome, IsTrue, None, Option, Result, Ok, Err, ⊤, length, map}
+use Rattle.std.specs.Prelude.{◌≡◌, ◌≢◌, ◌⊎◌, ℕ, List, [], ◌∷◌, ◌++◌, IsTrue, None, Option, Result, Ok, Err, ⊤}
 use Rattle.std.specs.Io.KnownBytes.{Appends, prepend_known}
-use Rattle.sqlite.specs.State.{HasCleanDisk, IsLive, State}
+use Rattle.sqlite.specs.State.{HasCleanDisk, State}
 use Rattle.sqlite.specs.Tree.{Trees}
 use Rattle.sqlite.specs.declared.error.Error.{Error}
 use Rattle.sqlite.specs.declared.error.Error.TheVariants.{SqliteFailure}
@@ -10,7 +10,7 @@ use Rattle.sqlite_catalog.specs.Listing.{IsSound}
 use Rattle.lot_book.specs.Facts.{Entry}
 use Rattle.lot_book.specs.declared.verdict.Verdict.{Verdict}
 use Rattle.lot_load.specs.Kept.{IsOf}
-use Rattle.lot_parts.specs.Commands.{FaultAbove, FaultNext, IsReadTo, IsReadWhole, front_text}
+use Rattle.lot_parts.specs.Commands.{FaultAbove, FaultNext, IsReadTo, IsReadWhole}
 use Rattle.lot_parts.specs.Dump.{Dump, Front, IsUnchanged}
 use Rattle.lot_parts.specs.Reading.{Reading}
 use Rattle.lot_parts.specs.Sum.{SaysOtherwise}

@@ -12,7 +12,6 @@ use Rattle.lot_report.specs.Output.{HasFailed, WriteCalls}
 use Rattle.lot_rows.specs.Tables.{Tables}
 use Rattle.lot_store.specs.declared.fault.CreateFault.TheVariants.{Device, InDoubt, Memory, NotABook}
 use Rattle.lot_table.specs.Statement.{DiskFailed}
-use Rattle.lot_without.specs.declared.without.Without.{Without}
 use Rattle.lot_restore.specs.Judge.{AreRestored, HasNoRoomBy}
 use Rattle.lot_restore.specs.LeftOut.{kept_of, unmet_of}
 use Rattle.lot_restore.specs.Lines.{verdict_lines}

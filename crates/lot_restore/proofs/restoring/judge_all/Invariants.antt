@@ -1,11 +1,6 @@
-use Rattle.std.proofs.Common.{◌≡◌, List, ℕ, Option}
+use Rattle.std.proofs.Common.{◌≡◌}
 use Rattle.sqlite.specs.Held.{state}
-use Rattle.sqlite.specs.State.{HasCleanDisk, KeepsCommit, Survives}
-use Rattle.lot_parts.specs.Commands.{IsReadTo}
-use Rattle.lot_parts.specs.Dump.{Front}
-use Rattle.lot_parts.specs.declared.dumped.Dumped.{Dumped}
 use Rattle.lot_report.specs.Output.{NoneFailed}
-use Rattle.lot_restore.specs.SoFar.{SoFar}
 use Rattle.lot_restore.proofs.LoopLemmas.{GoneOn, Unbroken}
 use Rattle.lot_restore.proofs.restoring.judge_all.Given as goal
 

@@ -1,5 +1,5 @@
 -- The tables are made, and the whole dump is judged; or why not.
-use Rattle.std.proofs.Common.{◌≡◌, ◌∙◌, Bor, List, None, ap, flat_map, map, refl, subst}
+use Rattle.std.proofs.Common.{◌∙◌, Bor, List, None, ap, flat_map, map, refl, subst}
 use Rattle.std.specs.Io.KnownBytes.{Appends}
 use Rattle.std.proofs.lemmas.Result.{err_from_is_err_and}
 use Rattle.sqlite.specs.Held.{state}

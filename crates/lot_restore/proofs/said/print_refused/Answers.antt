@@ -1,5 +1,5 @@
 -- The entry is named, and then it is said why it was refused.
-use Rattle.std.proofs.Common.{◌≡◌, List, ℕ, Err, subst}
+use Rattle.std.proofs.Common.{List, ℕ, Err, subst}
 use Rattle.std.specs.Io.KnownBytes.{Appends}
 use Rattle.std.proofs.lemmas.Result.{err_from_is_err_and}
 use Rattle.lot_report.specs.Printed.{line, refusal_text}

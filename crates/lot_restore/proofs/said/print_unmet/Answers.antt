@@ -1,8 +1,6 @@
 -- The option is named, with its value.
-use Rattle.std.proofs.Common.{◌≡◌, List, ℕ, subst, sym}
+use Rattle.std.proofs.Common.{List, ℕ, subst}
 use Rattle.lot_report.specs.Written.{WritesLine}
-use Rattle.lot_restore.specs.Lines.{unmet_line}
-use Rattle.lot_without.specs.declared.without.Without.{Without}
 use Rattle.lot_restore.proofs.SaidLemmas.{batch_texts, entries_texts, key_texts}
 use Rattle.lot_restore.proofs.said.print_unmet.Goals as goal
 

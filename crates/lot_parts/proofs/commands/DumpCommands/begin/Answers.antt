@@ -1,7 +1,6 @@
 -- The text above the first heading says no command; and why it isn't read.
-use Rattle.std.proofs.Common.{◌≡◌, ◌∙◌, [], List, Bool, true, false, length, sym, subst}
+use Rattle.std.proofs.Common.{sym, subst}
 use Rattle.std.proofs.lemmas.Result.{err_from_is_err_and}
-use Rattle.lot_command.specs.declared.command.Command.{Command}
 use Rattle.lot_read.specs.Text.{Reads}
 use Rattle.lot_parts.specs.Commands.{FaultAbove, IsFaultIn}
 use Rattle.lot_parts.proofs.CommandLemmas.{commands_above, empty_list, fault_above, none_read, some_list}

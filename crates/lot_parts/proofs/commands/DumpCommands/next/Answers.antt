@@ -1,5 +1,5 @@
 -- The next command is read, or the end; and why it isn't.
-use Rattle.std.proofs.Common.{◌≡◌, sym, subst}
+use Rattle.std.proofs.Common.{subst}
 use Rattle.std.specs.Io.KnownBytes.{prepend_known}
 use Rattle.std.proofs.lemmas.Result.{err_from_is_err_and}
 use Rattle.lot_parts.specs.Commands.{IsFaultBelow, Says}

@@ -1,5 +1,5 @@
 -- The command is left out, or judged and said; or why it isn't judged.
-use Rattle.std.proofs.Common.{◌≡◌, ◌∙◌, arith, refl, sym}
+use Rattle.std.proofs.Common.{◌∙◌, arith, refl, sym}
 use Rattle.std.proofs.lemmas.Result.{err_from_is_err_and}
 use Rattle.sqlite.specs.Held.{state}
 use Rattle.lot_load.specs.Kept.{IsOf}
