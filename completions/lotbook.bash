@@ -2,11 +2,11 @@
 # Written by tools/pages.py from the subcommands of the program: change those, and run it again.
 
 # The words of the program, and those of `help`; the codes of `explain`.
-_lotbook_words="init migrate post import holdings gains journal dump verify explain help"
+_lotbook_words="init migrate post import holdings gains journal dump restore verify explain help"
 _lotbook_codes="N1 N2 N3 N4 M1 M2 M3 M4 M5 I1 B1 B2 B3 B4 B5 B6"
 _lotbook_codes+=" L1 L2 L3 L4 L5 L6 L7 L8 L9 L10 L11 L12 L13 L14 L15 L16"
-_lotbook_codes+=" X1 X2 X3 X4 X5 X6 X7 C1 C2 C3 C4 S1 S2 S3 S4 S5"
-_lotbook_codes+=" S6 S7 S8 P1 P2 P3 U1 U2 K1 K2 Memory open"
+_lotbook_codes+=" X1 X2 X3 X4 X5 X6 X7 D1 D2 D3 D4 C1 C2 C3 C4 S1"
+_lotbook_codes+=" S2 S3 S4 S5 S6 S7 S8 P1 P2 P3 U1 U2 K1 K2 Memory open"
 
 # _lotbook_options WORD: prints the options of a word, or of a call without one.
 _lotbook_options() {
@@ -25,6 +25,10 @@ _lotbook_options() {
         gains) echo --book --first --last --format --quiet --help ;;
         journal) echo --book --quiet --help ;;
         dump) echo --book --quiet --help ;;
+        restore)
+            echo --book --edited --keep-going --without --without-batch --without-entries --compare --dry-run --quiet
+            echo --help
+            ;;
         verify) echo --book --digest --quiet --help ;;
         explain) echo --help ;;
         help) ;;
@@ -53,7 +57,7 @@ _lotbook() {
     done
     COMPREPLY=()
     case ${COMP_WORDS[at]} in
-        --book)
+        --book | --compare)
             compopt -o filenames 2>/dev/null
             _lotbook_offer -f
             return
@@ -62,7 +66,7 @@ _lotbook() {
             _lotbook_offer -W "text csv"
             return
             ;;
-        --batch | --cash | --day | --decimals | --except | --fees | --first | --from | --gains | --invest | --last | --ref | --rounding | --row-of | --within) return ;;
+        --batch | --cash | --day | --decimals | --except | --fees | --first | --from | --gains | --invest | --last | --ref | --rounding | --row-of | --within | --without | --without-batch | --without-entries) return ;;
     esac
     if [[ $current == -* ]]; then
         _lotbook_offer -W "$(_lotbook_options "$word")"

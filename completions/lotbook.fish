@@ -3,7 +3,7 @@
 # The subcommand of the line is one of these, or there is none where none is given.
 function __lotbook_word_is
     for token in (commandline -opc)
-        if contains -- $token init migrate post import holdings gains journal dump verify explain help
+        if contains -- $token init migrate post import holdings gains journal dump restore verify explain help
             contains -- $token $argv
             return
         end
@@ -20,6 +20,7 @@ complete -c lotbook -n '__lotbook_word_is' -a holdings -d 'Prints what a book ho
 complete -c lotbook -n '__lotbook_word_is' -a gains -d 'Prints what each sale of a book earned, lot by lot'
 complete -c lotbook -n '__lotbook_word_is' -a journal -d 'Prints the accepted commands of a book as ledger text'
 complete -c lotbook -n '__lotbook_word_is' -a dump -d 'Prints a whole book as a text that says if it was changed'
+complete -c lotbook -n '__lotbook_word_is' -a restore -d 'Makes a book of a dump from standard input'
 complete -c lotbook -n '__lotbook_word_is' -a verify -d 'Judges a book again from its entries and compares its tables'
 complete -c lotbook -n '__lotbook_word_is' -a explain -d 'Says what a code means that the program prints, and what helps'
 complete -c lotbook -n '__lotbook_word_is' -a help -d 'Prints the help, of a subcommand where one is given'
@@ -84,12 +85,22 @@ complete -c lotbook -n '__lotbook_word_is journal' -s h -l help -d 'Prints the h
 complete -c lotbook -n '__lotbook_word_is dump' -l book -r -F -d 'The file of the book'
 complete -c lotbook -n '__lotbook_word_is dump' -l quiet -d 'Explains nothing on standard error, also where --explain-all is given'
 complete -c lotbook -n '__lotbook_word_is dump' -s h -l help -d 'Prints the help'
+complete -c lotbook -n '__lotbook_word_is restore' -l book -r -F -d 'The file of the new book'
+complete -c lotbook -n '__lotbook_word_is restore' -l edited -d 'Takes a dump that was changed on purpose'
+complete -c lotbook -n '__lotbook_word_is restore' -l keep-going -d 'Makes a book of the accepted commands where others are refused'
+complete -c lotbook -n '__lotbook_word_is restore' -l without -x -d 'Leaves out the entry with that key'
+complete -c lotbook -n '__lotbook_word_is restore' -l without-batch -x -d 'Leaves out the entries of that batch'
+complete -c lotbook -n '__lotbook_word_is restore' -l without-entries -x -d 'Leaves out the entries with numbers from A to B'
+complete -c lotbook -n '__lotbook_word_is restore' -l compare -r -F -d 'A book that the new one is compared with'
+complete -c lotbook -n '__lotbook_word_is restore' -l dry-run -d 'Prints what the call would print and makes no file'
+complete -c lotbook -n '__lotbook_word_is restore' -l quiet -d 'Explains nothing on standard error, also where --explain-all is given'
+complete -c lotbook -n '__lotbook_word_is restore' -s h -l help -d 'Prints the help'
 complete -c lotbook -n '__lotbook_word_is verify' -l book -r -F -d 'The file of the book'
 complete -c lotbook -n '__lotbook_word_is verify' -l digest -d 'Prints a second line, that with which the dump of the book ends'
 complete -c lotbook -n '__lotbook_word_is verify' -l quiet -d 'Explains nothing on standard error, also where --explain-all is given'
 complete -c lotbook -n '__lotbook_word_is verify' -s h -l help -d 'Prints the help'
 complete -c lotbook -n '__lotbook_word_is explain' -s h -l help -d 'Prints the help'
-complete -c lotbook -n '__lotbook_word_is help' -a 'init migrate post import holdings gains journal dump verify explain help'
+complete -c lotbook -n '__lotbook_word_is help' -a 'init migrate post import holdings gains journal dump restore verify explain help'
 complete -c lotbook -n '__lotbook_word_is explain' -a N1 -d 'Syntax: the text is no number'
 complete -c lotbook -n '__lotbook_word_is explain' -a N2 -d 'TooManyDecimals: a number has more than eight decimals'
 complete -c lotbook -n '__lotbook_word_is explain' -a N3 -d 'TooLarge: a number is too large'
@@ -129,6 +140,10 @@ complete -c lotbook -n '__lotbook_word_is explain' -a X4 -d 'BadNumber: a number
 complete -c lotbook -n '__lotbook_word_is explain' -a X5 -d 'BadName: a name is outside its rule'
 complete -c lotbook -n '__lotbook_word_is explain' -a X6 -d 'BadDay: the day isn\'t in the calendar'
 complete -c lotbook -n '__lotbook_word_is explain' -a X7 -d 'LineTooLong: the line has more than 4,096 bytes'
+complete -c lotbook -n '__lotbook_word_is explain' -a D1 -d 'NotADump: the text isn\'t a dump'
+complete -c lotbook -n '__lotbook_word_is explain' -a D2 -d 'NewerFormat: a newer lotbook wrote the dump'
+complete -c lotbook -n '__lotbook_word_is explain' -a D3 -d 'WrongDigest: the dump was changed after it was written'
+complete -c lotbook -n '__lotbook_word_is explain' -a D4 -d 'WrongCount: the dump has another number of entries than it says'
 complete -c lotbook -n '__lotbook_word_is explain' -a C1 -d 'BadHeader: the first record isn\'t the header of a broker file'
 complete -c lotbook -n '__lotbook_word_is explain' -a C2 -d 'BadRow: a field is outside the rule of its column'
 complete -c lotbook -n '__lotbook_word_is explain' -a C3 -d 'TooManyRows: there are more than 100,000 rows'
@@ -147,6 +162,6 @@ complete -c lotbook -n '__lotbook_word_is explain' -a P3 -d 'Spent: the report h
 complete -c lotbook -n '__lotbook_word_is explain' -a U1 -d 'Usage: the arguments can\'t be used'
 complete -c lotbook -n '__lotbook_word_is explain' -a U2 -d 'BadValue: the value of an option is outside its rule'
 complete -c lotbook -n '__lotbook_word_is explain' -a K1 -d 'Read: the input can\'t be read'
-complete -c lotbook -n '__lotbook_word_is explain' -a K2 -d 'TooLong: the input has more than 16,777,216 bytes'
+complete -c lotbook -n '__lotbook_word_is explain' -a K2 -d 'TooLong: the input, or an entry of a dump, is too long'
 complete -c lotbook -n '__lotbook_word_is explain' -a Memory -d 'Memory: memory ended'
 complete -c lotbook -n '__lotbook_word_is explain' -a open -d 'open: the file of the book can\'t be opened'

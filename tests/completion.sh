@@ -63,8 +63,8 @@ for word in $words; do
     [[ $word != help && $word != explain ]] || continue
     for option in $(options_in_help "$word"); do
         case $option in
-            --book) offers "$word $option" "family.book" "$word" "$option" fa ;;
-            --quiet | --dry-run | --all-or-none | --explain-all | --digest | --help)
+            --book | --compare) offers "$word $option" "family.book" "$word" "$option" fa ;;
+            --quiet | --dry-run | --all-or-none | --explain-all | --digest | --edited | --keep-going | --help)
                 offers "$word $option" "$(options_in_help "$word")" "$word" "$option" ""
                 ;;
             --format) offers "$word $option" $'csv\ntext' "$word" "$option" "" ;;

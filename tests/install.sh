@@ -55,7 +55,7 @@ for word in "" $("$program" -h | sed -n '/^Commands:/,/^$/p' | sed -nE 's/^  ([a
     # The options of the word stand in its part of the page.
     awk -v word="$word" '/^\.S[SH] / { on = $0 == (word == "" ? ".SH OPTIONS" : ".SS " word) } on' "$scratch/page" >"$scratch/part"
     for option in $("$program" $word -h | sed -nE 's/^ +(-[A-Za-z], )?(--[a-z-]+).*/\2/p'); do
-        grep -qE -- "^(-[hV], )?$option( [A-Z]+)?$" "$scratch/part" || missing+=" $word $option"
+        grep -qE -- "^(-[hV], )?$option( [A-Z-]+)?$" "$scratch/part" || missing+=" $word $option"
     done
 done
 if [[ ! $missing ]]; then pass "the page has each word and option"; else fail "the page has each word and option" "not$missing"; fi

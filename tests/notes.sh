@@ -544,7 +544,7 @@ notes "a start past the end" 0 "${post[@]}" --from 3
 : >"$scratch/told"
 notes "a start at the last command" 0 "${post[@]}" --from 2
 head -c 16777217 /dev/zero >"$scratch/in"
-echo "lotbook: K2 TooLong: the input has more than 16,777,216 bytes" >"$scratch/told"
+echo "lotbook: K2 TooLong: the input, or an entry of a dump, is too long" >"$scratch/told"
 notes "too much input" 3 "${post[@]}"
 : >"$scratch/in" >"$scratch/told"
 notes "no input" 0 "${post[@]}"

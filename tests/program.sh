@@ -82,7 +82,7 @@ unusable "sell" sell
 unusable "migration" migration --book f
 unusable "hold" hold --book f
 unusable "sell" help sell
-for word in holdings gains journal import; do unusable "--book" "$word" --batch a; done
+for word in holdings gains journal dump restore import; do unusable "--book" "$word" --batch a; done
 unusable "--book" migrate
 unusable "--book" verify
 unusable "--batch" migrate --book f --batch a
@@ -92,7 +92,7 @@ unusable "--book" post --batch a
 unusable "--book" init
 unusable "''" ''
 for value in 0 10000001 -1 x ''; do unusable "--from" post --book f --batch a "--from=$value"; done
-for word in post import init migrate holdings gains journal verify; do unusable "Example: lotbook $word --book" "$word"; done
+for word in post import init migrate holdings gains journal dump restore verify; do unusable "Example: lotbook $word --book" "$word"; done
 unusable "fault U2 BadValue --batch" post --book f --batch a --row-of b --ref r
 unusable "fault U2 BadValue --row-of" post --book f --row-of a/b --ref r
 unusable "fault U2 BadValue --ref" post --book f --row-of a
@@ -194,6 +194,27 @@ unusable "\"r,s\\\"\" isn't the ref of a row, as in --except A17" import --book 
 unusable "--except" import --book f "${good[@]}" --except
 unusable "--except" post --book f --batch a --except A17
 
+# What a restore leaves out: of each option every value has to be within its rule, and the first one that isn't is shown.
+for value in '' post:june ' 3' 'post:june ' 'post:june "3"' 'post:june 3\' $'post:june\t3'; do
+    unusable "fault U2 BadValue --without" restore --book n --without "post:june 3" "--without=$value"
+done
+for value in '' 'post:june 3' ' ' 'a"b'; do unusable "fault U2 BadValue --without-batch" restore --book n --without-batch a "--without-batch=$value"; done
+for value in '' 3 - 3- -3 0-3 3-2 03-4 3-04 +1-2 1-+2 '1 -2' 1-2-3 1-4294967296 x-y; do
+    unusable "fault U2 BadValue --without-entries" restore --book n --without-entries 1-1 "--without-entries=$value"
+done
+unusable "\"post:june\" isn't the key of an entry, its source and its name, as in --without" restore --book n --without "post:june 3" --without post:june
+unusable "\"a b\" isn't the source of keys, as in --without-batch" restore --book n --without-batch=a '--without-batch=a b' --without-batch 'c d'
+unusable "\"30-12\" isn't numbers from 1 with a dash between, as in --without-entries" restore --book n --without-entries 12-30 --without-entries 30-12
+unusable "--without-batch wants the source of keys" restore --book n --without-batch "$(head -c 81 /dev/zero | tr '\0' '"')"
+unusable "fault U2 BadValue --without" restore --book n --without-entries 0 --without-batch 'a b' --without x
+unusable "fault U2 BadValue --without-batch" restore --book n --without-entries 0 --without-batch 'a b' --without 'x y'
+for option in --without --without-batch --without-entries --compare; do unusable "$option" restore --book n "$option"; done
+unusable "--compare" restore --book n --compare f --compare g
+for option in --edited --keep-going --dry-run --quiet; do unusable "$option" restore --book n "$option" "$option"; done
+for option in --batch=a --from=2 --all-or-none --explain-all --rounding=Equity:Rounding; do unusable "${option%%=*}" restore --book n "$option"; done
+for option in --edited --keep-going --without=a --without-batch=a --without-entries=1-2 --compare=f; do unusable "${option%%=*}" dump --book f "$option"; done
+unusable "tip: it stands behind 'post' or 'import'" --rounding Equity:Rounding restore --book n
+
 # Help that is asked for: status 0, on standard output, with an example of each word.
 helps() {
     run "${@:2}" </dev/null
@@ -207,7 +228,7 @@ helps "lotbook < " --help
 helps "lotbook < " -h
 helps "lotbook < " help
 helps "explain" help
-for word in init post import holdings gains journal migrate verify; do helps "lotbook $word --book" help "$word"; done
+for word in init post import holdings gains journal dump restore migrate verify; do helps "lotbook $word --book" help "$word"; done
 helps "lotbook explain B2" help explain
 helps "lotbook explain B2" explain --help
 helps "[CODE]" explain -h
@@ -215,13 +236,13 @@ helps "lotbook init --book" init --help
 helps "lotbook post --book" post --help
 helps "lotbook import --book" import --help
 helps "the oldest first" import --help
-for word in holdings gains journal migrate verify; do helps "lotbook $word --book" "$word" --help; done
-for word in init post import holdings gains journal migrate verify; do helps "--book family.book" "$word" -h; done
+for word in holdings gains journal dump restore migrate verify; do helps "lotbook $word --book" "$word" --help; done
+for word in init post import holdings gains journal dump migrate verify; do helps "--book family.book" "$word" -h; done
 helps "--batch 2024" post -h
 helps "--row-of broker --ref A17" post -h
-for word in post import init migrate; do helps "--dry-run" "$word" -h; done
+for word in post import init migrate restore; do helps "--dry-run" "$word" -h; done
 for word in post import; do helps "--all-or-none" "$word" -h && helps "--explain-all" "$word" -h; done
-for word in init post import holdings gains journal migrate verify; do helps "--quiet" "$word" -h; done
+for word in init post import holdings gains journal dump restore migrate verify; do helps "--quiet" "$word" -h; done
 for word in post import; do
     helps "--rounding Equity:Rounding" "$word" -h
     helps "--within 0.01" "$word" -h
@@ -243,16 +264,23 @@ helps "it chooses prices alone" holdings -h
 for word in holdings gains; do helps "--format csv" "$word" -h; done
 helps "--first 2024-01-01" gains -h
 helps "--last 2024-12-31" gains -h
+helps "--book new.book" restore -h
+helps "--edited" restore -h
+helps "--keep-going" restore -h
+helps '--without "import:broker A17"' restore -h
+helps "--without-batch import:deals" restore -h
+helps "--without-entries 12-30" restore -h
+helps "--compare family.book" restore -h
 
 # The help of the program has a line for each subcommand and for each option, none wider than a screen of 80 columns.
 for word in help --help -h; do
     run "$word" </dev/null
     lines=$(wc -l <"$scratch/out") columns=$(wc -L <"$scratch/out")
-    if ((lines == 25 && columns <= 80)); then pass "the size of $word"; else fail "the size of $word" "$lines lines, $columns columns"; fi
+    if ((lines == 26 && columns <= 80)); then pass "the size of $word"; else fail "the size of $word" "$lines lines, $columns columns"; fi
     [[ $word == help ]] && cp "$scratch/out" "$scratch/help"
     cmp -s "$scratch/help" "$scratch/out" && pass "$word is the help" || fail "$word is the help" "other than help"
 done
-for word in init migrate post import holdings gains journal dump verify explain help; do
+for word in init migrate post import holdings gains journal dump restore verify explain help; do
     found=$(grep -cE "^  $word +[A-Z]" "$scratch/help")
     ((found == 1)) && pass "the line of $word" || fail "the line of $word" "$found lines"
 done
@@ -260,7 +288,7 @@ done
 stops "help on a full disk"
 
 # The example that is shown beside what is missing is that of the help.
-for word in init post import holdings gains journal migrate verify; do
+for word in init post import holdings gains journal dump restore migrate verify; do
     run "$word" </dev/null
     example=$(sed -n 's/^Example: //p' "$scratch/err")
     helps "$example" "$word" --help
@@ -279,8 +307,8 @@ while read -ra words; do
     fi
 done < <(
     printf '%s\n' help --help -h --version sell "help sell" "init --book" "post --book f" "post --book f --batch a --from 0" "verify --book f --day d" "explain B2 L1"
-    for word in init migrate post import holdings gains journal verify explain; do printf '%s\n' "help $word" "$word --help" "$word -h"; done
-    for word in init migrate post import holdings gains journal verify; do printf '%s\n' "$word"; done
+    for word in init migrate post import holdings gains journal dump restore verify explain; do printf '%s\n' "help $word" "$word --help" "$word -h"; done
+    for word in init migrate post import holdings gains journal dump restore verify; do printf '%s\n' "$word"; done
 )
 
 # A hint is a call that a shell takes as it is: it makes a book at the path that was named, and nothing else.

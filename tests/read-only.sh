@@ -200,7 +200,7 @@ for word in "post --batch a" migrate journal; do
     nobook "${words[0]}: a missing file" "$file" ": there is no such file: \`lotbook init --book $file\` makes a book" "${words[@]}"
     file=$scratch/empty.book
     rm -f "$file"* && : >"$file"
-    nobook "${words[0]}: an empty file" "$file" " is empty: \`lotbook init --book $file\` makes a book of it" "${words[@]}"
+    nobook "${words[0]}: an empty file" "$file" " is empty, as after a \`restore\` that made no book, which can be called again: \`lotbook init --book $file\` makes an empty book of it" "${words[@]}"
     if [[ ${words[0]} == journal ]]; then
         if [[ ! -s $file && ! -e $file-wal ]]; then pass "it stays empty"; else fail "it stays empty" "$(stat -c %s "$file")"; fi
     fi

@@ -391,5 +391,5 @@ if [[ ! -s $scratch/err ]]; then pass "nor is anything of a quiet call"; else fa
 for code in B5 L12 L14 C4; do
     if "$program" explain "$code" </dev/null | grep -qF -- --rounding; then pass "explain $code names the option"; else fail "explain $code names the option" "it doesn't"; fi
 done
-for word in init holdings gains journal dump verify migrate; do unusable "$word takes no rounding account" U1 "$word" --book "$book" "${rounding[@]}"; done
+for word in init holdings gains journal dump restore verify migrate; do unusable "$word takes no rounding account" U1 "$word" --book "$book" "${rounding[@]}"; done
 finish

@@ -408,12 +408,13 @@ class Build:
 
 def proves(crate, jobs):
     """What proves a crate in its room, or builds the program there."""
-    rt = os.path.realpath(RT)
-    is_new = not os.path.exists(f"{crate.home}/out/rlib") and not os.path.exists(f"{crate.at_work()}/out/incremental")
-    if is_new and not crate.is_program and os.path.isfile(f"{os.path.dirname(rt)}/rtlib.py"):
-        return [sys.executable, f"{ROOT}/tools/library.py", rt, str(jobs)]
+    rt, verb = os.path.realpath(RT), "run" if crate.is_program else "lib"
+    if not os.path.isfile(f"{os.path.dirname(rt)}/rtlib.py"):
+        return [RT, verb, "--jobs", str(jobs)]
     # Work that is kept makes each later check quick.
-    return [RT, "run" if crate.is_program else "lib", "--jobs", str(jobs)]
+    is_new = not os.path.exists(f"{crate.home}/out/rlib") and not os.path.exists(f"{crate.at_work()}/out/incremental")
+    what = "statements" if is_new and not crate.is_program else verb
+    return [sys.executable, f"{ROOT}/tools/library.py", rt, what, str(jobs)]
 
 
 def end_with_parent():

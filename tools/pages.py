@@ -26,6 +26,7 @@ import words as subcommands  # noqa: E402
 ROOT = Path(__file__).resolve().parent.parent
 CRATES = ROOT / "crates"
 NOTICE = "<!-- Written by tools/pages.py from the sources: change those, and run it again. -->\n"
+LONGEST_CELL = 240
 LONGEST_CLAUSE = 120  # a clause without a name is written out up to this length
 MOST_CALLS = 12  # the calls of a crate are named up to this many
 TEST_CRATES = ("lot_tests", "lot_stops")
@@ -579,12 +580,12 @@ def all_codes():
     home = CRATES / "lot_explain/src/codes"
     order = re.findall(r"&(\w+)::CODES", home.with_suffix(".rt").read_text())
     told = re.compile(
-        r'code: "([^"]*)",\s*name: "([^"]*)",\s*brief: "((?:[^"\\]|\\.)*)".*?page: "docs/([^"]*)"',
+        r'code: (?:concat!\("(\w)", )?"([^"]*)"\)?,\s*name: "([^"]*)",\s*brief: "((?:[^"\\]|\\.)*)".*?page: "docs/([^"]*)"',
         re.S,
     )
     for part in order:
-        for code, name, brief, page in told.findall((home / (part + ".rt")).read_text()):
-            yield code, name, re.sub(r"\\\n\s*", "", brief), page
+        for letter, code, name, brief, page in told.findall((home / (part + ".rt")).read_text()):
+            yield letter + code, name, re.sub(r"\\\n\s*", "", brief), page
 
 
 def explained():
@@ -599,7 +600,9 @@ def codes():
     for code, name, brief, page in explained():
         file, part = page.split(", ", 1)
         target = ("" if file == "RULES.md" else file) + "#" + part.lower().replace(" ", "-")
-        yield "| `%s %s` | %s | [%s](%s) |" % (code, name, brief, part, target)
+        # A letter of papers stands apart from its number, as in the sources.
+        shown = "`%s` %s `%s`" % (code[0], code[1:], name) if code[0] in "DRTW" else "`%s %s`" % (code, name)
+        yield "| %s | %s | [%s](%s) |" % (shown, brief, part, target)
 
 
 # ---- the words of the program
@@ -708,8 +711,20 @@ def rule_map(below):
             file = "" if page == "RULES.md" else page
             link = "[%s](%s#%s)" % (part, file, part.lower().replace(" ", "-"))
             link += " of " + page if file else ""
-            said = ("`%s` %s" % (name, quoted(words)) for name, words in crates.items())
-            yield "| %s | %s |" % (link, "; ".join(said))
+            said = ["`%s` %s" % (name, quoted(words)) for name, words in crates.items()]
+            for cell in cells(said):
+                yield "| %s | %s |" % (link, cell)
+
+
+def cells(said):
+    """These joined to one cell of a table, or to several where it were too long."""
+    cell = ""
+    for it in said:
+        if cell and len(cell) + len(it) + 2 > LONGEST_CELL:
+            yield cell
+            cell = ""
+        cell += "; " + it if cell else it
+    yield cell
 
 
 def between(text, name, lines):
@@ -895,11 +910,15 @@ def wrong_codes():
         for text in re.findall(r'"([^"]*)"', path.read_text()):
             for code, name in re.findall(r"\b([A-Z]\d+) ([A-Z]\w+)", text):
                 printed.setdefault(code, set()).add(name)
+        for letter, number, name in re.findall(r'codes "([A-Z])" \+\+ codes "(\d+) ([A-Z]\w+)"', path.read_text()):
+            printed.setdefault(letter + number, set()).add(name)
     for code in sorted(set(said) | set(printed)):
         if code[0] not in "NMIU" and {said.get(code)} != printed.get(code):
             yield "%s is %s, not %s" % (code, sorted(printed.get(code, ())), said.get(code))
     for path in sorted(ROOT.glob("docs/*.md")):
-        for code, name in re.findall(r"`([A-Z]\d+) ([A-Z]\w+)", path.read_text()):
+        said_there = re.findall(r"`([A-Z]\d+) ([A-Z]\w+)", path.read_text())
+        said_there += [(a + b, name) for a, b, name in re.findall(r"`([A-Z])` (\d+) `([A-Z]\w+)", path.read_text())]
+        for code, name in said_there:
             if said.get(code) != name:
                 yield "%s of %s is %s" % (code, path.name, name)
 

@@ -16,7 +16,7 @@ Option = namedtuple("Option", "name value help is_repeated", defaults=(False,))
 
 # What an option takes, where the shell can offer it.
 CHOICES = {"format": ("text", "csv")}
-FILES = ("book",)
+FILES = ("book", "compare")
 
 
 # ---- the subcommands, from the code
@@ -329,7 +329,7 @@ def man_options(options):
         letters = {"help": "\\fB\\-h\\fR, ", "version": "\\fB\\-V\\fR, "}
         name = f"{letters.get(it.name, '')}\\fB\\-\\-{roff(it.name)}\\fR"
         yield ".TP"
-        yield name + (f" \\fI{it.value}\\fR" if it.value else "")
+        yield name + (f" \\fI{roff(it.value)}\\fR" if it.value else "")
         yield roff(it.help.rstrip(".") + ".")
 
 

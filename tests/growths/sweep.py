@@ -53,6 +53,7 @@ STEP = 11
 LONGER_STEP = 47  # of the calls that do more
 MEMORY = "fault Memory"
 OF_A_COPY = ("fault S4 Device", "fault S5 InDoubt")  # to the database a copy for which memory ends is a disk that fails
+MAKERS = (["init"], ["restore"])  # of a new file
 KEEPS_NOTHING = {"--dry-run", "--all-or-none"}  # no prefix of the commands: the second all of them or none
 BOOK = "BOOK"  # stands in words for the path of the book
 PATIENCE = 300  # seconds without a message
@@ -286,7 +287,7 @@ class Sweep:
 
     def is_stage(self, stage, stands):
         """Whether these are the tables after so many commands. A new file that isn't a book yet may be there, without tables."""
-        if self.call.words[:1] == ["init"] and stage == 0 and self.stages[0] is None and stands == {}:
+        if self.call.words[:1] in MAKERS and stage == 0 and self.stages[0] is None and stands == {}:
             return True
         return stage < len(self.stages) and stands == self.stages[stage]
 
@@ -301,9 +302,9 @@ class Sweep:
         elif self.is_batch and self.ample[0] == 0:
             # All that stands is a repeat.
             wanted = 0, self.ample[1].replace(b" accepted\n", b" repeat\n") if stage else self.ample[1], b""
-        elif words[:1] == ["init"] and stage:
+        elif words[:1] in MAKERS and stage and self.stages[-1]:
             wanted = 4, b"fault S1 NotABook\n", b""
-        elif words[:1] != ["migrate"]:
+        elif words[:1] not in (["migrate"], ["restore"]):
             return ""
         answer = run(self.program, words, self.other, self.call.text)
         if answer[:2] != wanted[:2]:
@@ -373,6 +374,7 @@ IMPORT += ["--fees", "Expenses:Fees", "--gains", "Income:Gains"]
 ROUNDING = ["--rounding", "Equity:Rounding"]
 MAKE = INIT, b""
 MIGRATE = ["migrate", "--book", BOOK]
+RESTORE = ["restore", "--book", BOOK]
 
 
 def content(*path):
@@ -380,12 +382,12 @@ def content(*path):
         return file.read()
 
 
-def journal_of(program, scratch, before):
-    """The journal of a book that these calls make."""
-    book = os.path.join(scratch, "journal.book")
+def report_of(program, scratch, word, before):
+    """The journal, or the dump, of a book that these calls make."""
+    book = os.path.join(scratch, f"{word}.book")
     for words, text in before:
         run(program, words, book, text)
-    return run(program, ["journal", "--book", BOOK], book)[1]
+    return run(program, [word, "--book", BOOK], book)[1]
 
 
 def takes_crumbs(program):
@@ -415,13 +417,18 @@ def short_calls(texts, crumbs):
     yield Call("post of the first purchase", POST, texts["the first purchase"], [MAKE])
 
 
-def calls_on_a_book(texts, older):
-    """Those that make a book or open one, and don't do much with it. `older` is the file of a book of edition 1."""
+def calls_on_a_book(texts, dump, older):
+    """Those that make a book or open one, and don't do much with it. `dump` is that of a book with a sale, `older` the file of a book of
+    edition 1."""
     filled = [MAKE, (POST, texts["a sale"])]
     yield Call("init", INIT)
     yield Call("verify of a sale", ["verify", "--book", BOOK], before=filled)
     yield Call("a report of an empty file", ["journal", "--book", BOOK], file=b"")
     yield Call("a dry run of init", [*INIT, "--dry-run"])
+    yield Call("restore of a dump", RESTORE, dump)
+    yield Call("a dry run of restore", [*RESTORE, "--dry-run"], dump)
+    yield Call("restore of a dump that was changed", RESTORE, dump.replace(b"530", b"531"))
+    yield Call("restore of a dump where a book is", RESTORE, dump, [MAKE])
     yield Call("a dry run of the first purchase", [*POST, "--dry-run"], texts["the first purchase"], [MAKE])
     yield Call("all or none of a text that is refused", [*POST[:-1], "b", "--all-or-none"], texts["the first purchase"], filled)
     yield Call("all or none of a sale", [*POST, "--all-or-none"], texts["a sale"], [MAKE])
@@ -480,14 +487,15 @@ def sweep_all(words, scratch):
     texts = {
         "the first purchase": content(EXAMPLES, "first-purchase.ledger"),
         "a sale": sale,
-        "a journal": journal_of(words.program, scratch, [MAKE, (POST, sale)]),
+        "a journal": report_of(words.program, scratch, "journal", [MAKE, (POST, sale)]),
         "every kind": content(HERE, "every-kind.ledger"),
     }
     broker = {name: content(EXAMPLES, "broker", name) for name in ("accounts.ledger", "2024.csv", "2025.csv")}
+    dump = report_of(words.program, scratch, "dump", [MAKE, (POST, sale)])
     older = older_book(scratch)
     crumbs = content(HERE, "crumbs.ledger")
     calls = [(call, 1) for call in short_calls(texts, crumbs)]
-    calls += [(call, 1 if words.whole else STEP) for call in calls_on_a_book(texts, older)]
+    calls += [(call, 1 if words.whole else STEP) for call in calls_on_a_book(texts, dump, older)]
     calls += [(call, 1 if words.whole else LONGER_STEP) for call in longer_calls(texts, crumbs, broker, older)]
     if not takes_crumbs(words.program):
         calls = [(call, step) for call, step in calls if not any("--rounding" in words for words in (call.words, *(made for made, _ in call.before)))]

@@ -29,6 +29,7 @@ OPTIONS = {
     "gains": {"--book": "f", "--first": "2020-01-01", "--last": "2020-01-01", "--format": "text"},
     "journal": {"--book": "f"},
     "dump": {"--book": "f"},
+    "restore": {"--book": "f"},
     "migrate": {"--book": "f"},
     "verify": {"--book": "f"},
 }  # fmt: skip
@@ -158,7 +159,7 @@ def no_paths(program, scratch):
         for word, options in OPTIONS.items():
             shutil.rmtree(folder, ignore_errors=True)
             os.mkdir(folder)
-            said = opened if word == "init" else others
+            said = opened if word in ("init", "restore") else others  # these make a file
             text = HEADER if word == "import" else b""
             for form in ([f"--book={path}"], ["--book", path]):
                 without = {name: value for name, value in options.items() if name != "--book"}

@@ -8,7 +8,6 @@ use Rattle.std.proofs.lemmas.Bool.{le-leb, leb-true}
 use Rattle.std.proofs.lemmas.Int.{ints}
 use Rattle.clap.specs.Words.{Row}
 use Rattle.clap.proofs.WalkLemmas.{both}
-use Rattle.lot_base.specs.Name.{is_label}
 use Rattle.lot_num.specs.Amount.{one, units_limit}
 use Rattle.lot_num.specs.NumberText.{as_units, read_below, total_of, with_no_sign}
 use Rattle.lot_num.specs.declared.number_text.NumberFault.{NumberFault}
@@ -62,33 +61,35 @@ pub bound_named : (o : Option ℤ) (text : List ℕ) (total : ℤ) → result_ok
     → o ≡ named_bound text
 bound_named o text total e h = bound_from o total (with_no_sign (read_below units_limit text)) e h ∙ sym (ap (option_and_then as_bound) e)
 
--- ---- labels
+-- ---- texts
 
--- each of the texts that are labels is one
-pub label_at : (texts : List (Bor (List ℕ))) (i : ℕ) (none : Bor (List ℕ)) → i < length texts
-    → IsTrue (list_all is_label (map (λ text. text.now) texts)) → IsTrue (is_label (get_or texts i none).now)
-label_at [] i none lt all = absurd (omega (arith, lt))
-label_at (text ∷ texts) zero none lt all = (both _ _ all).0
-label_at (text ∷ texts) (suc i) none lt all = label_at texts i none (omega (arith, lt)) (both _ _ all).1
+-- whether texts pass a test, by the one at a place
+module _ (p : List ℕ → Bool) where
+  -- each of the texts that pass does
+  pub passes_at : (texts : List (Bor (List ℕ))) (i : ℕ) (none : Bor (List ℕ)) → i < length texts
+      → IsTrue (list_all p (map (λ text. text.now) texts)) → IsTrue (p (get_or texts i none).now)
+  passes_at [] i none lt all = absurd (omega (arith, lt))
+  passes_at (text ∷ texts) zero none lt all = (both _ _ all).0
+  passes_at (text ∷ texts) (suc i) none lt all = passes_at texts i none (omega (arith, lt)) (both _ _ all).1
 
--- whether those from a place on are, by the text that is there
-pub bad_label : (texts : List (Bor (List ℕ))) (i : ℕ) (none : Bor (List ℕ)) → i < length texts → is_label (get_or texts i none).now ≡ false
-    → list_all is_label (map (λ text. text.now) (drop i texts)) ≡ false
-bad_label [] i none lt bad = absurd (omega (arith, lt))
-bad_label (text ∷ texts) zero none lt bad = rw bad refl
-bad_label (text ∷ texts) (suc i) none lt bad = bad_label texts i none (omega (arith, lt)) bad
+  -- whether those from a place on do, by the text that is there
+  pub fails_here : (texts : List (Bor (List ℕ))) (i : ℕ) (none : Bor (List ℕ)) → i < length texts → p (get_or texts i none).now ≡ false
+      → list_all p (map (λ text. text.now) (drop i texts)) ≡ false
+  fails_here [] i none lt bad = absurd (omega (arith, lt))
+  fails_here (text ∷ texts) zero none lt bad = rw bad refl
+  fails_here (text ∷ texts) (suc i) none lt bad = fails_here texts i none (omega (arith, lt)) bad
 
-pub good_label : (texts : List (Bor (List ℕ))) (i : ℕ) (none : Bor (List ℕ)) → i < length texts → is_label (get_or texts i none).now ≡ true
-    → list_all is_label (map (λ text. text.now) (drop i texts)) ≡ list_all is_label (map (λ text. text.now) (drop (suc i) texts))
-good_label [] i none lt good = absurd (omega (arith, lt))
-good_label (text ∷ texts) zero none lt good = rw good refl
-good_label (text ∷ texts) (suc i) none lt good = good_label texts i none (omega (arith, lt)) good
+  pub passes_here : (texts : List (Bor (List ℕ))) (i : ℕ) (none : Bor (List ℕ)) → i < length texts → p (get_or texts i none).now ≡ true
+      → list_all p (map (λ text. text.now) (drop i texts)) ≡ list_all p (map (λ text. text.now) (drop (suc i) texts))
+  passes_here [] i none lt good = absurd (omega (arith, lt))
+  passes_here (text ∷ texts) zero none lt good = rw good refl
+  passes_here (text ∷ texts) (suc i) none lt good = passes_here texts i none (omega (arith, lt)) good
 
-pub no_label_left : (texts : List (Bor (List ℕ))) (i : ℕ) → length texts ≤ i → list_all is_label (map (λ text. text.now) (drop i texts)) ≡ true
-no_label_left [] zero le = refl
-no_label_left [] (suc i) le = refl
-no_label_left (text ∷ texts) zero le = absurd (omega (arith, le))
-no_label_left (text ∷ texts) (suc i) le = no_label_left texts i (omega (arith, le))
+  pub no_text_left : (texts : List (Bor (List ℕ))) (i : ℕ) → length texts ≤ i → list_all p (map (λ text. text.now) (drop i texts)) ≡ true
+  no_text_left [] zero le = refl
+  no_text_left [] (suc i) le = refl
+  no_text_left (text ∷ texts) zero le = absurd (omega (arith, le))
+  no_text_left (text ∷ texts) (suc i) le = no_text_left texts i (omega (arith, le))
 
 -- ---- options
 

@@ -6,7 +6,10 @@ use Rattle.lot_args.specs.Program.{program_app}
 use Rattle.lot_args.specs.From.{from_of}
 use Rattle.lot_args.specs.Rounding.{rounding_of}
 use Rattle.lot_rounding.specs.declared.rounding.Rounding.{Rounding}
-use Rattle.lot_args.specs.Words.{effect_of, keeping_of, notes_of}
+use Rattle.lot_args.specs.Words.{effect_of, keeping_of, notes_of, strictness_of, tolerance_of, without_of}
+use Rattle.lot_without.specs.declared.terms.Strictness.{Strictness}
+use Rattle.lot_without.specs.declared.terms.Tolerance.{Tolerance}
+use Rattle.lot_without.specs.declared.without.Without.{Without}
 use Rattle.lot_args.specs.declared.action.Keeping.{Keeping}
 use Rattle.lot_args.specs.declared.request.Effect.{Effect}
 use Rattle.lot_args.specs.declared.request.Notes.{Notes}
@@ -66,6 +69,19 @@ a_misplaced_rounding =
 abbrev pub a_question : List Text
 a_question = codes "lotbook" ∷ codes "explain" ∷ codes "B2" ∷ []
 
+-- lotbook restore --book n --without-entries 3-5 --without "p:a b" --edited --without-batch p:c --without "q 7" --compare f
+abbrev pub a_restore : List Text
+a_restore =
+    codes "lotbook" ∷ codes "restore" ∷ codes "--book" ∷ codes "n" ∷ codes "--without-entries" ∷ codes "3-5"
+    ∷ codes "--without" ∷ codes "p:a b" ∷ codes "--edited" ∷ codes "--without-batch" ∷ codes "p:c"
+    ∷ codes "--without=q 7" ∷ codes "--compare" ∷ codes "f" ∷ []
+
+-- lotbook restore --book n --keep-going --without-entries 3-5 --without-entries 5-3 --dry-run
+abbrev pub a_bad_restore : List Text
+a_bad_restore =
+    codes "lotbook" ∷ codes "restore" ∷ codes "--book" ∷ codes "n" ∷ codes "--keep-going"
+    ∷ codes "--without-entries" ∷ codes "3-5" ∷ codes "--without-entries" ∷ codes "5-3" ∷ codes "--dry-run" ∷ []
+
 -- what a call of a word may leave in the book, which commits keep it, and what it explains
 abbrev pub flags_of : List Text → Option (Effect × Keeping × Notes)
 flags_of words =
@@ -75,6 +91,11 @@ flags_of words =
 -- a word with the references of the rows that it leaves out, and the number of its first row
 abbrev pub left_out_of : Option (Text × List Row) → Option (Text × List Text × ℕ)
 left_out_of = option_map (λ asked. (asked.0, except_of asked.1, from_of asked.1))
+
+-- a word with what it leaves out of a dump, what it bears with, and the book that it compares with
+abbrev pub restore_of : Option (Text × List Row) → Option (Text × List Without × Strictness × Tolerance × Option Text)
+restore_of =
+    option_map (λ asked. (asked.0, without_of asked.1, strictness_of asked.1, tolerance_of asked.1, first_of (codes "compare") asked.1))
 
 -- a word for a row, with its batch and its reference
 abbrev pub row_of : Option (Text × List Row) → Option (Bool × Text × Text)

@@ -9,8 +9,11 @@ use Rattle.lot_base.specs.Name.{is_account, is_label}
 use Rattle.lot_args.specs.Batch.{is_batch}
 use Rattle.lot_args.specs.From.{from_of}
 use Rattle.lot_args.specs.Rounding.{named_bound}
+use Rattle.lot_without.specs.Value.{named}
+use Rattle.lot_without.specs.declared.value.By.{By}
+use Rattle.lot_without.specs.declared.value.By.TheVariants.{Key, Batch as ByBatch, Entries}
 use Rattle.lot_args.specs.declared.fault.BadOption.{BadOption}
-use Rattle.lot_args.specs.declared.fault.BadOption.TheVariants.{Batch, PostBatch, RowOf, Ref, From, Invest, Cash, Fees, Gains, Except, Rounding, Within, Decimals, Day, First, Last, Format}
+use Rattle.lot_args.specs.declared.fault.BadOption.TheVariants.{Batch, PostBatch, RowOf, Ref, From, Invest, Cash, Fees, Gains, Except, Rounding, Within, Decimals, Day, First, Last, Format, Without, WithoutBatch, WithoutEntries}
 
 -- ---- values
 
@@ -51,6 +54,9 @@ name_of Day = codes "day"
 name_of First = codes "first"
 name_of Last = codes "last"
 name_of Format = codes "format"
+name_of Without = codes "without"
+name_of WithoutBatch = codes "without-batch"
+name_of WithoutEntries = codes "without-entries"
 
 -- whether the value of an account option is within its rule
 abbrev pub has_account : Text → List Row → Bool
@@ -67,6 +73,14 @@ has_bound rows = option_map_or (λ text. is_some (named_bound text)) (first_of (
 -- whether the text says how a report is written
 abbrev pub is_format : Text → Bool
 is_format text = bytes_eq text (codes "text") || bytes_eq text (codes "csv")
+
+-- whether the text names entries of a dump
+abbrev pub names_entries : By → Text → Bool
+names_entries by text = is_some (named by text)
+
+-- whether each value of the option does, which need not be given
+abbrev pub all_name_entries : By → Text → List Row → Bool
+all_name_entries by name rows = list_all (names_entries by) (values_of name rows)
 
 -- whether the option is given
 abbrev pub is_given : Text → List Row → Bool
@@ -104,6 +118,9 @@ is_good rows Day = has_day (codes "day") rows
 is_good rows First = has_day (codes "first") rows
 is_good rows Last = has_day (codes "last") rows
 is_good rows Format = option_map_or is_format (first_of (codes "format") rows) true
+is_good rows Without = all_name_entries Key (codes "without") rows
+is_good rows WithoutBatch = all_name_entries ByBatch (codes "without-batch") rows
+is_good rows WithoutEntries = all_name_entries Entries (codes "without-entries") rows
 
 -- ---- the first bad one
 
@@ -120,7 +137,8 @@ options_of word =
     if bytes_eq word (codes "post") then PostBatch ∷ RowOf ∷ Ref ∷ (rounding_options ++ From ∷ [])
     else (if bytes_eq word (codes "import") then Batch ∷ (account_options ++ Except ∷ rounding_options)
     else (if bytes_eq word (codes "holdings") then Day ∷ Format ∷ []
-    else (if bytes_eq word (codes "gains") then First ∷ Last ∷ Format ∷ [] else [])))
+    else (if bytes_eq word (codes "gains") then First ∷ Last ∷ Format ∷ []
+    else (if bytes_eq word (codes "restore") then Without ∷ WithoutBatch ∷ WithoutEntries ∷ [] else []))))
 
 -- the first of the options whose value is outside its rule
 abbrev pub first_bad : List Row → List BadOption → Option BadOption

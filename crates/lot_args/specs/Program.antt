@@ -88,6 +88,13 @@ journal_app = book_app (codes "journal") []
 abbrev pub dump_app : App
 dump_app = book_app (codes "dump") []
 
+abbrev pub restore_app : App
+restore_app =
+    book_app (codes "restore")
+    (flag_rule (codes "edited") ∷ flag_rule (codes "keep-going") ∷ repeated_rule (codes "without")
+    ∷ repeated_rule (codes "without-batch") ∷ repeated_rule (codes "without-entries") ∷ option_rule (codes "compare")
+    ∷ flag_rule (codes "dry-run") ∷ [])
+
 abbrev pub verify_app : App
 verify_app = book_app (codes "verify") (flag_rule (codes "digest") ∷ [])
 
@@ -114,4 +121,4 @@ abbrev pub program_app : App
 program_app =
     with_words bare_app
     (init_app ∷ migrate_app ∷ post_app ∷ import_app ∷ holdings_app ∷ gains_app ∷ journal_app
-    ∷ dump_app ∷ verify_app ∷ explain_app ∷ [])
+    ∷ dump_app ∷ restore_app ∷ verify_app ∷ explain_app ∷ [])

@@ -1,16 +1,24 @@
 -- What words ask for: what the values matched by `clap` name, and the option whose value is outside its rule.
-use Rattle.std.specs.Prelude.{◌≡◌, ◌||◌, if◌then◌else◌, ℕ, Bool, false, true, List, [], Option, Some, None, codes, option_and_then, option_map}
+use Rattle.std.specs.Prelude.{◌≡◌, ◌||◌, ◌++◌, if◌then◌else◌, ℕ, Bool, false, true, List, [], Option, Some, None, codes, filter_map, option_and_then, option_map}
 use Rattle.std.specs.Option.{option_map_or}
 use Rattle.std.specs.Str.{bytes_eq}
 use Rattle.std.specs.String.{string_bytes}
 use Rattle.clap.specs.Words.{Row, Text, fault_of, first_of, matches_of, subcommand_of}
 use Rattle.lot_import.specs.declared.accounts.Accounts.{Accounts}
+use Rattle.lot_without.specs.Value.{named}
+use Rattle.lot_without.specs.declared.terms.Strictness.{Strictness}
+use Rattle.lot_without.specs.declared.terms.Strictness.TheVariants.{Edited, Unchanged}
+use Rattle.lot_without.specs.declared.terms.Tolerance.{Tolerance}
+use Rattle.lot_without.specs.declared.terms.Tolerance.TheVariants.{AllAccepted, KeepGoing}
+use Rattle.lot_without.specs.declared.value.By.{By}
+use Rattle.lot_without.specs.declared.value.By.TheVariants.{Key, Batch, Entries}
+use Rattle.lot_without.specs.declared.without.Without.{Without}
 use Rattle.lot_args.specs.From.{from_of}
-use Rattle.lot_args.specs.Options.{day_of, except_of, first_bad, has_row, lacks_batch, misplaced, options_of, rounding_options, value_of}
+use Rattle.lot_args.specs.Options.{day_of, except_of, first_bad, has_row, lacks_batch, misplaced, options_of, rounding_options, value_of, values_of}
 use Rattle.lot_args.specs.Program.{program_app}
 use Rattle.lot_args.specs.Rounding.{rounding_of}
 use Rattle.lot_args.specs.declared.action.Action.{Action}
-use Rattle.lot_args.specs.declared.action.Action.TheVariants.{Check, Init, Migrate, Post, PostRow, Import, Holdings, Gains, Journal, Dump, Verify}
+use Rattle.lot_args.specs.declared.action.Action.TheVariants.{Check, Init, Migrate, Post, PostRow, Import, Holdings, Gains, Journal, Dump, Restore, Verify}
 use Rattle.lot_args.specs.declared.action.Format.{Format}
 use Rattle.lot_args.specs.declared.action.Format.TheVariants.{Text as AsText, Csv}
 use Rattle.lot_args.specs.declared.action.Keeping.{Keeping}
@@ -39,6 +47,18 @@ accounts_of rows = record {
   gains = value_of (codes "gains") rows;
 }
 
+-- ---- what is left out of a dump
+
+-- what each value of an option leaves out
+abbrev pub left_out : By → Text → List Row → List Without
+left_out by name rows = filter_map (named by) (values_of name rows)
+
+-- keys, then batches, then ranges
+abbrev pub without_of : List Row → List Without
+without_of rows =
+    left_out Key (codes "without") rows ++ left_out Batch (codes "without-batch") rows
+    ++ left_out Entries (codes "without-entries") rows
+
 -- ---- options without a value
 
 -- whether the option is given
@@ -58,6 +78,14 @@ keeping_of rows =
 -- what is written of a verified book
 abbrev pub saying_of : List Row → Saying
 saying_of rows = if is_set (codes "digest") rows then Digest else Verified
+
+-- whether a dump has to be what it says at its end
+abbrev pub strictness_of : List Row → Strictness
+strictness_of rows = if is_set (codes "edited") rows then Edited else Unchanged
+
+-- what becomes of a dump one of whose commands is refused
+abbrev pub tolerance_of : List Row → Tolerance
+tolerance_of rows = if is_set (codes "keep-going") rows then KeepGoing else AllAccepted
 
 -- whether an option that may stand before the word or behind it is given
 abbrev pub is_in_either : Text → List Row → List Row → Bool
@@ -98,6 +126,10 @@ WordAsks word rows (Gains book first last format) =
     × (last ≡ day_of (codes "last") rows) × (format ≡ format_of rows)
 WordAsks word rows (Journal book) = (word ≡ codes "journal") × IsBook rows (string_bytes book)
 WordAsks word rows (Dump book) = (word ≡ codes "dump") × IsBook rows (string_bytes book)
+WordAsks word rows (Restore restore) =
+    (word ≡ codes "restore") × IsBook rows (string_bytes restore.book) × (restore.without.items ≡ without_of rows)
+    × (restore.strictness ≡ strictness_of rows) × (restore.tolerance ≡ tolerance_of rows)
+    × (option_map string_bytes restore.compare ≡ first_of (codes "compare") rows)
 WordAsks word rows (Verify book saying) =
     (word ≡ codes "verify") × IsBook rows (string_bytes book) × (saying ≡ saying_of rows)
 

@@ -3,6 +3,7 @@ use crate::start::Start;
 use lot_base::{Day, Label};
 use lot_import::Accounts;
 use lot_rounding::Rounding;
+use lot_without::{Strictness, Tolerance, Without};
 
 /// How a report is written.
 #[derive(Clone, Copy)]
@@ -54,6 +55,19 @@ pub struct Import {
     pub keeping: Keeping,
 }
 
+/// A dump of which a book is made in a file.
+#[derive(Drop)]
+pub struct Restore {
+    pub book: String,
+    /// The entries that are left out: those under given keys, then those of given batches, then those of given ranges, each in
+    /// the order in which they are given.
+    pub without: Vec<Without>,
+    pub strictness: Strictness,
+    pub tolerance: Tolerance,
+    /// The book that the new one is compared with, where one is named.
+    pub compare: Option<String>,
+}
+
 /// What the program is asked to do. A book is named by the path of its file. Where a rounding account is named, commands are
 /// completed with it.
 #[derive(Drop)]
@@ -103,6 +117,8 @@ pub enum Action {
     Dump {
         book: String,
     },
+    /// A book is made of a dump.
+    Restore(Restore),
     /// A book is judged again from its entries, and every table is compared.
     Verify {
         book: String,

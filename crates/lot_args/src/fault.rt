@@ -43,6 +43,12 @@ pub enum BadOption {
     Last,
     /// `--format`: its value is neither `text` nor `csv`.
     Format,
+    /// `--without`: one of its values isn't a key.
+    Without,
+    /// `--without-batch`: one of its values isn't the source of keys.
+    WithoutBatch,
+    /// `--without-entries`: one of its values isn't a range of numbers.
+    WithoutEntries,
 }
 
 impl BadOption {
@@ -67,6 +73,9 @@ impl BadOption {
             BadOption::First => "first",
             BadOption::Last => "last",
             BadOption::Format => "format",
+            BadOption::Without => "without",
+            BadOption::WithoutBatch => "without-batch",
+            BadOption::WithoutEntries => "without-entries",
         }
     }
 }

@@ -2,17 +2,21 @@
 ghost use Rattle.std.specs.Prelude.{◌≡◌, [], ◌∷◌, None, Some, codes, pos, true};
 ghost use Rattle.clap.specs.Words.{matches_of, subcommand_of, takes};
 ghost use Rattle.lot_args.specs.Example.{a_bad_import, a_dry_run, a_misplaced_rounding, a_post, a_question, a_whole_post};
-ghost use Rattle.lot_args.specs.Example.{an_import, left_out_of};
+ghost use Rattle.lot_args.specs.Example.{a_bad_restore, a_restore, an_import, left_out_of, restore_of};
 ghost use Rattle.lot_args.specs.Example.{a_rounded_check, a_rounded_post, a_row, code_of, crumbs_of};
 ghost use Rattle.lot_args.specs.Example.{flags_of, parts_of, row_of, word_crumbs_of};
 ghost use Rattle.lot_args.specs.Program.{program_app};
 ghost use Rattle.lot_args.specs.Rounding.{rounding_of};
 ghost use Rattle.lot_args.specs.Words.{bad_by, misplaced_by};
-ghost use Rattle.lot_args.specs.declared.fault.BadOption.TheVariants.{Except, Rounding};
+ghost use Rattle.lot_args.specs.declared.fault.BadOption.TheVariants.{Except, Rounding, WithoutEntries};
 ghost use Rattle.lot_rounding.specs.Rounding.{half_a_cent};
 ghost use Rattle.lot_args.specs.declared.action.Keeping.TheVariants.{AllOrNone, Each};
 ghost use Rattle.lot_args.specs.declared.request.Effect.TheVariants.{DryRun, Keep};
 ghost use Rattle.lot_args.specs.declared.request.Notes.TheVariants.{All, Quiet, Ten};
+ghost use Rattle.lot_without.specs.Value.{under};
+ghost use Rattle.lot_without.specs.declared.terms.Strictness.TheVariants.{Edited, Unchanged};
+ghost use Rattle.lot_without.specs.declared.terms.Tolerance.TheVariants.{AllAccepted, KeepGoing};
+ghost use Rattle.lot_without.specs.declared.without.Without.TheVariants.{Batch, Entries};
 
 /// `clap` accepts the arguments `post --book f --batch a --from 7`, and these are the values that it matches.
 pub fn a_post_names_its_parts()
@@ -43,6 +47,31 @@ pub fn an_import_leaves_rows_out()
 pub fn a_row_without_a_reference_is_bad()
     ensures taken { takes program_app a_bad_import ≡ true }
     ensures bad { bad_by a_bad_import ≡ Some Except }
+{}
+
+/// `clap` accepts a restore with `--without-entries 3-5 --without "p:a b" --edited --without-batch p:c --without "q 7" --compare f`. Its
+/// values are within their rules, and this is what it leaves out: keys, then batches, then ranges.
+pub fn a_restore_leaves_entries_out()
+    ensures taken { takes program_app a_restore ≡ true }
+    ensures good { bad_by a_restore ≡ None }
+    ensures says { restore_of (subcommand_of program_app a_restore)
+        ≡ Some (
+          codes "restore",
+          under (codes "p:a") (codes "b") ∷ under (codes "q") (codes "7")
+              ∷ Batch (codes "p:c") ∷ Entries 3 5 ∷ [],
+          Edited,
+          AllAccepted,
+          Some (codes "f"),
+        ) }
+{}
+
+/// `clap` accepts a restore with `--keep-going --without-entries 3-5 --without-entries 5-3`, and the latter is the option with a bad
+/// value.
+pub fn a_range_that_ends_before_it_begins_is_bad()
+    ensures taken { takes program_app a_bad_restore ≡ true }
+    ensures bad { bad_by a_bad_restore ≡ Some WithoutEntries }
+    ensures says { restore_of (subcommand_of program_app a_bad_restore)
+        ≡ Some (codes "restore", Entries 3 5 ∷ [], Unchanged, KeepGoing, None) }
 {}
 
 /// `clap` accepts the arguments `post --book f --row-of a --ref r`. Their values are within their rules, and say this batch and

@@ -5,7 +5,7 @@
 //! - `start`: the numbers at which a run may start.
 //! - `program`: the subcommands, with their help; `options`: their options.
 //! - `words`: from arguments to a request (`parse_words`); `values`: what the values of options
-//!   say.
+//!   say; `without`: which entries of a dump are left out.
 //! - `fault`: why arguments give no request.
 //! - `laws`: what holds of the definitions that the contracts cite.
 #![tactic(auto)]
@@ -19,9 +19,10 @@ mod program;
 mod request;
 mod start;
 mod values;
+mod without;
 mod words;
 
-pub use action::{Action, Format, Import, Keeping, Post, Saying};
+pub use action::{Action, Format, Import, Keeping, Post, Restore, Saying};
 pub use batch::Batch;
 pub use fault::{BadOption, WordsFault};
 pub use request::{Effect, Notes, Request};

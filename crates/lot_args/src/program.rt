@@ -56,7 +56,7 @@ const PROGRAM: Word = Word {
 };
 
 /// The subcommands, in the order in which the help lists them.
-const WORDS: [Word; 10] = [
+const WORDS: [Word; 11] = [
     // `init --book FILE [--dry-run]`
     Word {
         name: "init",
@@ -226,6 +226,56 @@ const WORDS: [Word; 10] = [
         brief: "Prints a whole book as a text that says if it was changed",
         about: "Prints a whole book as ledger text: lotbook dump --book family.book > family.dump\n\nThe first line says of which edition the book is and how many entries it has, the last line the SHA-256 of all before it: a copy that was cut short or changed is known to be. Between them stands the journal, each entry under its key.",
         options: &[BOOK, QUIET],
+    },
+    // `restore --book NEW [--edited] [--keep-going] [--without KEY]... [--without-batch SOURCE]... [--without-entries A-B]...
+    // [--compare OLD] [--dry-run]`
+    Word {
+        name: "restore",
+        brief: "Makes a book of a dump from standard input",
+        about: "Makes a new book of a dump from standard input: lotbook restore --book new.book < family.dump\n\nEach command is judged again, under its own key. If one is refused, no book is made unless --keep-going is given. To correct a book, make a dump of it, change that, and restore it with --edited; or leave out entries of it with --without, --without-batch or --without-entries. The old file stays as it is, and --compare says what differs. A call that was stopped can be made again with the same file.",
+        options: &[
+            WordOption {
+                form: Form::Required("NEW"),
+                name: "book",
+                help: "The file of the new book, as in --book new.book: there is none, or it is empty, or an earlier call of restore left it unfinished",
+            },
+            QUIET,
+            WordOption {
+                form: Form::Flag,
+                name: "edited",
+                help: "Takes a dump that was changed on purpose. Without it the number of entries and their SHA-256 have to be those on its last line",
+            },
+            WordOption {
+                form: Form::Flag,
+                name: "keep-going",
+                help: "Makes a book of the accepted commands where others are refused. Without it no book is made then",
+            },
+            WordOption {
+                form: Form::Repeated("KEY"),
+                name: "without",
+                help: "Leaves out the entry with that key, as in --without \"import:broker A17\". It may be given several times",
+            },
+            WordOption {
+                form: Form::Repeated("SOURCE"),
+                name: "without-batch",
+                help: "Leaves out the entries of that batch, as in --without-batch import:deals. It may be given several times",
+            },
+            WordOption {
+                form: Form::Repeated("A-B"),
+                name: "without-entries",
+                help: "Leaves out the entries with numbers from A to B, as in --without-entries 12-30. It may be given several times",
+            },
+            WordOption {
+                form: Form::Optional("OLD"),
+                name: "compare",
+                help: "A book that the new one is compared with, as in --compare family.book: gains of a year and holdings that differ are printed",
+            },
+            WordOption {
+                form: Form::Flag,
+                name: "dry-run",
+                help: "Prints what the call would print and makes no file, as in lotbook restore --book new.book --dry-run < family.dump",
+            },
+        ],
     },
     // `verify --book FILE [--digest]`
     Word {

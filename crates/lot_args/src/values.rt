@@ -11,7 +11,8 @@ ghost use Rattle.lot_args.specs.Options.{account_options, day_of, except_of, fir
 ghost use Rattle.lot_args.specs.From.{from_of};
 ghost use Rattle.lot_args.specs.Number.{number_of};
 ghost use Rattle.lot_args.specs.Rounding.{decimals_of, named_bound, rounding_of, within_of};
-ghost use Rattle.lot_args.specs.Words.{IsCode, accounts_of, effect_of, format_of, is_set, keeping_of, notes_of, saying_of};
+ghost use Rattle.lot_args.specs.Words.{accounts_of, effect_of, format_of, is_set, keeping_of, notes_of, saying_of};
+ghost use Rattle.lot_args.specs.Words.{strictness_of, tolerance_of};
 
 use crate::action::{Format, Keeping, Saying};
 use crate::batch::{Batch, BatchFault};
@@ -19,11 +20,13 @@ use crate::fault::BadOption;
 use crate::options::MOST_DECIMALS;
 use crate::request::{Effect, Notes};
 use crate::start::Start;
+use crate::without::all_name_entries;
 use clap::ArgMatches;
 use lot_base::{Account, Day, Label};
 use lot_import::Accounts;
 use lot_num::Units;
 use lot_rounding::{Bound, Decimals, Rounding};
+use lot_without::{By, Strictness, Tolerance};
 use std::alloc::{AllocError, Global};
 
 /// The number of the first command or row to run where none is given.
@@ -68,6 +71,11 @@ pub(crate) fn options_of(word: &str) -> &'static [BadOption]
         ],
         "holdings" => &[BadOption::Day, BadOption::Format],
         "gains" => &[BadOption::First, BadOption::Last, BadOption::Format],
+        "restore" => &[
+            BadOption::Without,
+            BadOption::WithoutBatch,
+            BadOption::WithoutEntries,
+        ],
         _ => &[],
     }
 }
@@ -124,6 +132,9 @@ fn is_good(options: &ArgMatches<'_>, option: BadOption) -> bool
             Some(text) => is_format(text),
             None => true,
         },
+        BadOption::Without => all_name_entries(options, name, By::Key),
+        BadOption::WithoutBatch => all_name_entries(options, name, By::Batch),
+        BadOption::WithoutEntries => all_name_entries(options, name, By::Entries),
     }
 }
 
@@ -354,6 +365,26 @@ pub(crate) fn keeping(options: &ArgMatches<'_>) -> Keeping
     Keeping::Each
 }
 
+/// Returns whether a dump has to be what it says at its end.
+pub(crate) fn strictness(options: &ArgMatches<'_>) -> Strictness
+    ensures { result ≡ strictness_of (rows_of (found_of options.now)) }
+{
+    if is_set(options, "edited") {
+        return Strictness::Edited;
+    }
+    Strictness::Unchanged
+}
+
+/// Returns what becomes of a dump one of whose commands is refused.
+pub(crate) fn tolerance(options: &ArgMatches<'_>) -> Tolerance
+    ensures { result ≡ tolerance_of (rows_of (found_of options.now)) }
+{
+    if is_set(options, "keep-going") {
+        return Tolerance::KeepGoing;
+    }
+    Tolerance::AllAccepted
+}
+
 /// Returns what is written of a book that is verified.
 pub(crate) fn saying(options: &ArgMatches<'_>) -> Saying
     ensures { result ≡ saying_of (rows_of (found_of options.now)) }
@@ -378,13 +409,17 @@ pub(crate) fn notes(before: &ArgMatches<'_>, options: &ArgMatches<'_>) -> Notes
     Notes::Ten
 }
 
-/// Returns the code that is to be explained, if one is named. The only error is out of memory.
-pub(crate) fn code(alloc: Global, options: &ArgMatches<'_>) -> Result<Option<String>, AllocError>
-    ensures { IfOk result (λ code.
-        IsCode (rows_of (found_of options.now)) (option_map string_bytes code)) }
+/// Returns the text that the value of an option is, where it is given. The only error is out of memory.
+pub(crate) fn text(
+    alloc: Global,
+    options: &ArgMatches<'_>,
+    name: &str,
+) -> Result<Option<String>, AllocError>
+    ensures { IfOk result (λ text.
+        option_map string_bytes text ≡ first_of name.now (rows_of (found_of options.now))) }
 {
-    match given(options, "code") {
-        Some(code) => Ok(Some(String::from_str(alloc, code)?)),
+    match given(options, name) {
+        Some(text) => Ok(Some(String::from_str(alloc, text)?)),
         None => Ok(None),
     }
 }
@@ -415,7 +450,7 @@ fn is_given(options: &ArgMatches<'_>, name: &str) -> bool
 }
 
 /// Returns all values of an option where it is given, in the order in which they are given.
-fn all_given<'m, 'a>(options: &'m ArgMatches<'a>, name: &str) -> Option<&'m [&'a str]>
+pub(crate) fn all_given<'m, 'a>(options: &'m ArgMatches<'a>, name: &str) -> Option<&'m [&'a str]>
     ensures { option_map (λ texts. map (λ text. text.now) texts.now) result
         ≡ all_of name.now (rows_of (found_of options.now)) }
 {

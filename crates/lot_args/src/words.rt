@@ -8,15 +8,16 @@ ghost use Rattle.lot_args.specs.Steps.{IsBookWord, IsWord, JudgesOptions};
 ghost use Rattle.lot_args.specs.Words.{Ask, AskFor, HaveBadIn, HaveMisplaced, LackBatch, WordAsks, WordRequests};
 ghost use Rattle.lot_args.specs.declared.fault.WordsFault.TheVariants.{BadValue, Misplaced, MissingBatch, Usage};
 
-use crate::action::{Action, Import, Post};
+use crate::action::{Action, Import, Post, Restore};
 use crate::fault::{BadOption, WordsFault};
 use crate::program::program;
 use crate::request::{Effect, Request};
 use crate::values::{
-    accounts, batch, code, day, effect, except, first_bad, format, from, has_row, keeping,
-    lacks_batch, misplaced, notes, options_of, reference, rounding, rounding_options, saying,
-    value,
+    accounts, batch, day, effect, except, first_bad, format, from, has_row, keeping, lacks_batch,
+    misplaced, notes, options_of, reference, rounding, rounding_options, saying, strictness, text,
+    tolerance, value,
 };
+use crate::without::without;
 use clap::ArgMatches;
 use std::alloc::{AllocError, Global};
 
@@ -106,7 +107,7 @@ fn requested(
 {
     if word == "explain" {
         return Ok(Request::Explain {
-            code: code(alloc, options)?,
+            code: text(alloc, options, "code")?,
         });
     }
     Ok(Request::Act {
@@ -162,6 +163,13 @@ fn action(alloc: Global, word: &str, options: &ArgMatches<'_>) -> Result<Action,
         }),
         "journal" => Ok(Action::Journal { book }),
         "dump" => Ok(Action::Dump { book }),
+        "restore" => Ok(Action::Restore(Restore {
+            book,
+            without: without(alloc, options)?,
+            strictness: strictness(options),
+            tolerance: tolerance(options),
+            compare: text(alloc, options, "compare")?,
+        })),
         _ => Ok(Action::Verify {
             book,
             saying: saying(options),

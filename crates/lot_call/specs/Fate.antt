@@ -2,7 +2,7 @@
 use Rattle.std.specs.Prelude.{◌==◌, ◌&&◌, ◌||◌, Bool, List, ℕ, Option, None, Some, codes, false, if◌then◌else◌, is_none, is_some, nat_eq, nat_lt, not, true}
 use Rattle.std.specs.List.{ends_with}
 use Rattle.lot_args.specs.declared.action.Action.{Action}
-use Rattle.lot_args.specs.declared.action.Action.TheVariants.{Import, Post}
+use Rattle.lot_args.specs.declared.action.Action.TheVariants.{Import, Post, Restore}
 use Rattle.lot_args.specs.declared.action.Keeping.{Keeping}
 use Rattle.lot_args.specs.declared.action.Keeping.TheVariants.{AllOrNone, Each}
 use Rattle.lot_output.specs.Record.{held}
@@ -39,7 +39,15 @@ fate_by (Some lines) course written =
 abbrev pub fate_heard : Heard → Fate
 fate_heard heard = fate_by (held heard.lines) heard.course (is_none heard.failure)
 
--- What became of what a call was to keep, whose commands were dropped, or not. What each call keeps for itself is never in doubt.
+-- what became of a book that was to be made of a dump
+abbrev pub fate_of_restore : Course → Fate
+fate_of_restore course = if course.restored then Kept else Dropped
+
+-- what became of what an action was to keep; what each command keeps for itself is never in doubt
+abbrev pub fate_of_action : Action → Heard → Fate
+fate_of_action (Restore restore) heard = fate_of_restore heard.course
+fate_of_action action heard = if keeps_all_or_none action then fate_heard heard else Kept
+
+-- What became of what a call was to keep, whose commands were dropped, or not.
 abbrev pub fate_of : Bool → Action → Heard → Fate
-fate_of dropped action heard =
-    if dropped then Dropped else (if keeps_all_or_none action then fate_heard heard else Kept)
+fate_of dropped action heard = if dropped then Dropped else fate_of_action action heard

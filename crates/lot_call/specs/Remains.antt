@@ -2,7 +2,7 @@
 use Rattle.std.specs.Prelude.{◌==◌, ◌++◌, ℕ, List, Option, None, Some, codes, if◌then◌else◌}
 use Rattle.std.specs.Fmt.{decimal}
 use Rattle.lot_args.specs.declared.action.Action.{Action}
-use Rattle.lot_args.specs.declared.action.Action.TheVariants.{Import, Init, Migrate, Post, PostRow}
+use Rattle.lot_args.specs.declared.action.Action.TheVariants.{Import, Init, Migrate, Post, PostRow, Restore}
 use Rattle.lot_args.specs.declared.request.Effect.{Effect}
 use Rattle.lot_args.specs.declared.request.Effect.TheVariants.{DryRun, Keep}
 use Rattle.lot_output.specs.declared.course.Course.{Course}
@@ -27,6 +27,7 @@ kept_of (PostRow book batch reference rounding) course = of_run remains.Commands
 kept_of (Import «import») course = of_run remains.Rows course course.last
 kept_of (Init book) course = unless_fault course remains.Made
 kept_of (Migrate book) course = unless_fault course remains.Migrated
+kept_of (Restore restore) course = remains.Made
 kept_of _ course = remains.Output
 
 -- of a dry run nothing is kept, nor of a call that is dropped; of one in doubt the same call tells

@@ -5,8 +5,8 @@ use crate::remains::say_cut_short;
 use crate::status::{DONE, STOPPED, UNUSABLE, out_of_memory};
 use clap::error::ErrorKind as UsageKind;
 use lot_args::{BadOption, Notes, Request, WordsFault, parse_words};
-use lot_base::{Label, NameFault};
-use std::alloc::Global;
+use lot_base::Label;
+use lot_without::{By, Without};
 use std::env;
 use std::io::{self, ErrorKind};
 
@@ -121,6 +121,8 @@ fn example_of(word: &str) -> Option<&'static str> {
         "holdings" => Some("lotbook holdings --book family.book"),
         "gains" => Some("lotbook gains --book family.book --first 2024-01-01 --last 2024-12-31"),
         "journal" => Some("lotbook journal --book family.book > family.ledger"),
+        "dump" => Some("lotbook dump --book family.book > family.dump"),
+        "restore" => Some("lotbook restore --book new.book < family.dump"),
         "verify" => Some("lotbook verify --book family.book"),
         _ => None,
     }
@@ -135,7 +137,10 @@ fn show_form(rt: &HostRuntime, words: &[String], option: BadOption) {
     }
     let form = form(option);
     let value = match option {
-        BadOption::Except => bad_reference(rt.alloc(), words),
+        BadOption::Except
+        | BadOption::Without
+        | BadOption::WithoutBatch
+        | BadOption::WithoutEntries => bad_value(words, option),
         _ => value_of(words, option.name()),
     };
     match value {
@@ -189,27 +194,52 @@ fn form(option: BadOption) -> &'static str {
         BadOption::First => "a day, as in --first 2024-01-01",
         BadOption::Last => "a day, as in --last 2024-12-31",
         BadOption::Format => "text or csv, as in --format csv",
+        BadOption::Without => {
+            "the key of an entry, its source and its name, as in --without \"import:broker A17\""
+        }
+        BadOption::WithoutBatch => { "the source of keys, as in --without-batch import:deals" }
+        BadOption::WithoutEntries => {
+            "numbers from 1 with a dash between, as in --without-entries 12-30"
+        }
     }
 }
 
-/// Returns the first value of `--except` that can't be the `ref` of a row.
-fn bad_reference<'a>(alloc: Global, words: &'a [String]) -> Option<&'a str> {
+/// Returns the first value of an option that is outside its rule, where the option may be given several times.
+fn bad_value(words: &[String], option: BadOption) -> Option<&str> {
     let mut is_value = false;
     for word in words {
         let word = word.as_str();
+        let behind = match word.strip_prefix("--") {
+            Some(option_word) => option_word.strip_prefix(option.name()),
+            None => None,
+        };
         let value = if is_value {
             Some(word)
         } else {
-            word.strip_prefix("--except=")
+            match behind {
+                Some(rest) => rest.strip_prefix("="),
+                None => None,
+            }
         };
-        is_value = !is_value && word == "--except";
+        is_value = !is_value && behind == Some("");
         if let Some(value) = value
-            && let Err(NameFault::BadLabel) = Label::new(alloc, value)
+            && !is_within_rule(value, option)
         {
             return Some(value);
         }
     }
     None
+}
+
+/// Returns whether the value of an option that may be given several times is within its rule.
+fn is_within_rule(value: &str, option: BadOption) -> bool {
+    match option {
+        BadOption::Except => Label::is_name(value),
+        BadOption::Without => Without::is_value(By::Key, value),
+        BadOption::WithoutBatch => Without::is_value(By::Batch, value),
+        BadOption::WithoutEntries => Without::is_value(By::Entries, value),
+        _ => true,
+    }
 }
 
 /// Returns the value of the option of that name, as it was written.

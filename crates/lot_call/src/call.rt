@@ -65,6 +65,7 @@ pub fn path_of(action: &Action) -> &str {
         | Action::Verify { book, .. } => book.as_str(),
         Action::Post(post) => post.book.as_str(),
         Action::Import(import) => import.book.as_str(),
+        Action::Restore(restore) => restore.book.as_str(),
     }
 }
 

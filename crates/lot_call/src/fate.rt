@@ -1,7 +1,7 @@
 //! What became of a call that keeps all or none.
 
 ghost use Rattle.std.specs.Prelude.{◌≡◌};
-ghost use Rattle.lot_call.specs.Fate.{fate_heard, fate_of, keeps_all_or_none, stops_before_commit};
+ghost use Rattle.lot_call.specs.Fate.{fate_heard, fate_of, fate_of_restore, keeps_all_or_none, stops_before_commit};
 
 use crate::call::Call;
 use crate::remembered::Remembered;
@@ -20,7 +20,8 @@ pub enum Fate {
 }
 
 impl Fate {
-    /// Returns what became of what a call was to keep. Of one that keeps all or none nothing is kept where a command was refused.
+    /// Returns what became of what a call was to keep. Of one that keeps all or none nothing is kept where a command was refused; a
+    /// restored book is kept where that was told.
     pub fn of(call: &Call<'_>, heard: &Heard, remembered: &Remembered) -> Fate
         ensures fate { result
             ≡ fate_of remembered.now.is_dropped call.now.action.now heard.now }
@@ -28,11 +29,22 @@ impl Fate {
         if remembered.is_dropped {
             return Fate::Dropped;
         }
-        if keeps_all_or_none(call.action) {
-            fate_heard(heard)
-        } else {
-            Fate::Kept
+        match call.action {
+            Action::Restore(_) => fate_of_restore(&heard.course),
+            action if keeps_all_or_none(action) => fate_heard(heard),
+            _ => Fate::Kept,
         }
+    }
+}
+
+/// Returns what became of a book that was to be made of a dump: a line says so behind its commit.
+fn fate_of_restore(course: &Course) -> Fate
+    ensures { result ≡ fate_of_restore course.now }
+{
+    if course.restored {
+        Fate::Kept
+    } else {
+        Fate::Dropped
     }
 }
 

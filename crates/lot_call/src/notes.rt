@@ -2,7 +2,7 @@
 
 use crate::call::Call;
 use crate::fate::Fate;
-use lot_args::Effect;
+use lot_args::{Action, Effect};
 use lot_files::Cause;
 use lot_output::Course;
 use std::io::IsTerminal;
@@ -46,13 +46,20 @@ pub fn sum_up(call: &Call<'_>, course: &Course) {
 }
 
 /// Says what is kept of a call that keeps all or none, where it isn't all: of one that refused commands, of one that stopped at a
-/// fault, and of one whose commit is in doubt.
+/// fault, and of one whose commit is in doubt. Of a dump of which no book is made it says so, unless a fault does.
 pub fn say_fate(call: &Call<'_>, fate: Fate, course: &Course) {
     if call.is_quiet() {
         return;
     }
     let (rt, path) = (call.rt, call.path);
     match fate {
+        Fate::Dropped if matches!(call.action, Action::Restore(_)) => {
+            if course.faults == 0 {
+                let _ = eprintln!(rt;
+                    "lotbook: {path}: no book is made, since not all was accepted, or an option met nothing: `lotbook explain CODE` says what a code means, and --keep-going leaves out what is refused"
+                );
+            }
+        }
         Fate::Dropped if course.refused > 0 => {
             let _ = eprintln!(rt;
                 "lotbook: {path}: nothing is kept, since not all was accepted: entries and lots are named above as the call would have made them"

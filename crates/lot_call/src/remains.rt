@@ -73,6 +73,7 @@ fn kept_of(action: &Action, course: &Course) -> Remains
         (Action::Post(_) | Action::PostRow { .. }, Some(from)) => Remains::Commands { last, from },
         (Action::Import(_), Some(from)) => Remains::Rows { last, from },
         (Action::Init { .. }, _) if course.faults == 0 => Remains::Made,
+        (Action::Restore(_), _) => Remains::Made,
         (Action::Migrate { .. }, _) if course.faults == 0 => Remains::Migrated,
         _ => Remains::Output,
     }

@@ -46,7 +46,10 @@ impl Standing {
     pub fn say(self, rt: &HostRuntime, path: &str) {
         let (what, help) = match self {
             Standing::Nothing => (": there is no such file", Some(("init", "makes a book"))),
-            Standing::EmptyFile => (" is empty", Some(("init", "makes a book of it"))),
+            Standing::EmptyFile => (
+                " is empty, as after a `restore` that made no book, which can be called again",
+                Some(("init", "makes an empty book of it")),
+            ),
             Standing::Book => (" is a book already", None),
             Standing::OlderBook => (
                 " is a book of edition 1",

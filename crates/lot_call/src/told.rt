@@ -104,6 +104,7 @@ fn source_of(action: &Action) -> (Source<'_>, u32) {
             let (batch, reference) = (batch.as_str(), reference.as_str());
             (Source::Row { batch, reference }, 1)
         }
+        Action::Restore(_) => (Source::Dump, 1),
         _ => (Source::Text { batch: "check" }, 1),
     }
 }

@@ -13,3 +13,4 @@ pub mod HeadlineLemmas
 pub mod ReopenLemmas
 pub mod AllOrNoneLemmas
 pub mod VerificationLemmas
+pub mod DumpedLemmas

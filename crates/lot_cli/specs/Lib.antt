@@ -1,6 +1,9 @@
 pub mod HaltLine
 pub mod Says
 pub mod Init
+pub mod Restore
+pub mod Differ
+pub mod Dumped
 pub mod Runs
 pub mod Reports
 pub mod Check

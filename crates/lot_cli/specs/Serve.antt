@@ -13,6 +13,7 @@ use Rattle.lot_report.specs.Printed.{line}
 use Rattle.lot_cli.specs.Check.{Checks}
 use Rattle.lot_cli.specs.Init.{Makes}
 use Rattle.lot_cli.specs.Reports.{Reports, ShowsBook, verified_line}
+use Rattle.lot_cli.specs.Restore.{RestoresBook, terms_for}
 use Rattle.lot_cli.specs.Runs.{Imports, IsUntouched, Posts, PostsRow, unfit}
 use Rattle.lot_cli.specs.Says.{Halts, Succeeds, Told}
 use Rattle.lot_cli.specs.declared.halt.Halt.TheVariants as halt
@@ -27,7 +28,7 @@ use Rattle.lot_args.specs.declared.action.Action.{Action}
 use Rattle.lot_args.specs.declared.action.Saying.{Saying}
 use Rattle.lot_args.specs.declared.action.Saying.TheVariants.{Digest, Verified}
 use Rattle.lot_input.specs.Input.{Reading}
-use Rattle.lot_args.specs.declared.action.Action.TheVariants.{Check, Init, Migrate, Post, PostRow, Import, Holdings, Gains, Journal, Dump, Verify}
+use Rattle.lot_args.specs.declared.action.Action.TheVariants.{Check, Init, Migrate, Post, PostRow, Import, Holdings, Gains, Journal, Dump, Restore, Verify}
 use Rattle.std.specs.Io.KnownBytes.{Appends}
 
 -- ---- taking over a book of edition 1
@@ -110,6 +111,7 @@ ReadsNothing (Holdings book day format) = ⊤
 ReadsNothing (Gains book first last format) = ⊤
 ReadsNothing (Journal book) = ⊤
 ReadsNothing (Dump book) = ⊤
+ReadsNothing (Restore asked) = ⊥
 ReadsNothing (Verify book saying) = ⊤
 
 -- the numbers with which an action ends: a post in place of a row may find that its text doesn't fit
@@ -124,6 +126,7 @@ EndsWith (Holdings book day format) status = IsStatus status
 EndsWith (Gains book first last format) status = IsStatus status
 EndsWith (Journal book) status = IsStatus status
 EndsWith (Dump book) status = IsStatus status
+EndsWith (Restore asked) status = IsStatus status
 EndsWith (Verify book saying) status = IsStatus status
 
 -- a call: what is known of the reader; the database before and after it; what is known of the bytes that were written before
@@ -155,4 +158,5 @@ Serves (Holdings book day format) c = Reports (report.Holdings day format) c.old
 Serves (Gains book first last format) c = Reports (report.Gains first last format) c.old c.new c.before c.written c.calls c.told
 Serves (Journal book) c = Reports report.Journal c.old c.new c.before c.written c.calls c.told
 Serves (Dump book) c = Reports report.Dump c.old c.new c.before c.written c.calls c.told
+Serves (Restore asked) c = RestoresBook (terms_for asked) c.input c.old c.new c.before c.written c.calls c.told
 Serves (Verify book saying) c = SaysVerified saying c.old c.new c.before c.written c.calls c.told

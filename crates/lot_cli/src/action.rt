@@ -11,6 +11,7 @@ use crate::import::import;
 use crate::migration::migrate;
 use crate::post::{post, post_row};
 use crate::report::{Report, write_report};
+use crate::restoration::restore;
 use crate::run::{halted, tell};
 use crate::verification::verify;
 use lot_args::Action;
@@ -48,6 +49,8 @@ pub struct Served<S: Alter> {
 /// - `holdings`, `gains`, `journal` and `dump` take the book up and write the report, each row as it is read. The first two write
 ///   text or CSV. They read no input and change nothing. Where a report ends before its end, one line with the fault follows, unless
 ///   the writer failed.
+/// - `restore` makes a book of the dump that the reader has, in a database without tables. Each command is judged again, and one
+///   commit makes the book; it writes what was refused, what left out no entry, and `book restored`.
 /// - `verify` judges the book again from its entries, compares every table, and writes `book verified`, and where that is asked
 ///   for, what the last line of its dump says. It reads no input and changes nothing.
 /// - Without a subcommand a check is done. It leaves the book alone. With an account for crumbs it makes a book in a database
@@ -138,6 +141,7 @@ pub fn serve<R: CountedRead, W: CountedWrite, P: Progress + Watch + Look, S: Alt
         }
         Action::Journal { .. } => write_report(alloc, Report::Journal, writer, conn),
         Action::Dump { .. } => write_report(alloc, Report::Dump, writer, conn),
+        Action::Restore(asked) => restore(alloc, asked, reader, writer, conn),
         Action::Verify { saying, .. } => verify(alloc, *saying, writer, conn),
     }
 }

@@ -10,9 +10,11 @@ ghost use Rattle.lot_cli.specs.HaltLine.{
   verify_name,
 };
 
+use crate::unrestored::{print_restore_fault, status_of_restore};
 use lot_input::{InputFault, print_input_fault};
 use lot_migrate::MigrateFault;
 use lot_report::{CountedWrite, PrintFault, print_texts};
+use lot_restore::RestoreFault;
 use lot_store::{AdoptFault, CreateFault};
 use lot_stream::Status;
 use lot_verify::VerifyFault;
@@ -30,6 +32,8 @@ pub enum Halt {
     Migrate(MigrateFault),
     /// The book isn't verified.
     Verify(VerifyFault),
+    /// No book is made of a dump.
+    Restore(RestoreFault),
 }
 
 impl Halt {
@@ -39,6 +43,7 @@ impl Halt {
     {
         match self {
             Halt::Input(fault) => fault.status(),
+            Halt::Restore(fault) => status_of_restore(fault),
             Halt::Create(_) | Halt::Adopt(_) | Halt::Migrate(_) | Halt::Verify(_) => {
                 Status::Stopped
             }
@@ -61,11 +66,12 @@ pub(crate) fn print_halt<W: CountedWrite>(writer: &mut W, halt: Halt) -> Result<
         Halt::Adopt(fault) => print_texts(writer, &["fault ", adopt_name(fault), "\n"]),
         Halt::Migrate(fault) => print_texts(writer, &["fault ", migrate_name(fault), "\n"]),
         Halt::Verify(fault) => print_texts(writer, &["fault ", verify_name(fault), "\n"]),
+        Halt::Restore(fault) => print_restore_fault(writer, fault),
     }
 }
 
 /// Returns the code and the name of a fault of making a book.
-fn create_name(fault: CreateFault) -> &'static str
+pub(crate) fn create_name(fault: CreateFault) -> &'static str
     ensures { result.now ≡ create_name fault }
 {
     match fault {

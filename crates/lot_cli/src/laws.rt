@@ -37,6 +37,14 @@ ghost use Rattle.lot_cli.specs.Headline.{
 };
 ghost use Rattle.lot_cli.specs.Reopen.{IsOpenedAgain, LeavesOneOf, StandsForOneOf};
 ghost use Rattle.lot_stored.specs.StandFor.{Left, Stands};
+ghost use Rattle.lot_book_report.specs.Dump.{dump_text};
+ghost use Rattle.lot_dump.specs.Form.{IsHead};
+ghost use Rattle.lot_parts.specs.Dump.{dump_text as text_of_dump};
+ghost use Rattle.lot_restore.specs.DumpOfBook.{CanBeDumped, GivesBack};
+ghost use Rattle.lot_restore.specs.Restoring.{IsBookOf, JudgedDump, Terms};
+ghost use Rattle.lot_store.specs.Extent.{extent_of};
+ghost use Rattle.lot_stored.specs.Rows.{entry_rows};
+ghost use Rattle.lot_cli.specs.Dumped.{book_dump};
 
 use sqlite::Alter;
 use sqlite_disk::Disk;
@@ -166,4 +174,18 @@ pub fn what_is_applied_all_or_none_is_a_session<S: Alter>()
         verdicts ended)
         → ended ≡ Kept
         → LeavesOneOf (AreAllKept entries it.turned) (state S.Store new).may_leave }
+{}
+
+/// What `dump` writes of a book is its dump. Where that is restored, and nothing is left out, the book that is made is that book,
+/// with its place of migration.
+pub fn what_is_dumped_is_restored()
+    ensures text { (place : ℕ) (entries : List Entry)
+        → dump_text (extent_of place entries) (entry_rows 1 entries)
+        ≡ text_of_dump (book_dump place entries) }
+    ensures restored { (asked : Terms) (place : ℕ) (entries : List Entry)
+        → asked.without ≡ [] → CanBeDumped 1 entries → IsHead (book_dump place entries).head
+        → IsBookIn (After place) entries → place ≤ length entries
+        → (it : JudgedDump asked
+        (Some (dump_text (extent_of place entries) (entry_rows 1 entries))))
+        (book : List Entry) → IsBookOf asked it book → GivesBack asked it place entries book }
 {}

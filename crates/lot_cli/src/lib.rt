@@ -6,6 +6,7 @@
 //! - `post`: ledger text posted to the book that is there; `import`: a broker file. `lot_input` says what an input gives.
 //! - `crumbs`: a check with an account that takes crumbs.
 //! - `migration`: a book of edition 1 taken over; `verification`: a book verified.
+//! - `restoration`: a book made of a dump; `unrestored`: why none is; `difference`: how it differs from another.
 //! - `run`: commands run on the book that is there, each in one commit, or all in one or none.
 //! - `report`: reports of the book that is there.
 //! - `halt`: why an action ends before its first command.
@@ -14,26 +15,33 @@
 
 mod action;
 mod crumbs;
+mod difference;
 mod halt;
 mod import;
 pub mod laws;
 mod migration;
 mod post;
 mod report;
+mod restoration;
 mod run;
+mod unrestored;
 mod verification;
 
 pub use action::{Served, serve};
+pub use difference::tell_differences;
 pub use halt::Halt;
 pub use lot_args::{
-    Action, BadOption, Batch, Effect, Format, Import, Keeping, Notes, Post, Request, Start,
-    WordsFault, parse_words,
+    Action, BadOption, Batch, Effect, Format, Import, Keeping, Notes, Post, Request, Restore,
+    Start, WordsFault, parse_words,
 };
 pub use lot_atomic::Look;
 pub use lot_completion::{Note, Watch};
 pub use lot_input::InputFault;
 pub use lot_migrate::{MigrateFault, Progress};
+pub use lot_parts::{CommandFault, DumpFault};
 pub use lot_report::{CountedWrite, CountedWriter};
+pub use lot_restore::RestoreFault;
 pub use lot_store::{AdoptFault, CreateFault};
-pub use lot_stream::{Counted, CountedRead, SlurpFault, slurp};
+pub use lot_stream::{Counted, CountedRead, SlurpFault, Status, slurp};
 pub use lot_verify::VerifyFault;
+pub use run::say_halt;

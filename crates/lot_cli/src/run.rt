@@ -209,7 +209,7 @@ pub(crate) fn halted<W: CountedWrite, S: Alter>(
 }
 
 /// Reports why an action ends before its first command, and returns the status of the program.
-pub(crate) fn say_halt<W: CountedWrite>(writer: &mut W, halt: Halt) -> u8
+pub fn say_halt<W: CountedWrite>(writer: &mut W, halt: Halt) -> u8
     ensures says { Halts halt
         (W.contents writer.old) (W.contents writer.new) (record {
           before = W.calls writer.old;

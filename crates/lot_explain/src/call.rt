@@ -30,6 +30,8 @@ pub enum Source<'a> {
         batch: &'a str,
         accounts: &'a Accounts,
     },
+    /// A dump, which isn't kept.
+    Dump,
 }
 
 /// The key of a command.
@@ -66,12 +68,13 @@ pub struct Call<'a> {
 
 impl<'a> Call<'a> {
     /// Returns the key of a command. Its name is the number of the command or, in a broker file,
-    /// the `ref`.
+    /// the `ref`. Those of a dump aren't known.
     pub(crate) fn key(&self, name: &'a str) -> Key<'a> {
         let (word, batch, name) = match self.source {
             Source::Text { batch } => ("post", batch, name),
             Source::Row { batch, reference } => ("import", batch, reference),
             Source::Rows { batch, .. } => ("import", batch, name),
+            Source::Dump => ("", "", name),
         };
         Key { word, batch, name }
     }
@@ -115,6 +118,7 @@ pub fn notes<W: Write, B: Known>(
     match &reading {
         Reading::Text { .. } => warn_of_text(alloc, &mut warnings, book, call)?,
         Reading::Rows { rows, .. } => warn_of_rows(alloc, &mut warnings, call, rows)?,
+        Reading::Dump => {}
     }
     warnings.end()
 }

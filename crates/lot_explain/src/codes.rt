@@ -4,6 +4,7 @@
 mod booking;
 mod broker;
 mod decision;
+mod dump;
 mod ending;
 mod program;
 mod store;
@@ -52,13 +53,14 @@ pub enum Examples {
 }
 
 /// Returns the tables of all codes, in the order of docs/RULES.md, *All codes*.
-pub(crate) fn tables() -> [&'static [Code]; 8] {
+pub(crate) fn tables() -> [&'static [Code]; 9] {
     [
         &value::CODES,
         &booking::CODES,
         &decision::CODES,
         &ending::CODES,
         &text::CODES,
+        &dump::CODES,
         &broker::CODES,
         &store::CODES,
         &program::CODES,

@@ -25,6 +25,8 @@ pub(crate) enum Place<'a> {
     },
     /// The command or row of that number, from 1, whose line isn't known.
     Number(usize),
+    /// The line of that number, from 1, which isn't kept.
+    Unkept(usize),
     /// The whole input.
     Whole,
 }
@@ -36,7 +38,7 @@ impl<'a> Place<'a> {
             Place::Line { line, .. } | Place::Command { line, .. } | Place::Row { line, .. } => {
                 Some(Shown(line.trim_ascii_start()))
             }
-            Place::Number(_) | Place::Whole => None,
+            Place::Number(_) | Place::Unkept(_) | Place::Whole => None,
         }
     }
 }
@@ -55,6 +57,7 @@ impl fmt::Display for Place<'_> {
                 write!(f, "row {row} ({name}): ")
             }
             Place::Number(number) => write!(f, "number {number}: "),
+            Place::Unkept(number) => write!(f, "line {number}: "),
             Place::Whole => Ok(()),
         }
     }

@@ -22,6 +22,8 @@ pub(crate) enum Reading<'a> {
         accounts: &'a Accounts,
         records: Records<'a>,
     },
+    /// A dump, of which nothing is kept.
+    Dump,
 }
 
 impl<'a> Reading<'a> {
@@ -41,19 +43,21 @@ impl<'a> Reading<'a> {
                 accounts,
                 records: Records::new(alloc, call.input)?,
             },
+            Source::Dump => Reading::Dump,
         })
     }
 
     /// Returns the first record of a broker file as it stands there, without blanks around it.
     pub(crate) fn header(&self) -> &[u8] {
         match self {
-            Reading::Text { .. } => b"",
+            Reading::Text { .. } | Reading::Dump => b"",
             Reading::Rows { records, .. } => records.header.trim_ascii(),
         }
     }
 
-    /// Goes on to the command or row of that number, or to a posting of that command by its place,
-    /// and returns its place; all count from 1. The only error is out of memory.
+    /// Goes on to the command or row of that number, to a posting of that command by its place, or
+    /// to the line of that number of a dump, and returns its place; all count from 1. The only error
+    /// is out of memory.
     pub(crate) fn go_to(
         &mut self,
         number: usize,
@@ -69,6 +73,7 @@ impl<'a> Reading<'a> {
                 None => Place::Number(number),
             }),
             Reading::Rows { records, .. } => records.go_to(number),
+            Reading::Dump => Ok(Place::Unkept(number)),
         }
     }
 }

@@ -51,7 +51,9 @@ pub(crate) fn note_lines<W: Write, B: Known>(
 ) -> io::Result<()> {
     for line in Lines::new(call.lines) {
         match heard(line) {
-            Some(said) if said.code.starts_with('X') => faulty_lines(alloc, notes, call.input)?,
+            Some(said) if said.code.starts_with('X') && !matches!(reading, Reading::Dump) => {
+                faulty_lines(alloc, notes, call.input)?;
+            }
             Some(said) if said.code == "C2" => faulty_rows(alloc, notes, call.input)?,
             Some(said) => note_said(alloc, notes, book, call, reading, &said)?,
             None => {}
@@ -165,6 +167,7 @@ fn known<'a, B: Known>(
             },
             None => Ok(String::new(alloc)),
         },
+        Reading::Dump => Ok(String::new(alloc)),
     }
 }
 

@@ -1,14 +1,14 @@
 -- What a line says: it is cut at its first blank.
 use Rattle.std.proofs.Common.{◌≡◌, ◌≢◌, ◌<◌, ◌^◌, ◌++◌, ◌∷◌, inl, inr, ℕ, zero, suc, List, Option, None, Some, length, arith, Bor, get_or, ap, sym, ◌∙◌}
-use Rattle.std.specs.Prelude.{◌⊎◌, IsUtf8, Result, Ok, Err, codes}
+use Rattle.std.specs.Prelude.{IsUtf8, Result, Ok, Err, codes}
 use Rattle.std.specs.Fmt.{decimal}
 use Rattle.std.specs.Str.Parse.{IsNumeral, ParsesUnsigned, without_leading_plus}
 use Rattle.std.proofs.lemmas.Fmt.{decimal_is_IsNumeral, parse-decimal}
 use Rattle.std.proofs.lemmas.Str.Parse.{digit_at}
 use Rattle.std.proofs.lemmas.Str.Pattern.{IsSplitOnceResult, split_after, split_parts}
-use Rattle.lot_output.specs.Course.{IsToldBy, Says, said_of}
+use Rattle.lot_output.specs.Course.{IsToldBy, Says, said_by, said_of}
 use Rattle.lot_output.specs.declared.course.Said.{Said}
-use Rattle.lot_output.specs.declared.course.Said.TheVariants.{Fault}
+use Rattle.lot_output.specs.declared.course.Said.TheVariants.{Fault, Restored}
 
 -- ---- A line without a first word.
 
@@ -16,6 +16,7 @@ pub not_text : (line : List ℕ) → (IsUtf8 line → ⊥) → Says line None
 not_text line not = record {
   numbered = λ number rest small utf8 is. absurd (not utf8);
   fault = λ rest utf8 is. absurd (not utf8);
+  restored = λ utf8 is. absurd (not utf8);
   other = λ found is. cc;
 }
 
@@ -38,12 +39,22 @@ no_blank_in_fault (suc (suc (suc (suc (suc i))))) inside = absurd (omega (arith,
 -- what is said by a word, which is read as a number where it is one
 abbrev pub SaidBy : {E : Type 0} → List ℕ → List ℕ → Result ℕ E → Option Said → Type 0
 SaidBy word rest (Ok number) said = said ≡ said_of number rest
-SaidBy word rest (Err error) said =
-    ((word ≡ codes "fault") × (said ≡ Some Fault)) ⊎ ((word ≢ codes "fault") × (said ≡ None))
+SaidBy word rest (Err error) said = said ≡ said_by word rest
+
+no_blank_in_book : (i : ℕ) → i < length (codes "book") → get_or (codes "book") i 0 ≢ 32
+no_blank_in_book zero inside = λ is. omega (arith, is)
+no_blank_in_book (suc zero) inside = λ is. omega (arith, is)
+no_blank_in_book (suc (suc zero)) inside = λ is. omega (arith, is)
+no_blank_in_book (suc (suc (suc zero))) inside = λ is. omega (arith, is)
+no_blank_in_book (suc (suc (suc (suc i)))) inside = absurd (omega (arith, inside))
 
 no_number : IsNumeral 10 (without_leading_plus (codes "fault")) → ⊥
 no_number numeral =
     let digit = digit_at (codes "fault") 0 numeral.1 (omega arith) in omega (arith, digit.1)
+
+no_number_of_book : IsNumeral 10 (without_leading_plus (codes "book")) → ⊥
+no_number_of_book numeral =
+    let digit = digit_at (codes "book") 0 numeral.1 (omega arith) in omega (arith, digit.1)
 
 module _ {E : Type 0} (word rest line : List ℕ) where
   by_number : (number : ℕ) (read : Result ℕ E) (said : Option Said) → read ≡ Ok number → SaidBy word rest read said
@@ -54,16 +65,19 @@ module _ {E : Type 0} (word rest line : List ℕ) where
   by_fault : (read : Result ℕ E) (said : Option Said) → word ≡ codes "fault" → ParsesUnsigned 64 10 word read → SaidBy word rest read said
       → said ≡ Some Fault
   by_fault (Ok number) said is read so = let here = read.0.0 in absurd (no_number (rw is at here))
-  by_fault (Err error) said is read (inl both) = both.1
-  by_fault (Err error) said is read (inr both) = absurd (both.0 is)
+  by_fault (Err error) said is read so = so ∙ ap (λ w. said_by w rest) is
+
+  by_book : (read : Result ℕ E) (said : Option Said) → word ≡ codes "book" → rest ≡ codes "restored\n" → ParsesUnsigned 64 10 word read
+      → SaidBy word rest read said → said ≡ Some Restored
+  by_book (Ok number) said is behind read so = let here = read.0.0 in absurd (no_number_of_book (rw is at here))
+  by_book (Err error) said is behind read so = so ∙ ap (λ w. said_by w rest) is ∙ ap (said_by (codes "book")) behind
 
   by_other : (read : Result ℕ E) (said : Option Said) (found : Said) → line ≡ word ++ 32 ∷ rest → ParsesUnsigned 64 10 word read
       → SaidBy word rest read said → said ≡ Some found
       → (w : List ℕ) × (r : List ℕ) × (line ≡ w ++ 32 ∷ r) × IsToldBy w r found
   by_other (Ok number) said found is read so told =
       (word, rest, is, inr (read.0.0, ap (λ n. said_of n rest) (sym read.1) ∙ sym so ∙ told))
-  by_other (Err error) said found is read (inl both) told = let same : found ≡ Fault = cc in (word, rest, is, inl (both.0, same))
-  by_other (Err error) said found is read (inr both) told = cc
+  by_other (Err error) said found is read so told = (word, rest, is, inl (sym so ∙ told))
 
 pub told : (E : Type 0) (line : List ℕ) (cut : Option (Bor (List ℕ) × Bor (List ℕ))) (word rest : Bor (List ℕ))
     (read : Result ℕ E) (said : Option Said) → IsSplitOnceResult 32 line cut → cut ≡ Some (word, rest)
@@ -81,6 +95,10 @@ told E line cut word rest read said halves is parsed so =
           let cuts = split_after 32 line (codes "fault") behind cut halves (omega arith) begins no_blank_in_fault in
           let both = rw is at cuts in
           by_fault word.now rest.now line read said both.0 parsed so;
+      restored = λ utf8 begins.
+          let cuts = split_after 32 line (codes "book") (codes "restored\n") cut halves (omega arith) begins no_blank_in_book in
+          let both = rw is at cuts in
+          by_book word.now rest.now line read said both.0 both.1 parsed so;
       other = λ found told. by_other word.now rest.now line read said found here.0 parsed so told;
     }
 
@@ -93,6 +111,9 @@ one_word line cut halves is = record {
       absurd (rw is at cuts);
   fault = λ rest utf8 begins.
       let cuts = split_after 32 line (codes "fault") rest cut halves (omega arith) begins no_blank_in_fault in
+      absurd (rw is at cuts);
+  restored = λ utf8 begins.
+      let cuts = split_after 32 line (codes "book") (codes "restored\n") cut halves (omega arith) begins no_blank_in_book in
       absurd (rw is at cuts);
   other = λ found told. cc;
 }

@@ -6,7 +6,7 @@ use Rattle.std.specs.declared.io.ErrorKind.TheVariants.{Interrupted}
 use Rattle.lot_output.specs.Course.{Says, course_after}
 use Rattle.lot_output.specs.declared.course.Course.{Course}
 use Rattle.lot_output.specs.declared.course.Said.{Said}
-use Rattle.lot_output.specs.declared.course.Said.TheVariants.{Accepted, Fault, Refused, Repeated, Stopped}
+use Rattle.lot_output.specs.declared.course.Said.TheVariants.{Accepted, Fault, Refused, Repeated, Restored, Stopped}
 use Rattle.lot_output.specs.Record.{Keeps}
 use Rattle.lot_output.specs.declared.heard.Heard.{Heard}
 use Rattle.lot_output.specs.declared.record.Kept.{Kept}
@@ -24,6 +24,7 @@ is_kept most refused (Some (Repeated number)) = false
 is_kept most refused (Some (Refused number)) = nat_le refused most
 is_kept most refused (Some (Stopped number)) = true
 is_kept most refused (Some Fault) = true
+is_kept most refused (Some Restored) = false
 
 -- a line is kept behind those before it, or left out
 abbrev pub KeepsIf : Bool → List ℕ → Kept → Kept → Type 0

@@ -1,7 +1,7 @@
 //! How far a run came, by its replies.
 
 ghost use Rattle.std.specs.Prelude.{◌≡◌};
-ghost use Rattle.lot_output.specs.Course.{Says, course_after, said_of};
+ghost use Rattle.lot_output.specs.Course.{Says, course_after, said_by, said_of};
 
 use std::str;
 
@@ -15,6 +15,8 @@ pub(crate) enum Said {
     Stopped(u64),
     /// Any other fault.
     Fault,
+    /// That a book is made of a dump.
+    Restored,
 }
 
 /// How far a run came, by the replies and the faults that were handed over.
@@ -28,6 +30,8 @@ pub struct Course {
     pub standing: Option<u64>,
     /// The number of the command of the last line.
     pub last: Option<u64>,
+    /// Whether a book is made of a dump.
+    pub restored: bool,
 }
 
 impl Course {
@@ -39,6 +43,7 @@ impl Course {
         faults: 0,
         standing: None,
         last: None,
+        restored: false,
     };
 
     /// Returns how far the run came with one more line.
@@ -72,11 +77,15 @@ impl Course {
                 faults: self.faults.saturating_add(1),
                 ..self
             },
+            Said::Restored => Course {
+                restored: true,
+                ..self
+            },
         }
     }
 }
 
-/// Returns what a line says, where it is a reply or a fault.
+/// Returns what a line says, where it is a reply or a fault, or says that a book is made of a dump.
 pub(crate) fn said_in(line: &[u8]) -> Option<Said>
     ensures { Says line.now result }
 {
@@ -88,8 +97,20 @@ pub(crate) fn said_in(line: &[u8]) -> Option<Said>
     };
     match first.parse() {
         Ok(number) => said_of(number, rest.as_bytes()),
-        Err(_) if first == "fault" => Some(Said::Fault),
-        Err(_) => None,
+        Err(_) => said_by(first, rest),
+    }
+}
+
+/// Returns what a line says that begins with a word which is no number.
+fn said_by(word: &str, rest: &str) -> Option<Said>
+    ensures { result ≡ said_by word.now rest.now }
+{
+    if word == "fault" {
+        Some(Said::Fault)
+    } else if word == "book" && rest == "restored\n" {
+        Some(Said::Restored)
+    } else {
+        None
     }
 }
 

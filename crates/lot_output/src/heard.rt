@@ -60,7 +60,7 @@ impl<W> Witness<W> {
         };
         self.heard.course = self.heard.course.after(said);
         let is_kept = match said {
-            Said::Accepted(_) | Said::Repeated(_) => false,
+            Said::Accepted(_) | Said::Repeated(_) | Said::Restored => false,
             Said::Refused(_) => self.heard.course.refused <= self.most,
             Said::Stopped(_) | Said::Fault => true,
         };

@@ -6,4 +6,6 @@ mod SoFarLemmas
 mod JudgeLemmas
 mod PlaceLemmas
 pub mod RestoredLemmas
+mod StoppedLemmas
 mod WholeLemmas
+pub mod DumpOfBookLemmas

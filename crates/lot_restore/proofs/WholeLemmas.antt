@@ -1,18 +1,23 @@
 -- A whole dump, from its head on.
-use Rattle.std.proofs.Common.{◌≡◌, ◌∙◌, ◌⊎◌, inl, inr, Bool, true, false, IsTrue, List, ℕ, [], ◌∷◌, ◌++◌, None, Option, Some, ap, append-nil, flat_map, map, refl, subst, sym}
+use Rattle.std.proofs.Common.{◌≡◌, ◌∙◌, ◌⊎◌, inl, inr, Bool, true, false, IsTrue, List, ℕ, [], ◌∷◌, ◌++◌, Err, None, Option, Some, ap, append-nil, append_assoc, flat_map, map, refl, subst, sym}
 use Rattle.std.specs.Borrow.{Bor}
+use Rattle.std.specs.Prelude.{IfSome}
 use Rattle.std.specs.Io.KnownBytes.{Appends}
 use Rattle.sqlite.specs.State.{HasCleanDisk, IsLive, KeepsCommit, State, Survives}
 use Rattle.sqlite_catalog.specs.Listing.{IsSound}
 use Rattle.lot_load.specs.Kept.{IsOf}
+use Rattle.lot_dump.specs.Form.{end_text, head_text}
 use Rattle.lot_dump.specs.declared.head.Head.{Head}
-use Rattle.lot_parts.specs.Commands.{BeginsCommands, IsReadWhole, front_of}
-use Rattle.lot_parts.specs.Dump.{Dump, IsUnchanged}
+use Rattle.lot_parts.specs.Commands.{BeginsCommands, IsReadWhole, front_of, front_text}
+use Rattle.lot_parts.specs.Dump.{Dump, IsUnchanged, dump_text, part_text}
 use Rattle.lot_parts.specs.Sum.{IsSumOf, SaysOtherwise}
 use Rattle.lot_parts.specs.declared.compare.SumFault.{SumFault}
 use Rattle.lot_parts.specs.declared.dumped.Dumped.{Dumped}
 use Rattle.lot_parts.specs.declared.step.Sum.{Sum}
 use Rattle.lot_report.specs.Output.{WriteCalls}
+use Rattle.lot_report.specs.Printed.{line}
+use Rattle.lot_report.specs.Written.{WritesLine}
+use Rattle.lot_report.specs.declared.line.PrintFault.{PrintFault}
 use Rattle.lot_store.specs.Create.{RefusedFor}
 use Rattle.lot_store.specs.declared.fault.CreateFault.{CreateFault}
 use Rattle.lot_store.specs.declared.fault.CreateFault.TheVariants as create
@@ -24,6 +29,7 @@ use Rattle.lot_restore.specs.LeftOut.{kept_of, unmet_of}
 use Rattle.lot_restore.specs.Lines.{unmet_line, unmet_lines, verdict_lines}
 use Rattle.lot_restore.specs.Restoring.{FailsAt, FailsInside, IsBehindAll, IsFresh, JudgesWhole, LacksRoom, Point, SumFails, Terms, outcome_of}
 use Rattle.lot_restore.specs.SoFar.{SoFar}
+use Rattle.lot_restore.specs.Stopped.{BeginsWith, SaysSome}
 use Rattle.lot_restore.specs.declared.fault.RestoreFault.{RestoreFault}
 use Rattle.lot_restore.specs.declared.fault.RestoreFault.TheVariants.{Book, Sum as OfSum, Text, Write}
 use Rattle.lot_restore.specs.declared.restoration.Refused.TheVariants as refused
@@ -33,6 +39,7 @@ use Rattle.lot_without.specs.declared.terms.Strictness.TheVariants.{Unchanged}
 use Rattle.lot_restore.proofs.PlaceLemmas.{failed_since}
 use Rattle.lot_restore.proofs.RestoredLemmas.{none_restored}
 use Rattle.lot_restore.proofs.SaidLemmas.{appends_both}
+use Rattle.lot_restore.proofs.StoppedLemmas.{all_some, begins_as, cut_some, says_some, some_behind}
 
 -- ---- no command yet
 
@@ -108,6 +115,29 @@ let_go place done verdicts Kept s it = record {
   stands = record { stands = it.stands.stands; placed = it.stands.placed; kept = tt };
 }
 
+-- a whole dump is its front and its end
+whole_again : (input : Option (List ℕ)) (dump : Dump) → IfSome input (λ text. text ≡ dump_text dump)
+    → IfSome input (λ text. text ≡ front_text (record { head = dump.head; above = dump.above; parts = dump.parts }) ++ line (end_text dump.end))
+whole_again None dump is = tt
+whole_again (Some text) dump is =
+    let head = line (head_text dump.head) in
+    let parts = flat_map part_text dump.parts in
+    let end = line (end_text dump.end) in
+    is ∙ ap (λ t. head ++ t) (sym (append_assoc dump.above parts end)) ∙ sym (append_assoc head (dump.above ++ parts) end)
+
+-- what was judged of a dump that was read to its end is said, also where nothing is made of it
+pub says_judged : (asked : Terms) (input before written : Option (List ℕ)) (s : State) (how : Restored) → JudgesWhole asked input before written s how
+    → SaysSome asked.without input before written
+says_judged asked input before written s how judges =
+    let it = judges.0 in
+    record {
+      commands = it.commands;
+      begin = begins_as input (record { head = it.dump.head; above = it.dump.above; parts = it.dump.parts }) (line (end_text it.dump.end)) it.commands
+          it.read.is.2 (whole_again input it.dump it.read.whole);
+      verdicts = it.verdicts;
+      some = all_some before written _ judges.2;
+    }
+
 module _ (asked : Terms) (start : Option (List ℕ)) (head : Head) (old new : Point) (begins : BeginsCommands start old.known head old.reading)
     (so : SoFar head.place old.written old.written [] old.made old.state) (terms : old.made.without.now ≡ asked.without)
     (same : new.made.without ≡ old.made.without) (sum : Sum) (all : IsBehindAll sum old new) where
@@ -149,3 +179,32 @@ module _ (asked : Terms) (start : Option (List ℕ)) (head : Head) (old new : Po
             (subst (λ (w : List Without). AreRestored head.place (kept_of w at.1) at.4.verdicts (IsOf new.made.restorer.kept) new.state) without_is
             (at.4.restored clean))),
       )
+
+  -- the dump begins with all its commands
+  begins_whole : IfSome start (BeginsWith at.1)
+  begins_whole =
+      let dump = at.0 in
+      begins_as start (record { head = dump.head; above = dump.above; parts = dump.parts }) (line (end_text dump.end)) at.1 at.2.is.2
+      (whole_again start dump at.2.whole)
+
+  -- what is written where it isn't what it says, or where what leaves out none isn't written
+  pub says_compared : SaysSome asked.without start old.written new.written
+  says_compared =
+      says_some asked.without start old.written new.written at.1 at.4.verdicts begins_whole
+      (all_some old.written new.written _
+      (subst (λ (w : List Without). Appends old.written new.written (verdict_lines (kept_of w at.1) at.4.verdicts)) without_is at.4.written))
+
+  pub says_unmet : (written : Option (List ℕ)) (fault : PrintFault)
+      → WritesLine new.written written (Err fault) (flat_map (λ (it : Bor Without). unmet_line it.now) new.made.unmet.items)
+      → SaysSome asked.without start old.written written
+  says_unmet written fault wrote =
+      let unmet : map (λ it. it.now) new.made.unmet.items ≡ unmet_of asked.without at.1 = at.4.unmet ∙ ap (λ w. unmet_of w at.1) without_is in
+      record {
+        commands = at.1;
+        begin = begins_whole;
+        verdicts = at.4.verdicts;
+        some = some_behind old.written new.written written _ _
+            (subst (λ (w : List Without). Appends old.written new.written (verdict_lines (kept_of w at.1) at.4.verdicts)) without_is at.4.written)
+            (cut_some new.written written _ fault
+            (subst (WritesLine new.written written (Err fault)) (lines_of new.made.unmet.items ∙ ap unmet_lines unmet) wrote));
+      }

@@ -5,3 +5,5 @@ pub mod Lines
 pub mod Restored
 pub mod SoFar
 pub mod Restoring
+pub mod Stopped
+pub mod DumpOfBook

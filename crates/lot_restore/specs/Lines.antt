@@ -1,13 +1,11 @@
 -- The lines that restoring writes (docs/FORMATS.md, Dump).
-use Rattle.std.specs.Prelude.{ℕ, List, [], ◌∷◌, ◌++◌, codes, decimal, flat_map, Option, Result}
+use Rattle.std.specs.Prelude.{ℕ, List, [], ◌∷◌, ◌++◌, codes, decimal, flat_map}
 use Rattle.lot_command.specs.declared.key.Key.{Key}
 use Rattle.lot_book.specs.declared.refusal.Refusal.TheVariants.{KeyReused}
 use Rattle.lot_book.specs.declared.verdict.Verdict.{Verdict}
 use Rattle.lot_book.specs.declared.verdict.Verdict.TheVariants.{Accepted, Repeated, Refused}
 use Rattle.lot_parts.specs.declared.dumped.Dumped.{Dumped}
 use Rattle.lot_report.specs.Printed.{line, refusal_text}
-use Rattle.lot_report.specs.Written.{WritesLine}
-use Rattle.lot_report.specs.declared.line.PrintFault.{PrintFault}
 use Rattle.lot_without.specs.Without.{without_text}
 use Rattle.lot_without.specs.declared.without.Without.{Without}
 
@@ -32,7 +30,3 @@ unmet_line it = line (without_text it ++ codes " met nothing")
 
 abbrev pub unmet_lines : List Without → List ℕ
 unmet_lines = flat_map unmet_line
-
--- What is said of a command is put behind what the writer held; where the writer fails, a prefix of it, but not all of it.
-abbrev pub WritesVerdict : Dumped → Verdict → Option (List ℕ) → Option (List ℕ) → Result (Unit {0}) PrintFault → Type 0
-WritesVerdict dumped verdict old new result = WritesLine old new result (verdict_line dumped verdict)

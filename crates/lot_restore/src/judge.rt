@@ -26,7 +26,7 @@ impl Restorer {
     /// On a book with that place `Device` comes where the disk failed, or where the database has no room for what the command
     /// writes. `Damaged` comes only where the tables stand for no such book, and else out of memory. After an error the last
     /// commit stands, and the caller drops the transaction.
-    pub fn judge<S: Alter>(
+    pub(crate) fn judge<S: Alter>(
         &mut self,
         alloc: Global,
         tx: &mut Transaction<'_, S>,

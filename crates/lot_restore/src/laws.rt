@@ -1,9 +1,14 @@
 //! Laws of restoring. Each is the contract of a function that does nothing.
-ghost use Rattle.std.specs.Prelude.{◌≡◌, ◌≤◌, ℕ, [], List, length};
+ghost use Rattle.std.specs.Prelude.{◌≡◌, ◌≤◌, ℕ, [], List, Some, length};
 ghost use Rattle.lot_book.specs.Book.{IsBookIn};
 ghost use Rattle.lot_book.specs.Edition.{After};
 ghost use Rattle.lot_book.specs.Facts.{Entry};
 ghost use Rattle.lot_book.specs.declared.verdict.Verdict.{Verdict};
+ghost use Rattle.lot_dump.specs.Form.{IsEnd, IsHead};
+ghost use Rattle.lot_dump.specs.declared.end.End.{End};
+ghost use Rattle.lot_parts.specs.Dump.{dump_text};
+ghost use Rattle.lot_restore.specs.DumpOfBook.{CanBeDumped, GivesBack, dump_of_book};
+ghost use Rattle.lot_restore.specs.Restoring.{IsBookOf, JudgedDump, Terms};
 ghost use Rattle.lot_restore.specs.Restored.{NeverFall, Restores, all_accepted, dumped_from, place_after};
 ghost use Rattle.lot_parts.specs.declared.dumped.Dumped.{Dumped};
 
@@ -14,6 +19,16 @@ pub fn restoring_a_dump_gives_its_book()
     ensures place { (place : ℕ) (entries : List Entry) → place ≤ length entries
         → place_after place (dumped_from 1 entries) (all_accepted entries) 0 ≡ place }
     ensures rising { (entries : List Entry) → NeverFall 0 (dumped_from 1 entries) }
+{}
+
+/// Where the dump of a book is restored, and nothing is left out, the book that is made is that book, with its place of migration, and
+/// nothing is said but that it is made.
+pub fn restoring_the_dump_of_a_book_gives_it()
+    ensures { (asked : Terms) (place : ℕ) (entries : List Entry) (end : End)
+        → asked.without ≡ [] → CanBeDumped 1 entries → IsHead (dump_of_book place entries end).head
+        → IsEnd end → IsBookIn (After place) entries → place ≤ length entries
+        → (it : JudgedDump asked (Some (dump_text (dump_of_book place entries end))))
+        (book : List Entry) → IsBookOf asked it book → GivesBack asked it place entries book }
 {}
 
 /// Commands of a dump come to one list of verdicts, and to one book.

@@ -21,6 +21,4 @@ mod said;
 mod tables;
 
 pub use fault::RestoreFault;
-pub use restorer::Restorer;
 pub use restoring::{Restored, Restoring, restore};
-pub use tables::begin;

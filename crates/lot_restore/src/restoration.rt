@@ -1,9 +1,10 @@
 //! The commands of a dump so far, and what came of them.
-ghost use Rattle.std.specs.Prelude.{◌≡◌, ◌++◌, ◌∷◌, [], ℕ, IfErr, IsTrue, List, None, OnOk, Option};
+ghost use Rattle.std.specs.Prelude.{◌≡◌, ◌++◌, ◌∷◌, [], ℕ, IfErr, IsTrue, List, None, OnErr, OnOk, Option};
 ghost use Rattle.lot_parts.specs.declared.dumped.Dumped.{Dumped as DumpedValue};
 ghost use Rattle.lot_report.specs.Output.{HasFailed, NoneFailed};
 ghost use Rattle.lot_restore.specs.Restored.{NeverFall};
 ghost use Rattle.lot_restore.specs.SoFar.{JudgeFails, SoFar, refused_with};
+ghost use Rattle.lot_restore.specs.Stopped.{SaysSomeOf};
 ghost use Rattle.sqlite.specs.Held.{state};
 ghost use Rattle.sqlite.specs.State.{HasCleanDisk, KeepsCommit, Survives};
 
@@ -67,6 +68,8 @@ impl Restoration<'_> {
             (λ _. ⊥) }
         ensures fault { IfErr result (JudgeFails self.old dumped.now
             (state S.Store tx.old.conn.now) (state S.Store tx.new.conn.now) (W.calls writer.new)) }
+        ensures said { OnErr result (SaysSomeOf self.old.without.now dumped.now
+            (W.contents writer.old) (W.contents writer.new)) }
         ensures none_failed { OnOk result (NoneFailed (W.calls writer.old) (W.calls writer.new)) }
     {
         meet(&mut self.unmet, dumped);

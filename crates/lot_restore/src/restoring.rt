@@ -7,6 +7,7 @@ ghost use Rattle.lot_report.specs.Output.{HasFailed, NoneFailed};
 ghost use Rattle.lot_report.specs.Written.{WritesLine};
 ghost use Rattle.lot_restore.specs.Lines.{unmet_line};
 ghost use Rattle.lot_restore.specs.Restoring.{Fails, FailsBehind, FailsInside, IsBehindAll, IsFresh, JudgesWhole, MayMake, RestoresDump, outcome_of, restored_outcome, terms_of};
+ghost use Rattle.lot_restore.specs.Stopped.{ReadsIn, SaysSome, SaysSomeBehind};
 ghost use Rattle.lot_table.specs.Shape.{schema_of};
 ghost use Rattle.lot_store.specs.Step.{LeavesTables};
 ghost use Rattle.sqlite.specs.Held.{state};
@@ -52,7 +53,8 @@ pub enum Restored {
 /// of the dump. Of one that is refused a line is written, and behind all one for each option that leaves out no entry. Nothing is
 /// flushed.
 ///
-/// The error is one of these, and nothing is made then, or after `InDoubt` the book, or nothing:
+/// The error is one of these, and nothing is made then, or after `InDoubt` the book, or nothing. The lines of the first commands
+/// are written then, or a part of them.
 ///
 /// - `Book(NotABook)`: the database has tables. Nothing was read;
 /// - `Book(Device)`: the disk failed, or the database has no room for what a command writes;
@@ -81,6 +83,10 @@ pub fn restore<S: Alter, R: CountedRead, W: CountedWrite>(
         → OnErr result (LeavesTables (state S.Store conn.old) (state S.Store conn.new)) }
     ensures fails { IfErr result (Fails (terms_of asked.now) (R.remaining reader.old)
         (state S.Store conn.old) (state S.Store conn.new) (W.calls writer.new)) }
+    ensures read { ReadsIn result
+        (record { before = R.calls reader.old; after = R.calls reader.new }) }
+    ensures said { OnErr result (SaysSome asked.now.without.now (R.remaining reader.old)
+        (W.contents writer.old) (W.contents writer.new)) }
     ensures none_failed { OnOk result (NoneFailed (W.calls writer.old) (W.calls writer.new)) }
     ensures crash { Survives (state S.Store conn.old) (state S.Store conn.new)
         (MayMake (terms_of asked.now) (R.remaining reader.old) result) }
@@ -150,6 +156,10 @@ fn judge_whole<S: Alter, R: CountedRead, W: CountedWrite>(
         (λ _. ⊥) }
     ensures fails { IfErr result (FailsInside (terms_of asked.now) (R.remaining reader.old)
         (state S.Store tx.old.conn.now) (state S.Store tx.new.conn.now) (W.calls writer.new)) }
+    ensures read { ReadsIn result
+        (record { before = R.calls reader.old; after = R.calls reader.new }) }
+    ensures said { OnErr result (SaysSome asked.now.without.now (R.remaining reader.old)
+        (W.contents writer.old) (W.contents writer.new)) }
     ensures none_failed { OnOk result (NoneFailed (W.calls writer.old) (W.calls writer.new)) }
 {
     begin(alloc, tx)?;
@@ -222,6 +232,17 @@ fn judge_all<S: Alter, R: CountedRead, W: CountedWrite>(
         → KeepsCommit (state S.Store tx.old.conn.now) (state S.Store tx.new.conn.now) }
     ensures crash { Survives (state S.Store tx.old.conn.now) (state S.Store tx.new.conn.now)
         (λ _. ⊥) }
+    ensures read { ReadsIn result
+        (record { before = R.calls reader.old; after = R.calls reader.new }) }
+    ensures said { OnErr result (SaysSomeBehind
+        (record {
+          known = R.remaining reader.old;
+          reading = commands.old.dump;
+          written = W.contents writer.old;
+          made = restoration.old;
+          state = state S.Store tx.old.conn.now;
+        })
+        (W.contents writer.new)) }
     ensures none_failed { OnOk result (NoneFailed (W.calls writer.old) (W.calls writer.new)) }
 {
     'commands: for _ in 0..u64::MAX {

@@ -3,7 +3,7 @@ ghost use Rattle.std.specs.Prelude.{◌≡◌, ◌++◌, IfErr, OnErr, OnOk};
 ghost use Rattle.lot_report.specs.Output.{HasFailed, NoneFailed};
 ghost use Rattle.lot_report.specs.Printed.{line, refusal_text};
 ghost use Rattle.lot_report.specs.Written.{WritesLine};
-ghost use Rattle.lot_restore.specs.Lines.{WritesVerdict, entry_text, unmet_line};
+ghost use Rattle.lot_restore.specs.Lines.{entry_text, unmet_line, verdict_line};
 
 use itoa::Buffer;
 use lot_book::{Refusal, Verdict};
@@ -19,8 +19,8 @@ pub(crate) fn print_verdict<W: CountedWrite>(
     dumped: &Dumped,
     verdict: &Verdict,
 ) -> Result<(), PrintFault>
-    ensures bytes { WritesVerdict dumped.now verdict.now
-        (W.contents writer.old) (W.contents writer.new) result }
+    ensures bytes { WritesLine (W.contents writer.old) (W.contents writer.new) result
+        (verdict_line dumped.now verdict.now) }
     ensures fault { IfErr result (λ fault. fault ≡ PrintFault.Write) }
     ensures cause { OnErr result (HasFailed (W.calls writer.new)) }
     ensures none_failed { OnOk result (NoneFailed (W.calls writer.old) (W.calls writer.new)) }

@@ -17,7 +17,7 @@ use std::alloc::Global;
 ///
 /// The error is `NotABook` only where the database has a table, `Device` where the disk failed, or out of memory. After an error
 /// the last commit stands, and the caller drops the transaction.
-pub fn begin<S: Alter>(alloc: Global, tx: &mut Transaction<'_, S>) -> Result<(), CreateFault>
+pub(crate) fn begin<S: Alter>(alloc: Global, tx: &mut Transaction<'_, S>) -> Result<(), CreateFault>
     requires inside { HasCleanDisk (state S.Store tx.old.conn.now)
         → IsTrue (state S.Store tx.old.conn.now).in_transaction }
     requires unlimited { tx.old.conn.now.step_limit ≡ None }

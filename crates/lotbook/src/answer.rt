@@ -8,8 +8,8 @@ use lot_call::{
     Call, Fate, Standing, Watched, explain, say_fate, say_taken, say_unwritten, sum_up,
 };
 use lot_cli::{
-    AdoptFault, CountedWriter, CreateFault, Halt, Look, MigrateFault, Progress, Served,
-    VerifyFault, serve,
+    AdoptFault, CommandFault, CountedWriter, CreateFault, DumpFault, Halt, Look, MigrateFault,
+    Progress, RestoreFault, Served, VerifyFault, serve,
 };
 use lot_command::Key;
 use lot_completion::{Note, Watch};
@@ -98,7 +98,7 @@ fn speak<S: Alter>(
         conn,
     );
     match (halt, fate) {
-        (Some(halt), _) => advise(call, halt, conn),
+        (Some(halt), _) => advise(call, call.path, halt, conn),
         (None, Fate::Dropped | Fate::InDoubt) => {
             sum_up(call, &heard.course);
             say_fate(call, fate, &heard.course);
@@ -111,10 +111,10 @@ fn speak<S: Alter>(
     say_unwritten(call, heard, fate);
 }
 
-/// Says what helps where an action ended before its first command, since the file holds no book, or
-/// holds one already, or a damaged one.
-fn advise<S: Alter>(call: &Call<'_>, halt: Halt, conn: &mut Connection<S>) {
-    let (rt, path) = (call.rt, call.path);
+/// Says what helps where an action ended before its first command, since the file of that path holds no
+/// book, or holds one already, or a damaged one.
+pub fn advise<S: Alter>(call: &Call<'_>, path: &str, halt: Halt, conn: &mut Connection<S>) {
+    let rt = call.rt;
     let standing = match halt {
         Halt::Adopt(AdoptFault::OlderEdition) | Halt::Verify(VerifyFault::OlderEdition) => {
             Some(Standing::OlderBook)
@@ -122,8 +122,15 @@ fn advise<S: Alter>(call: &Call<'_>, halt: Halt, conn: &mut Connection<S>) {
         Halt::Adopt(AdoptFault::NotABook)
         | Halt::Migrate(MigrateFault::NotABook)
         | Halt::Verify(VerifyFault::NotABook) => Standing::of_no_book(rt, path, conn),
-        Halt::Create(CreateFault::NotABook) => Standing::of_database(conn),
+        Halt::Create(CreateFault::NotABook)
+        | Halt::Restore(RestoreFault::Book(CreateFault::NotABook)) => {
+            Standing::of_database(conn)
+        }
         Halt::Verify(VerifyFault::Damaged) => return say_where(rt, path, conn),
+        Halt::Restore(RestoreFault::Text(CommandFault::Dump(DumpFault::NotADump { line }))) => {
+            let _ = eprintln!(rt; "lotbook: line {line} isn't what a dump has there");
+            return;
+        }
         _ => None,
     };
     if let Some(standing) = standing {

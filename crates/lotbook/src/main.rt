@@ -2,11 +2,13 @@
 //!
 //! - `book`: the book that a call is on.
 //! - `answer`: what the call is for is done there, and standard error says what there is to say.
+//! - `comparison`: the old book beside which one is restored.
 //! - `keeper`: the reader of a call, which keeps what was read.
 #![tactic(auto)]
 
 mod answer;
 mod book;
+mod comparison;
 mod keeper;
 
 use crate::book::act;

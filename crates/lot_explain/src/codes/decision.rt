@@ -8,8 +8,9 @@ pub(super) static CODES: [Code; 8] = [
         name: "KeyReused",
         brief: "another command has this key already",
         rule: "A command is known by its batch and its number, a row of a broker file by its batch \
-            and its ref. Under this key the book has another command already, and what is in the \
-            book doesn't change.",
+            and its ref, an entry of a dump by the key above it. Under this key the book has \
+            another command already, and what is in the book doesn't change. In a dump no key \
+            comes twice.",
         examples: Examples::Rows {
             refused: r#"
 ref,date,action,symbol,units,price,currency,fee

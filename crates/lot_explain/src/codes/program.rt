@@ -26,8 +26,9 @@ $ lotbook --help
         brief: "the value of an option is outside its rule",
         rule: "The value of an option is outside its rule: a batch has 1 to 32 letters, digits, \
             points, underlines and dashes, an account and a day are those of ledger text. A post \
-            has either --batch or --row-of, and --ref stands beside --row-of alone. Standard error \
-            says which it is, and the status is 2.",
+            has either --batch or --row-of, and --ref stands beside --row-of alone. --without \
+            takes a key as a dump has it, its source and its name, and --without-entries two \
+            numbers with a dash between. Standard error says which it is, and the status is 2.",
         examples: Examples::Calls {
             refused: r#"
 $ lotbook init --book u.book
@@ -45,7 +46,7 @@ $ lotbook post --book u.book --batch my-batch < /dev/null
         code: "K1",
         name: "Read",
         brief: "the input can't be read",
-        rule: "Standard input can't be read to its end. Nothing was posted.",
+        rule: "Standard input can't be read to its end. Nothing was posted or restored.",
         examples: Examples::Calls {
             refused: r#"
 $ lotbook < /
@@ -60,8 +61,9 @@ $ lotbook < /dev/null
     Code {
         code: "K2",
         name: "TooLong",
-        brief: "the input has more than 16,777,216 bytes",
-        rule: "The input has more than 16,777,216 bytes. Nothing was posted.",
+        brief: "the input, or an entry of a dump, is too long",
+        rule: "The input has more than 16,777,216 bytes. A dump may have more, but neither an \
+            entry with more nor a line with more than 1,048,576. Nothing was posted or restored.",
         examples: Examples::Calls {
             refused: r#"
 $ head -c 16777217 /dev/zero | lotbook
@@ -79,11 +81,11 @@ $ head -c 16777216 /dev/zero | tr '\0' '\n' | lotbook
         name: "Memory",
         brief: "memory ended",
         rule: "Memory ended. The commands with a reply before the line are in the book; the \
-            command whose number the line has may be. Of a call with --all-or-none nothing is, or \
-            all where the line stands alone.",
+            command whose number the line has may be. Of a restore and of a call with --all-or-none \
+            nothing is, or all where the line stands alone.",
         examples: Examples::Absent,
         help: "With more memory send the same text again under the same batch, with --from and \
-            the number of the line; a call with --all-or-none whole.",
+            the number of the line; a restore or a call with --all-or-none whole.",
         page: "docs/RULES.md, Out of memory",
     },
     Code {

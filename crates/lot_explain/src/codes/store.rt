@@ -7,8 +7,9 @@ pub(super) static CODES: [Code; 11] = [
         code: "S1",
         name: "NotABook",
         brief: "there is no book in the file",
-        rule: "The file isn't there, is empty, or is a database of another program. Of init: the \
-            file is a book already, or another database.",
+        rule: "The file isn't there, is empty, or is a database of another program; or a restore \
+            that was stopped left it. Of init and restore: the file is a book already, or another \
+            database.",
         examples: Examples::Calls {
             refused: r#"
 $ lotbook holdings --book nothing.book
@@ -18,7 +19,8 @@ $ lotbook init --book family.book
 $ lotbook holdings --book family.book
 "#,
         },
-        help: "Correct the path, or make the book with lotbook init.",
+        help: "Correct the path, or make the book with lotbook init. A restore that was stopped is \
+            called again.",
         page: "docs/RULES.md, The program",
     },
     Code {
@@ -45,11 +47,11 @@ $ lotbook holdings --book family.book
         name: "Device",
         brief: "the disk refused before the commit",
         rule: "The disk, or a limit of the database's size, refused before the commit began. \
-            Nothing of this command is in the book. Those before it are, but of a call with \
-            --all-or-none nothing is.",
+            Nothing of this command is in the book. Those before it are, but of a restore and of a \
+            call with --all-or-none nothing is.",
         examples: Examples::Absent,
         help: "Make room, then send the same text again under the same batch, with --from and the \
-            number of this command; a call with --all-or-none whole.",
+            number of this command; a restore or a call with --all-or-none whole.",
         page: "docs/GUIDE.md, Send it again",
     },
     Code {
@@ -57,11 +59,12 @@ $ lotbook holdings --book family.book
         name: "InDoubt",
         brief: "the commit failed, and may have been made",
         rule: "The commit failed, as it does on a full disk. The command is in the book or isn't; \
-            those before it are. Of a call with --all-or-none all is in the book, or nothing.",
+            those before it are. Of a restore and of a call with --all-or-none all is in the book, \
+            or nothing.",
         examples: Examples::Absent,
         help: "Make room, then send the same text again under the same batch, with --from and the \
-            number of this command; a call with --all-or-none whole. What is in the book is a \
-            repeat.",
+            number of this command; a restore or a call with --all-or-none whole. What is in the \
+            book is a repeat, and a book that is restored is S1.",
         page: "docs/GUIDE.md, Send it again",
     },
     Code {

@@ -21,3 +21,6 @@ returns-in-Journal-clause-serves g c = rw c.in-Journal.is c.write_report-in-Jour
 
 pub returns-in-Dump-clause-serves : goal.returns-in-Dump-clause-serves
 returns-in-Dump-clause-serves g c = rw c.in-Dump.is c.write_report-in-Dump.ensures.reports
+
+pub returns-in-Restore-clause-serves : goal.returns-in-Restore-clause-serves
+returns-in-Restore-clause-serves g c = rw c.in-Restore.is c.restore.ensures.restores

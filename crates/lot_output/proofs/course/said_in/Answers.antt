@@ -1,6 +1,5 @@
 -- A line is cut at its first blank, and its first word is read.
-use Rattle.std.proofs.Common.{rules, refl, inl, inr, None, Some}
-use Rattle.lot_output.specs.declared.course.Said.TheVariants.{Fault}
+use Rattle.std.proofs.Common.{rules}
 use Rattle.lot_output.proofs.NumberedLemmas.{one_word, told}
 use Rattle.lot_output.proofs.course.said_in.Goals as goal
 
@@ -17,12 +16,6 @@ returns-in-Ok-parse c =
 
 pub returns-in-Err : goal.returns-in-Err
 returns-in-Err c =
-    let says = told _ c.in-Ok.text.now c.split_once.result c.in-Some.first c.in-Some.rest c.parse.result (Some Fault)
-    c.split_once.ensures.cases c.in-Some.is c.parse.ensures.value.0 (rw c.in-Err.is (inl (search (rules, c.eq.ensures, c.if-eq.true), refl))) in
-    rw c.in-Ok.ensures.cases.0 at says
-
-pub returns-in-Err-2 : goal.returns-in-Err-2
-returns-in-Err-2 c =
-    let says = told _ c.in-Ok.text.now c.split_once.result c.in-Some.first c.in-Some.rest c.parse.result None
-    c.split_once.ensures.cases c.in-Some.is c.parse.ensures.value.0 (rw c.in-Err-2.is (inr (search (rules, c.eq.ensures, c.if-eq.false), refl))) in
+    let says = told _ c.in-Ok.text.now c.split_once.result c.in-Some.first c.in-Some.rest c.parse.result c.said_by.result
+    c.split_once.ensures.cases c.in-Some.is c.parse.ensures.value.0 (rw c.in-Err.is c.said_by.ensures) in
     rw c.in-Ok.ensures.cases.0 at says

@@ -1,6 +1,7 @@
 use Rattle.std.proofs.Common.{◌≡◌}
 use Rattle.sqlite.specs.Held.{state}
 use Rattle.lot_report.specs.Output.{NoneFailed}
+use Rattle.lot_stream.specs.Input.{NoneFailed as NoneFailedToRead}
 use Rattle.lot_restore.proofs.LoopLemmas.{GoneOn, Unbroken}
 use Rattle.lot_restore.proofs.restoring.judge_all.Given as goal
 
@@ -14,3 +15,4 @@ invariant-commands g l =
     × (l.tx.conn.ghost_name ≡ l.fn.tx.conn.ghost_name)
     × NoneFailed (g.W.CountedWrite.calls l.fn.writer) (g.W.CountedWrite.calls l.writer)
     × (l.restoration.without ≡ l.fn.restoration.without)
+    × NoneFailedToRead (record { before = g.R.CountedRead.calls l.fn.reader; after = g.R.CountedRead.calls l.reader })

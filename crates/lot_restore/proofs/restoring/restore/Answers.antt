@@ -5,6 +5,9 @@ use Rattle.sqlite.specs.State.{Survives}
 use Rattle.lot_restore.specs.Restoring.{Fails, MayMake, RestoresDump, restored_outcome, terms_of}
 use Rattle.lot_restore.specs.declared.restoring.Restored.TheVariants.{InPart, NotMade, Whole}
 use Rattle.lot_restore.proofs.RestoreLemmas.{ends_crash, ends_failed, ends_ok, fails_whole, made_none}
+use Rattle.lot_parts.proofs.ReadLemmas.{no_calls_fail}
+use Rattle.lot_restore.proofs.StoppedLemmas.{outcome_reads, says_anyway, says_nothing}
+use Rattle.lot_restore.proofs.WholeLemmas.{says_judged}
 use Rattle.lot_restore.proofs.restoring.restore.Goals as goal
 
 pub returns-in-Ok-NotMade-clause-restores : goal.returns-in-Ok-NotMade-clause-restores
@@ -83,3 +86,25 @@ returns-in-Ok-InPart-clause-crash g c =
     (g.W.CountedWrite.contents c.args.writer.now) (g.W.CountedWrite.contents c.judge_whole.new.writer) InPart (rw c.in-Ok-InPart.field-0-is at c.in-Ok-InPart.ensures.judges)
     (rw c.transaction-tx.ensures.begun at c.judge_whole.ensures.kept) c.in-Ok-InPart.ensures.inside (rw c.transaction-tx.ensures.begun at c.judge_whole.ensures.crash) c.commit-in-Ok-InPart.ensures.survives
     (λ clean. c.is_autocommit-settled.ensures.settled (search rules)) (inr refl) c.commit-in-Ok-InPart.result))
+
+pub returns-in-Ok-Whole-clause-read : goal.returns-in-Ok-Whole-clause-read
+returns-in-Ok-Whole-clause-read g c =
+    rw c.after_commit.ensures (outcome_reads Whole c.commit.result _ c.in-Ok-Whole.ensures.read)
+
+pub returns-in-Ok-Whole-clause-said : goal.returns-in-Ok-Whole-clause-said
+returns-in-Ok-Whole-clause-said g c =
+    says_anyway c.after_commit.result _ (says_judged _ _ _ _ _ _ c.in-Ok-Whole.ensures.judges)
+
+pub returns-in-Ok-InPart-clause-read : goal.returns-in-Ok-InPart-clause-read
+returns-in-Ok-InPart-clause-read g c =
+    rw c.after_commit-in-Ok-InPart.ensures (outcome_reads InPart c.commit-in-Ok-InPart.result _ c.in-Ok-InPart.ensures.read)
+
+pub returns-in-Ok-InPart-clause-said : goal.returns-in-Ok-InPart-clause-said
+returns-in-Ok-InPart-clause-said g c =
+    says_anyway c.after_commit-in-Ok-InPart.result _ (says_judged _ _ _ _ _ _ c.in-Ok-InPart.ensures.judges)
+
+pub returns-then-not-is_empty-clause-read : goal.returns-then-not-is_empty-clause-read
+returns-then-not-is_empty-clause-read g c = no_calls_fail _
+
+pub returns-then-not-is_empty-clause-said : goal.returns-then-not-is_empty-clause-said
+returns-then-not-is_empty-clause-said g c = says_nothing _ _ _
