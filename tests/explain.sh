@@ -6,8 +6,10 @@ need_program
 
 accounts=(--invest Assets:Broker --cash Assets:Cash --fees Expenses:Fees --gains Income:Gains)
 
-# The codes of the pages, a line each: the code and its name. Those without a code stand in the paragraph behind the table.
+# The codes of the pages, a line each: the code and its name. Those of dumps have their letter apart. Those without a code stand in the
+# paragraph behind the table.
 awk '/^## All codes/ { inside = 1 } /^Two faults have no code/ { exit } inside && /^\| / { print }' "$root/docs/RULES.md" |
+    sed -E 's/^\| `([A-Z])` ([0-9]+) `/| `\1\2 /' |
     grep -oE '[A-Z][0-9]+ [A-Z][A-Za-z0-9]+' >"$scratch/codes"
 printf 'Memory\nopen\n' >>"$scratch/codes"
 
