@@ -1,12 +1,6 @@
 -- An end is read as what it says, and what is read is said by it.
 use Rattle.std.proofs.Common.{◌≡◌, ℕ, List, ◌++◌, Option, Some, None, refl, ap, ◌∙◌, sym, subst}
 use Rattle.std.specs.Prelude.{codes, decimal, unwrap_or, IfSome}
-use Rattle.std.proofs.Common.{inl, inr, zero, suc, ◌<◌, Bool, true, get_or, arith}
-use Rattle.std.specs.Prelude.{◌&&◌, nat_lt}
-use Rattle.std.proofs.lemmas.Bool.{and_parts, cases_lt, ltb-true}
-use Rattle.std.proofs.lemmas.Str.Ascii.{IsAscii-from_reads}
-use Rattle.std.specs.Str.{IsAscii}
-use Rattle.hex.specs.Hex.{lower_digits}
 use Rattle.lot_dump.specs.Cutting.{behind, digest_of, end_of, number_before}
 use Rattle.lot_dump.specs.Form.{IsEnd, end_front, end_text}
 use Rattle.lot_dump.specs.declared.end.End.{End}
@@ -45,25 +39,3 @@ module _ (line : List ℕ) (result : Option End) (is : result ≡ end_of line) w
 
 pub end_one : (a b : End) → IsEnd a → IsEnd b → end_text a ≡ end_text b → a ≡ b
 end_one a b one two whole = ap (λ (o : Option End). unwrap_or o a) (sym (end_found a one) ∙ ap end_of whole ∙ end_found b two)
-
--- ---- What is printed.
-
--- the test of the first places, which computes
-abbrev are_below : ℕ → Bool
-are_below zero = true
-are_below (suc n) = nat_lt (get_or lower_digits n 0) 128 && are_below n
-
-all_below : (n k : ℕ) → are_below n ≡ true → k < n → get_or lower_digits k 0 < 128
-all_below zero k test inside = absurd (omega (arith, inside))
-all_below (suc n) k test inside =
-    let parts : (nat_lt (get_or lower_digits n 0) 128 ≡ true) × (are_below n ≡ true) = and_parts _ _ test in
-    elim (cases_lt k n) [
-      | inl low ↦ all_below n k parts.1 low
-      | inr top ↦ let is : n ≡ k = omega (arith, top, inside) in subst (λ m. get_or lower_digits m 0 < 128) is (ltb-true _ _ parts.0)
-    ]
-
-below : (k : ℕ) → k < 16 → get_or lower_digits k 0 < 128
-below k inside = all_below 16 k refl inside
-
-pub digits_are_ascii : IsAscii lower_digits
-digits_are_ascii = IsAscii-from_reads lower_digits 16 (omega arith) below

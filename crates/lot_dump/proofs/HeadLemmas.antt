@@ -1,8 +1,7 @@
 -- A head is read as what it says, and what is read is said by it.
-use Rattle.std.proofs.Common.{◌≡◌, inl, inr, ℕ, Bool, true, false, cond, List, [], ◌∷◌, ◌++◌, append_assoc, Option, Some, None, Result, Ok, Err, refl, ap, ◌∙◌, sym, subst, arith}
+use Rattle.std.proofs.Common.{◌≡◌, inl, inr, ℕ, Bool, true, false, cond, List, [], ◌∷◌, ◌++◌, Option, Some, None, Result, Ok, Err, refl, ap, ◌∙◌, sym, subst, arith}
 use Rattle.std.specs.Prelude.{◌↔◌, codes, decimal, unwrap_or, IfOk, IsErrOf}
 use Rattle.std.proofs.lemmas.Bool.{and_parts, eqb-true, ltb-true, lt-ltb, or_cases, or_left, or_right}
-use Rattle.lot_report.specs.Printed.{line}
 use Rattle.lot_dump.specs.Cutting.{any_head_of, behind, head_by, number_before, number_of}
 use Rattle.lot_dump.specs.Form.{IsAnyHead, IsHead, IsNewer, any_head_text, head_front, head_text, of_this_format, this_edition, this_format}
 use Rattle.lot_dump.specs.declared.head.AnyHead.{AnyHead}
@@ -116,14 +115,3 @@ head_one a b one two whole =
     let first = any_head_found (of_this_format a) (omega arith, omega arith, one.0, one.1) in
     let second = any_head_found (of_this_format b) (omega arith, omega arith, two.0, two.1) in
     ap (λ (o : Option AnyHead). numbers_of (unwrap_or o (of_this_format a))) (sym first ∙ ap any_head_of whole ∙ second)
-
--- ---- What is printed.
-
--- the pieces of a head one behind another, and its line
-pub head_line : (format edition place entries : List ℕ)
-    → head_front ++ (format ++ (codes " edition " ++ (edition ++ (codes " migrated " ++ (place ++ (codes " entries " ++ (entries ++ 10 ∷ [])))))))
-    ≡ line (head_front ++ (format ++ (codes " edition " ++ (edition ++ (codes " migrated " ++ (place ++ (codes " entries " ++ entries)))))))
-head_line format edition place entries =
-    sym (ap (λ t. head_front ++ t) (append_assoc format _ (10 ∷ [])
-    ∙ ap (λ t. format ++ (codes " edition " ++ t)) (append_assoc edition _ (10 ∷ [])
-    ∙ ap (λ t. edition ++ (codes " migrated " ++ t)) (append_assoc place _ (10 ∷ [])))))

@@ -27,7 +27,7 @@ any_head_text head =
     head_front ++ (decimal head.format ++ (codes " edition " ++ (decimal head.edition ++ (codes " migrated "
     ++ (decimal head.place ++ (codes " entries " ++ decimal head.entries))))))
 
--- the format that this crate reads and writes, and the edition of the rules by which the entries of a dump were judged
+-- the format that this crate reads, and the edition of the rules by which the entries of a dump were judged
 abbrev pub this_format : ℕ
 this_format = 1
 

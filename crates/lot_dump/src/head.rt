@@ -1,17 +1,12 @@
-ghost use Rattle.std.specs.Prelude.{◌≡◌, ◌↔◌, IfErr, IfOk, IsErrOf, OnErr, OnOk, Ok};
-ghost use Rattle.lot_report.specs.Output.{HasFailed, NoneFailed};
-ghost use Rattle.lot_report.specs.Printed.{line};
-ghost use Rattle.lot_report.specs.Written.{WritesLine};
+ghost use Rattle.std.specs.Prelude.{◌≡◌, ◌↔◌, IfOk, IsErrOf, Ok};
 ghost use Rattle.lot_dump.specs.Cutting.{any_head_of, this_format_of};
 ghost use Rattle.lot_dump.specs.Form.{IsHead, IsNewer, head_text};
 ghost use Rattle.lot_dump.specs.declared.head.Head.{Head as HeadValue};
 
 use crate::cut::{behind, number, number_before};
-use itoa::Buffer;
-use lot_report::{CountedWrite, PrintFault, print_texts};
 use thiserror::Error;
 
-/// The format of a dump that this crate reads and writes.
+/// The format of a dump that this crate reads.
 const FORMAT: u32 = 1;
 
 /// The edition of the rules by which the entries of such a dump were judged (docs/GUIDE.md, From edition 1).
@@ -60,31 +55,6 @@ pub fn read_head(line: &[u8]) -> Result<Head, HeadFault>
         Some(head) => this_format(head),
         None => Err(HeadFault::NotADump),
     }
-}
-
-/// Writes the head of a dump, with its line end. It takes no memory.
-///
-/// The only fault is that of the writer. A prefix of the line is then written, but not all of it.
-pub fn print_head<W: CountedWrite>(writer: &mut W, head: Head) -> Result<(), PrintFault>
-    ensures bytes { WritesLine (W.contents writer.old) (W.contents writer.new) result
-        (line (head_text head)) }
-    ensures fault { IfErr result (λ fault. fault ≡ PrintFault.Write) }
-    ensures cause { OnErr result (HasFailed (W.calls writer.new)) }
-    ensures none_failed { OnOk result (NoneFailed (W.calls writer.old) (W.calls writer.new)) }
-{
-    let [mut format, mut edition, mut place, mut entries] = [Buffer::new(); 4];
-    let texts = [
-        "; lotbook dump ",
-        format.format(FORMAT),
-        " edition ",
-        edition.format(EDITION),
-        " migrated ",
-        place.format(head.place),
-        " entries ",
-        entries.format(head.entries),
-        "\n",
-    ];
-    print_texts(writer, &texts)
 }
 
 /// Returns what a head says that is of this format.

@@ -17,8 +17,8 @@ mod kind;
 pub mod laws;
 mod lines;
 
-pub use end::{End, print_end, read_end};
-pub use head::{Head, HeadFault, print_head, read_head};
+pub use end::{End, read_end};
+pub use head::{Head, HeadFault, read_head};
 pub use heading::{Heading, read_heading};
 pub use kind::{Kind, kind_of};
 pub use lines::{LineEnd, LineFault, LineReader};

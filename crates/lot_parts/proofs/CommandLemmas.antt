@@ -11,15 +11,16 @@ use Rattle.lot_stream.specs.Calls.{counted}
 use Rattle.lot_dump.specs.Form.{IsHead, end_text, head_text}
 use Rattle.lot_dump.specs.declared.head.Head.{Head}
 use Rattle.lot_dump.specs.declared.heading.Heading.{Heading}
-use Rattle.lot_parts.specs.Commands.{FaultAbove, FaultNext, HasCommands, IsFaultBelow, IsFaultIn, IsReadTo, IsReadWhole, SayAll, Says, front_of, front_text}
+use Rattle.lot_parts.specs.Commands.{FaultAbove, FaultNext, HasCommands, HasEntry, IsFaultBelow, IsFaultIn, IsNotOne, IsReadTo, IsReadWhole, SayAll, Says, front_of, front_text}
 use Rattle.lot_parts.specs.Dump.{AreParts, Dump, Front, IsLedger, Part, dump_text, part_text, with_end, with_part}
-use Rattle.lot_parts.specs.Reading.{Begins, BeginsOther, Reading, SaysNext, part_of}
+use Rattle.lot_parts.specs.Reading.{Begins, BeginsOther, Reading, SaysNext, lines_in, part_of}
 use Rattle.lot_parts.specs.declared.commands.CommandFault.{CommandFault}
 use Rattle.lot_parts.specs.declared.commands.CommandFault.TheVariants.{Dump as OfDump, Text}
 use Rattle.lot_parts.specs.declared.dumped.Dumped.{Dumped}
 use Rattle.lot_parts.specs.declared.fault.DumpFault.TheVariants.{Memory, NewerFormat, NotADump, Read, TooLong}
 use Rattle.lot_parts.specs.declared.step.Step.TheVariants.{Entry, End as AtEnd}
 use Rattle.lot_parts.specs.declared.step.Sum.{Sum}
+use Rattle.lot_parts.proofs.CountLemmas.{lines_both}
 use Rattle.lot_parts.proofs.DumpLemmas.{front_ends, front_goes, last_is}
 use Rattle.lot_parts.proofs.ReadLemmas.{taken_on}
 
@@ -34,6 +35,10 @@ some_list [] count long is = λ none. eqb-false count 0 is (sym long)
 some_list (x ∷ xs) count long is = λ none. cc
 
 -- ---- above the first heading
+
+pub other_behind : (ahead x : List ℕ) → BeginsOther ahead → BeginsOther (ahead ++ x)
+other_behind ahead x (first, rest, is, none, same) =
+    (first, rest ++ x, is, none, ap (λ t. t ++ x) same ∙ append_assoc (line first) rest x)
 
 module _ (start now : Option (List ℕ)) (head : Head) (above : List ℕ) (reading : Reading) (begins : Begins start now head above reading) where
   -- the front is the head and the text above the first heading
@@ -52,6 +57,7 @@ module _ (start now : Option (List ℕ)) (head : Head) (above : List ℕ) (readi
     heard = subst (Holds256 reading.hasher) fronts begins.4;
     last = begins.5;
     count = begins.6;
+    line = begins.7 ∙ ap (λ t. counted (lines_in t + 1)) fronts;
   }
 
   has_above : (Kind : List ℕ → Type 0) → Kind above
@@ -59,10 +65,6 @@ module _ (start now : Option (List ℕ)) (head : Head) (above : List ℕ) (readi
       × (text ≡ line (head_text h) ++ (a ++ rest)) × Kind a)
   has_above Kind kind = by start now begins.2
     where
-      other_behind : (ahead x : List ℕ) → BeginsOther ahead → BeginsOther (ahead ++ x)
-      other_behind ahead x (first, rest, is, none, same) =
-          (first, rest ++ x, is, none, ap (λ t. t ++ x) same ∙ append_assoc (line first) rest x)
-
       by : (s n : Option (List ℕ)) → Consumes s (prepend_known reading.ahead n) (line (head_text head) ++ above)
           → IfSome s (λ text. (h : Head) × (a : List ℕ) × (rest : List ℕ) × IsHead h × IsLedger a × BeginsOther rest
           × (text ≡ line (head_text h) ++ (a ++ rest)) × Kind a)
@@ -79,14 +81,14 @@ module _ (start now : Option (List ℕ)) (head : Head) (above : List ℕ) (readi
         kind,
       )
 
-  pub commands_above : (number : ℕ) (commands : List Command) → Reads above commands → commands ≢ []
+  pub commands_above : (number : ℕ) (commands : List Command) → number ≡ 1 → Reads above commands → commands ≢ []
       → FaultAbove start (OfDump (NotADump number))
-  commands_above number commands says some = by start (has_above HasCommands (commands, says, some))
+  commands_above number commands first says some = by start (has_above HasCommands (commands, says, some))
     where
       by : (s : Option (List ℕ)) → IfSome s (λ text. (h : Head) × (a : List ℕ) × (rest : List ℕ) × IsHead h × IsLedger a × BeginsOther rest
           × (text ≡ line (head_text h) ++ (a ++ rest)) × HasCommands a) → FaultAbove s (OfDump (NotADump number))
       by None has = tt
-      by (Some x) has = inr has
+      by (Some x) has = inr (has, first)
 
   pub fault_above : (fault : CommandFault) → IsFaultIn 1 above fault → FaultAbove start fault
   fault_above (Text number fault) is = has_above (λ text. IsFaultIn 1 text (Text number fault)) is
@@ -111,13 +113,16 @@ count_more headings parts part is =
     let long : length (parts ++ part ∷ []) ≡ length parts + 1 = length-append parts (part ∷ []) in
     omega (arith, is, long)
 
+more_lines : (at : ℕ) (front part : List ℕ) → at ≡ counted (lines_in front + 1) → counted (at + lines_in part) ≡ counted (lines_in (front ++ part) + 1)
+more_lines at front part is = let both = lines_both front part in omega (arith, is, both)
+
 module _ (start known now : Option (List ℕ)) (old new : Reading) (front : Front) (before : List Dumped)
     (to : IsReadTo start known old front before) where
   pub one_more_read : (heading : Heading) (text : List ℕ) (dumped : Dumped)
       → Consumes (prepend_known old.ahead known) (prepend_known new.ahead now) (part_text (part_of heading text))
       → SaysNext old new text (Ok (Entry heading)) → Says (part_of heading text) dumped
       → (part : Part) × IsReadTo start now new (with_part front part) (before ++ dumped ∷ [])
-  one_more_read heading text dumped takes (are, hears, other, last, count) says =
+  one_more_read heading text dumped takes (are, hears, other, last, count, line) says =
       let part = part_of heading text in
       let is_next : AreParts (Rattle.lot_parts.specs.Dump.last_number 0 front.parts) (part ∷ []) = subst (λ n. AreParts n (part ∷ [])) to.last are in
       let goes = front_goes (front_text front) front part (to.is_head, to.ledger, to.parts, refl) is_next in (
@@ -134,6 +139,7 @@ module _ (start known now : Option (List ℕ)) (old new : Reading) (front : Fron
           heard = subst (Holds256 new.hasher) goes.3 (hears (front_text front) to.heard);
           last = last ∙ sym (last_is 0 front.parts part);
           count = count ∙ count_more old.headings front.parts part to.count;
+          line = line ∙ more_lines old.line (front_text front) (part_text part) to.line ∙ ap (λ t. counted (lines_in t + 1)) goes.3;
         },
       )
 
@@ -157,18 +163,27 @@ module _ (start known now : Option (List ℕ)) (old new : Reading) (front : Fron
 
 -- ---- why the next isn't read
 
-pub fault_next : (known now : Option (List ℕ)) (reading : Reading) (heading : Heading) (text : List ℕ) (at : ℕ) (fault : CommandFault)
-    → at ≡ reading.line → AreParts reading.last (part_of heading text ∷ []) → Consumes known now (part_text (part_of heading text))
-    → IsFaultBelow at text fault → FaultNext known reading fault
-fault_next None now reading heading text at (Text number fault) is are takes below = tt
-fault_next (Some x) None reading heading text at (Text number fault) is are takes below = absurd takes
-fault_next (Some x) (Some y) reading heading text at (Text number fault) is are takes below =
-    (part_of heading text, y, are, takes, (below.0, below.1, below.2 ∙ ap (λ n. counted (n + below.0)) is))
-fault_next None now reading heading text at (OfDump (NotADump number)) is are takes below = tt
-fault_next (Some x) None reading heading text at (OfDump (NotADump number)) is are takes below = absurd takes
-fault_next (Some x) (Some y) reading heading text at (OfDump (NotADump number)) is are takes below =
-    inr (part_of heading text, y, are, takes, below.0)
-fault_next known now reading heading text at (OfDump NewerFormat) is are takes below = below
-fault_next known now reading heading text at (OfDump Read) is are takes below = tt
-fault_next known now reading heading text at (OfDump TooLong) is are takes below = absurd below
-fault_next known now reading heading text at (OfDump Memory) is are takes below = tt
+module _ (known now : Option (List ℕ)) (reading : Reading) (behind : List ℕ) (heading : Heading) (text : List ℕ)
+    (are : AreParts reading.last (part_of heading text ∷ []))
+    (takes : Consumes known (prepend_known behind now) (part_text (part_of heading text))) (other : BeginsOther behind) where
+  has_entry : (Kind : List ℕ → Type 0) → Kind text → IfSome known (HasEntry reading.last Kind)
+  has_entry Kind kind = by known now takes
+    where
+      by : (k n : Option (List ℕ)) → Consumes k (prepend_known behind n) (part_text (part_of heading text)) → IfSome k (HasEntry reading.last Kind)
+      by None n takes = tt
+      by (Some x) None takes = absurd takes
+      by (Some x) (Some y) takes = (part_of heading text, behind ++ y, are, other_behind behind y other, takes, kind)
+
+  not_one : (k : Option (List ℕ)) (number : ℕ) → number ≡ reading.line → IfSome k (HasEntry reading.last IsNotOne)
+      → FaultNext k reading (OfDump (NotADump number))
+  not_one None number place has = tt
+  not_one (Some x) number place has = inr (has, place)
+
+  pub fault_next : (at : ℕ) (fault : CommandFault) → at ≡ reading.line → IsFaultBelow at text fault → FaultNext known reading fault
+  fault_next at (Text number fault) is below =
+      has_entry (λ t. IsFaultIn reading.line t (Text number fault)) (below.0, below.1, below.2 ∙ ap (λ n. counted (n + below.0)) is)
+  fault_next at (OfDump (NotADump number)) is below = not_one known number (below.1 ∙ is) (has_entry IsNotOne below.0)
+  fault_next at (OfDump NewerFormat) is below = below
+  fault_next at (OfDump Read) is below = tt
+  fault_next at (OfDump TooLong) is below = absurd below
+  fault_next at (OfDump Memory) is below = tt

@@ -97,7 +97,7 @@ under s t last also ps qs d e one two end_d end_e is_s is_t whole =
       rest_first ps d ∙ ap (λ u. line u ++ behind_first ps d) all.1 ∙ ap (λ u. line (first_of qs e) ++ u) all.2 ∙ sym (rest_first qs e),
     )
 
-same_part : (p q : Part) → p.heading ≡ q.heading → p.text ≡ q.text → p ≡ q
+pub same_part : (p q : Part) → p.heading ≡ q.heading → p.text ≡ q.text → p ≡ q
 same_part p q one two = ap (λ h. record { heading = h; text = p.text }) one ∙ ap (λ t. record { heading = q.heading; text = t }) two
 
 pub one_rest : (last also : ℕ) (ps qs : List Part) (d e : End) → AreParts last ps → AreParts also qs → IsEnd d → IsEnd e

@@ -13,7 +13,7 @@ use Rattle.hex.proofs.HexLemmas.{IsDigits-lower_digits}
 use Rattle.lot_base.specs.Name.{IsName, is_label, is_label_byte}
 use Rattle.lot_token.specs.Line.{IsLine, is_within_line}
 use Rattle.lot_report.specs.Printed.{line}
-use Rattle.lot_dump.specs.Form.{IsEnd, IsHead, IsHeading, end_front, end_text, head_front, head_text, heading_front, heading_text}
+use Rattle.lot_dump.specs.Form.{IsAnyHead, IsEnd, IsHead, IsHeading, any_head_text, end_front, end_text, head_front, head_text, heading_front, heading_text, of_this_format}
 use Rattle.lot_dump.specs.Cutting.{cut_of}
 use Rattle.lot_dump.specs.declared.end.End.{End}
 use Rattle.lot_dump.specs.declared.head.Head.{Head}
@@ -77,17 +77,20 @@ hex_line (b ∷ rest) are =
     let fits : b < 256 = are 0 in
     and_from _ _ (hex_digit (b / 16) (omega (arith, fits))) (and_from _ _ (hex_digit (b % 16) (omega (arith, fits))) (hex_line rest (λ k. are (suc k))))
 
-pub head_line : (head : Head) → IsHead head → IsLine (head_text head)
-head_line head (place, entries) =
+pub any_head_line : (head : _) → IsAnyHead head → IsLine (any_head_text head)
+any_head_line head (format, edition, place, entries) =
     let last = codes " entries " ++ decimal head.entries in
     let more = codes " migrated " ++ (decimal head.place ++ last) in
-    lines_join head_front (decimal 1 ++ (codes " edition " ++ (decimal 2 ++ more))) refl
-    (lines_join (decimal 1) (codes " edition " ++ (decimal 2 ++ more)) (number_line 1 (omega arith))
-    (lines_join (codes " edition ") (decimal 2 ++ more) refl
-    (lines_join (decimal 2) more (number_line 2 (omega arith))
+    lines_join head_front (decimal head.format ++ (codes " edition " ++ (decimal head.edition ++ more))) refl
+    (lines_join (decimal head.format) (codes " edition " ++ (decimal head.edition ++ more)) (number_line head.format format)
+    (lines_join (codes " edition ") (decimal head.edition ++ more) refl
+    (lines_join (decimal head.edition) more (number_line head.edition edition)
     (lines_join (codes " migrated ") (decimal head.place ++ last) refl
     (lines_join (decimal head.place) last (number_line head.place place)
     (lines_join (codes " entries ") (decimal head.entries) refl (number_line head.entries entries)))))))
+
+pub head_line : (head : Head) → IsHead head → IsLine (head_text head)
+head_line head (place, entries) = any_head_line (of_this_format head) (omega arith, omega arith, place, entries)
 
 pub heading_line : (heading : Heading) → IsHeading heading → IsLine (heading_text heading)
 heading_line heading is =

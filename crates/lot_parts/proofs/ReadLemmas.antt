@@ -1,12 +1,12 @@
 -- What is read of a text that is known is taken from its beginning.
-use Rattle.std.proofs.Common.{◌≡◌, ◌<◌, length, length-append, ◌+◌, inl, inr, ℕ, List, [], ◌∷◌, ◌++◌, Option, None, Some, refl, ap, ◌∙◌, sym, subst, arith, append_assoc, append-nil, ◌≤◌}
+use Rattle.std.proofs.Common.{◌≡◌, ◌≢◌, ◌<◌, length, length-append, ◌+◌, inl, inr, ℕ, List, [], ◌∷◌, ◌++◌, Option, None, Some, refl, ap, ◌∙◌, sym, subst, arith, append_assoc, append-nil, ◌≤◌}
 use Rattle.std.specs.Prelude.{◌↔◌, ◌⊎◌, IfSome, Ok, flat_map}
 use Rattle.std.specs.Io.KnownBytes.{Consumes, prepend_known}
 use Rattle.std.proofs.lemmas.Grind.{flat_map-append}
 use Rattle.lot_token.specs.Line.{IsLine}
 use Rattle.lot_report.specs.Printed.{line}
 use Rattle.lot_report.specs.Written.{IsPrefixOf}
-use Rattle.lot_stream.specs.Calls.{Calls}
+use Rattle.lot_stream.specs.Calls.{Calls, counted}
 use Rattle.lot_stream.specs.Input.{CallsMade, NoneFailed, most_calls}
 use Rattle.lot_dump.specs.Form.{IsHead, IsNewer, end_front, head_front, head_text, heading_front}
 use Rattle.lot_dump.specs.Lines.{EndsFor, EndsLine, HasLongLine, Made, text_of}
@@ -21,8 +21,8 @@ use Rattle.lot_dump.specs.declared.lines.LineFault.{LineFault}
 use Rattle.lot_dump.specs.declared.lines.LineFault.TheVariants as Lines
 use Rattle.lot_dump.proofs.LineLemmas.{between, made_on, none_failed, none_made}
 use Rattle.lot_parts.specs.Dump.{AreTextLines, IsLedger, IsText, IsTextLine}
-use Rattle.lot_parts.specs.Fault.{HasCause, fault_of_head, fault_of_line}
-use Rattle.lot_parts.specs.Reading.{BeginsNewer, HasLong, HasNoHead, HasNoOtherLine, IsNoEnd, longest_text}
+use Rattle.lot_parts.specs.Fault.{HasCause, SaysNoDump, fault_of_head, fault_of_line}
+use Rattle.lot_parts.specs.Reading.{BeginsNewer, HasLong, HasNoHead, IsEndlessAt, lines_in, longest_text}
 use Rattle.lot_parts.specs.declared.fault.DumpFault.{DumpFault}
 use Rattle.lot_parts.specs.declared.fault.DumpFault.TheVariants as Faults
 use Rattle.lot_parts.specs.declared.fault.DumpFault.TheVariants.{NewerFormat}
@@ -65,6 +65,28 @@ head_cause all Heads.NewerFormat none = none
 pub room_cause : (all : CallsMade) (fault : DumpFault) → (fault ≡ Faults.TooLong) ⊎ (fault ≡ Faults.Memory) → NoneFailed all → HasCause all fault
 room_cause all fault (inl is) none = subst (HasCause all) (sym is) none
 room_cause all fault (inr is) none = subst (HasCause all) (sym is) none
+
+-- ---- Which faults say that the text is no dump.
+
+pub line_says : (P : ℕ → Type 0) (fault : LineFault) → SaysNoDump P (fault_of_line fault)
+line_says P Lines.Read = tt
+line_says P Lines.TooLong = tt
+line_says P Lines.Memory = tt
+
+pub head_says_none : (P : ℕ → Type 0) (fault : HeadFault) → (fault ≡ Heads.NotADump → P 1) → SaysNoDump P (fault_of_head fault)
+head_says_none P Heads.NotADump none = none refl
+head_says_none P Heads.NewerFormat none = tt
+
+pub room_says : (P : ℕ → Type 0) (fault : DumpFault) → (fault ≡ Faults.TooLong) ⊎ (fault ≡ Faults.Memory) → SaysNoDump P fault
+room_says P fault (inl is) = subst (SaysNoDump P) (sym is) tt
+room_says P fault (inr is) = subst (SaysNoDump P) (sym is) tt
+
+pub says_on : (P Q : ℕ → Type 0) (fault : DumpFault) → ((number : ℕ) → P number → Q number) → SaysNoDump P fault → SaysNoDump Q fault
+says_on P Q (Faults.NotADump number) on says = on number says
+says_on P Q Faults.NewerFormat on says = tt
+says_on P Q Faults.Read on says = tt
+says_on P Q Faults.TooLong on says = tt
+says_on P Q Faults.Memory on says = tt
 
 -- calls of which none failed come before
 pub cause_on : (old mid new : Option Calls) (fault : DumpFault) → NoneFailed (between old mid) → HasCause (between mid new) fault
@@ -148,31 +170,12 @@ ledger_on text l (lines, are, is) one =
     lines_on [] all = (one, tt)
     lines_on (a ∷ ls) all = (all.0, lines_on ls all.1)
 
-module _ (other rest last : List ℕ) (is_other : IsText other → ⊥) (line_other : IsLine other) (line_last : IsLine last) where
-  none_until : (ls ms : List (List ℕ)) → AreTextLines ls → AreTextLines ms
-      → flat_map line ls ++ last ≡ flat_map line ms ++ (line other ++ rest) → ⊥
-  none_until [] [] one two whole = no_first last other rest line_last whole
-  none_until [] (b ∷ ms) one two whole =
-      no_first last b (flat_map line ms ++ (line other ++ rest)) line_last (whole ∙ append_assoc (line b) (flat_map line ms) (line other ++ rest))
-  none_until (a ∷ ls) [] one two whole =
-      let both =
-      same_first a other (flat_map line ls ++ last) rest one.0.0 line_other (sym (append_assoc (line a) (flat_map line ls) last) ∙ whole) in
-      is_other (subst IsText both.0 one.0.1)
-  none_until (a ∷ ls) (b ∷ ms) one two whole =
-      let both =
-      same_first a b (flat_map line ls ++ last) (flat_map line ms ++ (line other ++ rest)) one.0.0 two.0.0
-      (sym (append_assoc (line a) (flat_map line ls) last) ∙ whole ∙ append_assoc (line b) (flat_map line ms) (line other ++ rest)) in
-      none_until ls ms one.1 two.1 both.1
-
--- ledger text and a line with no line end have no other line
-pub no_other_line : (start now : Option (List ℕ)) (text : List ℕ) → Consumes start now text → IsLedger text → IfSome now IsLine
-    → IfSome start HasNoOtherLine
-no_other_line None now text is ledger last = tt
-no_other_line (Some x) None text is ledger last = absurd is
-no_other_line (Some x) (Some y) text is (ls, one, is_text) last =
-    λ front other rest (ms, two, is_front) line_other is_other whole.
-    none_until other rest y is_other line_other last ls ms one two
-    (ap (λ t. t ++ y) (sym is_text) ∙ sym is ∙ whole ∙ ap (λ t. t ++ (line other ++ rest)) is_front)
+-- ledger text and a line with no line end
+pub endless_at : (first count number : ℕ) (start now : Option (List ℕ)) (text : List ℕ) → Consumes start now text → IsLedger text
+    → count ≡ counted (first + lines_in text) → (number ≡ counted (count + 1)) × IfSome now IsLine → IfSome start (IsEndlessAt (first + 1) number)
+endless_at first count number None now text is ledger so (place, last) = tt
+endless_at first count number (Some x) None text is ledger so (place, last) = absurd is
+endless_at first count number (Some x) (Some y) text is ledger so (place, last) = (text, y, ledger, last, is, omega (arith, place, so))
 
 -- a line that was put behind a text
 pub put_line : (after text got own : List ℕ) → after ≡ text ++ line got → got ≡ own → after ≡ text ++ line own
@@ -196,19 +199,19 @@ other_kind text kind kinds (inr (inr is)) none = none.2 (kinds.2.0 is)
 -- ---- The end.
 
 -- a line behind the end, with or without a line end
-pub more_behind : (old new : Option (List ℕ)) (got last : List ℕ) (end : Option LineEnd) (how : LineEnd) → end ≡ Some how
-    → Consumes old new (text_of got (Ok end)) → EndsLine end got new → IfSome old (IsNoEnd last)
-more_behind None new got last end how is takes ends = tt
-more_behind (Some x) None got last end how is takes ends = absurd takes
-more_behind (Some x) (Some y) got last None how is takes ends = cc
-more_behind (Some x) (Some y) got last (Some Newline) how is takes ends =
-    λ end is_end same none. some_more got y (sym (append_assoc got (10 ∷ []) y) ∙ sym takes ∙ none)
+pub more_behind : (old new : Option (List ℕ)) (got : List ℕ) (end : Option LineEnd) (how : LineEnd) → end ≡ Some how
+    → Consumes old new (text_of got (Ok end)) → EndsLine end got new → IfSome old (λ text. text ≢ [])
+more_behind None new got end how is takes ends = tt
+more_behind (Some x) None got end how is takes ends = absurd takes
+more_behind (Some x) (Some y) got None how is takes ends = cc
+more_behind (Some x) (Some y) got (Some Newline) how is takes ends =
+    λ none. some_more got y (sym (append_assoc got (10 ∷ []) y) ∙ sym takes ∙ none)
   where
     some_more : (g z : List ℕ) → g ++ 10 ∷ z ≡ [] → ⊥
     some_more [] z e = cc
     some_more (b ∷ g) z e = cc
-more_behind (Some x) (Some y) got last (Some Missing) how is takes ends =
-    λ end is_end same none. ends.0 (first_none got y (sym takes ∙ none))
+more_behind (Some x) (Some y) got (Some Missing) how is takes ends =
+    λ none. ends.0 (first_none got y (sym takes ∙ none))
   where
     first_none : (g z : List ℕ) → g ++ z ≡ [] → g ≡ []
     first_none [] z e = refl

@@ -13,7 +13,7 @@ use Rattle.lot_dump.specs.Form.{IsHead, head_text}
 use Rattle.lot_dump.specs.declared.head.Head.{Head}
 use Rattle.lot_parts.specs.Dump.{AreParts, Dump, Front, IsDump, IsLedger, Part, dump_text, last_number, part_text, with_end, with_part}
 use Rattle.lot_parts.specs.Fault.{HasCause}
-use Rattle.lot_parts.specs.Reading.{BeginsNewer, BeginsOther, HasLong, IsNoDump, IsNoRest, Reading}
+use Rattle.lot_parts.specs.Reading.{BeginsNewer, BeginsOther, HasLong, IsNoDumpAt, IsNoRestAt, Reading, lines_in}
 use Rattle.lot_parts.specs.Sum.{IsSumOf}
 use Rattle.lot_parts.specs.declared.commands.CommandFault.{CommandFault}
 use Rattle.lot_parts.specs.declared.commands.CommandFault.TheVariants.{Dump as OfDump, Text}
@@ -51,7 +51,7 @@ abbrev pub front_of : Head → List ℕ → Front
 front_of head above = record { head = head; above = above; parts = [] }
 
 -- The front of a dump was taken of a reader. It says these commands; what is ahead begins with a heading or the end; and all of
--- the front was hashed, and its headings counted.
+-- the front was hashed, and its headings and its lines counted.
 pub record IsReadTo (start now : Option (List ℕ)) (reading : Reading) (front : Front) (commands : List Dumped) : Type 0 where
   pub is_head : IsHead front.head
   pub ledger : IsLedger front.above
@@ -63,6 +63,7 @@ pub record IsReadTo (start now : Option (List ℕ)) (reading : Reading) (front :
   pub heard : Holds256 reading.hasher (front_text front)
   pub last : reading.last ≡ last_number 0 front.parts
   pub count : reading.headings ≡ counted (length front.parts)
+  pub line : reading.line ≡ counted (lines_in (front_text front) + 1)
 
 -- A whole dump was taken of a reader, which has nothing behind it. It says these commands, and this is what was found of it.
 pub record IsReadWhole (start : Option (List ℕ)) (dump : Dump) (commands : List Dumped) (sum : Sum) : Type 0 where
@@ -106,17 +107,19 @@ IsFaultBelow at text (OfDump Read) = ⊥
 IsFaultBelow at text (OfDump TooLong) = ⊥
 IsFaultBelow at text (OfDump Memory) = ⊤
 
--- a text begins with an entry behind that number, below which stands a text of that kind
+-- a text begins with an entry behind that number, whose whole text is of that kind
 abbrev pub HasEntry : ℕ → (List ℕ → Type 0) → List ℕ → Type 0
 HasEntry last Kind text =
-    (part : Part) × (rest : List ℕ) × AreParts last (part ∷ []) × (text ≡ part_text part ++ rest) × Kind part.text
+    (part : Part) × (rest : List ℕ) × AreParts last (part ∷ []) × BeginsOther rest × (text ≡ part_text part ++ rest)
+    × Kind part.text
 
 -- the next command isn't read, of what is ahead, for that fault
 abbrev pub FaultNext : Option (List ℕ) → Reading → CommandFault → Type 0
 FaultNext ahead reading (Text number fault) =
     IfSome ahead (HasEntry reading.last (λ text. IsFaultIn reading.line text (Text number fault)))
 FaultNext ahead reading (OfDump (NotADump number)) =
-    IfSome ahead (λ text. IsNoRest reading.last text ⊎ HasEntry reading.last IsNotOne text)
+    IfSome ahead (λ text. IsNoRestAt reading.last reading.line number text
+    ⊎ (HasEntry reading.last IsNotOne text × (number ≡ reading.line)))
 FaultNext ahead reading (OfDump NewerFormat) = ⊥
 FaultNext ahead reading (OfDump Read) = ⊤
 FaultNext ahead reading (OfDump TooLong) = IfSome ahead HasLong
@@ -135,11 +138,21 @@ HasCommands text = (commands : List Command) × Reads text commands × (commands
 -- no command is read of a text, for that fault; the head is its first line
 abbrev pub FaultAbove : Option (List ℕ) → CommandFault → Type 0
 FaultAbove start (Text number fault) = IfSome start (HasAbove (λ text. IsFaultIn 1 text (Text number fault)))
-FaultAbove start (OfDump (NotADump number)) = IfSome start (λ text. IsNoDump text ⊎ HasAbove HasCommands text)
+FaultAbove start (OfDump (NotADump number)) =
+    IfSome start (λ text. IsNoDumpAt number text ⊎ (HasAbove HasCommands text × (number ≡ 1)))
 FaultAbove start (OfDump NewerFormat) = IfSome start BeginsNewer
 FaultAbove start (OfDump Read) = ⊤
 FaultAbove start (OfDump TooLong) = IfSome start HasLong
 FaultAbove start (OfDump Memory) = ⊤
+
+-- Reading a dump of commands may end only so: the reader can't be read, a line or an entry is too long, or memory ends.
+abbrev pub MayEnd : CommandFault → Type 0
+MayEnd (Text number fault) = ⊥
+MayEnd (OfDump (NotADump number)) = ⊥
+MayEnd (OfDump NewerFormat) = ⊥
+MayEnd (OfDump Read) = ⊤
+MayEnd (OfDump TooLong) = ⊤
+MayEnd (OfDump Memory) = ⊤
 
 -- why reading ends, by the calls that were made
 abbrev pub HasCauseOf : CallsMade → CommandFault → Type 0

@@ -9,13 +9,13 @@ use Rattle.lot_dump.specs.declared.lines.LineFault.TheVariants as Lines
 use Rattle.lot_parts.specs.declared.fault.DumpFault.{DumpFault}
 use Rattle.lot_parts.specs.declared.fault.DumpFault.TheVariants.{Memory, NewerFormat, NotADump, Read, TooLong}
 
--- the fault says that the text is no dump
-abbrev pub SaysNoDump : DumpFault → Type 0
-SaysNoDump (NotADump line) = ⊤
-SaysNoDump NewerFormat = ⊥
-SaysNoDump Read = ⊥
-SaysNoDump TooLong = ⊥
-SaysNoDump Memory = ⊥
+-- where the fault says that the text is no dump, that holds of the line that it names
+abbrev pub SaysNoDump : (ℕ → Type 0) → DumpFault → Type 0
+SaysNoDump P (NotADump line) = P line
+SaysNoDump P NewerFormat = ⊤
+SaysNoDump P Read = ⊤
+SaysNoDump P TooLong = ⊤
+SaysNoDump P Memory = ⊤
 
 abbrev pub fault_of_line : LineFault → DumpFault
 fault_of_line Lines.Read = Read

@@ -1,5 +1,5 @@
 -- What is read of a dump (docs/FORMATS.md, Dump).
-use Rattle.std.specs.Prelude.{◌≡◌, ◌⊎◌, ◌<◌, length, ℕ, ◌+◌, List, [], ◌∷◌, ◌++◌, IfSome, Option, Result, Ok, Err, ⊤}
+use Rattle.std.specs.Prelude.{◌≡◌, ◌≢◌, ◌⊎◌, ◌<◌, ◌==◌, Bool, filter, length, ℕ, ◌+◌, List, [], ◌∷◌, ◌++◌, IfSome, Option, Result, Ok, Err, ⊤}
 use Rattle.std.specs.Io.KnownBytes.{Consumes, prepend_known}
 use Rattle.sha2.specs.Hashers.{Holds256}
 use Rattle.sha2.specs.Sha256.{sha256}
@@ -35,11 +35,45 @@ pub record Reading : Type 0 where
 abbrev pub Hears : Sha256 → Sha256 → List ℕ → Type 0
 Hears old new bytes = (message : List ℕ) → Holds256 old message → Holds256 new (message ++ bytes)
 
+-- ---- How many lines there are.
+
+abbrev pub is_line_end : ℕ → Bool
+is_line_end b = b == 10
+
+-- how many line ends a text has
+abbrev pub lines_in : List ℕ → ℕ
+lines_in text = length (filter is_line_end text)
+
+-- each line has its line end, the last one too
+abbrev pub AreWhole : List ℕ → Type 0
+AreWhole text = (text ≡ []) ⊎ ((body : List ℕ) × (text ≡ line body))
+
 -- ---- What is no dump.
 
--- the text is no dump
-abbrev pub IsNoDump : List ℕ → Type 0
-IsNoDump text = (dump : Dump) → IsDump text dump → ⊥
+-- two texts go on alike: they are the same, or have the same next line, with its line end
+abbrev pub GoOnAlike : List ℕ → List ℕ → Type 0
+GoOnAlike a b =
+    (a ≡ b)
+    ⊎ ((next : List ℕ) × (x : List ℕ) × (y : List ℕ) × IsLine next × (a ≡ line next ++ x) × (b ≡ line next ++ y))
+
+-- A text of no such kind, of which the line of that number is the first that isn't what it has to be: some text of the kind has all
+-- lines above it, and none of those goes on alike. The first line of the text has a number, too. Lines are counted up to the largest
+-- number of 64 bits.
+pub record LeavesAt (Kind : List ℕ → Type 0) (first number : ℕ) (text : List ℕ) : Type 0 where
+  pub above : List ℕ
+  pub behind : List ℕ
+  pub whole : text ≡ above ++ behind
+  pub lines : AreWhole above
+  pub place : counted number ≡ counted (first + lines_in above)
+  pub some : (more : List ℕ) × Kind (above ++ more)
+  pub none : (more : List ℕ) → Kind (above ++ more) → GoOnAlike behind more → ⊥
+
+abbrev pub IsSomeDump : List ℕ → Type 0
+IsSomeDump text = (dump : Dump) × IsDump text dump
+
+-- the text is no dump, since that line isn't one of it
+abbrev pub IsNoDumpAt : ℕ → List ℕ → Type 0
+IsNoDumpAt = LeavesAt IsSomeDump 1
 
 -- it doesn't begin with the head of a dump
 abbrev pub HasNoHead : List ℕ → Type 0
@@ -49,18 +83,32 @@ HasNoHead text = (head : Head) (rest : List ℕ) → IsHead head → text ≡ li
 abbrev pub BeginsNewer : List ℕ → Type 0
 BeginsNewer text = (first : List ℕ) × (rest : List ℕ) × IsNewer first × (text ≡ line first ++ rest)
 
--- it is no rest of a dump behind an entry of that number
-abbrev pub IsNoRest : ℕ → List ℕ → Type 0
-IsNoRest last text = (parts : List Part) (end : End) → IsRest last parts end text → ⊥
+-- a rest of a dump behind an entry of that number
+abbrev pub IsSomeRest : ℕ → List ℕ → Type 0
+IsSomeRest last text = (parts : List Part) × (end : End) × IsRest last parts end text
 
--- no other line ends the ledger text at its beginning
-abbrev pub HasNoOtherLine : List ℕ → Type 0
-HasNoOtherLine text =
-    (front other rest : List ℕ) → IsLedger front → IsLine other → (IsText other → ⊥) → text ≡ front ++ (line other ++ rest) → ⊥
+-- the text, of which the first line has such a number, is no rest behind an entry, since that line isn't one of it
+abbrev pub IsNoRestAt : ℕ → ℕ → ℕ → List ℕ → Type 0
+IsNoRestAt last first = LeavesAt (IsSomeRest last) first
 
--- that line is no end, or more stands behind it
-abbrev pub IsNoEnd : List ℕ → List ℕ → Type 0
-IsNoEnd last rest = (end : End) → IsEnd end → last ≡ end_text end → rest ≡ [] → ⊥
+-- ledger text, and a line of that number without a line end, or none
+abbrev pub IsEndlessAt : ℕ → ℕ → List ℕ → Type 0
+IsEndlessAt first number text =
+    (front : List ℕ) × (last : List ℕ) × IsLedger front × IsLine last × (text ≡ front ++ last)
+    × (number ≡ counted (first + lines_in front))
+
+-- the line of that number is no end
+abbrev pub IsOtherThanEnd : List ℕ → Type 0
+IsOtherThanEnd last = (end : End) → IsEnd end → last ≡ end_text end → ⊥
+
+-- it is one, and more stands behind it
+abbrev pub HasMoreBehind : List ℕ → Option (List ℕ) → Type 0
+HasMoreBehind last rest = ((end : End) × IsEnd end × (last ≡ end_text end)) × IfSome rest (λ text. text ≢ [])
+
+-- the number is that of the line, which is no end, or of the one behind it
+abbrev pub IsNoEndAt : ℕ → ℕ → List ℕ → Option (List ℕ) → Type 0
+IsNoEndAt at number last rest =
+    (IsOtherThanEnd last × (number ≡ at)) ⊎ (HasMoreBehind last rest × (number ≡ counted (at + 1)))
 
 -- ---- What is too long.
 
@@ -93,6 +141,7 @@ Begins old new head above reading =
     IsHead head × IsLedger above
     × Consumes old (prepend_known reading.ahead new) (line (head_text head) ++ above)
     × BeginsOther reading.ahead × Holds256 reading.hasher (line (head_text head) ++ above) × (reading.last ≡ 0) × (reading.headings ≡ 0)
+    × (reading.line ≡ counted (lines_in (line (head_text head) ++ above) + 1))
 
 abbrev pub part_of : Heading → List ℕ → Part
 part_of heading text = record { heading = heading; text = text }
@@ -109,6 +158,7 @@ abbrev pub SaysNext : Reading → Reading → List ℕ → Result Step DumpFault
 SaysNext old new text (Ok (Entry heading)) =
     AreParts old.last (part_of heading text ∷ []) × Hears old.hasher new.hasher (part_text (part_of heading text))
     × BeginsOther new.ahead × (new.last ≡ heading.number) × (new.headings ≡ counted (old.headings + 1))
+    × (new.line ≡ counted (old.line + lines_in (part_text (part_of heading text))))
 SaysNext old new text (Ok (AtEnd sum)) =
     IsEnd sum.end × ((message : List ℕ) → Holds256 old.hasher message → sum.digest ≡ sha256 message)
     × (sum.headings ≡ old.headings)

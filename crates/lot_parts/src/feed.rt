@@ -1,4 +1,5 @@
 ghost use Rattle.std.specs.Prelude.{◌≡◌, ◌≤◌, ◌<◌, ◌+◌, ◌⊎◌, ◌++◌, [], length, vec_len, IfErr, IfOk, IfSome, IsErrOf, OnErr, OnOk};
+ghost use Rattle.lot_stream.specs.Calls.{counted};
 ghost use Rattle.std.specs.Io.KnownBytes.{Consumes, IsAtEnd, prepend_known};
 ghost use Rattle.lot_token.specs.Line.{IsLine};
 ghost use Rattle.lot_report.specs.Printed.{line};
@@ -6,7 +7,7 @@ ghost use Rattle.lot_stream.specs.Input.{NoneFailed};
 ghost use Rattle.lot_dump.specs.Form.{IsEnd, IsHead, end_text, head_text};
 ghost use Rattle.lot_parts.specs.Dump.{IsLedger, IsText};
 ghost use Rattle.lot_parts.specs.Fault.{HasCause, SaysNoDump};
-ghost use Rattle.lot_parts.specs.Reading.{BeginsNewer, HasLong, HasNoHead, HasNoOtherLine, IsNoEnd, longest_text};
+ghost use Rattle.lot_parts.specs.Reading.{BeginsNewer, HasLong, HasNoHead, IsEndlessAt, IsNoEndAt, lines_in, longest_text};
 
 use crate::fault::DumpFault;
 use lot_dump::{End, Head, Kind, LineEnd, LineReader, kind_of, read_end, read_head};
@@ -29,7 +30,8 @@ pub(crate) struct Feed {
 impl Feed {
     /// Returns the lines of a dump of which nothing was read.
     pub(crate) fn new(alloc: Global) -> Result<Feed, AllocError>
-        ensures { IfOk result (λ feed. feed.lines ≡ []) }
+        ensures lines { IfOk result (λ feed. feed.lines ≡ []) }
+        ensures count { IfOk result (λ feed. feed.count ≡ 0) }
     {
         Ok(Feed {
             lines: LineReader::new(alloc)?,
@@ -40,13 +42,15 @@ impl Feed {
 
     /// Reads the first line, and returns what it says as the head of a dump.
     pub(crate) fn read_head<R: CountedRead>(&mut self, reader: &mut R) -> Result<Head, DumpFault>
+        requires first { self.old.count ≡ 0 }
         ensures head { IfOk result (λ head. IsHead head
             × (self.new.line.items ≡ head_text head)) }
+        ensures count { OnOk result (self.new.count ≡ 1) }
         ensures bytes { OnOk result
             (Consumes (prepend_known self.old.lines (R.remaining reader.old))
             (prepend_known self.new.lines (R.remaining reader.new)) (line self.new.line.items)) }
-        ensures no_dump { IfErr result (λ fault. SaysNoDump fault
-            → IfSome (prepend_known self.old.lines (R.remaining reader.old)) HasNoHead) }
+        ensures no_dump { IfErr result (SaysNoDump (λ number. (number ≡ 1)
+            × IfSome (prepend_known self.old.lines (R.remaining reader.old)) HasNoHead)) }
         ensures newer { IsErrOf result DumpFault.NewerFormat
             → IfSome (prepend_known self.old.lines (R.remaining reader.old)) BeginsNewer }
         ensures calls { OnOk result
@@ -73,8 +77,11 @@ impl Feed {
         ensures ledger { OnOk result (IsLedger text.new.items) }
         ensures line { IsLine self.new.line.items }
         ensures other { OnOk result (IsText self.new.line.items → ⊥) }
-        ensures no_dump { IfErr result (λ fault. SaysNoDump fault
-            → IfSome (prepend_known self.old.lines (R.remaining reader.old)) HasNoOtherLine) }
+        ensures count { OnOk result (self.new.count
+            ≡ counted (self.old.count + lines_in text.new.items + 1)) }
+        ensures no_dump { IfErr result (SaysNoDump (λ number.
+            IfSome (prepend_known self.old.lines (R.remaining reader.old))
+            (IsEndlessAt (self.old.count + 1) number))) }
         ensures newer { IsErrOf result DumpFault.NewerFormat → ⊥ }
         ensures calls { OnOk result
             (NoneFailed (record { before = R.calls reader.old; after = R.calls reader.new })) }
@@ -100,9 +107,9 @@ impl Feed {
         ensures end { IfOk result (λ end. IsEnd end × (self.old.line.items ≡ end_text end)
             × IsAtEnd (prepend_known self.old.lines (R.remaining reader.old))) }
         ensures line { IsLine self.old.line.items → IsLine self.new.line.items }
-        ensures no_dump { IfErr result (λ fault. SaysNoDump fault
-            → IfSome (prepend_known self.old.lines (R.remaining reader.old))
-            (IsNoEnd self.old.line.items)) }
+        ensures no_dump { IfErr result (SaysNoDump (λ number.
+            IsNoEndAt self.old.count number self.old.line.items
+            (prepend_known self.old.lines (R.remaining reader.old)))) }
         ensures newer { IsErrOf result DumpFault.NewerFormat → ⊥ }
         ensures calls { OnOk result
             (NoneFailed (record { before = R.calls reader.old; after = R.calls reader.new })) }
@@ -127,8 +134,10 @@ impl Feed {
             (Consumes (prepend_known self.old.lines (R.remaining reader.old))
             (prepend_known self.new.lines (R.remaining reader.new)) (line self.new.line.items)) }
         ensures line { IsLine self.new.line.items }
-        ensures no_dump { IfErr result (λ fault. SaysNoDump fault
-            → IfSome (prepend_known self.old.lines (R.remaining reader.old)) IsLine) }
+        ensures count { OnOk result (self.new.count ≡ counted (self.old.count + 1)) }
+        ensures no_dump { IfErr result (SaysNoDump (λ number.
+            (number ≡ counted (self.old.count + 1))
+            × IfSome (prepend_known self.old.lines (R.remaining reader.old)) IsLine)) }
         ensures newer { IsErrOf result DumpFault.NewerFormat → ⊥ }
         ensures calls { OnOk result
             (NoneFailed (record { before = R.calls reader.old; after = R.calls reader.new })) }

@@ -3,7 +3,7 @@ ghost use Rattle.std.specs.Io.KnownBytes.{prepend_known};
 ghost use Rattle.lot_report.specs.Printed.{line};
 ghost use Rattle.lot_stream.specs.Input.{NoneFailed};
 ghost use Rattle.lot_parts.specs.Fault.{HasCause, SaysNoDump};
-ghost use Rattle.lot_parts.specs.Reading.{Begins, BeginsNewer, HasLong, Hears, IsNoDump, IsNoRest, SaysNext, Takes};
+ghost use Rattle.lot_parts.specs.Reading.{Begins, BeginsNewer, HasLong, Hears, IsNoDumpAt, IsNoRestAt, SaysNext, Takes};
 
 use crate::fault::DumpFault;
 use crate::feed::Feed;
@@ -55,8 +55,8 @@ impl DumpReader {
     ) -> Result<(Head, DumpReader), DumpFault>
         ensures begins { IfOk result (λ begun. Begins (R.remaining reader.old)
             (R.remaining reader.new) begun.0 above.new.items begun.1) }
-        ensures no_dump { IfErr result (λ fault. SaysNoDump fault
-            → IfSome (R.remaining reader.old) IsNoDump) }
+        ensures no_dump { IfErr result (SaysNoDump (λ number.
+            IfSome (R.remaining reader.old) (IsNoDumpAt number))) }
         ensures newer { IsErrOf result DumpFault.NewerFormat
             → IfSome (R.remaining reader.old) BeginsNewer }
         ensures calls { OnOk result
@@ -103,9 +103,9 @@ impl DumpReader {
         ensures bytes { Takes (prepend_known self.old.ahead (R.remaining reader.old))
             (prepend_known self.new.ahead (R.remaining reader.new)) text.new.items result }
         ensures says { SaysNext self.old self.new text.new.items result }
-        ensures no_dump { IfErr result (λ fault. SaysNoDump fault
-            → IfSome (prepend_known self.old.ahead (R.remaining reader.old))
-            (IsNoRest self.old.last)) }
+        ensures no_dump { IfErr result (SaysNoDump (λ number.
+            IfSome (prepend_known self.old.ahead (R.remaining reader.old))
+            (IsNoRestAt self.old.last self.old.line number))) }
         ensures newer { IsErrOf result DumpFault.NewerFormat → ⊥ }
         ensures calls { OnOk result
             (NoneFailed (record { before = R.calls reader.old; after = R.calls reader.new })) }

@@ -1,5 +1,5 @@
 -- The text above the first heading says no command; and why it isn't read.
-use Rattle.std.proofs.Common.{sym, subst}
+use Rattle.std.proofs.Common.{refl, sym, subst}
 use Rattle.std.proofs.lemmas.Result.{err_from_is_err_and}
 use Rattle.lot_read.specs.Text.{Reads}
 use Rattle.lot_parts.specs.Commands.{FaultAbove, IsFaultIn}
@@ -27,6 +27,6 @@ pub returns-else-is_empty-clause-fault : goal.returns-else-is_empty-clause-fault
 returns-else-is_empty-clause-fault g c =
     subst (FaultAbove (g.R.CountedRead.remaining c.args.reader.now)) (sym c.no_dump_at.ensures)
     (commands_above (g.R.CountedRead.remaining c.args.reader.now) (g.R.CountedRead.remaining c.begin.new.reader) c.in_ok-head.head
-    c.begin.new.above.items c.in_ok-head.dump c.in_ok-head.ensures.begins 1 c.in_ok-commands.commands.items
+    c.begin.new.above.items c.in_ok-head.dump c.in_ok-head.ensures.begins 1 c.in_ok-commands.commands.items refl
     (subst (λ t. Reads t c.in_ok-commands.commands.items) c.deref.ensures.value c.in_ok-commands.ensures.commands)
     (some_list c.in_ok-commands.commands.items c.in_ok-commands.commands.len (sym c.in_ok-commands.commands.ok.0) (sym c.if-is_empty.ensures)))

@@ -1,11 +1,12 @@
 -- The text so far is ledger text, and stood before what is left.
-use Rattle.std.proofs.Common.{◌≤◌, vec_len}
+use Rattle.std.proofs.Common.{◌≡◌, ◌≤◌, ◌+◌, vec_len}
 use Rattle.std.specs.Io.KnownBytes.{Consumes, prepend_known}
 use Rattle.lot_token.specs.Line.{IsLine}
+use Rattle.lot_stream.specs.Calls.{counted}
 use Rattle.lot_stream.specs.Input.{NoneFailed}
 use Rattle.lot_dump.proofs.LineLemmas.{between}
 use Rattle.lot_parts.specs.Dump.{IsLedger}
-use Rattle.lot_parts.specs.Reading.{longest_text}
+use Rattle.lot_parts.specs.Reading.{lines_in, longest_text}
 use Rattle.lot_parts.proofs.feed.Feed.read_text.Given as goal
 
 abbrev pub invariant-loop-line : goal.invariant-loop-line
@@ -15,5 +16,6 @@ invariant-loop-line g l = record {
   is_line : IsLine l.self.line.items;
   grows : l._line ≤ vec_len l.text;
   limit : vec_len l.text ≤ longest_text;
+  count : l.self.count ≡ counted (l.initial.self.count + lines_in l.text.items);
   calls : NoneFailed (between (g.R.CountedRead.calls l.initial.reader) (g.R.CountedRead.calls l.reader));
 }
