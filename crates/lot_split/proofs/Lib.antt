@@ -1,0 +1,5 @@
+mod ListLemmas
+mod SumLemmas
+mod CurrencyLemmas
+mod NumberLemmas
+mod CostLemmas

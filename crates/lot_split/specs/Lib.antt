@@ -1,0 +1,4 @@
+pub mod Ratio
+pub mod Lots
+pub mod Crumbs
+pub mod Split
