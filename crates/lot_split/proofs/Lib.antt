@@ -3,3 +3,6 @@ mod SumLemmas
 mod CurrencyLemmas
 mod NumberLemmas
 mod CostLemmas
+mod WeightLemmas
+mod OneLemmas
+mod SplitLemmas

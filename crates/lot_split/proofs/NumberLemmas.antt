@@ -1,12 +1,12 @@
 -- Products by a number that isn't zero, and quotients.
-use Rattle.std.proofs.Common.{◌≡◌, ℕ, zero, suc, ◌+◌, ◌≤◌, ◌<◌, mul-le-mul_left, mul-le-mul_right, ℤ, pos, ◌+ℤ◌, ◌*ℤ◌, ◌-ℤ◌, ◌-◌, ◌*◌, inl, inr, ◌<ℤ◌, refl, ap, ◌∙◌, sym, arith}
+use Rattle.std.proofs.Common.{◌≡◌, ℕ, zero, suc, ◌+◌, ◌≢◌, ◌≤◌, ◌<◌, mul-le-mul_left, mul-le-mul_right, ℤ, pos, ◌+ℤ◌, ◌*ℤ◌, ◌-ℤ◌, ◌-◌, ◌*◌, inl, inr, ◌<ℤ◌, refl, ap, ◌∙◌, sym, arith}
 use Rattle.std.specs.Int.RustNames.{int_div, int_rem, unsigned_abs}
 use Rattle.std.proofs.lemmas.Int.{ints, by_lt_z, unsigned_abs-mul, quot-rem, rem_below}
 use Rattle.std.proofs.lemmas.Bool.{cases_lt}
 use Rattle.std.proofs.Math.IntN.{*ℤ_comm, *ℤ-zero, suc_ℤ-*ℤ}
 use Rattle.lot_num.specs.Amount.{one}
 use Rattle.lot_rounding.specs.Nearest.{IsNearest}
-use Rattle.lot_rounding.proofs.NearestLemmas.{apart}
+use Rattle.lot_rounding.proofs.NearestLemmas.{apart, positive}
 
 -- equal products by one number are of equal numbers
 pub cancel : (a b : ℤ) (d : ℕ) → 1 ≤ d → a *ℤ pos d ≡ b *ℤ pos d → a ≡ b
@@ -58,6 +58,29 @@ pub less_times : (a b : ℤ) (n : ℕ) → (a -ℤ b) *ℤ pos n ≡ a *ℤ pos 
 less_times a b zero = omega (arith, ints, *ℤ-zero (a -ℤ b), *ℤ-zero a, *ℤ-zero b)
 less_times a b (suc n) = omega (arith, ints, times_more (a -ℤ b) n, times_more a n, times_more b n, less_times a b n)
 
+few_times : (x y o : ℕ) → 1 ≤ o → x * o ≤ y * o → x ≤ y
+few_times x y o some within = elim (cases_lt y x) [
+  | inl more ↦ (
+      let least : suc y ≤ x = omega arith in
+      absurd (omega (arith, mul-le-mul_right o least))
+      )
+  | inr most ↦ most
+]
+
+pub both_times : (a b : ℤ) (n : ℕ) → (a +ℤ b) *ℤ pos n ≡ a *ℤ pos n +ℤ b *ℤ pos n
+both_times a b zero = omega (arith, ints, *ℤ-zero (a +ℤ b), *ℤ-zero a, *ℤ-zero b)
+both_times a b (suc n) = omega (arith, ints, times_more (a +ℤ b) n, times_more a n, times_more b n, both_times a b n)
+
+-- equal products of one number that isn't zero are by equal numbers
+pub cancel_first : (h : ℤ) (m n : ℕ) → h ≢ pos 0 → h *ℤ pos m ≡ h *ℤ pos n → m ≡ n
+cancel_first h m n some same =
+    let sizes : unsigned_abs h * m ≡ unsigned_abs h * n =
+    sym (unsigned_abs-mul h (pos m)) ∙ ap unsigned_abs same ∙ unsigned_abs-mul h (pos n) in
+    let least : 1 ≤ unsigned_abs h = positive h some in
+    let fewer = few_times m n (unsigned_abs h) least (omega (arith, sizes)) in
+    let more = few_times n m (unsigned_abs h) least (omega (arith, sizes)) in
+    omega (arith, fewer, more)
+
 -- ---- What a split leaves of the cost of a lot.
 
 -- the difference of two products of one number
@@ -84,15 +107,6 @@ near_products a s n nearest =
     let same : s * (n * one) ≡ n * s * one = omega arith in
     omega (arith, ints, near, same)
 
-few_times : (x y o : ℕ) → 1 ≤ o → x * o ≤ y * o → x ≤ y
-few_times x y o some within = elim (cases_lt y x) [
-  | inl more ↦ (
-      let least : suc y ≤ x = omega arith in
-      absurd (omega (arith, mul-le-mul_right o least))
-      )
-  | inr most ↦ most
-]
-
 -- Units u at a rate r become units w at a rate s. The costs differ by at most half of the units w.
 pub near_cost : (u w : ℤ) (r s n o : ℕ) → 1 ≤ o → w *ℤ pos o ≡ u *ℤ pos n → IsNearest (pos (r * o) *ℤ pos one) (n * one) (pos s)
     → 2 * unsigned_abs (u *ℤ pos r -ℤ w *ℤ pos s) ≤ unsigned_abs w
@@ -108,3 +122,16 @@ near_cost u w r s n o some units nearest =
     let sizes : unsigned_abs w * o ≡ unsigned_abs u * n =
     sym (unsigned_abs-mul w (pos o)) ∙ ap unsigned_abs units ∙ unsigned_abs-mul u (pos n) in
     few_times (2 * unsigned_abs d) (unsigned_abs w) o some (omega (arith, size, sizes, bound))
+
+-- Where s times n is r times o, the costs are the same.
+pub same_cost : (u w : ℤ) (r s n o : ℕ) → 1 ≤ o → w *ℤ pos o ≡ u *ℤ pos n → s * n ≡ r * o → w *ℤ pos s ≡ u *ℤ pos r
+same_cost u w r s n o some units exact =
+    let product : n * s ≡ r * o = omega (arith, exact) in
+    cancel (w *ℤ pos s) (u *ℤ pos r) o some
+    (times_turned w s o ∙ ap (λ z. z *ℤ pos s) units ∙ times_times u n s ∙ ap (λ k. u *ℤ pos k) product ∙ sym (times_times u r o))
+
+-- and s is the nearest number
+pub exact_nearest : (r s n o : ℕ) → 1 ≤ n → s * n ≡ r * o → IsNearest (pos (r * o) *ℤ pos one) (n * one) (pos s)
+exact_nearest r s n o some exact =
+    let product : s * (n * one) ≡ r * o * one = omega (arith, exact) in
+    record { near = omega (arith, ints, product); even = λ half. absurd (omega (arith, ints, product, half)) }

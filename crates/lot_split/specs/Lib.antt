@@ -2,3 +2,4 @@ pub mod Ratio
 pub mod Lots
 pub mod Crumbs
 pub mod Split
+pub mod Weights
