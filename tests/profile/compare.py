@@ -157,6 +157,12 @@ def judged(program, name, profile, texts):
     check(f"{name}: the program takes it", run.stderr.decode()[:300] if refused or run.returncode else "")
 
 
+def years():
+    """The name and the folder of each profile that has a truth."""
+    every = [(name, make.HERE) for name in make.FORMATS]
+    return every + [(os.path.basename(path)[:-5], f"{ROOT}/profiles") for path in sorted(glob.glob(f"{ROOT}/profiles/*.toml"))]
+
+
 def main(words):
     if reader.tomllib is None:
         print(f"skipped: {reader.WITHOUT_TOMLLIB}")
@@ -164,9 +170,7 @@ def main(words):
         return 0
     stale = [name for name, data in make.files() if load(f"{make.HERE}/{name}") != data]
     check("the made files are those of make.py", " ".join(stale))
-    every = [(name, make.HERE) for name in make.FORMATS]
-    every += [(os.path.basename(path)[:-5], f"{ROOT}/profiles") for path in sorted(glob.glob(f"{ROOT}/profiles/*.toml"))]
-    for name, folder in every:
+    for name, folder in years():
         done = year(name, folder)
         if done and words:
             judged(words[0], name, *done)
