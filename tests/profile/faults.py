@@ -75,7 +75,18 @@ DIVIDEND = "2024-03-05;Dividend;HOOL;;;8.50;USD;;D3"
 CASH = "2024-03-06;Cash;;;;500;USD;;D4"
 KINDS = '[[kind]]\nis = "deposit"'
 
-# Name, changes of the profile, lines, what is wanted.
+
+def kind_more(text):
+    """Another kind, or another part, before the kinds."""
+    return ('[[kind]]\nis = "buy"', f'{text}\n\n[[kind]]\nis = "buy"')
+
+
+EXCHANGE = kind_more('[[kind]]\nis = "exchange"\nwhen = { Kind = "Swap" }\ncolumns = { other = "Units", other-currency = "Symbol" }')
+REWARD = ('rounding = "Equity:Rounding"\n', 'rounding = "Equity:Rounding"\nrewards = "Income:Rewards"\n\n[[kind]]\nis = "reward"\nwhen = { Kind = "Gift" }\n')
+BY_PRICE = kind_more('[basis]\ncost = "price"')
+SPLIT = kind_more('[[kind]]\nis = "split"\nwhen = { Kind = "Split" }\ncolumns = { ratio = "Price" }')
+
+# Name, changes of the profile, lines (or the bytes of a whole file), what is wanted.
 CASES = [
     ("all is well", [], [BUY, SELL, DIVIDEND, CASH], [
         "; row 1 buy key 2024-03-01 1 D1", "  Assets:Broker 10 HOOL {{1009.95 USD}}", "  Assets:Cash -1009.95 USD",
@@ -137,7 +148,7 @@ CASES = [
     ("a price with a comma for a point", [], [BUY.replace("100.50", "100,500")], "row 1 units, price, fee and amount disagree"),
     ("a cent and the bound", [], [BUY.replace("-1,009.95", "-1,009.965")], ["{{1009.965 USD}}"]),
     ("more than a cent and the bound", [], [BUY.replace("-1,009.95", "-1,009.96500001")], "row 1 units, price, fee and amount disagree"),
-    ("what is rounded", [("[[kind]]\nis = \"buy\"", "[basis]\nrounded = { price = 2 }\n\n[[kind]]\nis = \"buy\"")], [BUY.replace("-1,009.95", "-1,010.015")], ["{{1010.015 USD}}"]),
+    ("what is rounded", [kind_more("[basis]\nrounded = { price = 2 }")], [BUY.replace("-1,009.95", "-1,010.015")], ["{{1010.015 USD}}"]),
     ("a deposit below zero", [('when = { Kind = "Cash", Amount = "> 0" }', 'when = { Kind = "Cash", Amount = "< 0" }'), ('is = "withdrawal"\nwhen = { Kind = "Cash", Amount = "< 0" }', 'is = "withdrawal"\nwhen = { Kind = "Cash", Amount = "> 0" }')], [CASH], "row 1 has the sign of no withdrawal"),
     ("a tax with a sign that is wrong", [('is = "dividend"\n', 'is = "dividend"\ncolumns = { tax = "Fee" }\n')], [DIVIDEND.replace("USD;;", "USD;-1.50;")], "row 1 tax has another sign"),
     ("a net dividend", [('is = "dividend"\n', 'is = "dividend"\ncolumns = { tax = "Fee" }\n')], [DIVIDEND.replace("USD;;", "USD;1.50;")], ["Cash 8.5 USD", "Tax 1.5 USD", "Dividends -10 USD"]),
@@ -162,10 +173,75 @@ CASES = [
     ("a kind that is unknown", [('is = "skip"', 'is = "ignore"')], [BUY], "profile kind.7.is"),
     ("a form of days without a year", [('"YYYY-MM-DD"', '"MM-DD"')], [BUY], "profile file.day"),
     ("one sign for groups and decimals", [('grouping = ","', 'grouping = "."')], [BUY], "profile file.grouping"),
-    ("a commodity that is none", [("[[kind]]\nis = \"buy\"", "[symbols]\nX = \"brk/b\"\n\n[[kind]]\nis = \"buy\"")], [BUY], "profile symbols.X"),
+    ("a commodity that is none", [kind_more('[symbols]\nX = "brk/b"')], [BUY], "profile symbols.X"),
     ("a text where a list is wanted", [('nothing = ["", "--"]', 'nothing = "--"')], [BUY], "profile file.nothing"),
     ("no TOML", [("[file]", "[file")], [BUY], "profile -"),
+    # Columns of all kinds.
+    ("the beginning of a field", [('symbol = "Symbol"', 'symbol = { column = "Symbol", until = "(" }')], [BUY.replace("HOOL", "HOOL (US1)"), SELL], ["10 HOOL {{", "-4 HOOL {}"]),
+    ("a beginning that is nothing", [('symbol = "Symbol"', 'symbol = { column = "Symbol", until = "(" }')], [BUY.replace("HOOL", "(US1)")], "row 1 symbol has no value"),
+    ("a constant", [('currency = "Currency"', 'currency = { is = "EUR" }')], [BUY], ["{{1009.95 EUR}}"]),
+    ("numbers of columns", [('currency = "Currency"', "currency = 7"), ('amount = "Amount"', "amount = 6"), ('when = { Kind = "Buy" }', 'when = { 2 = "Buy" }')], [BUY], ["{{1009.95 USD}}"]),
+    ("a column beyond the row", [('ref = "Id"', "ref = 12")], [DIVIDEND], ["key 2024-03-05 1 2024-03-05 Dividend HOOL 8.50 USD D3\n"]),
+    ("columns that are added", [('amount = "Amount"', 'amount = ["Amount", "Fee"]')], [BUY.replace("-1,009.95", "-1,014.90")], ["{{1009.95 USD}}"]),
+    ("a symbol that has another name", [kind_more('[symbols]\n"BRK/B" = "BRK.B"')], [BUY.replace("HOOL", "BRK/B")], ["10 BRK.B {{"]),
+    ("a symbol that is no commodity", [], [BUY.replace("HOOL", "BRK/B")], "row 1 symbol is no commodity: BRK/B"),
+    ("a symbol in small letters", [], [BUY.replace("HOOL", "Hool")], "row 1 symbol is no commodity: Hool"),
+    ("a currency in small letters", [], [DIVIDEND.replace("USD", "usd")], "row 1 currency is no commodity: usd"),
+    ("an account by the currency", [('"Assets:Cash"', '"Assets:{currency}:{symbol}"')], [DIVIDEND], ["  Assets:USD:HOOL 8.5 USD"]),
+    ("an account that a field spoils", [('"Assets:Cash"', '"Assets:{symbol}"')], [DIVIDEND.replace("HOOL", "BRK.B")], "row 1 is no account: Assets:BRK.B"),
+    ("an account without its field", [('"Assets:Cash"', '"Assets:{symbol}"')], [CASH], "row 1 symbol has no value"),
+    ("an optional column in no key", [('ref = "Id"\n', ""), ("order =", 'optional = ["Id"]\norder =')], [DIVIDEND], ["key 2024-03-05 1 2024-03-05 Dividend HOOL 8.50 USD D3\n"]),
+    ("a named optional column in no key", [('ref = "Id"\n', ""), ("order =", 'optional = ["Id"]\norder ='), ('when = { Kind = "Dividend" }', 'when = { Kind = "Dividend", Id = ["nothing", "something"] }')], [DIVIDEND], ["key 2024-03-05 1 2024-03-05 Dividend HOOL 8.50 USD\n"]),
+    # Fees and prices in other currencies.
+    ("a fee in a third currency is paid beside", [('fee = "Fee"', 'fee = "Fee"\nfee-currency = { is = "CHF" }')], [BUY.replace("-1,009.95", "-1,005")], ["{{1005 USD}}", "Expenses:Fees 4.95 CHF", "Assets:Cash -4.95 CHF", "Assets:Cash -1005 USD"]),
+    ("a fee in a third currency isn't in the amount", [('fee = "Fee"', 'fee = "Fee"\nfee-currency = { is = "CHF" }')], [BUY], "row 1 units, price, fee and amount disagree"),
+    ("a rate ties two currencies", [('price = "Price"', 'price = "Price"\nprice-currency = { is = "EUR" }\nrate = { is = "0.5" }')], [BUY.replace("-1,009.95", "-2,014.95")], ["{{2014.95 USD}}"]),
+    ("a rate that is turned round", [('price = "Price"', 'price = "Price"\nprice-currency = { is = "EUR" }\nrate = { is = "2" }')], [BUY.replace("-1,009.95", "-2,014.95")], "row 1 units, price, fee and amount disagree"),
+    ("a rate of zero", [('price = "Price"', 'price = "Price"\nprice-currency = { is = "EUR" }\nrate = { is = "0" }')], [BUY], "row 1 rate is not above zero"),
+    ("no rate beside two currencies", [('price = "Price"', 'price = "Price"\nprice-currency = { is = "EUR" }')], [BUY], ["{{1009.95 USD}}"]),
+    ("no price", [('price = "Price"\n', "")], [BUY], ["{{1009.95 USD}}"]),
+    ("no amount", [('amount = "Amount"\n', ""), ('[[kind]]\nis = "dividend"\nwhen = { Kind = "Dividend" }\n\n[[kind]]\nis = "deposit"\nwhen = { Kind = "Cash", Amount = "> 0" }\n\n[[kind]]\nis = "withdrawal"\nwhen = { Kind = "Cash", Amount = "< 0" }\n', "")], [BUY, SELL], ["{{1009.95 USD}}", "@@ 435.05 USD"]),
+    ("the price as cost", [BY_PRICE], [BUY, SELL], ["10 HOOL {100.5 USD}", "Expenses:Fees 4.95 USD", "Cash -1009.95 USD", "-4 HOOL {} @ 110 USD", "Fees 4.95 USD", "Cash 435.05 USD", "  Income:Gains\n"]),
+    ("the price as cost, in another currency", [BY_PRICE, ('price = "Price"', 'price = "Price"\nprice-currency = { is = "EUR" }')], [BUY, SELL], ["10 HOOL {100.5 EUR}", "Fees 4.95 USD", "Cash -4.95 USD", "Cash -1005 USD @@ 1005 EUR", "-4 HOOL {} @ 110 EUR", "Cash 440 USD @@ 440 EUR"]),
+    # Other kinds.
+    ("an exchange in one row", [EXCHANGE], ["2024-03-07;Swap;EUR;-100;;108;USD;;D5"], ["Cash 108 USD", "Transfers -108 USD", "Cash -100 EUR", "Transfers 100 EUR"]),
+    ("an exchange with equal signs", [EXCHANGE], ["2024-03-07;Swap;EUR;100;;108;USD;;D5"], "row 1 has the signs of no exchange"),
+    ("an exchange of a currency for itself", [EXCHANGE], ["2024-03-07;Swap;USD;-100;;108;USD;;D5"], "row 1 exchanges a currency for itself"),
+    ("an exchange with a fee", [EXCHANGE], ["2024-03-07;Swap;EUR;-100;;106;USD;2;D5"], ["Cash 106 USD", "Fees 2 USD", "Transfers -108 USD"]),
+    ("a dividend that is booked in another currency", [('is = "dividend"\n', 'is = "dividend"\ncolumns = { booked = "Price", booked-currency = { is = "EUR" }, tax = "Fee" }\n')], [DIVIDEND.replace(";;8.50", ";7.70;8.50").replace("USD;;", "USD;1.50;")], ["Cash 7.7 EUR @@ 8.5 USD", "Tax 1.5 USD", "Dividends -10 USD"]),
+    ("a dividend that is booked with another sign", [('is = "dividend"\n', 'is = "dividend"\ncolumns = { booked = "Price", booked-currency = { is = "EUR" } }\n')], [DIVIDEND.replace(";;8.50", ";-7.70;8.50")], "row 1 booked has another sign"),
+    ("a tax in another currency", [('is = "dividend"\n', 'is = "dividend"\ncolumns = { tax = "Fee", tax-currency = { is = "GBP" } }\n')], [DIVIDEND.replace("USD;;", "USD;1.50;")], ["Cash 8.5 USD", "Dividends -8.5 USD", "Tax 1.5 GBP", "Dividends -1.5 GBP"]),
+    ("a dividend that is taken back", [('is = "dividend"\n', 'is = "dividend"\ncolumns = { tax = "Fee" }\n')], [DIVIDEND.replace("8.50", "-8.50").replace("USD;;", "USD;-1.50;")], ["Cash -8.5 USD", "Tax -1.5 USD", "Dividends 10 USD"]),
+    ("a reward", [REWARD], ["2024-03-07;Gift;HOOL;0.5;;52;USD;;D5"], ["Broker 0.5 HOOL {{52 USD}}", "Rewards -52 USD"]),
+    ("a reward by its price", [REWARD], ["2024-03-07;Gift;HOOL;0.00000003;0.5;;USD;;D5"], ["Broker 0.00000003 HOOL {{0.00000002 USD}}", "Rewards -0.00000002 USD"]),
+    ("a reward that counts as nothing", [REWARD, kind_more('[basis]\nrewards = "zero"')], ["2024-03-07;Gift;HOOL;0.5;;52;USD;;D5"], ["Broker 0.5 HOOL {{0 USD}}\n;"]),
+    ("a reward below zero", [REWARD], ["2024-03-07;Gift;HOOL;0.5;;-52;USD;;D5"], "row 1 has the signs of no reward"),
+    ("a transfer in without its columns", [('is = "dividend"', 'is = "transfer-in"')], [BUY], "profile columns.cost"),
+    ("a split by a ratio in lowest terms", [SPLIT], [BUY, "2024-03-07;Split;HOOL;;30:10;;;;D5"], ["split Assets:Broker HOOL 3:1"]),
+    ("a split with a number above 100", [SPLIT], [BUY, "2024-03-07;Split;HOOL;;101:1;;;;D5"], "row 2 ratio has a number above 100"),
+    ("a split that is no ratio", [SPLIT], [BUY, "2024-03-07;Split;HOOL;;3 for 1;;;;D5"], "row 2 ratio is no ratio"),
+    ("a price", [('is = "dividend"', 'is = "price"')], ["2024-03-05;Dividend;HOOL;;8.50;;USD;;D3"], ["2024-03-05 price HOOL 8.5 USD\n"]),
+    ("a row by hand", [('is = "dividend"', 'is = "by-hand"')], [BUY, DIVIDEND], ["; row 1 buy", "; 0 skipped"]),
+    ("a cancelled sale", [('is = "cancel-buy"', 'is = "cancel-sell"')], [SELL, "2024-03-05;Cancel;HOOL;4;110;-435.05;USD;-4.95;D5"], "row 2 is a cancelled sale"),
+    # Files.
+    ("lines of blanks and lines before the header", [], (f"Cases;of 2024\n\n ; ;\n{HEADER}\n;;\n{BUY}\n").encode(), ["; row 1 buy"]),
+    ("a header that comes again", [], (f"{HEADER}\n{BUY}\nDay;Kind;Symbol;Price;Units;Amount;Currency;Fee;Id\n2024-03-01;Buy;HOOL;100.50;10;-1,009.95;USD;4.95;D1\n").encode(), ["; row 1 buy", "; row 2 buy key 2024-03-01 2 D1"]),
+    ("a column that stands twice", [], (f"{HEADER};Fee\n{BUY};\n").encode(), "row 1 column 'Fee' stands twice"),
+    ("a header's number", [('header = "Day;Kind"', "header = 2")], (f"Cases\n\n{HEADER}\n{BUY}\n").encode(), ["; row 1 buy"]),
+    ("a header in quotes", [], (HEADER.replace("Kind", '"Kind"') + f"\n{BUY}\n").encode(), ["; row 1 buy"]),
+    ("a mark, and lines that end otherwise", [], ("\ufeff" + f"{HEADER}\r\n{BUY}\r\n").encode(), ["; row 1 buy"]),
+    ("a byte that is not UTF-8", [], f"{HEADER}\n{BUY}\xfc\n".encode("latin-1"), "file is not UTF-8"),
+    ("a byte of Latin-1", [('delimiter = ";"', 'encoding = "latin-1"\ndelimiter = ";"')], f"{HEADER}\n{BUY}\xfc\n".encode("latin-1"), ["key 2024-03-01 1 D1\u00fc"]),
+    ("blanks around fields", [], f"{HEADER}\n{BUY}\n".replace(";", " ;\t").encode(), ["; row 1 buy key 2024-03-01 1 D1"]),
+    ("a field with a line end in a key", [], (f'{HEADER}\n{DIVIDEND[:-2]}"D\n3"\n').encode(), ["; row 1 dividend key b3e9e7f4dd279d7f4a0cebd67dfec959\n"]),
+    ("a file without a row", [], f"{HEADER}\n".encode(), ["; 0 skipped"]),
+    ("an empty file", [], b"", "file has no header"),
 ]
+
+
+def file_of(lines):
+    """The bytes of a case's file."""
+    return lines if isinstance(lines, bytes) else ("\n".join([HEADER] + lines) + "\n").encode()
 
 
 def printed(changes, lines):
@@ -177,7 +253,7 @@ def printed(changes, lines):
         text = text.replace(old, new, 1)
     try:
         profile = reader.read_profile(text.encode())
-        read = reader.read_export(profile, ("\n".join([HEADER] + lines) + "\n").encode())
+        read = reader.read_export(profile, file_of(lines))
     except reader.ProfileFault as fault:
         return f"fault profile {fault.key} {fault.what}"
     except reader.Fault as fault:

@@ -114,7 +114,7 @@ def year(program, name, folder):
 
 
 def case(program, name, changes, lines):
-    text, data = faults.PROFILE, ("\n".join([faults.HEADER] + lines) + "\n").encode()
+    text, data = faults.PROFILE, faults.file_of(lines)
     for old, new in changes:
         text = text.replace(old, new, 1)
     path = f"{program.folder}.toml"
