@@ -47,6 +47,7 @@ CASH_KINDS = {"tax": "tax", "fee": "fees", "deposit": "transfers", "withdrawal":
 
 ACCOUNT = re.compile(r"(Assets|Liabilities|Equity|Income|Expenses)(:[A-Z0-9][A-Za-z0-9-]*)+")
 COMMODITY = re.compile(r"[A-Z]([A-Z0-9'._-]{0,22}[A-Z0-9])?")
+DAY_PARTS = {"YYYY": "(?P<y>[0-9]{4})", "MM": "(?P<m>[0-9]{1,2})", "DD": "(?P<d>[0-9]{1,2})", "Mon": "(?P<n>[A-Za-z]{3})"}
 TIME = re.compile(r"([0-9]{1,2}):([0-9]{2})(?::([0-9]{2}))?")
 
 
@@ -307,9 +308,9 @@ def basis_of(section):
         places[role] = rounded.take(role, int)
         if not 0 <= places[role] <= 8:
             raise ProfileFault(rounded.path(role), "is not 0 to 8")
-    basis = (section.word("cost", ("amount", "price"), "amount"), Fraction(within), places, section.word("rewards", ("value", "zero"), "value"))
+    cost, rewards = section.word("cost", ("amount", "price"), "amount"), section.word("rewards", ("value", "zero"), "value")
     section.end()
-    return basis
+    return cost, Fraction(within), places, rewards
 
 
 def symbols_of(section):
@@ -358,9 +359,8 @@ def read_profile(data):
     basis = basis_of(Section(top.take("basis", dict, {}), "basis"))
     symbols = symbols_of(Section(top.take("symbols", dict, {}), "symbols"))
     top.end()
-    profile = Profile(
-        name, encoding, delimiter, decimal, grouping, signs, [text.strip(BLANKS) for text in nothing], day, optional, tables, accounts, *basis, symbols
-    )
+    nothing = [text.strip(BLANKS) for text in nothing]
+    profile = Profile(name, encoding, delimiter, decimal, grouping, signs, nothing, day, optional, tables, accounts, *basis, symbols)
     for place, table in enumerate(tables, 1):
         check_table(profile, table, f"table.{place}." if "table" in value else "")
     return profile
@@ -474,11 +474,7 @@ def rounded(value):
 
 def day_of(profile, text):
     """The day of a field and its time, or None."""
-    found = re.match(
-        "".join({"YYYY": "(?P<y>[0-9]{4})", "MM": "(?P<m>[0-9]{1,2})", "DD": "(?P<d>[0-9]{1,2})", "Mon": "(?P<n>[A-Za-z]{3})"}.get(p, re.escape(p)) for p in profile.day),
-        text,
-        re.ASCII,
-    )
+    found = re.match("".join(DAY_PARTS.get(part, re.escape(part)) for part in profile.day), text)
     if not found:
         return None
     parts = found.groupdict()
@@ -616,8 +612,10 @@ class Deal:
         self.rounded = 0
         self.buy = None
         self.key = self.day = self.time = None
+        self.text_ = None
         if self.kind != "skip":
             self.read()
+            self.text_ = self.ledger()
 
     def fault(self, what):
         return Fault(self.row.number, what)
@@ -753,7 +751,7 @@ class Deal:
         else:
             if self.price is None:
                 raise self.fault("price has no value")
-            if self.price_currency != self.currency or self.fee_currency not in (self.currency,) and not self.beside:
+            if self.price_currency != self.currency:
                 raise self.fault("amount has no value, and the price is in another currency")
             self.amount = rounded(-self.units * self.price - (0 if self.beside else self.fee))
             self.limited(self.amount, "amount")
@@ -804,21 +802,20 @@ class Deal:
         return Fraction(0) if places is None else Fraction(1, 2 * 10**places)
 
     def deal_lines(self):
-        if self.kind == "buy":
-            cost_day = None
-        elif self.kind == "cancel-buy":
-            cost_day = self.buy.day
-        return self.by_amount(cost_day if self.kind != "sell" else None) if self.profile.cost == "amount" else self.by_price(cost_day if self.kind != "sell" else None)
+        # A cancelled purchase takes the lot of its own day; which that is is known when all rows are read.
+        cost_day = (self.buy or self).day if self.kind == "cancel-buy" else None
+        return self.by_amount(cost_day) if self.profile.cost == "amount" else self.by_price(cost_day)
 
     def by_amount(self, cost_day):
         lines = []
         invest = self.account("invest", self.currency)
         cash = self.account("cash", self.currency)
-        if self.kind == "sell":
+        if self.kind in ("sell", "cancel-sell"):
             lines.append(f"{invest} {show(self.units)} {self.symbol} {{}} @@ {show(self.amount)} {self.currency}")
         else:
             day = f", {cost_day}" if cost_day else ""
-            lines.append(f"{invest} {show(self.units)} {self.symbol} {{{{{show(abs(self.amount))} {self.currency}{day}}}}}")
+            cost = f"{show(abs(self.amount))} {self.currency}{day}"
+            lines.append(f"{invest} {show(self.units)} {self.symbol} {{{{{cost}}}}}")
         if self.beside:
             lines += self.fee_beside()
         lines.append(f"{cash} {show(self.amount)} {self.currency}")
@@ -923,7 +920,8 @@ class Deal:
                 raise self.fault("has the signs of no exchange")
             if second == currency:
                 raise self.fault("exchanges a currency for itself")
-            self.lines += [f"{self.account('cash', second)} {show(other)} {second}", f"{self.account('transfers', second)} {show(-other)} {second}"]
+            self.lines.append(f"{self.account('cash', second)} {show(other)} {second}")
+            self.lines.append(f"{self.account('transfers', second)} {show(-other)} {second}")
         elif amount == 0:
             raise self.fault("has the signs of no exchange")
         if fee and not inside:
@@ -995,11 +993,8 @@ class Deal:
         if text is not None:
             return text
         left_out = {self.row.names[name] for name in self.profile.optional if name in self.row.names}
-        left_out |= self.optional_places()
-        return " ".join(field for place, field in enumerate(self.row.fields) if field not in self.profile.nothing and field and place not in left_out)
-
-    def optional_places(self):
-        return set()
+        fields = [field for place, field in enumerate(self.row.fields) if place not in left_out]
+        return " ".join(field for field in fields if field and field not in self.profile.nothing)
 
     def narration(self):
         words = [self.kind, self.symbol_text(), self.text("note")]
@@ -1077,7 +1072,8 @@ def pair(ordered, left_out):
 
 
 def same_deal(buy, cancel):
-    return (buy.symbol, buy.units, buy.price, buy.amount, buy.currency) == (cancel.symbol, -cancel.units, cancel.price, -cancel.amount, cancel.currency)
+    cancelled = (cancel.symbol, -cancel.units, cancel.price, -cancel.amount, cancel.currency)
+    return (buy.symbol, buy.units, buy.price, buy.amount, buy.currency) == cancelled
 
 
 class Read(NamedTuple):
@@ -1095,8 +1091,8 @@ def read_export(profile, data, left_out=()):
     for deal in ordered:
         deal.key = key_of(deal, occurrences)
     pair(ordered, left_out)
-    for deal in sorted(ordered, key=lambda deal: deal.row.number):
-        if deal.key not in left_out:
+    for deal in ordered:
+        if deal.buy and deal.kind == "cancel-buy":
             deal.text_ = deal.ledger()
     return Read(
         [deal for deal in ordered if deal.key not in left_out and deal.kind != "by-hand"],
