@@ -160,7 +160,9 @@ def judged(program, name, profile, texts):
 def years():
     """The name and the folder of each profile that has a truth."""
     every = [(name, make.HERE) for name in make.FORMATS]
-    return every + [(os.path.basename(path)[:-5], f"{ROOT}/profiles") for path in sorted(glob.glob(f"{ROOT}/profiles/*.toml"))]
+    for folder in (f"{ROOT}/profiles", f"{ROOT}/examples/profile"):
+        every += [(os.path.basename(path)[:-5], folder) for path in sorted(glob.glob(f"{folder}/*.toml"))]
+    return every
 
 
 def main(words):
