@@ -128,9 +128,7 @@ pub fn advise<S: Alter>(call: &Call<'_>, path: &str, halt: Halt, conn: &mut Conn
         }
         Halt::Verify(VerifyFault::Damaged) => return say_where(rt, path, conn),
         Halt::Restore(RestoreFault::Text(CommandFault::Dump(DumpFault::NotADump { line }))) => {
-            let _ = eprintln!(rt;
-                "lotbook: line {line} isn't what a dump has there, or not one command stands below it"
-            );
+            let _ = eprintln!(rt; "lotbook: line {line} isn't what a dump has there");
             return;
         }
         _ => None,
