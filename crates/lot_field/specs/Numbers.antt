@@ -117,23 +117,23 @@ is_magnitude mark grouping text =
 
 -- ---- What a magnitude says.
 
--- the number that all its digits write: the magnitude is this number divided by ten for each decimal
+-- the number that all its digits write: the magnitude is this number, with the mark before its last places
 abbrev pub number_of_digits : DecimalMark → List ℕ → ℕ
 number_of_digits mark text = digits_value 10 (digits_of (whole_part mark text) ++ decimals mark text)
 
--- ten for each decimal
-abbrev pub tens : DecimalMark → List ℕ → ℕ
-tens mark text = 10 ^ length (decimals mark text)
+-- how many decimals it has
+abbrev pub places : DecimalMark → List ℕ → ℕ
+places mark text = length (decimals mark text)
 
--- a mantissa, at scale 8, is exactly a magnitude, or isn't
-abbrev pub IsExactly : Exactness → DecimalMark → List ℕ → ℕ → Type 0
-IsExactly Exact mark text mantissa = number_of_digits mark text * one ≡ mantissa * tens mark text
-IsExactly Rounded mark text mantissa = number_of_digits mark text * one ≢ mantissa * tens mark text
+-- a mantissa, at scale 8, is exactly a number with so many decimals, or isn't
+abbrev pub IsExactly : Exactness → ℕ → ℕ → ℕ → Type 0
+IsExactly Exact number places mantissa = number * one ≡ mantissa * 10 ^ places
+IsExactly Rounded number places mantissa = number * one ≢ mantissa * 10 ^ places
 
--- it is a magnitude's at scale 8: of one with more than eight decimals the nearest, of two equally near the even one
-pub record IsMantissa (mark : DecimalMark) (text : List ℕ) (mantissa : ℕ) (exactness : Exactness) : Type 0 where
-  pub nearest : IsNearest (pos (number_of_digits mark text * one)) (tens mark text) (pos mantissa)
-  pub exactly : IsExactly exactness mark text mantissa
+-- it is that number's at scale 8: of more than eight decimals the nearest, of two equally near the even one
+pub record IsMantissa (number places mantissa : ℕ) (exactness : Exactness) : Type 0 where
+  pub nearest : IsNearest (pos (number * one)) (10 ^ places) (pos mantissa)
+  pub exactly : IsExactly exactness number places mantissa
 
 -- a mantissa with its sign
 abbrev pub with_sign : Sign → ℕ → ℤ
@@ -142,9 +142,15 @@ with_sign Minus mantissa = neg_ℤ (pos mantissa)
 
 -- ---- What a field says.
 
-pub record SaysNumber (form : NumberForm) (field : List ℕ) (number : Number) : Type 0 where
+-- a magnitude with a sign says the number
+pub record SaysMagnitude (mark : DecimalMark) (grouping : Option (List ℕ)) (sign : Sign) (text : List ℕ) (number : Number) : Type 0 where
   pub mantissa : ℕ
-  pub is_magnitude : IsTrue (is_magnitude form.decimal form.grouping (sign_and_magnitude form.signs field).1)
-  pub reads : IsMantissa form.decimal (sign_and_magnitude form.signs field).1 mantissa number.exactness
+  pub is_magnitude : IsTrue (is_magnitude mark grouping text)
+  pub reads : IsMantissa (number_of_digits mark text) (places mark text) mantissa number.exactness
   pub in_range : mantissa < units_limit
-  pub units : number.units ≡ with_sign (sign_and_magnitude form.signs field).0 mantissa
+  pub units : number.units ≡ with_sign sign mantissa
+
+-- the field says the number
+abbrev pub SaysNumber : NumberForm → List ℕ → Number → Type 0
+SaysNumber form field number =
+    SaysMagnitude form.decimal form.grouping (sign_and_magnitude form.signs field).0 (sign_and_magnitude form.signs field).1 number

@@ -1,6 +1,6 @@
 //! Fields as texts: the blanks at their ends, and what they begin and end with.
-ghost use Rattle.std.specs.Prelude.{◌≡◌, ◌≤◌, length};
-ghost use Rattle.lot_field.specs.Field.{cut, is_blank, without_leading, without_trailing};
+ghost use Rattle.std.specs.Prelude.{◌≡◌, ◌≤◌, length, None, Some, MatchOption};
+ghost use Rattle.lot_field.specs.Field.{before, behind, cut, is_blank, without_leading, without_trailing};
 
 /// Returns a field without the blanks (spaces, tabs) at both its ends.
 pub fn cut(field: &str) -> &str
@@ -54,4 +54,20 @@ pub(crate) fn is_blank(byte: u8) -> bool
     ensures { result ≡ is_blank byte }
 {
     byte == b' ' || byte == b'\t'
+}
+
+/// Returns what stands behind a beginning of a text, or `None` where the text doesn't begin so.
+pub(crate) fn behind<'a>(beginning: &[u8], text: &'a [u8]) -> Option<&'a [u8]>
+    ensures { MatchOption result (behind beginning.now text.now ≡ None)
+        (λ rest. behind beginning.now text.now ≡ Some rest.now) }
+{
+    text.strip_prefix(beginning)
+}
+
+/// Returns what stands before an end of a text, or `None` where the text doesn't end so.
+pub(crate) fn before<'a>(end: &[u8], text: &'a [u8]) -> Option<&'a [u8]>
+    ensures { MatchOption result (before end.now text.now ≡ None)
+        (λ front. before end.now text.now ≡ Some front.now) }
+{
+    text.strip_suffix(end)
 }
