@@ -1,2 +1,3 @@
 pub mod Field
 pub mod Numbers
+pub mod Halves
