@@ -31,7 +31,7 @@ not_all (b ∷ texts) last other = let more = not_all texts last other in rw mor
 
 pub trailing-other : (front : List ℕ) (last : ℕ) → is_blank last ≡ false → without_trailing (front ++ last ∷ []) ≡ front ++ last ∷ []
 trailing-other [] last other = rw other refl
-trailing-other (b ∷ front) last other = 
+trailing-other (b ∷ front) last other =
     let all = not_all front last other in
     let more = trailing-other front last other in
     rw (all, more) (keep (is_blank b))
@@ -73,11 +73,14 @@ abbrev HasLeading : List ℕ → Type 0
 HasLeading text = (n : ℕ) × IsLeading text n
 
 one_more : (b : ℕ) (rest : List ℕ) (blank : Bool) → is_blank b ≡ blank → HasLeading rest → HasLeading (b ∷ rest)
-one_more b rest true e (n, h) = (suc n, record {
-  rest = rw e h.rest;
-  count = rw e (omega (arith, h.count));
-  ascii = λ some. at n h.ascii;
-})
+one_more b rest true e (n, h) = (
+  suc n,
+  record {
+    rest = rw e h.rest;
+    count = rw e (omega (arith, h.count));
+    ascii = λ some. at n h.ascii;
+  },
+)
   where
     at : (m : ℕ) → (0 < m → get_or rest (m - 1) 0 < 128) → get_or (b ∷ rest) (suc m - 1) 0 < 128
     at zero h = let first : 0 ≡ 1 - 1 = omega arith in subst (λ (k : ℕ). get_or (b ∷ rest) k 0 < 128) first (blank_ascii b e)

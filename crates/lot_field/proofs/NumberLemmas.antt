@@ -1,12 +1,14 @@
 -- Digits in groups, and what they say.
-use Rattle.std.proofs.Common.{◌≡◌, ◌≢◌, ◌⊎◌, inl, inr, ℕ, zero, suc, ◌+◌, ◌-◌, ◌*◌, ◌%◌, ◌^◌, ◌<◌, ◌≤◌, min, Bool, true, false, cond, eqb, lit<, mul-le-mul_right, List, [], ◌∷◌, ◌++◌, length, get_or, take, drop, drop-cons, take_all, length-drop, filter, ltb, Option, Some, None, refl, ap, ◌∙◌, subst, sym, rules, arith, add-one, append_assoc, ℤ, pos}
+use Rattle.std.proofs.Common.{◌≡◌, ◌≢◌, ◌⊎◌, inl, inr, ℕ, zero, suc, ◌+◌, ◌-◌, ◌*◌, ◌%◌, ◌^◌, ◌<◌, ◌≤◌, min, Bool, true, false, cond, eqb, lit<, mul-le-mul_right, List, [], ◌∷◌, ◌++◌, length, get_or, take, drop, drop-cons, take_all, length-append, length-drop, filter, ltb, Option, Some, None, refl, ap, ◌∙◌, subst, sym, rules, arith, add-one, append_assoc, ℤ, pos}
 use Rattle.std.specs.Prelude.{◌&&◌, MatchOption}
 use Rattle.std.specs.Char.{is_ascii_digit, digit_value}
 use Rattle.std.specs.List.{list_all, starts_with}
 use Rattle.std.specs.Str.Parse.{digits_value}
 use Rattle.std.proofs.lemmas.Bool.{and_parts, cases_lt, eqb-true}
 use denote.Ref.{Bor}
-use Rattle.std.proofs.Math.Nat.{one-le-pow}
+use mir.Val.{bool_byte}
+use Rattle.std.proofs.Math.Nat.{one-le-pow, pow-le-pow_right}
+use Rattle.std.proofs.lemmas.List.{drop_all, length-take, take-append-drop}
 use Rattle.std.proofs.lemmas.Bool.Decides.{nat_tests}
 use Rattle.std.proofs.lemmas.Int.{ints}
 use Rattle.std.proofs.lemmas.Int.Digits.{digits_value_push}
@@ -16,9 +18,12 @@ use Rattle.lot_base.specs.Text.{same_text}
 use Rattle.lot_num.specs.Amount.{one}
 use Rattle.lot_num.proofs.DigitLemmas.{digit_value-digit}
 use Rattle.lot_rounding.specs.Nearest.{IsNearest}
+use Rattle.lot_rounding.proofs.NearestLemmas.{one_nearest}
 use Rattle.lot_field.specs.Field.{behind}
 use Rattle.lot_field.specs.Halves.{RoundsDown, RoundsUp, are_zeros}
-use Rattle.lot_field.specs.Numbers.{are_digits, digits_of, grouped, separator}
+use Rattle.lot_field.specs.Numbers.{IsExactly, IsMantissa, are_digits, digits_of, grouped, separator}
+use Rattle.lot_field.specs.declared.numbers.Exactness.{Exactness}
+use Rattle.lot_field.specs.declared.numbers.Exactness.TheVariants.{Exact, Rounded}
 
 -- ---- Groups.
 
@@ -116,7 +121,6 @@ value-append a (d ∷ ds) =
   where
     step : (v d va vd p q r : ℕ) → va ≡ v * 10 + d → vd ≡ 0 * 10 + d → q ≡ p * 10 → va * p + r ≡ v * q + (vd * p + r)
     step v d va vd p q r e f g = rw (e, f, g) (omega arith)
-
 
 first_digit : (d : ℕ) (ds : List ℕ) → is_ascii_digit d ≡ true → digits_value 10 (d ∷ ds) ≡ (d - 48) * 10 ^ length ds + digits_value 10 ds
 first_digit d ds digit =
@@ -303,7 +307,7 @@ up-scaled m r p t (inr (none, alone)) below up = absurd (omega (arith, up.half, 
 
 inexact : (m r p t u : ℕ) → AreSplit p r t → 0 < r → r < t → u ≤ 1 → m * (p * t) + r * one ≢ (m + u) * (p * t)
 inexact m r p t zero (inl eight) some below few same = absurd (omega (arith, same))
-inexact m r p t (suc zero) (inl eight) some below few same = 
+inexact m r p t (suc zero) (inl eight) some below few same =
     let more : (m + 1) * (p * t) ≡ m * (p * t) + p * t = omega arith in
     let product : p * t ≡ one * t = ap (λ n. n * t) eight in
     absurd (omega (arith, same, more, product))
@@ -314,8 +318,7 @@ by-way : (x m r p t : ℕ) (up zeros : Bool) → x ≡ m * (p * t) + r * one →
     → (up ≡ true → RoundsUp m r t) → (up ≡ false → RoundsDown m r t) → (zeros ≡ true → r ≡ 0) → (zeros ≡ false → 0 < r)
     → IsNearest (pos x) (p * t) (pos (m + cond up 1 0)) × ((zeros ≡ true → x ≡ (m + cond up 1 0) * (p * t)) × (zeros ≡ false → x ≢ (m + cond up 1 0) * (p * t)))
 by-way x m r p t true zeros is split some below up down none left =
-    let scaled = up-scaled m r p t split below (up refl) in
-    (
+    let scaled = up-scaled m r p t split below (up refl) in (
       near-up x (p * t) m (r * one) is scaled.0 scaled.1 scaled.2,
       (
         λ all. absurd (omega (arith, none all, (up refl).half)),
@@ -324,8 +327,7 @@ by-way x m r p t true zeros is split some below up down none left =
     )
 by-way x m r p t false zeros is split some below up down none left =
     let scaled = down-scaled m r p t split some (down refl) in
-    let itself : m + 0 ≡ m = omega arith in
-    (
+    let itself : m + 0 ≡ m = omega arith in (
       rw itself (near-down x (p * t) m (r * one) is scaled.0 scaled.1),
       (
         λ all. rw itself (omega (arith, is, ap (λ n. n * one) (none all))),
@@ -349,3 +351,144 @@ no-less n d w m within some near = elim (cases_lt m (w * one)) [
         let close = near.near in
         omega (arith, ints, product, spread, scaled, close)
 
+-- ---- What is read of a whole part and decimals.
+
+digits-cut : (n : ℕ) (text : List ℕ) → are_digits text ≡ true → (are_digits (take n text) ≡ true) × (are_digits (drop n text) ≡ true)
+digits-cut zero text e = (refl, e)
+digits-cut (suc n) [] e = (refl, refl)
+digits-cut (suc n) (d ∷ ds) e =
+    let both = and_parts (is_ascii_digit d) (are_digits ds) e in
+    let more = digits-cut n ds both.1 in
+    let first = both.0 in
+    (rw first more.0, more.1)
+
+pub first-digits : (n : ℕ) (text : List ℕ) → are_digits text ≡ true → are_digits (take n text) ≡ true
+first-digits n text e = (digits-cut n text e).0
+
+pub later-digits : (n : ℕ) (text : List ℕ) → are_digits text ≡ true → are_digits (drop n text) ≡ true
+later-digits n text e = (digits-cut n text e).1
+
+pub scaled-value : (decimals : List ℕ) (w p : ℕ) → length decimals ≤ 8 → are_digits decimals ≡ true
+    → w ≡ min (digits_value 10 (digits_of decimals)) (2 ^ 64 - 1) → p ≡ 10 ^ (8 - length decimals)
+    → (w * p ≡ digits_value 10 decimals * 10 ^ (8 - length decimals)) × (w * p < one)
+scaled-value decimals w p few digits is power =
+    let below = value-below decimals digits in
+    let some : 0 < 10 = omega arith in
+    let most : 10 ^ length decimals ≤ 10 ^ 8 = pow-le-pow_right some few in
+    let same : digits_value 10 (digits_of decimals) ≡ digits_value 10 decimals = ap (digits_value 10) (digits-themselves decimals digits) in
+    let value : w ≡ digits_value 10 decimals = omega (arith, is, same, below, most) in
+    let sum : length decimals + (8 - length decimals) ≡ 8 = omega arith in
+    let product : 10 ^ length decimals * 10 ^ (8 - length decimals) ≡ one = sym (pow-add 10 (length decimals) (8 - length decimals)) ∙ ap (λ n. 10 ^ n) sum in
+    (rw (value, power) refl, rw (value, power) (bounded (digits_value 10 decimals) (10 ^ length decimals) (10 ^ (8 - length decimals)) below (one-le-pow (8 - length decimals) 10 (omega arith)) product))
+  where
+    bounded : (v p q : ℕ) → v < p → 0 < q → p * q ≡ one → v * q < one
+    bounded v p q less some product =
+        let next : v + 1 ≤ p = omega arith in
+        omega (arith, mul-le-mul_right q next, product)
+
+module _ (whole decimals : List ℕ) (n : ℕ) where
+  -- the whole part, the first decimals and the others
+  abbrev W : ℕ
+  W = digits_value 10 (digits_of whole)
+
+  abbrev F : ℕ
+  F = digits_value 10 (take n decimals)
+
+  abbrev R : ℕ
+  R = digits_value 10 (drop n decimals)
+
+  abbrev P : ℕ
+  P = 10 ^ length (take n decimals)
+
+  abbrev T : ℕ
+  T = 10 ^ length (drop n decimals)
+
+  cut-again : take n decimals ++ drop n decimals ≡ decimals
+  cut-again = take-append-drop n decimals
+
+  tens : 10 ^ length decimals ≡ P * T
+  tens =
+      let sum : length decimals ≡ length (take n decimals) + length (drop n decimals) = sym (ap (λ (t : List ℕ). length t) cut-again) ∙ length-append (take n decimals) (drop n decimals) in
+      ap (λ (k : ℕ). 10 ^ k) sum ∙ pow-add 10 (length (take n decimals)) (length (drop n decimals))
+
+  number : digits_value 10 (digits_of whole ++ decimals) ≡ W * (P * T) + (F * T + R)
+  number =
+      value-append (digits_of whole) decimals
+      ∙ ap (λ (t : ℕ). W * t + digits_value 10 decimals) tens
+      ∙ ap (λ (v : ℕ). W * (P * T) + v) (sym (ap (digits_value 10) cut-again) ∙ value-append (take n decimals) (drop n decimals))
+
+  pub whole-within : W * 10 ^ length decimals ≤ digits_value 10 (digits_of whole ++ decimals)
+  whole-within = omega (arith, value-append (digits_of whole) decimals)
+
+exactness-is : (exactness : Exactness) (zeros : Bool) (number places mantissa : ℕ) → exactness ≡ cond zeros Exact Rounded
+    → (zeros ≡ true → number * one ≡ mantissa * 10 ^ places) → (zeros ≡ false → number * one ≢ mantissa * 10 ^ places)
+    → IsExactly exactness number places mantissa
+exactness-is exactness true number places mantissa is exact other = subst (λ (e : Exactness). IsExactly e number places mantissa) (sym is) (exact refl)
+exactness-is exactness false number places mantissa is exact other = subst (λ (e : Exactness). IsExactly e number places mantissa) (sym is) (other refl)
+
+-- the first eight decimals are eight, or there are no others
+split-at-eight : (decimals : List ℕ) → AreSplit (10 ^ length (take (min (length decimals) 8) decimals)) (digits_value 10 (drop (min (length decimals) 8) decimals)) (10 ^ length (drop (min (length decimals) 8) decimals))
+split-at-eight decimals = elim (cases_lt (length decimals) 8) [
+  | inl few ↦
+      let all : min (length decimals) 8 ≡ length decimals = omega arith in
+      let none : drop (min (length decimals) 8) decimals ≡ [] = ap (λ (k : ℕ). drop k decimals) all ∙ drop_all (length decimals) decimals (omega arith) in
+      inr (ap (digits_value 10) none, ap (λ (t : List ℕ). 10 ^ length t) none)
+  | inr many ↦
+      let eight : length (take (min (length decimals) 8) decimals) ≡ 8 = omega (arith, length-take (min (length decimals) 8) decimals) in
+      inl (ap (λ (k : ℕ). 10 ^ k) eight)
+]
+
+pub reads : (whole decimals first others : List ℕ) (w s u : ℕ) (up : Bool) (exactness : Exactness) → are_digits decimals ≡ true
+    → first ≡ take (min (length decimals) 8) decimals → others ≡ drop (min (length decimals) 8) decimals
+    → w ≡ min (digits_value 10 (digits_of whole)) (2 ^ 64 - 1) → w < 10 ^ 10 → s ≡ digits_value 10 first * 10 ^ (8 - length first)
+    → (up ≡ true → RoundsUp (w * 100000000 + s) (digits_value 10 others) (10 ^ length others))
+    → (up ≡ false → RoundsDown (w * 100000000 + s) (digits_value 10 others) (10 ^ length others))
+    → u ≡ cond up 1 0 → exactness ≡ cond (are_zeros others) Exact Rounded
+    → IsMantissa (digits_value 10 (digits_of whole ++ decimals)) (length decimals) (w * 100000000 + s + u) exactness
+reads whole decimals first others w s u up exactness digits is_first is_others is_whole few scaled rounds_up rounds_down is_up is_exact =
+    let n : ℕ = min (length decimals) 8 in
+    let value : w ≡ W whole decimals n = omega (arith, is_whole, few) in
+    let within : length (take n decimals) ≤ 8 = omega (arith, length-take n decimals) in
+    let sum : length (take n decimals) + (8 - length (take n decimals)) ≡ 8 = omega (arith, within) in
+    let product : P whole decimals n * 10 ^ (8 - length (take n decimals)) ≡ one =
+    sym (pow-add 10 (length (take n decimals)) (8 - length (take n decimals))) ∙ ap (λ (k : ℕ). 10 ^ k) sum in
+    let at_scale : s ≡ F whole decimals n * 10 ^ (8 - length (take n decimals)) =
+    scaled ∙ ap (λ (t : List ℕ). digits_value 10 t * 10 ^ (8 - length t)) is_first in
+    let whole_number : digits_value 10 (digits_of whole ++ decimals) * one ≡ (w * 100000000 + s) * (P whole decimals n * T whole decimals n) + R whole decimals n * one =
+    ap (λ (v : ℕ). v * one) (number whole decimals n)
+    ∙ decompose (W whole decimals n) (F whole decimals n) (R whole decimals n) (P whole decimals n) (10 ^ (8 - length (take n decimals))) (T whole decimals n) product
+    ∙ ap (λ (m : ℕ). m * (P whole decimals n * T whole decimals n) + R whole decimals n * one)
+    (let first_part : W whole decimals n * one + F whole decimals n * 10 ^ (8 - length (take n decimals)) ≡ w * 100000000 + s = omega (arith, value, at_scale) in first_part) in
+    let others_digits : are_digits others ≡ true = subst (λ (t : List ℕ). are_digits t ≡ true) (sym is_others) (later-digits n decimals digits) in
+    let left : digits_value 10 others ≡ R whole decimals n = ap (digits_value 10) is_others in
+    let parts : 10 ^ length others ≡ T whole decimals n = ap (λ (t : List ℕ). 10 ^ length t) is_others in
+    let way = by-way (digits_value 10 (digits_of whole ++ decimals) * one) (w * 100000000 + s) (digits_value 10 others) (P whole decimals n) (10 ^ length others) up (are_zeros others)
+    (rw (left, parts) whole_number)
+    (rw (left, parts) (split-at-eight decimals))
+    (one-le-pow (length (take n decimals)) 10 (omega arith))
+    (value-below others others_digits)
+    rounds_up rounds_down (zeros_value others) (others_value others others_digits) in
+    let divisor : P whole decimals n * 10 ^ length others ≡ 10 ^ length decimals = rw parts (sym (tens whole decimals n)) in
+    let mantissa : w * 100000000 + s + cond up 1 0 ≡ w * 100000000 + s + u = ap (λ (k : ℕ). w * 100000000 + s + k) (sym is_up) in
+    record {
+      nearest = rw (divisor, mantissa) at way.0;
+      exactly = exactness-is exactness (are_zeros others) _ _ _ is_exact (rw (divisor, mantissa) at way.1.0) (rw (divisor, mantissa) at way.1.1);
+    }
+
+pub byte-is : (b : Bool) → bool_byte b ≡ cond b 1 0
+byte-is true = refl
+byte-is false = refl
+
+-- ---- There is one mantissa.
+
+one_exactness : (a b : Exactness) (number places mantissa : ℕ) → IsExactly a number places mantissa → IsExactly b number places mantissa → a ≡ b
+one_exactness Exact Exact n places mantissa h k = refl
+one_exactness Exact Rounded n places mantissa h k = absurd (k h)
+one_exactness Rounded Exact n places mantissa h k = absurd (h k)
+one_exactness Rounded Rounded n places mantissa h k = refl
+
+pub one_mantissa : (number places m o : ℕ) (a b : Exactness) → IsMantissa number places m a → IsMantissa number places o b → (m ≡ o) × (a ≡ b)
+one_mantissa number places m o a b h k =
+    let same = one_nearest (pos (number * one)) (10 ^ places) (pos m) (pos o) (one-le-pow places 10 (omega arith)) h.nearest k.nearest in
+    let equal : m ≡ o = omega (arith, ints, same) in
+    (equal, one_exactness a b number places o (subst (λ (n : ℕ). IsExactly a number places n) equal h.exactly) k.exactly)

@@ -303,7 +303,7 @@ fn behind_digit<'a>(digit: u8, grouping: &[u8], left: usize, text: &'a [u8]) -> 
     ensures { MatchOption result
         ((others : List ℕ) → same_text text.now (digit ∷ (separator grouping.now left ++ others)) ≡ false)
         (λ rest. (others : List ℕ)
-            → same_text text.now (digit ∷ (separator grouping.now left ++ others)) ≡ same_text rest.now others) }
+        → same_text text.now (digit ∷ (separator grouping.now left ++ others)) ≡ same_text rest.now others) }
 {
     let [first, rest @ ..] = text else {
         return None;
