@@ -1,3 +1,4 @@
 pub mod Field
 pub mod Numbers
 pub mod Halves
+pub mod Tests

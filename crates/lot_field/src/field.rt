@@ -6,10 +6,18 @@ ghost use Rattle.lot_field.specs.Field.{before, behind, cut, is_blank, without_l
 pub fn cut(field: &str) -> &str
     ensures { result.now ≡ cut field.now }
 {
-    let bytes = field.as_bytes();
-    let (_, rest) = field.split_at(bytes.len() - without_leading(bytes).len());
+    let rest = past_blanks(field);
     let (inner, _) = rest.split_at(without_trailing(rest.as_bytes()).len());
     inner
+}
+
+/// Returns a text without the blanks at its start.
+pub(crate) fn past_blanks(text: &str) -> &str
+    ensures { result.now ≡ without_leading text.now }
+{
+    let bytes = text.as_bytes();
+    let (_, rest) = text.split_at(bytes.len() - without_leading(bytes).len());
+    rest
 }
 
 /// Returns the bytes of a field without the blanks at both its ends.

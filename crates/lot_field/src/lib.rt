@@ -16,5 +16,5 @@ mod text;
 pub use days::{DayForm, DayPart};
 pub use field::cut;
 pub use numbers::{DecimalMark, Exactness, Number, NumberForm};
-pub use tests::Test;
+pub use tests::{Test, means_nothing};
 pub use text::Text;
