@@ -2,3 +2,4 @@ pub mod Field
 pub mod Numbers
 pub mod Halves
 pub mod Tests
+pub mod Days

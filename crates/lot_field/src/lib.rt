@@ -13,7 +13,7 @@ mod numbers;
 mod tests;
 mod text;
 
-pub use days::{DayForm, DayPart};
+pub use days::{DayForm, DayPart, Moment, Time};
 pub use field::cut;
 pub use numbers::{DecimalMark, Exactness, Number, NumberForm};
 pub use tests::{Test, means_nothing};

@@ -257,7 +257,7 @@ fn is_whole(grouping: &Option<Text>, whole: &[u8]) -> bool
 }
 
 /// Returns whether each byte is a digit.
-fn are_digits(text: &[u8]) -> bool
+pub(crate) fn are_digits(text: &[u8]) -> bool
     ensures { result ≡ are_digits text.now }
 {
     text.iter().all(|byte| byte.is_ascii_digit())
@@ -348,7 +348,7 @@ fn mantissa(whole: &[u8], decimals: &[u8]) -> Option<(u64, Exactness)>
 }
 
 /// Returns the number that the digits of a text write, or `u64::MAX` where it is larger.
-fn written(text: &[u8]) -> u64
+pub(crate) fn written(text: &[u8]) -> u64
     ensures { result ≡ min (digits_value 10 (digits_of text.now)) (2 ^ 64 - 1) }
 {
     let mut value = 0u64;
