@@ -1,5 +1,5 @@
 -- Texts without the blanks at their ends.
-use Rattle.std.proofs.Common.{◌≡◌, ℕ, suc, ◌+◌, ◌-◌, ◌<◌, ◌≤◌, Bool, true, false, cond, List, [], ◌∷◌, ◌++◌, length, get_or, drop, take, take_all, refl, ap, ◌∙◌, subst, sym, rules, arith, eqb}
+use Rattle.std.proofs.Common.{◌≡◌, ℕ, suc, ◌+◌, ◌-◌, ◌<◌, ◌≤◌, Bool, true, false, cond, List, [], ◌∷◌, ◌++◌, length, get_or, drop, take, take_all, refl, ap, ◌∙◌, subst, sym, arith}
 use Rattle.std.specs.Prelude.{zero, ◌&&◌, IsUtf8, nat_lt}
 use Rattle.std.specs.Str.{IsCharBoundary}
 use Rattle.std.specs.List.{list_all}

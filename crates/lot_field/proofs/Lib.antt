@@ -1,3 +1,4 @@
 pub mod FieldLemmas
 pub mod NumberLemmas
 pub mod TestLemmas
+pub mod DayLemmas

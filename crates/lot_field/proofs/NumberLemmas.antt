@@ -1,8 +1,8 @@
 -- Digits in groups, and what they say.
-use Rattle.std.proofs.Common.{◌≡◌, ◌≢◌, ◌⊎◌, inl, inr, ℕ, zero, suc, ◌+◌, ◌-◌, ◌*◌, ◌%◌, ◌^◌, ◌<◌, ◌≤◌, min, Bool, true, false, cond, eqb, lit<, mul-le-mul_right, List, [], ◌∷◌, ◌++◌, length, get_or, take, drop, drop-cons, take_all, length-append, length-drop, filter, ltb, Option, Some, None, refl, ap, ◌∙◌, subst, sym, rules, arith, add-one, append_assoc, ℤ, pos}
-use Rattle.std.specs.Prelude.{◌&&◌, MatchOption}
+use Rattle.std.proofs.Common.{◌≡◌, ◌≢◌, ◌⊎◌, inl, inr, ℕ, zero, suc, ◌+◌, ◌-◌, ◌*◌, ◌%◌, ◌^◌, ◌<◌, ◌≤◌, min, Bool, true, false, cond, eqb, lit<, mul-le-mul_right, List, [], ◌∷◌, ◌++◌, length, get_or, take, drop, drop-cons, take_all, length-append, length-drop, ltb, Option, Some, None, refl, ap, ◌∙◌, subst, sym, rules, arith, add-one, append_assoc, pos}
+use Rattle.std.specs.Prelude.{MatchOption}
 use Rattle.std.specs.Char.{is_ascii_digit, digit_value}
-use Rattle.std.specs.List.{list_all, starts_with}
+use Rattle.std.specs.List.{starts_with}
 use Rattle.std.specs.Str.Parse.{digits_value}
 use Rattle.std.proofs.lemmas.Bool.{and_parts, cases_lt, eqb-true}
 use denote.Ref.{Bor}

@@ -1,5 +1,5 @@
 -- What is asked of a field, as the code finds it.
-use Rattle.std.proofs.Common.{◌≡◌, ℕ, Bool, true, false, eqb, cond, List, drop, length, Option, Some, None, refl, ap, subst, sym, ◌∙◌, ℤ}
+use Rattle.std.proofs.Common.{◌≡◌, ℕ, Bool, true, false, eqb, List, drop, length, Option, Some, None, refl, ap, subst, sym, ◌∙◌, ℤ}
 use Rattle.std.specs.Prelude.{◌↔◌, IsTrue}
 use Rattle.std.specs.List.{starts_with}
 use Rattle.std.specs.Str.{IsCharBoundary}

@@ -1,5 +1,5 @@
 -- What is asked of a field (docs/FORMATS.md, Profiles).
-use Rattle.std.specs.Prelude.{◌≡◌, ℕ, ◌↔◌, IsTrue, codes, if◌then◌else◌, List, ◌++◌, Option, Some, None, option_map, ℤ, pos, ◌<ℤ◌}
+use Rattle.std.specs.Prelude.{◌≡◌, ℕ, IsTrue, codes, if◌then◌else◌, List, ◌++◌, Option, Some, None, option_map, ℤ, pos, ◌<ℤ◌}
 use Rattle.std.specs.List.{list_any}
 use Rattle.lot_base.specs.Text.{same_text}
 use Rattle.lot_field.specs.Field.{behind, cut, without_leading}

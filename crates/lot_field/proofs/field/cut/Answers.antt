@@ -1,6 +1,6 @@
 -- Blanks are ASCII, so a text may be cut beside them.
 use Rattle.std.proofs.Common.{◌≡◌, List, ℕ, take, length, ◌∙◌, ap}
-use Rattle.lot_field.specs.Field.{without_leading, without_trailing}
+use Rattle.lot_field.specs.Field.{without_trailing}
 use Rattle.lot_field.proofs.FieldLemmas.{trailing-boundary, trailing-front}
 use Rattle.lot_field.proofs.field.cut.Goals as goal
 

@@ -1,5 +1,5 @@
 -- The last byte is left out where it is a blank.
-use Rattle.std.proofs.Common.{ℕ, ◌-◌, ◌<◌, ◌∙◌, sym, arith, length, length-take-le}
+use Rattle.std.proofs.Common.{◌-◌, ◌<◌, ◌∙◌, sym, arith, length, length-take-le}
 use Rattle.lot_field.proofs.FieldLemmas.{trailing-step, trailing-stop}
 use Rattle.lot_field.proofs.field.without_trailing.Goals as goal
 

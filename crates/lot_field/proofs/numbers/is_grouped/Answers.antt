@@ -1,6 +1,5 @@
 -- Where the next digit, or the separator behind it, isn't there, the text isn't in groups.
-use Rattle.std.proofs.Common.{◌+◌, ℕ, List, drop, get_or, sym, ◌∙◌}
-use Rattle.lot_base.specs.Text.{same_text}
+use Rattle.std.proofs.Common.{◌+◌, drop, get_or, sym, ◌∙◌}
 use Rattle.lot_field.specs.Numbers.{digits_of, grouped}
 use Rattle.lot_field.proofs.NumberLemmas.{digits-here, grouped-stop}
 use Rattle.lot_field.proofs.numbers.is_grouped.Goals as goal

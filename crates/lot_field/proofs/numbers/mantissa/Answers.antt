@@ -1,10 +1,9 @@
 -- The mantissa is the nearest one, and no other is.
-use Rattle.std.proofs.Common.{◌≡◌, ◌≤◌, ◌<◌, ◌^◌, ◌*◌, ◌-◌, ℕ, min, List, length, take, drop, Some, refl, sym, ap, ◌∙◌, arith, rules}
+use Rattle.std.proofs.Common.{◌≡◌, ◌≤◌, ◌<◌, ◌^◌, ℕ, min, length, take, drop, refl, sym, ap, ◌∙◌, arith, rules}
 use Rattle.std.specs.Str.Parse.{digits_value}
-use Rattle.lot_num.specs.Amount.{one}
 use Rattle.lot_field.specs.Numbers.{digits_of}
 use Rattle.lot_field.proofs.NumberLemmas.{byte-is, no-less, one_mantissa, reads, whole-within}
-use Rattle.std.proofs.Math.Nat.{one-le-pow, mul-le-mul_right}
+use Rattle.std.proofs.Math.Nat.{one-le-pow}
 use Rattle.lot_field.proofs.numbers.mantissa.Goals as goal
 
 pub returns-then-whole-ge-WHOLE_LIMIT-clause-every : goal.returns-then-whole-ge-WHOLE_LIMIT-clause-every

@@ -1,5 +1,5 @@
 -- By the place of the first mark.
-use Rattle.std.proofs.Common.{◌≡◌, ℕ, ◌+◌, ◌-◌, ◌≤◌, List, Option, Some, None, cond, ltb, length, take, drop, take_all, length-drop, sym, ap, ◌∙◌, rules, tests, arith}
+use Rattle.std.proofs.Common.{◌≡◌, ℕ, ◌+◌, ◌-◌, Some, None, cond, ltb, length, take, drop, take_all, length-drop, sym, ap, ◌∙◌, rules, tests, arith}
 use Rattle.std.specs.List.{position_or_len}
 use Rattle.std.specs.Prelude.{not}
 use Rattle.std.proofs.lemmas.Iterator.{YieldsList-from_slice}

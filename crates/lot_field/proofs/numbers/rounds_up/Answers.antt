@@ -1,5 +1,5 @@
 -- By the first of the decimals, and where it is a five by those behind it.
-use Rattle.std.proofs.Common.{◌≡◌, ◌≢◌, ◌<◌, ◌≤◌, ◌%◌, ℕ, true, false, get_or, drop, sym, ap, ◌∙◌, arith}
+use Rattle.std.proofs.Common.{◌≡◌, ◌≢◌, ◌<◌, ◌≤◌, ◌%◌, true, false, get_or, drop, sym, ap, ◌∙◌, arith}
 use Rattle.std.proofs.lemmas.Bool.Decides.{nat_tests}
 use Rattle.lot_field.specs.Halves.{are_zeros}
 use Rattle.lot_field.proofs.NumberLemmas.{half_down, half_more, half_up, rest-is, rounds_larger, rounds_smaller}

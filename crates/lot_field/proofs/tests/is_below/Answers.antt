@@ -1,5 +1,5 @@
 -- By the number, where there is one.
-use Rattle.std.proofs.Common.{ℤ, pos, ◌<ℤ◌}
+use Rattle.std.proofs.Common.{pos, ◌<ℤ◌}
 use Rattle.lot_field.proofs.TestLemmas.{none-number, some-number}
 use Rattle.lot_field.proofs.tests.is_below.Goals as goal
 

@@ -1,7 +1,6 @@
 -- The sign and the magnitude are those of the field.
-use Rattle.std.proofs.Common.{◌≡◌, ℕ, List, ap, sym, subst, ◌∙◌, rules}
-use Rattle.lot_field.specs.Numbers.{SaysMagnitude, sign_and_magnitude}
-use Rattle.lot_field.specs.declared.numbers.Sign.{Sign}
+use Rattle.std.proofs.Common.{◌≡◌, rules}
+use Rattle.lot_field.specs.Numbers.{sign_and_magnitude}
 use Rattle.lot_field.proofs.numbers.NumberForm.read.Goals as goal
 
 pub returns-clause-every : goal.returns-clause-every
