@@ -2,3 +2,4 @@ pub mod FieldLemmas
 pub mod NumberLemmas
 pub mod TestLemmas
 pub mod DayLemmas
+pub mod FormLemmas

@@ -151,10 +151,18 @@ abbrev pub is_day : DayPart → Bool
 is_day Parts.Day = true
 is_day _ = false
 
--- these are the parts of a form with that text: it has the year, the month and the day once each
-pub record AreDayParts (text : List ℕ) (parts : List DayPart) : Type 0 where
+-- a text is that of the parts, one behind another
+pub record AreSpelled (text : List ℕ) (parts : List DayPart) : Type 0 where
   pub spelled : text ≡ flat_map part_text parts
   pub good : IsTrue (list_all is_good_part parts)
+
+-- the year, the month and the day stand once each among the parts
+pub record HaveEachOnce (parts : List DayPart) : Type 0 where
   pub year : count_by is_year parts ≡ 1
   pub month : count_by is_month parts ≡ 1
   pub day : count_by is_day parts ≡ 1
+
+-- these are the parts of the form of days with that text
+pub record AreDayParts (text : List ℕ) (parts : List DayPart) : Type 0 where
+  pub written : AreSpelled text parts
+  pub once : HaveEachOnce parts
