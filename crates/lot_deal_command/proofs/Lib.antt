@@ -1,0 +1,2 @@
+pub mod WorthLemmas
+pub mod DealLemmas

@@ -1,0 +1,4 @@
+pub mod Posting
+pub mod Trade
+pub mod Cash
+pub mod Deal
