@@ -1,2 +1,4 @@
-pub mod WorthLemmas
+pub mod BalanceLaws
 pub mod DealLemmas
+pub mod OneLaws
+pub mod WorthLemmas

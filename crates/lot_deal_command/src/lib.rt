@@ -7,12 +7,14 @@
 //! - `incoming`: the postings of units that come in for no cash.
 //! - `posting`: postings of one kind, and sums.
 //! - `fault`: why a deal has no command.
+//! - `laws`: laws of the definitions that the contract of `command` cites.
 #![tactic(auto)]
 
 mod cash;
 mod deal;
 mod fault;
 mod incoming;
+pub mod laws;
 mod posting;
 mod settlement;
 mod trades;
