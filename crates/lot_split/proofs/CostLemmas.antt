@@ -1,17 +1,16 @@
 -- What a split leaves of the costs of lots is little: a posting can take it.
-use Rattle.std.proofs.Common.{◌≡◌, ℕ, suc, ◌+◌, ◌*◌, ◌≤◌, Bool, true, false, cond, List, [], ◌∷◌, length, ℤ, pos, negsuc, ◌-ℤ◌, refl, ap, ◌∙◌, sym, arith}
+use Rattle.std.proofs.Common.{ℕ, ◌*◌, ◌≤◌, Bool, true, false, cond, List, [], ◌∷◌, length, ℤ, pos, negsuc, ◌-ℤ◌, ap, arith}
 use Rattle.std.specs.Prelude.{unsigned_abs}
 use Rattle.std.specs.List.{AllZip}
 use Rattle.std.proofs.lemmas.Int.{ints}
 use Rattle.lot_base.specs.Text.{same_text}
-use Rattle.lot_num.specs.Amount.{IsUnits, one, units_limit}
+use Rattle.lot_num.specs.Amount.{IsUnits, units_limit}
 use Rattle.lot_split.specs.Crumbs.{whole_of}
-use Rattle.lot_split.specs.Lots.{AreDivided, Becomes, cost_in, cost_of, crumb_in}
+use Rattle.lot_split.specs.Lots.{AreDivided, Becomes, cost_of, crumb_in}
 use Rattle.lot_split.specs.Ratio.{IsProper}
 use Rattle.lot_split.specs.Split.{most_lots}
 use Rattle.lot_split.specs.declared.lot.HeldLot.{HeldLot}
 use Rattle.lot_split.specs.declared.ratio.Ratio.{Ratio}
-use Rattle.lot_split.proofs.ListLemmas.{by_bool}
 use Rattle.lot_split.proofs.NumberLemmas.{near_cost}
 use Rattle.lot_split.proofs.SumLemmas.{is_in, sum_where_part}
 

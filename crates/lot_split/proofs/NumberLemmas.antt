@@ -1,5 +1,5 @@
 -- Products by a number that isn't zero, and quotients.
-use Rattle.std.proofs.Common.{◌≡◌, ℕ, zero, suc, ◌+◌, ◌≢◌, ◌≤◌, ◌<◌, mul-le-mul_left, mul-le-mul_right, ℤ, pos, ◌+ℤ◌, ◌*ℤ◌, ◌-ℤ◌, ◌-◌, ◌*◌, inl, inr, ◌<ℤ◌, refl, ap, ◌∙◌, sym, arith}
+use Rattle.std.proofs.Common.{◌≡◌, ℕ, zero, suc, ◌+◌, ◌≢◌, ◌≤◌, ◌<◌, mul-le-mul_left, mul-le-mul_right, ℤ, pos, ◌+ℤ◌, ◌*ℤ◌, ◌-ℤ◌, ◌-◌, ◌*◌, inl, inr, ap, ◌∙◌, sym, arith}
 use Rattle.std.specs.Int.RustNames.{int_div, int_rem, unsigned_abs}
 use Rattle.std.proofs.lemmas.Int.{ints, by_lt_z, unsigned_abs-mul, quot-rem, rem_below}
 use Rattle.std.proofs.lemmas.Bool.{cases_lt}

@@ -1,5 +1,5 @@
 -- One split of lots, and no fault beside it but that memory runs out.
-use Rattle.std.proofs.Common.{◌≡◌, ◌≢◌, ℕ, ◌<◌, true, false, List, length, None, Some, refl, ap, ◌∙◌, sym, subst, arith}
+use Rattle.std.proofs.Common.{◌≡◌, ◌<◌, true, false, List, length, None, Some, refl, ◌∙◌, sym, subst, arith}
 use Rattle.std.specs.List.{AllZip}
 use Rattle.lot_cost.specs.declared.method.Method.{Method}
 use Rattle.lot_command.specs.declared.transaction.Flag.TheVariants.{Complete}

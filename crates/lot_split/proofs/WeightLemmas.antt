@@ -1,9 +1,9 @@
 -- What the postings of a split weigh in a currency.
-use Rattle.std.proofs.Common.{◌≡◌, ℕ, ◌+◌, ◌*◌, ◌≤◌, Bool, true, false, cond, not, List, [], ◌∷◌, ◌++◌, Option, None, Some, ℤ, pos, negsuc, ◌+ℤ◌, ◌-ℤ◌, ◌*ℤ◌, refl, ap, ◌∙◌, sym, arith}
-use Rattle.std.specs.Prelude.{int_lt, map, filter, flat_map, nat_eq, neg_ℤ, unsigned_abs, ◌||◌}
+use Rattle.std.proofs.Common.{◌≡◌, ℕ, Bool, true, false, cond, not, List, [], ◌∷◌, ◌++◌, None, Some, ℤ, pos, negsuc, ◌+ℤ◌, ◌-ℤ◌, ◌*ℤ◌, refl, ap, ◌∙◌, sym, arith}
+use Rattle.std.specs.Prelude.{int_lt, map, flat_map, nat_eq, neg_ℤ, ◌||◌}
 use Rattle.std.specs.List.{AllZip, list_any}
 use Rattle.std.specs.Ordering.{int_eq}
-use Rattle.std.proofs.Math.IntN.{*ℤ-zero, zero-*ℤ, +ℤ_idl, +ℤ_idr, +ℤ_assoc}
+use Rattle.std.proofs.Math.IntN.{*ℤ-zero, zero-*ℤ, +ℤ_idl, +ℤ_idr}
 use Rattle.std.proofs.lemmas.Bool.Decides.{nat_tests}
 use Rattle.std.proofs.lemmas.Grind.{flat_map-append}
 use Rattle.std.proofs.lemmas.Int.{ints}
@@ -15,7 +15,7 @@ use Rattle.lot_cost.specs.declared.method.Method.TheVariants.{Strict, Fifo, Lifo
 use Rattle.lot_command.specs.declared.transaction.Posting.{Posting}
 use Rattle.lot_split.specs.Crumbs.{crumb_postings, part_posting, rest_of, speck_of, whole_of}
 use Rattle.lot_split.specs.Lots.{Becomes, cost_in, cost_of, crumb_in, currencies_of, each_once}
-use Rattle.lot_split.specs.Split.{braced, crumbs, openings, parts_of, postings_of, takings}
+use Rattle.lot_split.specs.Split.{crumbs, openings, postings_of, takings}
 use Rattle.lot_split.specs.Weights.{taken_in, weigh_in, weight_at, weights_of}
 use Rattle.lot_split.specs.declared.lot.HeldLot.{HeldLot}
 use Rattle.lot_split.specs.declared.ratio.Ratio.{Ratio}

@@ -1,5 +1,5 @@
 -- The postings of an account that make up for a crumb, as completions make them (docs/RULES.md, The rounding account).
-use Rattle.std.specs.Prelude.{◌≡◌, ℕ, ◌%◌, Bool, nat_eq, if◌then◌else◌, List, [], ◌∷◌, ◌++◌, Option, None, Some, ℤ, pos, neg_ℤ, int_div, int_lt, unsigned_abs}
+use Rattle.std.specs.Prelude.{ℕ, ◌%◌, Bool, nat_eq, if◌then◌else◌, List, [], ◌∷◌, ◌++◌, Option, None, Some, ℤ, pos, neg_ℤ, int_div, int_lt, unsigned_abs}
 use Rattle.std.specs.Option.{option_map}
 use Rattle.std.specs.Ordering.{int_eq}
 use Rattle.lot_num.specs.Amount.{one}

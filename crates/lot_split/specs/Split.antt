@@ -1,5 +1,5 @@
 -- The transaction that splits lots, and why there is none.
-use Rattle.std.specs.Prelude.{◌≡◌, ◌≢◌, ◌≤◌, ◌<◌, ◌⊎◌, ℕ, Bool, true, false, not, List, [], ◌∷◌, ◌++◌, length, map, flat_map, position, Option, None, Some, ℤ, neg_ℤ}
+use Rattle.std.specs.Prelude.{◌≡◌, ◌≢◌, ◌≤◌, ◌<◌, ℕ, true, false, not, List, [], ◌∷◌, ◌++◌, length, map, flat_map, position, None, Some, ℤ, neg_ℤ}
 use Rattle.std.specs.List.{AllZip}
 use Rattle.lot_num.specs.Amount.{IsUnits}
 use Rattle.lot_cost.specs.declared.cost.Cost.TheVariants.{Each}
@@ -56,7 +56,7 @@ takings asked Lifo lots = braced asked (neg_ℤ (held_of lots)) each_lot ∷ []
 takings asked Hifo lots = braced asked (neg_ℤ (held_of lots)) each_lot ∷ []
 takings asked Unmatched lots = map (λ (l : HeldLot). braced asked (neg_ℤ l.units) (parts_of l.key)) lots
 
--- each lot is opened again, at its key
+-- Each lot is opened again, at its key. Lots of one day, currency and label whose numbers become the same are one lot then.
 abbrev pub openings : Split → List HeldLot → List Posting
 openings asked split = map (λ (l : HeldLot). braced asked l.units (parts_of l.key)) split
 

@@ -1,5 +1,5 @@
 //! What lots cost in each currency, and what a split leaves of it.
-ghost use Rattle.std.specs.Prelude.{◌≡◌, ◌≤◌, ◌*◌, ℕ, ℤ, List, length, if◌then◌else◌, unsigned_abs, IfOk, OnOk, ◌∷◌, ◌++◌, [], ◌+ℤ◌, pos};
+ghost use Rattle.std.specs.Prelude.{◌≡◌, ◌≤◌, ◌*◌, ℤ, length, if◌then◌else◌, unsigned_abs, IfOk, OnOk, ◌∷◌, ◌++◌, [], ◌+ℤ◌, pos};
 ghost use Rattle.std.specs.List.{list_any};
 ghost use Rattle.lot_base.specs.Text.{same_text};
 ghost use Rattle.lot_num.specs.Amount.{IsWide, rate_limit, units_limit};
@@ -66,7 +66,8 @@ fn cost_in(currency: &Commodity, lots: &[HeldLot]) -> Wide
 
 /// Returns what a lot costs in a currency: nothing where it is in another.
 fn part_in(currency: &Commodity, lot: &HeldLot) -> Wide
-    ensures value { result ≡ (if same_text currency.now lot.now.key.currency then cost_of lot.now else pos 0) }
+    ensures value { result
+        ≡ (if same_text currency.now lot.now.key.currency then cost_of lot.now else pos 0) }
     ensures bound { unsigned_abs result ≤ units_limit * rate_limit }
 {
     let _in_range = lot.units.mantissa();

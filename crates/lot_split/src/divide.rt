@@ -1,5 +1,5 @@
 //! The lots once they are split.
-ghost use Rattle.std.specs.Prelude.{◌≡◌, ◌≤◌, ◌*◌, ◌⊎◌, ◌++◌, ◌∷◌, ℕ, ℤ, pos, ◌*ℤ◌, not, position, true, List, None, IfOk, IfErr, IfSome, SomeIff, unsigned_abs, ◌<◌, ◌^◌};
+ghost use Rattle.std.specs.Prelude.{◌≡◌, ◌≤◌, ◌*◌, ◌⊎◌, ℕ, ℤ, pos, ◌*ℤ◌, not, position, None, IfOk, IfErr, IfSome, SomeIff, unsigned_abs, ◌<◌, ◌^◌};
 ghost use Rattle.std.specs.List.{AllZip};
 ghost use Rattle.lot_num.specs.Amount.{IsUnits, one};
 ghost use Rattle.lot_rounding.specs.Nearest.{IsNearestRate};
@@ -59,7 +59,8 @@ pub(crate) fn divided(
 fn divided_lot(lot: &HeldLot, ratio: Ratio) -> Result<Option<HeldLot>, AllocError>
     requires { IsProper ratio }
     ensures some { IfOk result (λ found. IfSome found (Becomes ratio lot.now)) }
-    ensures none { IfOk result (λ found. found ≡ None → (split : HeldLot) → Becomes ratio lot.now split → ⊥) }
+    ensures none { IfOk result (λ found. found ≡ None
+        → (split : HeldLot) → Becomes ratio lot.now split → ⊥) }
 {
     let Some(units) = divided_units(lot.units, ratio) else {
         return Ok(None);
@@ -121,7 +122,8 @@ fn quotient(dividend: i128, divisor: u64) -> Option<i128>
 /// Returns the number of a lot once it is split in a ratio, or `None` where it is out of range.
 fn divided_number(number: Rate, ratio: Ratio) -> Option<Rate>
     requires { IsProper ratio }
-    ensures some { IfSome result (IsNearestRate (pos (ratio.new * one)) (pos (number * ratio.old))) }
+    ensures some { IfSome result
+        (IsNearestRate (pos (ratio.new * one)) (pos (number * ratio.old))) }
     ensures none { result ≡ None → (split : ℕ)
         → IsNearestRate (pos (ratio.new * one)) (pos (number * ratio.old)) split → ⊥ }
 {

@@ -16,8 +16,8 @@ ghost use Rattle.lot_split.specs.declared.transaction.Split.{Split};
 
 /// A split balances: in each currency its postings weigh, with the lots that they take, exactly zero.
 pub fn a_split_balances()
-    ensures { (asked : Split) (method : Method) (lots : List HeldLot) (t : Transaction) (currency : List ℕ)
-        → IsSplit asked method lots t
+    ensures { (asked : Split) (method : Method) (lots : List HeldLot) (t : Transaction)
+        (currency : List ℕ) → IsSplit asked method lots t
         → weigh_in currency (weights_of t.postings) +ℤ taken_in method lots currency ≡ pos 0 }
 {}
 
@@ -44,8 +44,8 @@ pub fn an_exact_number_leaves_no_crumb()
 
 /// A ratio, and the units that it adds to what is held, come to the same transaction.
 pub fn a_ratio_and_its_units_are_one_split()
-    ensures { (asked : Split) (method : Method) (lots : List HeldLot) (ratio : Ratio) (added : ℤ) (t : Transaction)
-        → held_of lots ≢ pos 0 → 1 ≤ ratio.old
+    ensures { (asked : Split) (method : Method) (lots : List HeldLot) (t : Transaction)
+        (ratio : Ratio) (added : ℤ) → held_of lots ≢ pos 0 → 1 ≤ ratio.old
         → (held_of lots +ℤ added) *ℤ pos ratio.old ≡ held_of lots *ℤ pos ratio.new
         → IsSplit (record asked { change = InRatio ratio }) method lots t
         ↔ IsSplit (record asked { change = ByUnits added }) method lots t }
@@ -55,6 +55,6 @@ pub fn a_ratio_and_its_units_are_one_split()
 pub fn there_is_one_split()
     ensures one { (asked : Split) (method : Method) (lots : List HeldLot) (t other : Transaction)
         → IsSplit asked method lots t → IsSplit asked method lots other → t ≡ other }
-    ensures no_fault { (asked : Split) (method : Method) (lots : List HeldLot) (t : Transaction) (fault : SplitFault)
-        → IsSplit asked method lots t → HasFault asked method lots fault → fault ≡ Memory }
+    ensures no_fault { (asked : Split) (method : Method) (lots : List HeldLot) (t : Transaction)
+        (fault : SplitFault) → IsSplit asked method lots t → HasFault asked method lots fault → fault ≡ Memory }
 {}

@@ -1,5 +1,5 @@
 //! How a broker gives a split, and its ratio in lowest terms.
-ghost use Rattle.std.specs.Prelude.{◌≡◌, ◌≤◌, ℕ, pos, ◌*ℤ◌, IfSome, IfNone, None, unsigned_abs, ◌^◌, ◌<◌, ℤ};
+ghost use Rattle.std.specs.Prelude.{◌≡◌, ◌≤◌, ℕ, pos, ◌*ℤ◌, IfSome, None, unsigned_abs, ◌^◌, ◌<◌};
 ghost use Rattle.lot_split.specs.Ratio.{AreInRatio, IsLowest, amounts_of, most_in_ratio};
 ghost use Rattle.lot_split.specs.declared.ratio.Ratio.{Ratio};
 
@@ -62,8 +62,9 @@ fn with_old(new: i128, old: i128, part: u64) -> Option<Ratio>
     requires new_in_range { unsigned_abs new < 2 ^ 64 }
     requires old_in_range { unsigned_abs old < 2 ^ 64 }
     requires few { part ≤ most_in_ratio }
-    ensures some { IfSome result (λ ratio. (ratio.old ≡ part) × (1 ≤ ratio.new) × (ratio.new ≤ most_in_ratio)
-        × (new *ℤ pos part ≡ old *ℤ pos ratio.new)) }
+    ensures part { IfSome result (λ ratio. ratio.old ≡ part) }
+    ensures range { IfSome result (λ ratio. (1 ≤ ratio.new) × (ratio.new ≤ most_in_ratio)) }
+    ensures same { IfSome result (λ ratio. new *ℤ pos part ≡ old *ℤ pos ratio.new) }
     ensures none { result ≡ None → (n : ℕ) → 1 ≤ n → n ≤ most_in_ratio
         → new *ℤ pos part ≡ old *ℤ pos n → ⊥ }
 {

@@ -1,9 +1,8 @@
 //! The transaction that takes lots and opens them again.
-ghost use Rattle.std.specs.Prelude.{◌≡◌, ◌≢◌, ◌≤◌, ◌⊎◌, ◌++◌, ◌∷◌, [], ℕ, ℤ, List, length, map, flat_map, neg_ℤ, true, false, None, IfOk, IfErr, OnOk, SomeIff};
+ghost use Rattle.std.specs.Prelude.{◌≡◌, ◌≤◌, ◌++◌, ◌∷◌, [], length, map, neg_ℤ, true, None, IfOk, IfErr, OnOk, SomeIff};
 ghost use Rattle.lot_num.specs.Amount.{IsUnits};
 ghost use Rattle.lot_split.specs.Lots.{AreDivided, are_above_zero, are_below_zero, can_be_taken, crumb_in, held_of, have_one_sign};
 ghost use Rattle.lot_split.specs.Split.{CanBeSplit, HasFault, IsHoldingFault, IsSplit, braced, crumbs, each_lot, most_lots, openings, parts_of, postings_of, takings};
-ghost use Rattle.lot_split.specs.declared.fault.SplitFault.TheVariants.{Memory};
 ghost use Rattle.lot_split.specs.declared.lot.HeldLot.{HeldLot};
 
 use crate::costs::{crumb_in, currencies_of};
@@ -50,8 +49,8 @@ impl Drop for Split {
     }
 }
 
-/// Returns the transaction that splits lots, all that an account with that method holds of the commodity, in the order of their
-/// opening numbers.
+/// Returns the transaction that splits lots. They are all lots of the commodity that the account holds, in the order of their
+/// opening numbers, and the method is that of the account.
 ///
 /// The error is the first fault in the order of `SplitFault`.
 pub fn split_lots(
@@ -126,12 +125,14 @@ fn have_one_sign(lots: &[HeldLot]) -> bool
     are_above_zero(lots) || are_below_zero(lots)
 }
 
+/// Returns whether the units of all lots are above zero.
 fn are_above_zero(lots: &[HeldLot]) -> bool
     ensures { result ≡ are_above_zero lots.now }
 {
     lots.iter().all(|lot| Units::ZERO < lot.units)
 }
 
+/// Returns whether the units of all lots are below zero.
 fn are_below_zero(lots: &[HeldLot]) -> bool
     ensures { result ≡ are_below_zero lots.now }
 {

@@ -1,8 +1,7 @@
 -- Each lot adds what it costs in the currency.
-use Rattle.std.proofs.Common.{◌≡◌, ◌∙◌, ◌+ℤ◌, cond, pos, ap, sym, arith, rules, take}
+use Rattle.std.proofs.Common.{◌∙◌, ◌+ℤ◌, ap, sym, arith, rules, take}
 use Rattle.std.proofs.lemmas.Int.{ints}
-use Rattle.lot_base.specs.Text.{same_text}
-use Rattle.lot_split.specs.Lots.{cost_in, cost_of}
+use Rattle.lot_split.specs.Lots.{cost_in}
 use Rattle.lot_split.proofs.ListLemmas.{next_taken}
 use Rattle.lot_split.proofs.SumLemmas.{cost_more}
 use Rattle.lot_split.proofs.costs.cost_in.Goals as goal

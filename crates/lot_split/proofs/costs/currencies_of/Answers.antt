@@ -1,5 +1,5 @@
 -- The currency of the next lot stands behind the others, unless it is among them.
-use Rattle.std.proofs.Common.{◌≡◌, ◌∙◌, ◌++◌, ◌∷◌, [], ℕ, List, cond, ap, sym, rules}
+use Rattle.std.proofs.Common.{◌∙◌, ◌++◌, ◌∷◌, [], cond, ap, sym, rules}
 use Rattle.std.specs.List.{list_any}
 use Rattle.lot_base.specs.Text.{same_text}
 use Rattle.lot_split.specs.Lots.{currencies_of}

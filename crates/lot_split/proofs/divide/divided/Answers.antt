@@ -1,6 +1,6 @@
 -- Each lot becomes another behind those before it. Where one becomes none, that is the one.
-use Rattle.std.proofs.Common.{◌++◌, ◌∷◌, ap, ◌∙◌, sym, subst, List, rules, inr, refl, take, drop, ◌+◌}
-use Rattle.lot_split.specs.Lots.{Becomes, OneBecomesNone}
+use Rattle.std.proofs.Common.{rules, inr, refl, take, drop, ◌+◌}
+use Rattle.lot_split.specs.Lots.{Becomes}
 use Rattle.lot_split.proofs.ListLemmas.{cut_at, next_taken, zip_more}
 use Rattle.lot_split.proofs.divide.divided.Goals as goal
 

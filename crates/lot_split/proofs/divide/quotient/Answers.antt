@@ -1,7 +1,5 @@
 -- Where the quotient is whole, the division leaves nothing.
-use Rattle.std.proofs.Common.{arith, rules}
-use Rattle.std.proofs.lemmas.Int.{ints}
-use Rattle.std.proofs.lemmas.Grind.{common_steps}
+use Rattle.std.proofs.Common.{rules}
 use Rattle.lot_split.proofs.NumberLemmas.{rem_nothing}
 use Rattle.lot_split.proofs.divide.quotient.Goals as goal
 

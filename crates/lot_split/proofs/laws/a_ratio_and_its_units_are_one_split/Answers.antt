@@ -4,7 +4,7 @@ use Rattle.lot_split.proofs.OneLemmas.{lowest_by_ratio, lowest_by_units}
 use Rattle.lot_split.proofs.laws.a_ratio_and_its_units_are_one_split.Goals as goal
 
 pub returns : goal.returns
-returns c asked method lots ratio added t some some_old same = (
+returns c asked method lots t ratio added some some_old same = (
   λ is. record {
     split = is.split;
     splits = record {

@@ -1,5 +1,5 @@
 -- The takings, the openings and the crumbs weigh together nothing.
-use Rattle.std.proofs.Common.{◌≡◌, ◌+ℤ◌, pos, ap, ◌∙◌}
+use Rattle.std.proofs.Common.{◌+ℤ◌, ap, ◌∙◌}
 use Rattle.lot_command.specs.declared.transaction.Transaction.{Transaction}
 use Rattle.lot_split.specs.Weights.{taken_in, weigh_in, weights_of}
 use Rattle.lot_split.proofs.WeightLemmas.{balance}

@@ -1,5 +1,5 @@
 -- The exact number is the nearest.
-use Rattle.std.proofs.Common.{◌≡◌, ◌∙◌, ◌*ℤ◌, ℕ, pos, ap}
+use Rattle.std.proofs.Common.{◌∙◌, ◌*ℤ◌, ℕ, pos, ap}
 use Rattle.lot_split.proofs.NumberLemmas.{same_cost}
 use Rattle.lot_split.proofs.OneLemmas.{exact_number}
 use Rattle.lot_split.proofs.laws.an_exact_number_leaves_no_crumb.Goals as goal

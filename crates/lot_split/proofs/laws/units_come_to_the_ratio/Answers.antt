@@ -1,5 +1,5 @@
 -- Each lot's units are as many times the ratio, and so is their sum.
-use Rattle.std.proofs.Common.{◌≡◌, ◌+ℤ◌, ◌*ℤ◌, ℤ, pos, ap, ◌∙◌, sym, subst}
+use Rattle.std.proofs.Common.{◌+ℤ◌, ℤ, ◌∙◌, sym, subst}
 use Rattle.lot_split.specs.Lots.{held_of}
 use Rattle.lot_split.specs.Ratio.{IsLowest, amounts_of}
 use Rattle.lot_split.specs.declared.ratio.Change.{Change}

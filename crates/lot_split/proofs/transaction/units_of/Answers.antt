@@ -1,5 +1,5 @@
 -- Each lot adds its units.
-use Rattle.std.proofs.Common.{◌≡◌, ◌∙◌, ◌+ℤ◌, ap, sym, arith, rules, take}
+use Rattle.std.proofs.Common.{◌∙◌, ap, arith, rules, take}
 use Rattle.std.proofs.lemmas.Int.{ints}
 use Rattle.lot_split.specs.Lots.{held_of}
 use Rattle.lot_split.proofs.ListLemmas.{next_taken}
