@@ -327,10 +327,12 @@ const WHOLE_LIMIT: u64 = 10_000_000_000;
 fn mantissa(whole: &[u8], decimals: &[u8]) -> Option<(u64, Exactness)>
     requires { IsTrue (are_digits decimals.now) }
     ensures range { IfSome result (λ read. read.0 < units_limit) }
-    ensures some { IfSome result (λ read. IsMantissa (digits_value 10 (digits_of whole.now ++ decimals.now))
+    ensures some { IfSome result (λ read.
+        IsMantissa (digits_value 10 (digits_of whole.now ++ decimals.now))
         (length decimals.now) read.0 read.1) }
     ensures every { (mantissa : ℕ) (exactness : Exactness) → mantissa < units_limit
-        → IsMantissa (digits_value 10 (digits_of whole.now ++ decimals.now)) (length decimals.now) mantissa exactness
+        → IsMantissa (digits_value 10 (digits_of whole.now ++ decimals.now))
+        (length decimals.now) mantissa exactness
         → result ≡ Some (mantissa, exactness) }
 {
     let whole = written(whole);

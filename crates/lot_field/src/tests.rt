@@ -81,7 +81,8 @@ impl Test {
 /// Returns the test of a text that isn't a word.
 fn of_text(alloc: Global, text: &str) -> Result<Test, AllocError>
     ensures { IfOk result (λ test.
-        test ≡ test_with (argument (codes "begins:") text.now) (argument (codes "has:") text.now) text.now) }
+        test ≡ test_with (argument (codes "begins:") text.now)
+        (argument (codes "has:") text.now) text.now) }
 {
     if let Some(beginning) = argument("begins:", text) {
         return Ok(Test::Begins(Text::new(alloc, beginning)?));
@@ -130,7 +131,8 @@ fn begins(text: &Text, field: &str) -> bool
 
 /// Returns whether that text stands in a field.
 fn has(text: &Text, field: &str) -> bool
-    ensures { IsTrue result ↔ ((front : List ℕ) × (rest : List ℕ) × (cut field.now ≡ front ++ (text.now ++ rest))) }
+    ensures { IsTrue result ↔ ((front : List ℕ) × (rest : List ℕ)
+        × (cut field.now ≡ front ++ (text.now ++ rest))) }
 {
     cut(field).contains(text.as_str())
 }
