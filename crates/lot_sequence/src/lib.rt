@@ -1,0 +1,13 @@
+//! In which order the rows of a broker's file are judged, and under which keys (docs/FORMATS.md, Profiles).
+//!
+//! - `row`: `Row`, what is asked of a row.
+//! - `order`: the rows in the order of judging, and which row stands against the order of its table.
+//! - `laws`: what holds of the definitions that the contracts cite.
+#![tactic(auto)]
+
+pub mod laws;
+mod order;
+mod row;
+
+pub use order::{compare_rows, sort_rows};
+pub use row::Row;
