@@ -41,18 +41,21 @@ module _ {K : Type 0} where
         → Contains (y ∷ ys) x → Contains (x ∷ xs) y → x ≡ y
     one_head x y xs ys first second in_second in_first =
         elim (cases y ys x in_second) [
-          inl is ↦ sym is
-        | inr behind ↦ elim (cases x xs y in_first) [
-            inl is ↦ is
-          | inr after ↦ both_less x y (all_in (λ z. R x z ≡ Less) xs y (sorted_head R x xs first) after) (all_in (λ z. R y z ≡ Less) ys x (sorted_head R y ys second) behind) ] ]
+          | inl is ↦ sym is
+          | inr behind ↦ elim (cases x xs y in_first) [
+            | inl is ↦ is
+            | inr after ↦ both_less x y (all_in (λ z. R x z ≡ Less) xs y (sorted_head R x xs first) after) (all_in (λ z. R y z ≡ Less) ys x (sorted_head R y ys second) behind)
+          ]
+        ]
 
     tail_in : (x y : K) (xs ys : List K) → x ≡ y → IsStrictlySortedBy R (x ∷ xs) → ((z : K) → Contains (x ∷ xs) z → Contains (y ∷ ys) z)
         → (z : K) → Contains xs z → Contains ys z
     tail_in x y xs ys same sorted within z behind =
         let above = all_in (λ w. R x w ≡ Less) xs z (sorted_head R x xs sorted) behind in
         elim (cases y ys z (within z (behind_in x xs z behind))) [
-          inl is ↦ not_itself z (subst (λ (w : K). R w z ≡ Less) (same ∙ is) above)
-        | inr after ↦ after ]
+          | inl is ↦ not_itself z (subst (λ (w : K). R w z ≡ Less) (same ∙ is) above)
+          | inr after ↦ after
+        ]
 
     pub one_list : (xs ys : List K) → IsStrictlySortedBy R xs → IsStrictlySortedBy R ys
         → ((z : K) → Contains xs z → Contains ys z) → ((z : K) → Contains ys z → Contains xs z) → xs ≡ ys
@@ -62,5 +65,5 @@ module _ {K : Type 0} where
     one_list (x ∷ xs) (y ∷ ys) first second there back =
         let same : x ≡ y = one_head x y xs ys first second (there x (first_in x xs)) (back y (first_in y ys)) in
         let rest : xs ≡ ys = one_list xs ys (sorted_tail R x xs first) (sorted_tail R y ys second)
-            (tail_in x y xs ys same first there) (tail_in y x ys xs (sym same) second back) in
+        (tail_in x y xs ys same first there) (tail_in y x ys xs (sym same) second back) in
         cc

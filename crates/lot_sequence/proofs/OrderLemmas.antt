@@ -14,7 +14,7 @@ use Rattle.std.proofs.lemmas.List.Sorted.{Contains-permutation, IsPermutation-sy
 use Rattle.std.proofs.lemmas.Map.Keys.{IsDistinct-IsPermutation, apart_from_distinct, sorted_from_all_adjacent}
 use Rattle.lot_profile.specs.declared.table.Order.{Order}
 use Rattle.lot_profile.specs.declared.table.Order.TheVariants.{OldestFirst, NewestFirst, ByDay, ByDayNewestFirst}
-use Rattle.lot_sequence.specs.Order.{ThereIsOneOrder, order_of, row_cmp, table_cmp, time_of}
+use Rattle.lot_sequence.specs.Order.{ThereIsOneOrder, TiesHaveOneNumber, order_of, row_cmp, table_cmp, time_of}
 use Rattle.lot_sequence.specs.declared.row.Row.{Row}
 use Rattle.lot_sequence.proofs.OneList.{one_list}
 
@@ -106,13 +106,15 @@ less_by Less not_less untied = cc
 less_by Equal not_less untied = absurd (untied refl)
 less_by Greater not_less untied = refl
 
+pub ties : TiesHaveOneNumber
+ties orders a b tied = number_tied (order_of orders a.table) a b (second_tied (place_cmp a b) (table_cmp (order_of orders a.table) a b) tied)
+
 rises : (orders : List Order) (a b : Row) → is_lt (row_cmp orders b a) ≡ false → (a.number == b.number) ≡ false → row_cmp orders a b ≡ Less
 rises orders a b not_less apart =
     (rows_total orders).antisymm a b
     ∙ less_by (row_cmp orders b a) not_less (λ tied.
-        let same : b.number ≡ a.number = number_tied (order_of orders b.table) b a
-            (second_tied (place_cmp b a) (table_cmp (order_of orders b.table) b a) tied) in
-        grind (arith, nat_tests))
+    let same : b.number ≡ a.number = ties orders b a tied in
+    grind (arith, nat_tests))
 
 nothing_rises : (compare : Row → Row → Ordering) → IsStrictlySortedBy compare []
 unfolding IsStrictlySortedBy

@@ -9,5 +9,5 @@ pub mod laws;
 mod order;
 mod row;
 
-pub use order::{compare_rows, sort_rows};
+pub use order::{first_against, sort_rows};
 pub use row::Row;
