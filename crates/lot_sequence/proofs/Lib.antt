@@ -1,2 +1,4 @@
+pub mod CountLemmas
+pub mod KeyLemmas
 pub mod OneList
 pub mod OrderLemmas

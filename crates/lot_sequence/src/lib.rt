@@ -2,12 +2,15 @@
 //!
 //! - `row`: `Row`, what is asked of a row.
 //! - `order`: the rows in the order of judging, and which row stands against the order of its table.
+//! - `key`: the keys of rows.
 //! - `laws`: what holds of the definitions that the contracts cite.
 #![tactic(auto)]
 
+mod key;
 pub mod laws;
 mod order;
 mod row;
 
+pub use key::keys;
 pub use order::{first_against, sort_rows};
 pub use row::Row;
