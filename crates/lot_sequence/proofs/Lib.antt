@@ -1,4 +1,6 @@
 pub mod CountLemmas
+pub mod KeyLaws
 pub mod KeyLemmas
 pub mod OneList
 pub mod OrderLemmas
+pub mod TextLemmas

@@ -1,10 +1,10 @@
 -- The keys of rows in the order of judging (docs/FORMATS.md, Profiles).
-use Rattle.std.specs.Prelude.{ℕ, ◌+◌, Bool, ◌&&◌, if◌then◌else◌, List, [], ◌∷◌, ◌++◌, take, decimal, ℤ}
-use Rattle.std.specs.List.{count_by}
+use Rattle.std.specs.Prelude.{◌≡◌, ◌≢◌, ℕ, ◌+◌, ◌<◌, ◌^◌, Bool, ◌&&◌, if◌then◌else◌, List, [], ◌∷◌, ◌++◌, length, map, take, slice_index_or, decimal, ℤ}
+use Rattle.std.specs.List.{AllByRecursion, count_by, filter}
 use Rattle.std.specs.Ordering.{int_eq}
 use Rattle.hex.specs.Hex.{encode_lower}
 use Rattle.sha2.specs.Sha256.{sha256}
-use Rattle.lot_base.specs.Day.{day_text}
+use Rattle.lot_base.specs.Day.{IsDayNumber, day_text}
 use Rattle.lot_base.specs.Name.{is_label}
 use Rattle.lot_base.specs.Text.{same_text}
 use Rattle.lot_sequence.specs.declared.row.Row.{Row}
@@ -53,3 +53,37 @@ keys_behind before (row ∷ rows) = as_key (full_key_of before row) ∷ keys_beh
 
 abbrev pub keys_of : List Said → List (List ℕ)
 keys_of rows = keys_behind [] rows
+
+-- ---- Laws.
+
+-- what rows of a day say, in their order
+abbrev pub texts_on : ℤ → List Said → List (List ℕ)
+texts_on day rows = map (λ row. row.1) (filter (λ row. int_eq row.0 day) rows)
+
+-- of keys beside their rows, those of the rows of a day
+abbrev pub keys_on : ℤ → List Said → List (List ℕ) → List (List ℕ)
+keys_on day [] keys = []
+keys_on day (row ∷ rows) [] = []
+keys_on day (row ∷ rows) (key ∷ keys) = if int_eq row.0 day then key ∷ keys_on day rows keys else keys_on day rows keys
+
+-- two files whose rows of a day say the same give them the same keys, whatever else they have
+abbrev pub KeysAreOfTheDay : Type 0
+KeysAreOfTheDay =
+    (day : ℤ) (rows others : List Said) → texts_on day rows ≡ texts_on day others
+    → keys_on day rows (keys_of rows) ≡ keys_on day others (keys_of others)
+
+-- the full key of the row at a place
+abbrev pub full_key_at : List Said → ℕ → Said → List ℕ
+full_key_at rows place d = full_key_of (take place rows) (slice_index_or rows place d)
+
+-- two texts differ, and their short digests don't
+pub record ShareTheirDigest (a b : List ℕ) : Type 0 where
+  pub differ : a ≢ b
+  pub one : short_digest a ≡ short_digest b
+
+-- the keys of two rows of a file are equal only where their full keys, which differ, share their digest
+abbrev pub KeysDiffer : Type 0
+KeysDiffer =
+    (rows : List Said) (d : Said) → AllByRecursion (λ row. IsDayNumber row.0) rows → length rows < 2 ^ 64
+    → (i j : ℕ) → i < j → j < length rows → slice_index_or (keys_of rows) i [] ≡ slice_index_or (keys_of rows) j []
+    → ShareTheirDigest (full_key_at rows i d) (full_key_at rows j d)
