@@ -1,3 +1,4 @@
+pub mod CancelLemmas
 pub mod CountLemmas
 pub mod KeyLaws
 pub mod KeyLemmas
