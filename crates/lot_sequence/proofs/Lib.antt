@@ -1,3 +1,4 @@
+pub mod CancelLaws
 pub mod CancelLemmas
 pub mod CountLemmas
 pub mod KeyLaws
