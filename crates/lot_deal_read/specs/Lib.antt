@@ -1,0 +1,3 @@
+pub mod Figures
+pub mod Naming
+pub mod Signs

@@ -1,0 +1,14 @@
+//! What the reading of a row of a broker's file holds to (docs/FORMATS.md, Profiles).
+//!
+//! - `figures`: the numbers of a trade, and whether they agree, so that a digit that was misread shows.
+//! - `signs`: whether the numbers of a deal have the signs of its kind.
+//! - `naming`: the account that a profile names by pieces.
+#![tactic(auto)]
+
+mod figures;
+mod naming;
+mod signs;
+
+pub use figures::{Figures, Places};
+pub use naming::named_account;
+pub use signs::has_signs;
