@@ -1,3 +1,4 @@
 pub mod Figures
 pub mod Naming
 pub mod Signs
+pub mod TradeRow
