@@ -1,4 +1,6 @@
+pub mod Currency
 pub mod Figures
 pub mod Naming
 pub mod Signs
 pub mod TradeRow
+pub mod IncomeRow

@@ -1,13 +1,13 @@
 -- What a row of a purchase or of a sale says, and the trade that it comes to (docs/FORMATS.md, Profiles).
-use Rattle.std.specs.Prelude.{◌≡◌, ℕ, Bool, true, false, not, ◌&&◌, if◌then◌else◌, List, Option, Some, None, ℤ, pos}
+use Rattle.std.specs.Prelude.{◌≡◌, ℕ, Bool, false, not, ◌&&◌, if◌then◌else◌, List, Option, Some, None, ℤ, pos}
 use Rattle.std.specs.Ordering.{int_eq}
-use Rattle.lot_base.specs.Text.{same_text}
 use Rattle.lot_num.specs.Amount.{one}
 use Rattle.lot_deal.specs.declared.cash.Fee.{Fee}
 use Rattle.lot_deal.specs.declared.trade.Trade.{Trade}
 use Rattle.lot_deal.specs.declared.trade.TradePrice.{TradePrice}
 use Rattle.lot_profile.specs.declared.basis.CostBasis.{CostBasis}
 use Rattle.lot_profile.specs.declared.basis.CostBasis.TheVariants.{Amount as ByAmount, Price as ByPrice}
+use Rattle.lot_deal_read.specs.Currency.{is_in, other_than}
 use Rattle.lot_deal_read.specs.Figures.{Agree}
 use Rattle.lot_deal_read.specs.declared.figures.Figures.{Figures}
 use Rattle.lot_deal_read.specs.declared.figures.Places.{Places}
@@ -15,11 +15,6 @@ use Rattle.lot_deal_read.specs.declared.trades.TradeAccounts.{TradeAccounts}
 use Rattle.lot_deal_read.specs.declared.trades.TradeRow.{TradeRow}
 
 -- ---- What can be compared.
-
--- whether something is in a currency: it is where no other is said
-abbrev pub is_in : List ℕ → Option (List ℕ) → Bool
-is_in currency None = true
-is_in currency (Some other) = same_text other currency
 
 -- how much of the price's currency one of the cash's is, where that is known
 abbrev pub tie_of : TradeRow → Option ℕ
@@ -61,10 +56,6 @@ has_other_fee row = is_other_fee row.fee (is_in row.currency row.fee_currency)
 abbrev pub posted_fee : Option ℤ → List ℕ → Option Fee
 posted_fee None account = None
 posted_fee (Some fee) account = if int_eq fee (pos 0) then None else Some (record { amount = fee; account = account })
-
--- the currency, where it isn't that of the cash
-abbrev pub other_than : List ℕ → Option (List ℕ) → Option (List ℕ)
-other_than currency other = if is_in currency other then None else other
 
 -- the price of a trade whose cost is the price: the row has a price, and its fee is in the currency of the cash
 pub record IsPriceOf (row : TradeRow) (accounts : TradeAccounts) (price : TradePrice) : Type 0 where

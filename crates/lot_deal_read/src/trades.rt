@@ -1,8 +1,9 @@
 //! What a row of a purchase or of a sale says, whether its numbers agree, and the trade that it comes to.
 ghost use Rattle.std.specs.Prelude.{◌≡◌, ◌↔◌, IsTrue, IsSome, IfOk, Err};
 ghost use Rattle.lot_num.specs.Amount.{one};
-ghost use Rattle.lot_deal_read.specs.TradeRow.{IsPriceOf, IsTradeOf, NumbersAgree, fee_in, figures_of, has_other_fee, is_in, other_than, posted_fee, tie_of};
+ghost use Rattle.lot_deal_read.specs.TradeRow.{IsPriceOf, IsTradeOf, NumbersAgree, fee_in, figures_of, has_other_fee, posted_fee, tie_of};
 
+use crate::currency::{is_in, other_than};
 use crate::figures::{Figures, Places};
 use lot_base::{Account, Commodity};
 use lot_deal::{Fee, Trade, TradePrice};
@@ -163,19 +164,6 @@ fn posted_fee(fee: Option<Units>, account: &Account) -> Result<Option<Fee>, Allo
     }
 }
 
-/// Returns the other currency, where it isn't that of the cash.
-fn other_than(
-    currency: &Commodity,
-    other: &Option<Commodity>,
-) -> Result<Option<Commodity>, AllocError>
-    ensures { IfOk result (λ given. given ≡ other_than currency.now other.now) }
-{
-    match other {
-        Some(other) if other != currency => Ok(Some(other.copy()?)),
-        _ => Ok(None),
-    }
-}
-
 /// Returns whether the numbers of a row agree, as far as they can be compared, so that a digit that was misread shows.
 pub fn numbers_agree(row: &TradeRow, places: &Places, within: Bound) -> bool
     ensures { IsTrue result ↔ NumbersAgree places.now within (figures_of row.now) }
@@ -224,16 +212,6 @@ fn tie_of(row: &TradeRow) -> Option<Rate>
         Some(one())
     } else {
         row.rate
-    }
-}
-
-/// Returns whether something is in a currency: it is where no other is said.
-fn is_in(currency: &Commodity, other: &Option<Commodity>) -> bool
-    ensures { result ≡ is_in currency.now other.now }
-{
-    match other {
-        Some(other) => other == currency,
-        None => true,
     }
 }
 
