@@ -4,3 +4,5 @@ pub mod Naming
 pub mod Signs
 pub mod TradeRow
 pub mod IncomeRow
+pub mod ExchangeRow
+pub mod RewardRow

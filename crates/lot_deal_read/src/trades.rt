@@ -152,7 +152,7 @@ fn has_other_fee(row: &TradeRow) -> bool
 }
 
 /// Returns the fee that is posted to the account, unless it is zero.
-fn posted_fee(fee: Option<Units>, account: &Account) -> Result<Option<Fee>, AllocError>
+pub(crate) fn posted_fee(fee: Option<Units>, account: &Account) -> Result<Option<Fee>, AllocError>
     ensures { IfOk result (λ posted. posted ≡ posted_fee fee account.now) }
 {
     match fee {
