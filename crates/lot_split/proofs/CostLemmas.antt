@@ -8,7 +8,7 @@ use Rattle.lot_num.specs.Amount.{IsUnits, units_limit}
 use Rattle.lot_split.specs.Crumbs.{whole_of}
 use Rattle.lot_split.specs.Lots.{AreDivided, Becomes, cost_of, crumb_in}
 use Rattle.lot_split.specs.Ratio.{IsProper}
-use Rattle.lot_split.specs.Split.{most_lots}
+use Rattle.lot_split.specs.Split.{most_divided}
 use Rattle.lot_split.specs.declared.lot.HeldLot.{HeldLot}
 use Rattle.lot_split.specs.declared.ratio.Ratio.{Ratio}
 use Rattle.lot_split.proofs.NumberLemmas.{near_cost}
@@ -45,12 +45,12 @@ crumb_near ratio currency (l ∷ ls) (s ∷ ss) proper all =
       crumb_near ratio currency ls ss proper all.1,
     )
 
-whole_small : (crumb : ℤ) → unsigned_abs crumb ≤ most_lots * units_limit → IsUnits (whole_of crumb)
+whole_small : (crumb : ℤ) → unsigned_abs crumb ≤ most_divided * units_limit → IsUnits (whole_of crumb)
 whole_small (pos n) few = omega (arith, ints)
 whole_small (negsuc n) few = omega (arith, ints)
 
 -- the account for crumbs can take it
-pub crumb_small : (currency : List ℕ) (lots split : List HeldLot) → AreDivided lots split → length lots ≤ most_lots
+pub crumb_small : (currency : List ℕ) (lots split : List HeldLot) → AreDivided lots split → length lots ≤ most_divided
     → IsUnits (whole_of (crumb_in lots split currency))
 crumb_small currency lots split divided few =
     whole_small (crumb_in lots split currency)

@@ -22,8 +22,8 @@ use Rattle.lot_split.specs.declared.transaction.Split.{Split}
 -- ---- Limits (docs/RULES.md, Limits).
 
 -- The most lots that are split at once. One posting takes them, as many open them again, and three are left for crumbs.
-abbrev pub most_lots : ℕ
-most_lots = 60
+abbrev pub most_divided : ℕ
+most_divided = 60
 
 -- the most postings of a transaction
 abbrev pub most_postings : ℕ
@@ -76,7 +76,7 @@ postings_of asked method lots split = takings asked method lots ++ openings aske
 -- there are lots, not too many of them, and all can be taken
 pub record CanBeSplit (method : Method) (lots : List HeldLot) : Type 0 where
   pub some : lots ≢ []
-  pub few : length lots ≤ most_lots
+  pub few : length lots ≤ most_divided
   pub taken : can_be_taken method lots ≡ true
   pub in_range : IsUnits (held_of lots)
 
@@ -108,11 +108,11 @@ pub record IsSplit (asked : Split) (method : Method) (lots : List HeldLot) (t : 
 -- when a fault of what is held comes, behind those before it
 abbrev pub IsHoldingFault : Method → List HeldLot → SplitFault → Type 0
 IsHoldingFault method lots fault.NothingHeld = lots ≡ []
-IsHoldingFault method lots fault.TooManyLots = most_lots < length lots
+IsHoldingFault method lots fault.TooManyLots = most_divided < length lots
 IsHoldingFault method lots fault.BothSigns =
-    (lots ≢ []) × (length lots ≤ most_lots) × (can_be_taken method lots ≡ false)
+    (lots ≢ []) × (length lots ≤ most_divided) × (can_be_taken method lots ≡ false)
 IsHoldingFault method lots fault.SumOutOfRange =
-    (lots ≢ []) × (length lots ≤ most_lots) × (can_be_taken method lots ≡ true) × (IsUnits (held_of lots) → ⊥)
+    (lots ≢ []) × (length lots ≤ most_divided) × (can_be_taken method lots ≡ true) × (IsUnits (held_of lots) → ⊥)
 IsHoldingFault method lots _ = ⊥
 
 -- when each fault comes, behind those before it; memory may run out at any time

@@ -4,7 +4,7 @@ ghost use Rattle.std.specs.List.{list_any};
 ghost use Rattle.lot_base.specs.Text.{same_text};
 ghost use Rattle.lot_num.specs.Amount.{IsWide, rate_limit, units_limit};
 ghost use Rattle.lot_split.specs.Lots.{cost_in, cost_of, crumb_in, currencies_of};
-ghost use Rattle.lot_split.specs.Split.{most_lots};
+ghost use Rattle.lot_split.specs.Split.{most_divided};
 
 use crate::lot::HeldLot;
 use lot_base::Commodity;
@@ -44,8 +44,8 @@ fn is_among(currencies: &[Commodity], currency: &Commodity) -> bool
 
 /// Returns the crumb of a currency: what lots cost there less what they cost once they are split.
 pub(crate) fn crumb_in(lots: &[HeldLot], split: &[HeldLot], currency: &Commodity) -> Wide
-    requires few { length lots.now ≤ most_lots }
-    requires few_split { length split.now ≤ most_lots }
+    requires few { length lots.now ≤ most_divided }
+    requires few_split { length split.now ≤ most_divided }
     ensures { result ≡ crumb_in lots.now split.now currency.now }
 {
     plus(cost_in(currency, lots), cost_in(currency, split).negated())
@@ -53,9 +53,9 @@ pub(crate) fn crumb_in(lots: &[HeldLot], split: &[HeldLot], currency: &Commodity
 
 /// Returns what the lots in a currency cost together.
 fn cost_in(currency: &Commodity, lots: &[HeldLot]) -> Wide
-    requires { length lots.now ≤ most_lots }
+    requires { length lots.now ≤ most_divided }
     ensures value { result ≡ cost_in currency.now lots.now }
-    ensures bound { unsigned_abs result ≤ most_lots * units_limit * rate_limit }
+    ensures bound { unsigned_abs result ≤ most_divided * units_limit * rate_limit }
 {
     let mut sum = Wide::ZERO;
     for lot in lots {

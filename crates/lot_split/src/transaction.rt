@@ -2,7 +2,7 @@
 ghost use Rattle.std.specs.Prelude.{◌≡◌, ◌≤◌, ◌++◌, ◌∷◌, [], length, map, neg_ℤ, true, None, IfOk, IfErr, OnOk, SomeIff};
 ghost use Rattle.lot_num.specs.Amount.{IsUnits};
 ghost use Rattle.lot_split.specs.Lots.{AreDivided, are_above_zero, are_below_zero, can_be_taken, crumb_in, held_of, have_one_sign};
-ghost use Rattle.lot_split.specs.Split.{CanBeSplit, HasFault, IsHoldingFault, IsSplit, braced, crumbs, each_lot, most_lots, openings, parts_of, postings_of, takings};
+ghost use Rattle.lot_split.specs.Split.{CanBeSplit, HasFault, IsHoldingFault, IsSplit, braced, crumbs, each_lot, most_divided, openings, parts_of, postings_of, takings};
 ghost use Rattle.lot_split.specs.declared.lot.HeldLot.{HeldLot};
 
 use crate::costs::{crumb_in, currencies_of};
@@ -17,8 +17,8 @@ use lot_cost::LotKey;
 use lot_num::Units;
 use std::alloc::{AllocError, Global};
 
-/// The most lots that are split at once (`most_lots` of the definitions).
-const MOST_LOTS: usize = 60;
+/// The most lots that are split at once (`most_divided` of the definitions).
+const MOST_DIVIDED: usize = 60;
 
 /// The most postings of a transaction (`most_postings` of the definitions).
 const MOST_POSTINGS: usize = 64;
@@ -96,7 +96,7 @@ fn held_of(method: Method, lots: &[HeldLot]) -> Result<Units, SplitFault>
     if lots.is_empty() {
         return Err(SplitFault::NothingHeld);
     }
-    if lots.len() > MOST_LOTS {
+    if lots.len() > MOST_DIVIDED {
         return Err(SplitFault::TooManyLots);
     }
     if !can_be_taken(method, lots) {
@@ -160,7 +160,7 @@ fn postings_of(
     split: &[HeldLot],
 ) -> Result<Items<Posting>, AllocError>
     requires held { held ≡ held_of lots.now }
-    requires few { length lots.now ≤ most_lots }
+    requires few { length lots.now ≤ most_divided }
     requires divided { AreDivided lots.now split.now }
     ensures { IfOk result (λ postings. postings ≡ postings_of asked.now method lots.now split.now) }
 {
@@ -227,7 +227,7 @@ fn push_crumbs(
     lots: &[HeldLot],
     split: &[HeldLot],
 ) -> Result<(), AllocError>
-    requires few { length lots.now ≤ most_lots }
+    requires few { length lots.now ≤ most_divided }
     requires divided { AreDivided lots.now split.now }
     ensures { OnOk result (postings.new ≡ postings.old ++ crumbs asked.now lots.now split.now) }
 {
