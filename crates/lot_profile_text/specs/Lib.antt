@@ -1,2 +1,12 @@
+pub mod Keys
 pub mod Reading
 pub mod Words
+pub mod Columns
+pub mod Basis
+pub mod Fields
+pub mod Symbols
+pub mod Accounts
+pub mod File
+pub mod Kinds
+pub mod Tables
+pub mod Profile

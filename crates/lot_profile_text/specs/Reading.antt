@@ -1,12 +1,15 @@
 -- How parts of a profile are read of the values of its TOML table: what each says, or the first fault.
-use Rattle.std.specs.Prelude.{◌≡◌, ◌≢◌, ℕ, suc, ⊤, List, [], ◌∷◌, ◌++◌, bytes_eq, codes, decimal, find, Option, None, Some, Result, Ok, Err, MatchResult}
+use Rattle.std.specs.Prelude.{Bool, if◌then◌else◌, ◌≡◌, ◌≢◌, ℕ, suc, ⊤, List, [], ◌∷◌, ◌++◌, bytes_eq, codes, decimal, find, Option, None, Some, Result, Ok, Err, MatchResult}
+use Rattle.std.specs.List.{list_any}
 use Rattle.toml.specs.Data.{Data, string, array, table, Items, no_items, item, Members, no_members, member, get}
+use Rattle.lot_profile_text.specs.Keys.{Key}
 use Rattle.lot_profile_text.specs.declared.entry.Entry.{Entry}
 use Rattle.lot_profile_text.specs.declared.entry.Form.{Form}
 use Rattle.lot_profile_text.specs.declared.entry.Form.TheVariants as form
 use Rattle.lot_profile_text.specs.declared.entry.Need.{Need}
 use Rattle.lot_profile_text.specs.declared.entry.Need.TheVariants as need
 use Rattle.lot_profile_text.specs.declared.fault.ProfileFault.{ProfileFault}
+use Rattle.lot_profile_text.specs.declared.list.Keyed.{Keyed}
 use Rattle.lot_profile_text.specs.declared.fault.ProfileFault.TheVariants.{Unknown, Missing, Wrong, Memory}
 
 -- ---- What is read.
@@ -50,17 +53,48 @@ default_of need.EmptyList = Some (array no_items)
 default_of need.EmptyTable = Some (table no_members)
 default_of need.Optional = None
 
+-- the key of an entry
+abbrev pub key_of : Entry → Key
+key_of e = record { name = e.key.now; default = default_of e.need }
+
 abbrev pub or_missing : {T : Type 0} → (List ℕ → Data → Read T) → List ℕ → Option Data → Read T
 or_missing said place None = Err (Missing place)
 or_missing said place (Some value) = said place value
 
-abbrev pub or_default : {T : Type 0} → (List ℕ → Data → Read T) → Need → List ℕ → Option Data → Read T
-or_default said need place None = or_missing said place (default_of need)
-or_default said need place (Some value) = said place value
+abbrev pub or_default : {T : Type 0} → (List ℕ → Data → Read T) → Option Data → List ℕ → Option Data → Read T
+or_default said default place None = or_missing said place default
+or_default said default place (Some value) = said place value
 
--- what stands under the key of an entry, in the section at a place
-abbrev pub entry_of : {T : Type 0} → (List ℕ → Data → Read T) → Entry → List ℕ → Data → Read T
-entry_of said entry place section = or_default said entry.need (below place entry.key.now) (get entry.key.now section)
+-- what stands under a key, in the section at a place
+abbrev pub entry_of : {T : Type 0} → (List ℕ → Data → Read T) → Key → List ℕ → Data → Read T
+entry_of said key place section = or_default said key.default (below place key.name) (get key.name section)
+
+abbrev pub if_there : {T : Type 0} → (List ℕ → Data → Read T) → List ℕ → Option Data → Read (Option T)
+if_there said place None = Ok None
+if_there said place (Some value) = said place value >>= λ x. Ok (Some x)
+
+-- the same, if anything stands there
+abbrev pub perhaps_of : {T : Type 0} → (List ℕ → Data → Read T) → Key → List ℕ → Data → Read (Option T)
+perhaps_of said key place section = if_there said (below place key.name) (get key.name section)
+
+-- ---- Sections.
+
+abbrev pub is_known : List Key → List ℕ → Bool
+is_known keys key = list_any (λ k. bytes_eq k.name key) keys
+
+-- the first key of a table that is none of these
+abbrev pub first_unknown : List Key → Members → Option (List ℕ)
+first_unknown keys no_members = None
+first_unknown keys (member key value more) = if is_known keys key then first_unknown keys more else Some key
+
+abbrev pub or_unknown : List ℕ → Option (List ℕ) → Read (Unit {0})
+or_unknown place None = Ok tt
+or_unknown place (Some key) = Err (Unknown (below place key))
+
+-- a table in which only the these keys stand
+abbrev pub section_of : List Key → List ℕ → Data → Read (Unit {0})
+section_of keys place (table members) = or_unknown place (first_unknown keys members)
+section_of keys place value = Err (Wrong place form.Table)
 
 -- ---- Texts.
 
@@ -107,3 +141,13 @@ items_of said place items = each (λ i. said (numbered place i.0) i.1) (numbered
 -- what the members of the table at a place say
 abbrev pub members_of : {T : Type 0} → (List ℕ → List ℕ → Data → Read T) → List ℕ → Members → Read (List T)
 members_of said place members = each (λ m. said place m.0 m.1) (keyed_members members)
+
+-- a list, or a value alone as a list of one
+abbrev pub list_of : {T : Type 0} → (List ℕ → Data → Read T) → List ℕ → Data → Read (List T)
+list_of said place (array items) = items_of said place items
+list_of said place value = said place value >>= λ x. Ok (x ∷ [])
+
+-- a table whose keys are free, or of a table of words
+abbrev pub keyed_of : {T : Type 0} → (List ℕ → List ℕ → Data → Read T) → List ℕ → Data → Read (Keyed T)
+keyed_of said place (table members) = members_of said place members >>= λ ms. Ok (record { members = ms })
+keyed_of said place value = Err (Wrong place form.Table)

@@ -2,10 +2,11 @@
 ghost use Rattle.std.specs.Prelude.{◌≡◌, ℕ, List};
 ghost use Rattle.toml.specs.Data.{Data};
 ghost use Rattle.toml.specs.View.{array_view, table_view, view};
-ghost use Rattle.lot_profile_text.specs.Reading.{Gives, Read, items_of, members_of};
+ghost use Rattle.lot_profile_text.specs.Reading.{Gives, Read, items_of, keyed_of, list_of, members_of};
 
+use crate::entry::Form;
 use crate::fault::ProfileFault;
-use crate::part::Part;
+use crate::part::{Part, wrong};
 use crate::place::numbered;
 use lot_command::Items;
 use std::alloc::Global;
@@ -50,4 +51,51 @@ pub(crate) fn members<M: Member>(
         all.push(M::read(alloc, place, key.as_str(), value)?)?;
     }
     Ok(all)
+}
+
+impl<P: Part> Part for Items<P> {
+    ghost said = { list_of P.said };
+
+    fn read(alloc: Global, place: &str, value: &Value) -> Result<Items<P>, ProfileFault> {
+        if let Some(array) = value.as_array() {
+            return items(alloc, place, array);
+        }
+        let mut one = Items::new(alloc);
+        one.push(P::read(alloc, place, value)?)?;
+        Ok(one)
+    }
+}
+
+/// What the members of a table say, in the order of their keys.
+pub(crate) struct Keyed<M: Member> {
+    pub members: Items<M>,
+}
+
+impl<M: Member> Drop for Keyed<M> {
+    fn drop(self) {
+        let Keyed { members: _members } = self;
+    }
+}
+
+impl<M: Member> Part for Keyed<M> {
+    ghost said = { keyed_of M.said_at };
+
+    fn read(alloc: Global, place: &str, value: &Value) -> Result<Keyed<M>, ProfileFault> {
+        match value.as_table() {
+            Some(table) => Ok(Keyed {
+                members: members(alloc, place, table)?,
+            }),
+            None => Err(wrong(alloc, place, Form::Table)),
+        }
+    }
+}
+
+impl<M: Member> Keyed<M> {
+    /// Returns what the members say.
+    pub(crate) fn into_members(self) -> Items<M>
+        ensures { result ≡ self.members }
+    {
+        let Keyed { members } = self;
+        members
+    }
 }

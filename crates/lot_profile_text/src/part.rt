@@ -2,7 +2,7 @@
 ghost use Rattle.std.specs.Prelude.{◌≡◌, ℕ, List};
 ghost use Rattle.toml.specs.Data.{Data};
 ghost use Rattle.toml.specs.View.{view};
-ghost use Rattle.lot_profile_text.specs.Reading.{Gives, IsWrong, Read, entry_of, text_of};
+ghost use Rattle.lot_profile_text.specs.Reading.{Gives, IsWrong, Read, entry_of, key_of, perhaps_of, text_of};
 
 use crate::entry::{Entry, Form, default_value};
 use crate::fault::ProfileFault;
@@ -28,7 +28,7 @@ pub(crate) fn entry<P: Part>(
     section: &Value,
     entry: &Entry,
 ) -> Result<P, ProfileFault>
-    ensures { Gives result (entry_of P.said entry.now place.now (view section.now)) }
+    ensures { Gives result (entry_of P.said (key_of entry.now) place.now (view section.now)) }
 {
     let key = below(alloc, place, entry.key)?;
     match section.get(entry.key) {
@@ -59,4 +59,20 @@ pub(crate) fn wrong(alloc: Global, place: &str, form: Form) -> ProfileFault
         Ok(key) => ProfileFault::Wrong(key, form),
         Err(_) => ProfileFault::Memory,
     }
+}
+
+/// Returns what stands under the key of an entry in the section at a place, if anything does, or the first fault.
+pub(crate) fn perhaps<P: Part>(
+    alloc: Global,
+    place: &str,
+    section: &Value,
+    entry: &Entry,
+) -> Result<Option<P>, ProfileFault>
+    ensures { Gives result (perhaps_of P.said (key_of entry.now) place.now (view section.now)) }
+{
+    let Some(value) = section.get(entry.key) else {
+        return Ok(None);
+    };
+    let key = below(alloc, place, entry.key)?;
+    Ok(Some(P::read(alloc, key.as_str(), value)?))
 }

@@ -1,0 +1,95 @@
+//! How the file of a profile is written.
+ghost use Rattle.std.specs.Prelude.{◌≡◌, length, chars};
+ghost use Rattle.toml.specs.View.{view};
+ghost use Rattle.lot_profile_text.specs.File.{file_of, grouping_of, is_character, numbers_of};
+ghost use Rattle.lot_profile_text.specs.Reading.{Gives};
+
+use crate::entry::Form;
+use crate::fault::ProfileFault;
+use crate::keys::{CURRENCY_SIGNS, DAY, DECIMAL, DELIMITER, ENCODING, GROUPING, NOTHING, OPTIONAL};
+use crate::part::{Part, entry, wrong};
+use lot_field::{NumberForm, Text};
+use lot_profile::FileForm;
+use std::alloc::Global;
+use toml::Value;
+
+/// Returns how the file is written, by the section at a place, or the first fault.
+pub(crate) fn file_form(
+    alloc: Global,
+    place: &str,
+    section: &Value,
+) -> Result<FileForm, ProfileFault>
+    ensures { Gives result (file_of place.now (view section.now)) }
+{
+    Ok(FileForm {
+        encoding: entry(alloc, place, section, &ENCODING)?,
+        delimiter: entry(alloc, place, section, &DELIMITER)?,
+        numbers: numbers(alloc, place, section)?,
+        nothing: entry(alloc, place, section, &NOTHING)?,
+        day: entry(alloc, place, section, &DAY)?,
+        optional: entry(alloc, place, section, &OPTIONAL)?,
+    })
+}
+
+/// Returns how the numbers of the file are written, or the first fault.
+fn numbers(alloc: Global, place: &str, section: &Value) -> Result<NumberForm, ProfileFault>
+    ensures { Gives result (numbers_of place.now (view section.now)) }
+{
+    let decimal = entry(alloc, place, section, &DECIMAL)?;
+    let grouping: Grouping = entry(alloc, place, section, &GROUPING)?;
+    let signs = entry(alloc, place, section, &CURRENCY_SIGNS)?;
+    Ok(NumberForm {
+        decimal,
+        grouping: grouping.into_character(),
+        signs,
+    })
+}
+
+/// What stands between groups of three digits, if anything.
+pub(crate) struct Grouping {
+    pub character: Option<Text>,
+}
+
+impl Drop for Grouping {
+    /// It is written out, so that callers don't prove again how each part is dropped.
+    fn drop(self) {
+        let Grouping {
+            character: _character,
+        } = self;
+    }
+}
+
+impl Grouping {
+    fn into_character(self) -> Option<Text>
+        ensures { result ≡ self.character }
+    {
+        let Grouping { character } = self;
+        character
+    }
+}
+
+impl Part for Grouping {
+    ghost said = { grouping_of };
+
+    fn read(alloc: Global, place: &str, value: &Value) -> Result<Grouping, ProfileFault> {
+        let Some(text) = value.as_str() else {
+            return Err(wrong(alloc, place, Form::Character));
+        };
+        if text.is_empty() {
+            return Ok(Grouping { character: None });
+        }
+        if !is_character(text) {
+            return Err(wrong(alloc, place, Form::Character));
+        }
+        Ok(Grouping {
+            character: Some(Text::new(alloc, text)?),
+        })
+    }
+}
+
+/// Returns whether a text is one character.
+fn is_character(text: &str) -> bool
+    ensures { result ≡ is_character text.now }
+{
+    text.chars().count() == 1
+}
