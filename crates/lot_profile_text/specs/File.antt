@@ -1,6 +1,6 @@
 -- How the file of a profile is written.
-use Rattle.std.specs.Prelude.{ℕ, Bool, ◌==◌, if◌then◌else◌, length, List, [], ◌∷◌, Option, None, Some, Ok, Err}
-use Rattle.std.specs.Str.{chars}
+use Rattle.std.specs.Prelude.{ℕ, Bool, false, ◌&&◌, nat_le, nat_lt, if◌then◌else◌, List, [], ◌∷◌, Option, None, Some, Ok, Err}
+use Rattle.std.specs.List.{list_all}
 use Rattle.toml.specs.Data.{Data, string}
 use Rattle.lot_field.specs.declared.numbers.NumberForm.{NumberForm}
 use Rattle.lot_profile.specs.declared.file.FileForm.{FileForm}
@@ -15,8 +15,13 @@ use Rattle.lot_profile_text.specs.Words.{decimal_mark_all, decimal_mark_word, de
 
 -- ---- What stands between groups of digits: one character, or none.
 
+-- a byte of UTF-8 that goes on with the character before it
+abbrev pub goes_on : ℕ → Bool
+goes_on b = nat_le 128 b && nat_lt b 192
+
 abbrev pub is_character : List ℕ → Bool
-is_character text = length (chars text) == 1
+is_character [] = false
+is_character (b ∷ rest) = list_all goes_on rest
 
 abbrev pub grouping_of : List ℕ → Data → Read Grouping
 grouping_of place (string []) = Ok (record { character = None })
@@ -26,14 +31,14 @@ grouping_of place value = Err (Wrong place form.Character)
 
 -- ---- Numbers, and all of it.
 
-abbrev pub numbers_of : List ℕ → Data → Read NumberForm
+unfoldable pub numbers_of : List ℕ → Data → Read NumberForm
 numbers_of place section = do
   decimal ← entry_of (word_of decimal_mark_word decimal_mark_all form.DecimalMark) decimal_key place section
   grouping ← entry_of grouping_of grouping_key place section
   signs ← entry_of (list_of text_of) currency_signs_key place section
   Ok (record { decimal = decimal; grouping = grouping.character; signs = signs })
 
-abbrev pub file_of : List ℕ → Data → Read FileForm
+unfoldable pub file_of : List ℕ → Data → Read FileForm
 file_of place section = do
   encoding ← entry_of (word_of encoding_word encoding_all form.Encoding) encoding_key place section
   delimiter ← entry_of (word_of delimiter_word delimiter_all form.Delimiter) delimiter_key place section

@@ -32,7 +32,7 @@ file_of_tables place value = do
   _ ← section_of file_of_tables_keys place value
   file_of place value
 
-abbrev pub of_tables : Data → Read Profile
+unfoldable pub of_tables : Data → Read Profile
 of_tables top = do
   _ ← section_of tables_keys [] top
   name ← entry_of text_of name_key [] top
@@ -60,7 +60,7 @@ abbrev pub one_table : OneFile → List Sources → List KindRule → Table
 one_table file columns kinds =
     record { header = file.header; rows = []; order = file.order; columns = columns; turn = file.turn; kinds = kinds }
 
-abbrev pub of_one_table : Data → Read Profile
+unfoldable pub of_one_table : Data → Read Profile
 of_one_table top = do
   _ ← section_of one_table_keys [] top
   name ← entry_of text_of name_key [] top
@@ -75,7 +75,7 @@ of_one_table top = do
 -- ---- Any.
 
 -- the profile that the table at the top says, or the first fault
-abbrev pub profile_of : Data → Read Profile
+unfoldable pub profile_of : Data → Read Profile
 profile_of top = if is_some (get tables_of_file_key.name top) then of_tables top else of_one_table top
 
 -- the table of a text

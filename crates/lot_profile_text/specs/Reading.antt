@@ -66,7 +66,7 @@ or_default said default place None = or_missing said place default
 or_default said default place (Some value) = said place value
 
 -- what stands under a key, in the section at a place
-abbrev pub entry_of : {T : Type 0} → (List ℕ → Data → Read T) → Key → List ℕ → Data → Read T
+unfoldable pub entry_of : {T : Type 0} → (List ℕ → Data → Read T) → Key → List ℕ → Data → Read T
 entry_of said key place section = or_default said key.default (below place key.name) (get key.name section)
 
 abbrev pub if_there : {T : Type 0} → (List ℕ → Data → Read T) → List ℕ → Option Data → Read (Option T)
@@ -74,7 +74,7 @@ if_there said place None = Ok None
 if_there said place (Some value) = said place value >>= λ x. Ok (Some x)
 
 -- the same, if anything stands there
-abbrev pub perhaps_of : {T : Type 0} → (List ℕ → Data → Read T) → Key → List ℕ → Data → Read (Option T)
+unfoldable pub perhaps_of : {T : Type 0} → (List ℕ → Data → Read T) → Key → List ℕ → Data → Read (Option T)
 perhaps_of said key place section = if_there said (below place key.name) (get key.name section)
 
 -- ---- Sections.
@@ -92,7 +92,7 @@ or_unknown place None = Ok tt
 or_unknown place (Some key) = Err (Unknown (below place key))
 
 -- a table in which only the these keys stand
-abbrev pub section_of : List Key → List ℕ → Data → Read (Unit {0})
+unfoldable pub section_of : List Key → List ℕ → Data → Read (Unit {0})
 section_of keys place (table members) = or_unknown place (first_unknown keys members)
 section_of keys place value = Err (Wrong place form.Table)
 

@@ -1,8 +1,7 @@
 //! Which columns a profile means.
 ghost use Rattle.std.specs.Prelude.{◌≡◌, ◌<◌, IfOk, IsTrue, length};
-ghost use Rattle.std.specs.Str.{all_ascii_digits};
 ghost use Rattle.toml.specs.View.{view};
-ghost use Rattle.lot_profile_text.specs.Columns.{beginning_of, column_number, column_of, constant_of, digits_column, header_of, key_column, source_of, sources_of};
+ghost use Rattle.lot_profile_text.specs.Columns.{beginning_of, column_number, column_of, constant_of, counted, digits_column, header_of, is_digits, key_column, source_of, sources_of};
 ghost use Rattle.lot_profile_text.specs.Reading.{Gives};
 
 use crate::entry::Form;
@@ -129,27 +128,32 @@ pub(crate) fn key_column(alloc: Global, key: &str) -> Result<Option<Column>, All
 
 /// Returns the column whose number the digits are.
 fn digits_column(digits: &str) -> Option<Column>
-    requires digits { IsTrue (all_ascii_digits digits.now) }
+    requires digits { IsTrue (is_digits digits.now) }
     requires some { 0 < length digits.now }
     ensures { result ≡ digits_column digits.now }
 {
-    let Ok(number) = digits.parse::<u32>() else {
-        return None;
-    };
-    if number == 0 {
-        return None;
+    counted(digits.parse::<u32>().ok())
+}
+
+/// Returns the column of that number, if there is one.
+fn counted(number: Option<u32>) -> Option<Column>
+    ensures { result ≡ counted number }
+{
+    match number {
+        Some(number) if number > 0 => Some(Column::Number(number as usize)),
+        _ => None,
     }
-    Some(Column::Number(number as usize))
 }
 
 /// Returns whether each byte is a digit.
 fn is_digits(text: &str) -> bool
-    ensures { result ≡ all_ascii_digits text.now }
+    ensures { result ≡ is_digits text.now }
 {
-    for byte in text.as_bytes() {
-        if !byte.is_ascii_digit() {
-            return false;
-        }
-    }
-    true
+    are_digits(text.as_bytes())
+}
+
+fn are_digits(bytes: &[u8]) -> bool
+    ensures { result ≡ is_digits bytes.now }
+{
+    bytes.iter().all(|byte| byte.is_ascii_digit())
 }

@@ -1,7 +1,8 @@
 //! How the file of a profile is written.
-ghost use Rattle.std.specs.Prelude.{◌≡◌, length, chars};
+ghost use Rattle.std.specs.Prelude.{◌≡◌};
+ghost use Rattle.std.specs.List.{list_all};
 ghost use Rattle.toml.specs.View.{view};
-ghost use Rattle.lot_profile_text.specs.File.{file_of, grouping_of, is_character, numbers_of};
+ghost use Rattle.lot_profile_text.specs.File.{file_of, goes_on, grouping_of, is_character, numbers_of};
 ghost use Rattle.lot_profile_text.specs.Reading.{Gives};
 
 use crate::entry::Form;
@@ -14,6 +15,7 @@ use std::alloc::Global;
 use toml::Value;
 
 /// Returns how the file is written, by the section at a place, or the first fault.
+#[tactic(auto, unfolding(crate::specs::File::file_of))]
 pub(crate) fn file_form(
     alloc: Global,
     place: &str,
@@ -32,6 +34,7 @@ pub(crate) fn file_form(
 }
 
 /// Returns how the numbers of the file are written, or the first fault.
+#[tactic(auto, unfolding(crate::specs::File::numbers_of))]
 fn numbers(alloc: Global, place: &str, section: &Value) -> Result<NumberForm, ProfileFault>
     ensures { Gives result (numbers_of place.now (view section.now)) }
 {
@@ -87,9 +90,19 @@ impl Part for Grouping {
     }
 }
 
-/// Returns whether a text is one character.
+/// Returns whether a text is one character: behind its first byte all bytes go on with it.
 fn is_character(text: &str) -> bool
     ensures { result ≡ is_character text.now }
 {
-    text.chars().count() == 1
+    match text.as_bytes() {
+        [_, rest @ ..] => go_on(rest),
+        [] => false,
+    }
+}
+
+/// Returns whether all bytes go on with the character before them.
+fn go_on(bytes: &[u8]) -> bool
+    ensures { result ≡ list_all goes_on bytes.now }
+{
+    bytes.iter().all(|byte| 128 <= *byte && *byte < 192)
 }

@@ -22,6 +22,7 @@ pub(crate) trait Part: Drop {
 }
 
 /// Returns what stands under the key of an entry in the section at a place, or the first fault.
+#[tactic(auto, unfolding(crate::specs::Reading::entry_of))]
 pub(crate) fn entry<P: Part>(
     alloc: Global,
     place: &str,
@@ -62,6 +63,7 @@ pub(crate) fn wrong(alloc: Global, place: &str, form: Form) -> ProfileFault
 }
 
 /// Returns what stands under the key of an entry in the section at a place, if anything does, or the first fault.
+#[tactic(auto, unfolding(crate::specs::Reading::perhaps_of))]
 pub(crate) fn perhaps<P: Part>(
     alloc: Global,
     place: &str,

@@ -33,6 +33,7 @@ pub fn read_profile(alloc: Global, text: &str) -> Result<Profile, TextFault>
 }
 
 /// Returns the profile that the table at the top says, or the first fault.
+#[tactic(auto, unfolding(crate::specs::Profile::profile_of))]
 fn said(alloc: Global, top: &Value) -> Result<Profile, ProfileFault>
     ensures { Gives result (profile_of (view top.now)) }
 {
@@ -44,6 +45,7 @@ fn said(alloc: Global, top: &Value) -> Result<Profile, ProfileFault>
 }
 
 /// Returns the profile of a file that has several tables, or the first fault.
+#[tactic(auto, unfolding(crate::specs::Profile::of_tables))]
 fn of_tables(alloc: Global, top: &Value) -> Result<Profile, ProfileFault>
     ensures { Gives result (of_tables (view top.now)) }
 {
@@ -65,6 +67,7 @@ fn of_tables(alloc: Global, top: &Value) -> Result<Profile, ProfileFault>
 }
 
 /// Returns the profile of a file that has one table, or the first fault.
+#[tactic(auto, unfolding(crate::specs::Profile::of_one_table))]
 fn of_one_table(alloc: Global, top: &Value) -> Result<Profile, ProfileFault>
     ensures { Gives result (of_one_table (view top.now)) }
 {

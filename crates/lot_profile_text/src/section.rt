@@ -12,6 +12,7 @@ use std::alloc::Global;
 use toml::{Table, Value};
 
 /// Tests that the value at a place is a table in which only the keys of these entries stand.
+#[tactic(auto, unfolding(crate::specs::Reading::section_of))]
 pub(crate) fn section(
     alloc: Global,
     place: &str,
