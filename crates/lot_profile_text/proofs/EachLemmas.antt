@@ -4,8 +4,6 @@ use Rattle.std.proofs.lemmas.List.{drop_more, drop_all, append-nil}
 use Rattle.toml.specs.Data.{Data}
 use Rattle.toml.specs.View.{view, items_view}
 use Rattle.toml.specs.declared.value.Value.{Value}
-use Rattle.lot_profile.specs.declared.account.Piece.{Piece}
-use Rattle.lot_profile_text.specs.Accounts.{joined}
 use Rattle.lot_profile_text.specs.Reading.{Read, ◌>>=◌, each, numbered_items}
 use Rattle.lot_profile_text.specs.declared.fault.ProfileFault.{ProfileFault}
 
@@ -29,16 +27,3 @@ each_stop said before a more fault err = rw err refl
 pub items_at : (vs : List Value) (i : ℕ) (v : Value) → i < length vs → v ≡ get_or vs i v
     → numbered_items (suc i) (items_view (drop i vs)) ≡ (suc i, view v) ∷ numbered_items (suc (suc i)) (items_view (drop (i + 1) vs))
 items_at vs i v small is = rw (drop_more vs i v small) (ap (λ (w : Value). (suc i, view w) ∷ numbered_items (suc (suc i)) (items_view (drop (i + 1) vs))) (sym is))
-
--- pieces that several say
-behind_some : (before xs : List Piece) (rest : Read (List Piece)) → behind before (rest >>= λ ys. Ok (xs ++ ys)) ≡ behind (before ++ xs) rest
-behind_some before xs (Ok ys) = ap (λ all. Ok all) (sym (append_assoc before xs ys))
-behind_some before xs (Err fault) = refl
-
-pub joined_more : {A : Type 0} (said : A → Read (List Piece)) (before : List Piece) (a : A) (more : List A) (xs : List Piece) → said a ≡ Ok xs
-    → behind before (joined said (a ∷ more)) ≡ behind (before ++ xs) (joined said more)
-joined_more said before a more xs ok = rw ok (behind_some before xs (joined said more))
-
-pub joined_stop : {A : Type 0} (said : A → Read (List Piece)) (before : List Piece) (a : A) (more : List A) (fault : ProfileFault) → said a ≡ Err fault
-    → behind before (joined said (a ∷ more)) ≡ Err fault
-joined_stop said before a more fault err = rw err refl

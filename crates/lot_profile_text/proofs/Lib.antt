@@ -1,3 +1,2 @@
 pub mod EachLemmas
 pub mod SectionLemmas
-pub mod ColumnLemmas

@@ -1,8 +1,5 @@
 -- Which columns a profile means.
-use Rattle.std.specs.Char.{is_ascii_digit}
-use Rattle.std.specs.List.{list_all}
-use Rattle.std.specs.Str.Parse.{digits_value}
-use Rattle.std.specs.Prelude.{Bool, ◌^◌, ◌&&◌, nat_le, nat_lt, ℕ, zero, suc, ℤ, pos, negsuc, List, [], ◌∷◌, if◌then◌else◌, is_some, Option, None, Some, Ok, Err}
+use Rattle.std.specs.Prelude.{ℕ, zero, suc, ℤ, pos, negsuc, List, [], ◌∷◌, if◌then◌else◌, is_some, Option, None, Some, Ok, Err}
 use Rattle.toml.specs.Data.{Data, string, integer, array, table, get, as_table}
 use Rattle.lot_profile.specs.declared.file.Column.{Column}
 use Rattle.lot_profile.specs.declared.file.Column.TheVariants.{Number, Named}
@@ -36,26 +33,6 @@ abbrev pub column_of : List ℕ → Data → Read Column
 column_of place (string name) = Ok (Named name)
 column_of place (integer z) = counted_column place (column_number z)
 column_of place value = Err (Wrong place form.Column)
-
--- the column of that number, if there is one
-abbrev pub counted : Option ℕ → Option Column
-counted None = None
-counted (Some zero) = None
-counted (Some (suc n)) = Some (Number (suc n))
-
--- digits alone
-abbrev pub is_digits : List ℕ → Bool
-is_digits text = list_all is_ascii_digit text
-
--- the column whose number the digits are, from 1 and of 32 bits
-abbrev pub digits_column : List ℕ → Option Column
-digits_column digits =
-    if nat_le 1 (digits_value 10 digits) && nat_lt (digits_value 10 digits) (2 ^ 32) then Some (Number (digits_value 10 digits)) else None
-
--- the column that a key means: digits alone are a number, all else is a name
-abbrev pub key_column : List ℕ → Option Column
-key_column [] = Some (Named [])
-key_column (b ∷ key) = if is_digits (b ∷ key) then digits_column (b ∷ key) else Some (Named (b ∷ key))
 
 -- ---- A header.
 

@@ -1,17 +1,15 @@
--- How the file of a profile is written.
+-- How the numbers of a profile's file are written.
 use Rattle.std.specs.Prelude.{ℕ, Bool, false, ◌&&◌, nat_le, nat_lt, if◌then◌else◌, List, [], ◌∷◌, Option, None, Some, Ok, Err}
 use Rattle.std.specs.List.{list_all}
 use Rattle.toml.specs.Data.{Data, string}
 use Rattle.lot_field.specs.declared.numbers.NumberForm.{NumberForm}
-use Rattle.lot_profile.specs.declared.file.FileForm.{FileForm}
 use Rattle.lot_profile_text.specs.declared.entry.Form.{Form}
 use Rattle.lot_profile_text.specs.declared.entry.Form.TheVariants as form
 use Rattle.lot_profile_text.specs.declared.fault.ProfileFault.TheVariants.{Wrong}
 use Rattle.lot_profile_text.specs.declared.file.Grouping.{Grouping}
-use Rattle.lot_profile_text.specs.Fields.{day_form_of}
-use Rattle.lot_profile_text.specs.Keys.{currency_signs_key, day_key, decimal_key, delimiter_key, encoding_key, grouping_key, nothing_key, optional_key}
+use Rattle.lot_profile_text.specs.Keys.{currency_signs_key, decimal_key, grouping_key}
 use Rattle.lot_profile_text.specs.Reading.{Read, ◌>>=◌, entry_of, list_of, text_of, word_of}
-use Rattle.lot_profile_text.specs.Words.{decimal_mark_all, decimal_mark_word, delimiter_all, delimiter_word, encoding_all, encoding_word}
+use Rattle.lot_profile_text.specs.Words.{decimal_mark_all, decimal_mark_word}
 
 -- ---- What stands between groups of digits: one character, or none.
 
@@ -29,7 +27,7 @@ grouping_of place (string (b ∷ text)) =
     if is_character (b ∷ text) then Ok (record { character = Some (b ∷ text) }) else Err (Wrong place form.Character)
 grouping_of place value = Err (Wrong place form.Character)
 
--- ---- Numbers, and all of it.
+-- ---- Numbers.
 
 unfoldable pub numbers_of : List ℕ → Data → Read NumberForm
 numbers_of place section = do
@@ -37,13 +35,3 @@ numbers_of place section = do
   grouping ← entry_of grouping_of grouping_key place section
   signs ← entry_of (list_of text_of) currency_signs_key place section
   Ok (record { decimal = decimal; grouping = grouping.character; signs = signs })
-
-unfoldable pub file_of : List ℕ → Data → Read FileForm
-file_of place section = do
-  encoding ← entry_of (word_of encoding_word encoding_all form.Encoding) encoding_key place section
-  delimiter ← entry_of (word_of delimiter_word delimiter_all form.Delimiter) delimiter_key place section
-  numbers ← numbers_of place section
-  nothing ← entry_of (list_of text_of) nothing_key place section
-  day ← entry_of day_form_of day_key place section
-  optional ← entry_of (list_of text_of) optional_key place section
-  Ok (record { encoding = encoding; delimiter = delimiter; numbers = numbers; nothing = nothing; day = day; optional = optional })

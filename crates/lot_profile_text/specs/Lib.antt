@@ -3,10 +3,5 @@ pub mod Reading
 pub mod Words
 pub mod Columns
 pub mod Basis
-pub mod Fields
 pub mod Symbols
-pub mod Accounts
 pub mod File
-pub mod Kinds
-pub mod Tables
-pub mod Profile

@@ -1,7 +1,7 @@
 //! Which columns a profile means.
-ghost use Rattle.std.specs.Prelude.{◌≡◌, ◌<◌, IfOk, IsTrue, length};
+ghost use Rattle.std.specs.Prelude.{◌≡◌};
 ghost use Rattle.toml.specs.View.{view};
-ghost use Rattle.lot_profile_text.specs.Columns.{beginning_of, column_number, column_of, constant_of, counted, digits_column, header_of, is_digits, key_column, source_of, sources_of};
+ghost use Rattle.lot_profile_text.specs.Columns.{beginning_of, column_number, column_of, constant_of, header_of, source_of, sources_of};
 ghost use Rattle.lot_profile_text.specs.Reading.{Gives};
 
 use crate::entry::Form;
@@ -15,7 +15,7 @@ use crate::word::named;
 use lot_command::Items;
 use lot_field::Text;
 use lot_profile::{Column, Header, Source, Sources};
-use std::alloc::{AllocError, Global};
+use std::alloc::Global;
 use toml::Value;
 
 /// Returns the number of a column, counted from 1, or `None` where no column has it.
@@ -113,47 +113,4 @@ impl Member for Sources {
         }
         Ok(Sources { role, from })
     }
-}
-
-/// Returns the column that a key means: of digits alone it is a number from 1, else a name. It is `None` where no column has the
-/// number. The only error is out of memory.
-pub(crate) fn key_column(alloc: Global, key: &str) -> Result<Option<Column>, AllocError>
-    ensures { IfOk result (λ column. column ≡ key_column key.now) }
-{
-    if key.is_empty() || !is_digits(key) {
-        return Ok(Some(Column::Named(Text::new(alloc, key)?)));
-    }
-    Ok(digits_column(key))
-}
-
-/// Returns the column whose number the digits are.
-fn digits_column(digits: &str) -> Option<Column>
-    requires digits { IsTrue (is_digits digits.now) }
-    requires some { 0 < length digits.now }
-    ensures { result ≡ digits_column digits.now }
-{
-    counted(digits.parse::<u32>().ok())
-}
-
-/// Returns the column of that number, if there is one.
-fn counted(number: Option<u32>) -> Option<Column>
-    ensures { result ≡ counted number }
-{
-    match number {
-        Some(number) if number > 0 => Some(Column::Number(number as usize)),
-        _ => None,
-    }
-}
-
-/// Returns whether each byte is a digit.
-fn is_digits(text: &str) -> bool
-    ensures { result ≡ is_digits text.now }
-{
-    are_digits(text.as_bytes())
-}
-
-fn are_digits(bytes: &[u8]) -> bool
-    ensures { result ≡ is_digits bytes.now }
-{
-    bytes.iter().all(|byte| byte.is_ascii_digit())
 }

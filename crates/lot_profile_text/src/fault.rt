@@ -1,36 +1,6 @@
 use crate::entry::Form;
 use lot_field::Text;
 use std::alloc::{AllocError, AllocFailed};
-use toml::de::Error;
-
-/// Why a text says no profile.
-pub enum TextFault {
-    /// It is no TOML.
-    NoToml(Error),
-    /// Its table says no profile.
-    Profile(ProfileFault),
-}
-
-impl Drop for TextFault {
-    /// It is written out, so that callers don't prove again how each part is dropped.
-    fn drop(self) {
-        match self {
-            TextFault::NoToml(_error) => {}
-            TextFault::Profile(_fault) => {}
-        }
-    }
-}
-
-impl From<ProfileFault> for TextFault {
-    ghost use Rattle.std.specs.Prelude.{◌≡◌};
-    ghost use Rattle.lot_profile_text.specs.declared.fault.TextFault.TheVariants.{Profile};
-
-    ghost from_gives = { λ fault e. e ≡ Profile fault };
-
-    fn from(fault: ProfileFault) -> TextFault {
-        TextFault::Profile(fault)
-    }
-}
 
 /// Why a table says no profile. Keys are named from the outermost on, with a comma between, as `kind 2, when, Quantity`; items of
 /// lists are counted from 1.

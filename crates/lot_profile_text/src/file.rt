@@ -1,41 +1,25 @@
-//! How the file of a profile is written.
+//! How the numbers of a profile's file are written.
 ghost use Rattle.std.specs.Prelude.{◌≡◌};
 ghost use Rattle.std.specs.List.{list_all};
 ghost use Rattle.toml.specs.View.{view};
-ghost use Rattle.lot_profile_text.specs.File.{file_of, goes_on, grouping_of, is_character, numbers_of};
+ghost use Rattle.lot_profile_text.specs.File.{goes_on, grouping_of, is_character, numbers_of};
 ghost use Rattle.lot_profile_text.specs.Reading.{Gives};
 
 use crate::entry::Form;
 use crate::fault::ProfileFault;
-use crate::keys::{CURRENCY_SIGNS, DAY, DECIMAL, DELIMITER, ENCODING, GROUPING, NOTHING, OPTIONAL};
+use crate::keys::{CURRENCY_SIGNS, DECIMAL, GROUPING};
 use crate::part::{Part, entry, wrong};
 use lot_field::{NumberForm, Text};
-use lot_profile::FileForm;
 use std::alloc::Global;
 use toml::Value;
 
-/// Returns how the file is written, by the section at a place, or the first fault.
-#[tactic(auto, unfolding(crate::specs::File::file_of))]
-pub(crate) fn file_form(
+/// Returns how the numbers of the file are written, or the first fault.
+#[tactic(auto, unfolding(crate::specs::File::numbers_of))]
+pub(crate) fn numbers(
     alloc: Global,
     place: &str,
     section: &Value,
-) -> Result<FileForm, ProfileFault>
-    ensures { Gives result (file_of place.now (view section.now)) }
-{
-    Ok(FileForm {
-        encoding: entry(alloc, place, section, &ENCODING)?,
-        delimiter: entry(alloc, place, section, &DELIMITER)?,
-        numbers: numbers(alloc, place, section)?,
-        nothing: entry(alloc, place, section, &NOTHING)?,
-        day: entry(alloc, place, section, &DAY)?,
-        optional: entry(alloc, place, section, &OPTIONAL)?,
-    })
-}
-
-/// Returns how the numbers of the file are written, or the first fault.
-#[tactic(auto, unfolding(crate::specs::File::numbers_of))]
-fn numbers(alloc: Global, place: &str, section: &Value) -> Result<NumberForm, ProfileFault>
+) -> Result<NumberForm, ProfileFault>
     ensures { Gives result (numbers_of place.now (view section.now)) }
 {
     let decimal = entry(alloc, place, section, &DECIMAL)?;
