@@ -4,4 +4,3 @@ pub mod Words
 pub mod Columns
 pub mod Basis
 pub mod Symbols
-pub mod File

@@ -3,7 +3,7 @@
 //! - `fault`: `ProfileFault`, why a table says no profile.
 //! - `keys`: `SECTIONS`, all keys that aren't words, and `entry`: what may stand under each.
 //! - `word`: `Word`, values that stand under words.
-//! - `file`, `column`, `basis`, `symbol`: what the sections say.
+//! - `column`, `basis`, `symbol`: what the sections say.
 //! - `section`: tables in which only the keys of their entries stand.
 //! - `part`, `list`: what is read of a value, of each item of an array, and of each member of a table.
 //! - `place`: the keys that lead to a value, as a fault names them.
@@ -13,7 +13,6 @@ mod basis;
 mod column;
 mod entry;
 mod fault;
-mod file;
 mod keys;
 mod list;
 mod part;
