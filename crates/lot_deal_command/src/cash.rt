@@ -25,8 +25,10 @@ pub(crate) fn movement(alloc: Global, movement: &Movement) -> Result<Items<Posti
 /// Returns the postings of a dividend or of interest.
 pub(crate) fn income(alloc: Global, income: &Income) -> Result<Items<Posting>, CommandFault>
     ensures ok { IfOk result (AreOfIncome income.now) }
-    ensures too_large { result ≡ Err TooLarge → IsUnits (gross income.now.movement.amount income.now.tax) → ⊥ }
-    ensures memory { result ≡ Err Memory → IsUnits (gross income.now.movement.amount income.now.tax) }
+    ensures too_large { result ≡ Err TooLarge
+        → IsUnits (gross income.now.movement.amount income.now.tax) → ⊥ }
+    ensures memory { result ≡ Err Memory
+        → IsUnits (gross income.now.movement.amount income.now.tax) }
 {
     let movement = &income.movement;
     let Some(gross) = gross(movement.amount, &income.tax) else {
@@ -41,8 +43,10 @@ pub(crate) fn income(alloc: Global, income: &Income) -> Result<Items<Posting>, C
 /// Returns the postings of an exchange.
 pub(crate) fn exchange(alloc: Global, exchange: &Exchange) -> Result<Items<Posting>, CommandFault>
     ensures ok { IfOk result (AreOfExchange exchange.now) }
-    ensures too_large { result ≡ Err TooLarge → IsUnits (with_fee exchange.now.movement.amount exchange.now.fee) → ⊥ }
-    ensures memory { result ≡ Err Memory → IsUnits (with_fee exchange.now.movement.amount exchange.now.fee) }
+    ensures too_large { result ≡ Err TooLarge
+        → IsUnits (with_fee exchange.now.movement.amount exchange.now.fee) → ⊥ }
+    ensures memory { result ≡ Err Memory
+        → IsUnits (with_fee exchange.now.movement.amount exchange.now.fee) }
 {
     let movement = &exchange.movement;
     let Some(whole) = with_fee(movement.amount, &exchange.fee) else {

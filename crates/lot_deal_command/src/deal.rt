@@ -52,7 +52,8 @@ fn postings(alloc: Global, terms: &Terms) -> Result<Items<Posting>, CommandFault
 
 /// Returns the complete transaction of a deal with these postings. The only error is out of memory.
 fn transaction(deal: &Deal, postings: Items<Posting>) -> Result<Command, CommandFault>
-    ensures ok { IfOk result (λ command. command ≡ Commands.Transaction (transaction deal.now postings)) }
+    ensures ok { IfOk result
+        (λ command. command ≡ Commands.Transaction (transaction deal.now postings)) }
     ensures memory { IfErr result (λ fault. fault ≡ Memory) }
 {
     let narration = Narration {

@@ -46,7 +46,8 @@ pub(crate) fn exchanged(
     total: Units,
     currency: &Commodity,
 ) -> Result<Posting, AllocError>
-    ensures { IfOk result (λ posting. posting ≡ exchanged account.now units commodity.now total currency.now) }
+    ensures { IfOk result
+        (λ posting. posting ≡ exchanged account.now units commodity.now total currency.now) }
 {
     Ok(Posting {
         account: account.copy()?,

@@ -81,7 +81,8 @@ fn push_cash(
 
 /// Appends the cash that the fee of a trade takes, where there is one.
 fn push_fee_cash(all: &mut Items<Posting>, trade: &Trade) -> Result<(), AllocError>
-    ensures { OnOk result (all.new ≡ all.old ++ fee_cash (fee_of trade.now.price) trade.now.cash trade.now.currency) }
+    ensures { OnOk result
+        (all.new ≡ all.old ++ fee_cash (fee_of trade.now.price) trade.now.cash trade.now.currency) }
 {
     if let Some(TradePrice { fee: Some(fee), .. }) = &trade.price {
         all.push(plain(&trade.cash, fee.amount.negated(), &trade.currency)?)?;

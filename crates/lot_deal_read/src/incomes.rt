@@ -159,7 +159,9 @@ fn apart(currency: Option<Commodity>, income: &Account) -> Result<Option<TaxApar
 
 /// Returns what the cash got in another currency.
 fn booked(row: &IncomeRow) -> Result<Option<Booked>, AllocError>
-    ensures { IfOk result (λ booked. booked ≡ booked_by row.now.booked (other_than row.now.currency row.now.booked_currency)) }
+    ensures { IfOk result
+        (λ booked. booked
+        ≡ booked_by row.now.booked (other_than row.now.currency row.now.booked_currency)) }
 {
     let currency = other_than(&row.currency, &row.booked_currency)?;
     Ok(match (row.booked, currency) {

@@ -20,11 +20,14 @@ pub fn named_account(
     currency: &str,
     symbol: &str,
 ) -> Result<Account, NameFault>
-    ensures ok { IfOk result (λ named. named ≡ name_of account.now currency.now symbol.now pieces.now) }
-    ensures good { IsOk result → IsTrue (is_account (name_of account.now currency.now symbol.now pieces.now)) }
+    ensures ok { IfOk result
+        (λ named. named ≡ name_of account.now currency.now symbol.now pieces.now) }
+    ensures good { IsOk result
+        → IsTrue (is_account (name_of account.now currency.now symbol.now pieces.now)) }
     ensures bad { IsErrOf result NameFault.BadAccount
         → is_account (name_of account.now currency.now symbol.now pieces.now) ≡ false }
-    ensures fault { IfErr result (λ fault. (fault ≡ NameFault.BadAccount) ⊎ (fault ≡ NameFault.Memory)) }
+    ensures fault { IfErr result
+        (λ fault. (fault ≡ NameFault.BadAccount) ⊎ (fault ≡ NameFault.Memory)) }
 {
     let name = name(alloc, pieces, account, currency, symbol)?;
     Account::new(alloc, name.as_str())
@@ -38,7 +41,8 @@ fn name(
     currency: &str,
     symbol: &str,
 ) -> Result<String, AllocError>
-    ensures { IfOk result (λ name. string_bytes name ≡ name_of account.now currency.now symbol.now pieces.now) }
+    ensures { IfOk result
+        (λ name. string_bytes name ≡ name_of account.now currency.now symbol.now pieces.now) }
 {
     let mut name = String::new(alloc);
     for piece in pieces.as_slice() {

@@ -31,7 +31,8 @@ pub fn reward_cost(
     price: Option<Rate>,
 ) -> Result<Units, RewardFault>
     ensures ok { IfOk result (IsRewardCost rewards units amount price) }
-    ensures no_value { result ≡ Err RewardFault.NoValue → (rewards ≡ Value) × (amount ≡ None) × (price ≡ None) }
+    ensures no_value { result ≡ Err RewardFault.NoValue
+        → (rewards ≡ Value) × (amount ≡ None) × (price ≡ None) }
     ensures too_large { result ≡ Err RewardFault.TooLarge
         → (cost : ℤ) → IsRewardCost rewards units amount price cost → ⊥ }
 {

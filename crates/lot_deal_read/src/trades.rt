@@ -103,7 +103,8 @@ impl From<AllocError> for TradeFault {
 /// the currency of the amount. Else it is out of memory.
 pub fn trade(row: &TradeRow, cost: CostBasis, accounts: &TradeAccounts) -> Result<Trade, TradeFault>
     ensures ok { IfOk result (IsTradeOf row.now cost accounts.now) }
-    ensures no_price { result ≡ Err TradeFault.NoPrice → (cost ≡ CostBasis.Price) × (row.now.price ≡ None) }
+    ensures no_price { result ≡ Err TradeFault.NoPrice
+        → (cost ≡ CostBasis.Price) × (row.now.price ≡ None) }
     ensures other_fee { result ≡ Err TradeFault.OtherFee
         → (cost ≡ CostBasis.Price) × IsSome row.now.price × IsTrue (has_other_fee row.now) }
 {
@@ -126,7 +127,8 @@ pub fn trade(row: &TradeRow, cost: CostBasis, accounts: &TradeAccounts) -> Resul
 fn trade_price(row: &TradeRow, accounts: &TradeAccounts) -> Result<TradePrice, TradeFault>
     ensures ok { IfOk result (IsPriceOf row.now accounts.now) }
     ensures no_price { result ≡ Err TradeFault.NoPrice → row.now.price ≡ None }
-    ensures other_fee { result ≡ Err TradeFault.OtherFee → IsSome row.now.price × IsTrue (has_other_fee row.now) }
+    ensures other_fee { result ≡ Err TradeFault.OtherFee
+        → IsSome row.now.price × IsTrue (has_other_fee row.now) }
 {
     let Some(rate) = row.price else {
         return Err(TradeFault::NoPrice);

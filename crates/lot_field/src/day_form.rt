@@ -24,7 +24,8 @@ impl DayForm {
     /// Where the text isn't of a form, the error is `BadForm`, or `Memory`, which may come of any text.
     pub fn parse(alloc: Global, text: &str) -> Result<DayForm, DayFormFault>
         ensures ok { IfOk result (λ form. AreDayParts text.now form.parts) }
-        ensures bad { IsErrOf result BadForm → (parts : List DayPart) → AreDayParts text.now parts → ⊥ }
+        ensures bad { IsErrOf result BadForm → (parts : List DayPart) → AreDayParts text.now parts
+            → ⊥ }
     {
         let parts = parts_of(alloc, text.as_bytes())?;
         if have_each_once(parts.as_slice()) {

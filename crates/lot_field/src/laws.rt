@@ -26,7 +26,8 @@ pub fn a_text_has_one_form_of_days()
 
 /// Some texts and the numbers that they say.
 pub fn rows_of_numbers()
-    ensures groups { SaysNumber (record { decimal = Comma; grouping = Some (codes "."); signs = [] })
+    ensures groups { SaysNumber
+        (record { decimal = Comma; grouping = Some (codes "."); signs = [] })
         (codes " -1.234,5 ") (record { units = neg_ℤ (pos 123450000000); exactness = Exact }) }
     ensures parentheses { SaysNumber
         (record { decimal = Point; grouping = Some (codes ","); signs = codes "$" ∷ [] })
@@ -37,7 +38,8 @@ pub fn rows_of_numbers()
 
 /// Some texts and the days and times that they say.
 pub fn rows_of_days()
-    ensures time { moment_of (Day ∷ Sign 46 ∷ Month ∷ Sign 46 ∷ Year ∷ []) (codes " 1.03.2024, 9:05")
+    ensures time { moment_of (Day ∷ Sign 46 ∷ Month ∷ Sign 46 ∷ Year ∷ [])
+        (codes " 1.03.2024, 9:05")
         ≡ Some (record { day = day_number (pos 2024) (pos 3) (pos 1); time = Some 32700 }) }
     ensures name { moment_of (Day ∷ Sign 45 ∷ MonthName ∷ Sign 45 ∷ Year ∷ []) (codes "01-MAR-2024")
         ≡ Some (record { day = day_number (pos 2024) (pos 3) (pos 1); time = None }) }

@@ -72,7 +72,8 @@ impl NumberForm {
     /// units (docs/FORMATS.md, Profiles).
     pub fn read(&self, field: &str) -> Option<Number>
         ensures some { IfSome result (SaysNumber self.now field.now) }
-        ensures every { (number : Number) → SaysNumber self.now field.now number → result ≡ Some number }
+        ensures every { (number : Number) → SaysNumber self.now field.now number
+            → result ≡ Some number }
     {
         let (sign, magnitude) = sign_and_magnitude(self.signs.as_slice(), field.as_bytes());
         of_magnitude(self, sign, magnitude)
@@ -301,9 +302,11 @@ fn digits_in(text: &[u8]) -> usize
 /// Returns what stands behind a digit and the separator that may follow it, where a text begins with them.
 fn behind_digit<'a>(digit: u8, grouping: &[u8], left: usize, text: &'a [u8]) -> Option<&'a [u8]>
     ensures { MatchOption result
-        ((others : List ℕ) → same_text text.now (digit ∷ (separator grouping.now left ++ others)) ≡ false)
+        ((others : List ℕ)
+        → same_text text.now (digit ∷ (separator grouping.now left ++ others)) ≡ false)
         (λ rest. (others : List ℕ)
-        → same_text text.now (digit ∷ (separator grouping.now left ++ others)) ≡ same_text rest.now others) }
+        → same_text text.now (digit ∷ (separator grouping.now left ++ others))
+        ≡ same_text rest.now others) }
 {
     let [first, rest @ ..] = text else {
         return None;
@@ -377,8 +380,10 @@ fn at_scale(decimals: &[u8]) -> u64
 /// Returns whether a mantissa, without the decimals behind the eighth, has to be one greater with them.
 fn rounds_up(mantissa: u64, others: &[u8]) -> bool
     requires { IsTrue (are_digits others.now) }
-    ensures up { IsTrue result → RoundsUp mantissa (digits_value 10 others.now) (10 ^ length others.now) }
-    ensures down { result ≡ false → RoundsDown mantissa (digits_value 10 others.now) (10 ^ length others.now) }
+    ensures up { IsTrue result
+        → RoundsUp mantissa (digits_value 10 others.now) (10 ^ length others.now) }
+    ensures down { result ≡ false
+        → RoundsDown mantissa (digits_value 10 others.now) (10 ^ length others.now) }
 {
     let [first, behind @ ..] = others else {
         return false;

@@ -32,7 +32,8 @@ pub(crate) fn section(
 
 /// Returns the first key of a table that is none of these entries, if there is one.
 fn first_unknown<'a>(table: &'a Table, entries: &[Entry]) -> Option<&'a str>
-    ensures { option_map (λ key. key.now) result ≡ first_unknown (map key_of entries.now) (table_view table.now) }
+    ensures { option_map (λ key. key.now) result
+        ≡ first_unknown (map key_of entries.now) (table_view table.now) }
 {
     for (key, _value) in table.iter() {
         if !is_known(entries, key.as_str()) {

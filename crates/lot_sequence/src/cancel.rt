@@ -67,7 +67,8 @@ impl<T: Drop> From<AllocFailed<T>> for CancelFault {
 /// A cancellation takes back the last purchase before it that has its symbol and its price and opposite units and amount, of
 /// those that no earlier one takes back. Where there is none, the error is `NothingLeft` with its number, of the first such row.
 pub fn taken_back(alloc: Global, trades: &[Trade<'_>]) -> Result<Vec<Option<usize>>, CancelFault>
-    ensures ok { IfOk result (λ partners. IsMatching trades.now (length trades.now) partners.items) }
+    ensures ok { IfOk result
+        (λ partners. IsMatching trades.now (length trades.now) partners.items) }
     ensures fault { IfErr result (HasNothingLeft trades.now) }
 {
     let mut marks = vec![in alloc; false; trades.len()]?;

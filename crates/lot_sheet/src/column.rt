@@ -34,7 +34,9 @@ pub(crate) fn meets_all(
     line: &StringRecord,
     conditions: &Items<Condition>,
 ) -> bool
-    ensures { IsTrue result ↔ Meets form.now (option_map (λ names. names.now) header.entry) (fields_of line.now) conditions.now }
+    ensures { IsTrue result
+        ↔ Meets form.now (option_map (λ names. names.now) header.entry)
+        (fields_of line.now) conditions.now }
 {
     for condition in conditions.as_slice() {
         if !meets_one(
@@ -50,7 +52,8 @@ pub(crate) fn meets_all(
 
 /// Returns whether one of the tests holds of a field.
 fn meets_one(form: &FileForm, field: &str, tests: &Items<Test>) -> bool
-    ensures { IsTrue result ↔ Any (λ test. Holds test form.now.nothing form.now.numbers field.now) tests.now }
+    ensures { IsTrue result
+        ↔ Any (λ test. Holds test form.now.nothing form.now.numbers field.now) tests.now }
 {
     for test in tests.as_slice() {
         if test.holds(&form.nothing, &form.numbers, field) {
@@ -62,7 +65,8 @@ fn meets_one(form: &FileForm, field: &str, tests: &Items<Test>) -> bool
 
 /// Returns the field that a column means in a line of a table with the names of that header.
 fn field_in<'a>(header: Option<&Items<Text>>, line: &'a StringRecord, column: &Column) -> &'a str
-    ensures { result.now ≡ field_of (option_map (λ names. names.now) header.entry) (fields_of line.now) column.now }
+    ensures { result.now
+        ≡ field_of (option_map (λ names. names.now) header.entry) (fields_of line.now) column.now }
 {
     match place_in(header, column) {
         Some(place) => cut(field_at(line, place)),

@@ -94,7 +94,8 @@ impl<'a> Standing<'a> {
         names: &Names,
     ) -> Result<Standing<'a>, AllocError>
         requires { names.now.value ≡ names_in (fields_of line.now) }
-        ensures { IfOk result (λ s. s ≡ with_header delimiter number (fields_of line.now) self.now) }
+        ensures { IfOk result
+            (λ s. s ≡ with_header delimiter number (fields_of line.now) self.now) }
     {
         let header = if self.is_header(delimiter, number, line) {
             Some(names.clone()?)
@@ -142,7 +143,8 @@ pub(crate) fn behind_header<'a>(
     tables: &[Standing<'a>],
 ) -> Result<Vec<Standing<'a>>, AllocError>
     requires { names.now.value ≡ names_in (fields_of line.now) }
-    ensures { IfOk result (λ made. made.items ≡ map (with_header delimiter number (fields_of line.now)) tables.now) }
+    ensures { IfOk result
+        (λ made. made.items ≡ map (with_header delimiter number (fields_of line.now)) tables.now) }
 {
     let mut made = Vec::with_capacity(alloc, tables.len())?;
     for table in tables {

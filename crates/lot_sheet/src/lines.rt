@@ -54,10 +54,13 @@ pub(crate) fn next_line(
 ) -> Result<Option<StringRecord>, ReadFault>
     requires { IsOpen reader.old }
     ensures open { IfOk result (λ found. IfSome found (λ line. IsOpen reader.new)) }
-    ensures some { IfOk result (λ found. IfSome found (λ line. lines_left reader.old ≡ fields_of line ∷ lines_left reader.new)) }
+    ensures some { IfOk result
+        (λ found. IfSome found
+        (λ line. lines_left reader.old ≡ fields_of line ∷ lines_left reader.new)) }
     ensures text { IfOk result (λ found. IfSome found (λ line. AllText (fields_of line))) }
     ensures none { IfOk result (λ found. IfNone found (lines_left reader.old ≡ [])) }
-    ensures fault { IfErr result (λ fault. fault ≡ ReadFault.NotText → HasNoText (lines_left reader.old)) }
+    ensures fault { IfErr result
+        (λ fault. fault ≡ ReadFault.NotText → HasNoText (lines_left reader.old)) }
 {
     let mut line = StringRecord::new(alloc);
     while next(reader, &mut line)? {
@@ -72,10 +75,13 @@ pub(crate) fn next_line(
 fn next(reader: &mut Reader<&[u8]>, line: &mut StringRecord) -> Result<bool, ReadFault>
     requires { IsOpen reader.old }
     ensures open { IfOk result (λ found. found ≡ true → IsOpen reader.new) }
-    ensures some { IfOk result (λ found. found ≡ true → records_left reader.old ≡ fields_of line.new ∷ records_left reader.new) }
+    ensures some { IfOk result
+        (λ found. found ≡ true
+        → records_left reader.old ≡ fields_of line.new ∷ records_left reader.new) }
     ensures text { OnOk result (AllText (fields_of line.new)) }
     ensures none { IfOk result (λ found. found ≡ false → records_left reader.old ≡ []) }
-    ensures fault { IfErr result (λ fault. fault ≡ ReadFault.NotText → HasNoText (records_left reader.old)) }
+    ensures fault { IfErr result
+        (λ fault. fault ≡ ReadFault.NotText → HasNoText (records_left reader.old)) }
 {
     match reader.read_record(line) {
         Ok(found) => Ok(found),

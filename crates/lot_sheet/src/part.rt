@@ -25,7 +25,8 @@ pub(crate) fn table_of<'t, 'a>(
 ) -> Result<Option<(usize, &'t Standing<'a>)>, RowCause>
     ensures { MatchResult result
         (λ found. MatchOption found (IsBodyBy form.now tables.now (fields_of line.now) Outside)
-        (λ taker. IsBodyBy form.now tables.now (fields_of line.now) (RowOf taker.0 taker.1.now.1 (fields_of line.now))))
+        (λ taker. IsBodyBy form.now tables.now (fields_of line.now)
+        (RowOf taker.0 taker.1.now.1 (fields_of line.now))))
         (λ cause. IsBodyBy form.now tables.now (fields_of line.now) (BadRow cause)) }
 {
     if !has_begun(tables) {
@@ -50,7 +51,8 @@ pub(crate) fn table_of<'t, 'a>(
 /// Returns the place, counted from 0, of the first table that would take a line.
 fn first_taker(form: &FileForm, tables: &[Standing], line: &StringRecord) -> Option<usize>
     ensures { MatchOption result (TakenByNone form.now (fields_of line.now) tables.now)
-        (λ place. (s : Standing) × (after : List Standing) × IsFirstTaker form.now (fields_of line.now) tables.now place s after) }
+        (λ place. (s : Standing) × (after : List Standing)
+        × IsFirstTaker form.now (fields_of line.now) tables.now place s after) }
 {
     for (place, table) in tables.iter().enumerate() {
         if takes(form, table, line) {
@@ -69,7 +71,8 @@ fn takes(form: &FileForm, table: &Standing, line: &StringRecord) -> bool
 
 /// Returns whether something stands in a line behind the fields of its header.
 fn is_longer(header: Option<&Items<Text>>, line: &StringRecord) -> bool
-    ensures { result ≡ is_longer (option_map (λ names. names.now) header.entry) (fields_of line.now) }
+    ensures { result
+        ≡ is_longer (option_map (λ names. names.now) header.entry) (fields_of line.now) }
 {
     match header {
         Some(names) => has_more(line, names.as_slice().len()),
@@ -79,7 +82,8 @@ fn is_longer(header: Option<&Items<Text>>, line: &StringRecord) -> bool
 
 /// Returns whether something stands in a line from that place on, counted from 0.
 fn has_more(line: &StringRecord, from: usize) -> bool
-    ensures { result ≡ list_any (λ field. not (is_blank_field field)) (drop from (fields_of line.now)) }
+    ensures { result
+        ≡ list_any (λ field. not (is_blank_field field)) (drop from (fields_of line.now)) }
 {
     for place in from..line.len() {
         if !is_blank_field(field_at(line, place)) {

@@ -102,7 +102,8 @@ impl Row {
 
 /// Returns the names of a header, if there is one.
 pub(crate) fn names(header: &Option<Names>) -> Option<&Items<Text>>
-    ensures { option_map (λ names. names.now) result ≡ option_map (λ names. names.value) header.now }
+    ensures { option_map (λ names. names.now) result
+        ≡ option_map (λ names. names.value) header.now }
 {
     match header {
         Some(names) => Some(names.as_ref()),

@@ -60,8 +60,10 @@ fn read_text(
     tables: &[Table],
     text: &[u8],
 ) -> Result<Vec<Row>, SheetFault>
-    ensures rows { IfOk result (λ rows. SayAll form.now tables.now (text_lines form.now text.now) rows.items) }
-    ensures fault { IfErr result (λ fault. HaveFault form.now tables.now (text_lines form.now text.now) fault) }
+    ensures rows { IfOk result
+        (λ rows. SayAll form.now tables.now (text_lines form.now text.now) rows.items) }
+    ensures fault { IfErr result
+        (λ fault. HaveFault form.now tables.now (text_lines form.now text.now) fault) }
 {
     let mut reader = reader(alloc, form.delimiter, text);
     read_lines(alloc, form, tables, &mut reader)
@@ -75,8 +77,10 @@ fn read_lines(
     reader: &mut Reader<&[u8]>,
 ) -> Result<Vec<Row>, SheetFault>
     requires { IsOpen reader.old }
-    ensures rows { IfOk result (λ rows. SayAll form.now tables.now (lines_left reader.old) rows.items) }
-    ensures fault { IfErr result (λ fault. HaveFault form.now tables.now (lines_left reader.old) fault) }
+    ensures rows { IfOk result
+        (λ rows. SayAll form.now tables.now (lines_left reader.old) rows.items) }
+    ensures fault { IfErr result
+        (λ fault. HaveFault form.now tables.now (lines_left reader.old) fault) }
 {
     let mut sheet = Sheet {
         tables: at_start(alloc, tables)?,
@@ -101,7 +105,9 @@ fn line_at(
 ) -> Result<Option<StringRecord>, SheetFault>
     requires { IsOpen reader.old }
     ensures open { IfOk result (λ found. IfSome found (λ line. IsOpen reader.new)) }
-    ensures some { IfOk result (λ found. IfSome found (λ line. lines_left reader.old ≡ fields_of line ∷ lines_left reader.new)) }
+    ensures some { IfOk result
+        (λ found. IfSome found
+        (λ line. lines_left reader.old ≡ fields_of line ∷ lines_left reader.new)) }
     ensures text { IfOk result (λ found. IfSome found (λ line. AllText (fields_of line))) }
     ensures none { IfOk result (λ found. IfNone found (lines_left reader.old ≡ [])) }
     ensures fault { IfErr result (λ fault. IsReadFault number (lines_left reader.old) fault) }
@@ -125,10 +131,15 @@ pub(crate) struct Sheet<'a> {
 impl Sheet<'_> {
     /// Adds the next line.
     fn add(&mut self, alloc: Global, form: &FileForm, line: StringRecord) -> Result<(), SheetFault>
-        ensures ok { OnOk result ((tables : List Table) (above : List (List (List ℕ))) → AllText (fields_of line)
-            → IsAt form.now tables above self.old → IsAt form.now tables (above ++ fields_of line ∷ []) self.new) }
-        ensures fault { IfErr result (λ fault. (tables : List Table) (lines above below : List (List (List ℕ))) → AllText (fields_of line)
-            → IsAt form.now tables above self.old → lines ≡ above ++ fields_of line ∷ below → HaveFault form.now tables lines fault) }
+        ensures ok { OnOk result
+            ((tables : List Table) (above : List (List (List ℕ))) → AllText (fields_of line)
+            → IsAt form.now tables above self.old
+            → IsAt form.now tables (above ++ fields_of line ∷ []) self.new) }
+        ensures fault { IfErr result
+            (λ fault. (tables : List Table) (lines above below : List (List (List ℕ)))
+            → AllText (fields_of line)
+            → IsAt form.now tables above self.old → lines ≡ above ++ fields_of line ∷ below
+            → HaveFault form.now tables lines fault) }
     {
         if is_header(form.delimiter, self.number, &line, &self.tables) {
             self.add_header(alloc, form, &line)
@@ -144,11 +155,18 @@ impl Sheet<'_> {
         form: &FileForm,
         line: &StringRecord,
     ) -> Result<(), SheetFault>
-        requires { list_any (is_header_of form.now.delimiter self.old.number (fields_of line.now)) self.old.tables.items ≡ true }
-        ensures ok { OnOk result ((tables : List Table) (above : List (List (List ℕ))) → AllText (fields_of line.now)
-            → IsAt form.now tables above self.old → IsAt form.now tables (above ++ fields_of line.now ∷ []) self.new) }
-        ensures fault { IfErr result (λ fault. (tables : List Table) (lines above below : List (List (List ℕ))) → AllText (fields_of line.now)
-            → IsAt form.now tables above self.old → lines ≡ above ++ fields_of line.now ∷ below → HaveFault form.now tables lines fault) }
+        requires { list_any
+            (is_header_of form.now.delimiter self.old.number
+            (fields_of line.now)) self.old.tables.items ≡ true }
+        ensures ok { OnOk result
+            ((tables : List Table) (above : List (List (List ℕ))) → AllText (fields_of line.now)
+            → IsAt form.now tables above self.old
+            → IsAt form.now tables (above ++ fields_of line.now ∷ []) self.new) }
+        ensures fault { IfErr result
+            (λ fault. (tables : List Table) (lines above below : List (List (List ℕ)))
+            → AllText (fields_of line.now)
+            → IsAt form.now tables above self.old → lines ≡ above ++ fields_of line.now ∷ below
+            → HaveFault form.now tables lines fault) }
     {
         let Some(next) = self.number.checked_add(1) else {
             // No memory has so many lines.
@@ -170,11 +188,18 @@ impl Sheet<'_> {
 
     /// Adds the next line, which is no header.
     fn add_row(&mut self, form: &FileForm, line: StringRecord) -> Result<(), SheetFault>
-        requires { list_any (is_header_of form.now.delimiter self.old.number (fields_of line)) self.old.tables.items ≡ false }
-        ensures ok { OnOk result ((tables : List Table) (above : List (List (List ℕ))) → AllText (fields_of line)
-            → IsAt form.now tables above self.old → IsAt form.now tables (above ++ fields_of line ∷ []) self.new) }
-        ensures fault { IfErr result (λ fault. (tables : List Table) (lines above below : List (List (List ℕ))) → AllText (fields_of line)
-            → IsAt form.now tables above self.old → lines ≡ above ++ fields_of line ∷ below → HaveFault form.now tables lines fault) }
+        requires { list_any
+            (is_header_of form.now.delimiter self.old.number (fields_of line)) self.old.tables.items
+            ≡ false }
+        ensures ok { OnOk result
+            ((tables : List Table) (above : List (List (List ℕ))) → AllText (fields_of line)
+            → IsAt form.now tables above self.old
+            → IsAt form.now tables (above ++ fields_of line ∷ []) self.new) }
+        ensures fault { IfErr result
+            (λ fault. (tables : List Table) (lines above below : List (List (List ℕ)))
+            → AllText (fields_of line)
+            → IsAt form.now tables above self.old → lines ≡ above ++ fields_of line ∷ below
+            → HaveFault form.now tables lines fault) }
     {
         let Some(next) = self.number.checked_add(1) else {
             // No memory has so many lines.
@@ -206,9 +231,12 @@ fn check_names(
     names: &Names,
     tables: &[Standing],
 ) -> Result<(), SheetFault>
-    ensures ok { OnOk result (None ≡ first_bad form.now.optional names.now.value (header_names form.now.delimiter number (fields_of line.now) tables.now)) }
+    ensures ok { OnOk result
+        (None ≡ first_bad form.now.optional names.now.value
+        (header_names form.now.delimiter number (fields_of line.now) tables.now)) }
     ensures fault { IfErr result (λ fault. IsHeaderFault number
-        (first_bad form.now.optional names.now.value (header_names form.now.delimiter number (fields_of line.now) tables.now)) fault) }
+        (first_bad form.now.optional names.now.value
+        (header_names form.now.delimiter number (fields_of line.now) tables.now)) fault) }
 {
     let given = Given {
         header: names.as_ref(),

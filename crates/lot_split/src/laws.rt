@@ -56,5 +56,6 @@ pub fn there_is_one_split()
     ensures one { (asked : Split) (method : Method) (lots : List HeldLot) (t other : Transaction)
         → IsSplit asked method lots t → IsSplit asked method lots other → t ≡ other }
     ensures no_fault { (asked : Split) (method : Method) (lots : List HeldLot) (t : Transaction)
-        (fault : SplitFault) → IsSplit asked method lots t → HasFault asked method lots fault → fault ≡ Memory }
+        (fault : SplitFault) → IsSplit asked method lots t → HasFault asked method lots fault
+        → fault ≡ Memory }
 {}
