@@ -77,7 +77,7 @@ pub record IsNotRestored (asked : Terms) (input : Reading) (old new : State) (be
   pub unchanged : HasCleanDisk new → LeavesTables old new
   pub crash : Survives old new (MayMake asked input.bytes (Err fault))
   pub read : ReadsIn {A = Restored} (Err fault) input.calls
-  pub said : SaysSome asked.without input.bytes before mid
+  pub said : SaysSome asked.without input.bytes before mid new
   pub ends : EndsUnrestored fault mid written (record { before = between; after = calls.after }) told
 
 abbrev pub RestoresBook : Terms → Reading → State → State → Option (List ℕ) → Option (List ℕ) → WritesMade → Told → Type 0

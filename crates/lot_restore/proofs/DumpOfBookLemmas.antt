@@ -32,7 +32,7 @@ use Rattle.lot_restore.proofs.RestoredLemmas.{dump_gives, place_of_dump, restore
 
 -- ---- its text
 
-are_entries : (number : ℕ) (entries : List Entry) → CanBeDumped number entries → AreEntries number (parts_from number entries)
+pub are_entries : (number : ℕ) (entries : List Entry) → CanBeDumped number entries → AreEntries number (parts_from number entries)
 are_entries number [] can = tt
 are_entries number (entry ∷ entries) (heading, sayable, more) = (
   refl,
@@ -62,7 +62,7 @@ says_entries number (entry ∷ entries) (it ∷ more) (heading, sayable, can) ((
 
 -- ---- nothing is left out, and nothing refused
 
-keeps_all : (commands : List Dumped) → kept_of [] commands ≡ commands
+pub keeps_all : (commands : List Dumped) → kept_of [] commands ≡ commands
 keeps_all [] = refl
 keeps_all (it ∷ more) = ap (λ l. it ∷ l) (keeps_all more)
 

@@ -9,3 +9,4 @@ pub mod RestoredLemmas
 mod StoppedLemmas
 mod WholeLemmas
 pub mod DumpOfBookLemmas
+pub mod TakenLemmas

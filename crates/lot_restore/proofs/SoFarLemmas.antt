@@ -15,8 +15,9 @@ use Rattle.lot_restore.specs.Fault.{fault_of_table}
 use Rattle.lot_restore.specs.Judge.{HasNoRoomBy, JudgesNextBy, MayJudge}
 use Rattle.lot_restore.specs.LeftOut.{is_left_out, is_of, kept_of, meets_none, unmet_of}
 use Rattle.lot_restore.specs.Lines.{verdict_line, verdict_lines}
-use Rattle.lot_restore.specs.Restored.{NeverFall, edition_at, place_after}
+use Rattle.lot_restore.specs.Restored.{NeverFall, Restores, edition_at, place_after}
 use Rattle.lot_restore.specs.Restoring.{FailsAt, LacksRoom}
+use Rattle.lot_restore.specs.Stopped.{ComesTo}
 use Rattle.lot_restore.specs.SoFar.{HasNoRoomBehind, JudgeFails, SoFar, refused_behind, refused_with}
 use Rattle.lot_restore.specs.declared.restoration.Refused.{Refused}
 use Rattle.lot_restore.specs.declared.restoration.Restoration.{Restoration}
@@ -193,6 +194,19 @@ judges_more place start mid now done next verdict old new s t so rise is without
           (subst (Appends start now) (sym (lines_more (kept_of old.without.now done) so.verdicts next verdict so.as_many))
           (appends_both start mid now (verdict_lines (kept_of old.without.now done) so.verdicts) (verdict_line next verdict) so.written said));
     }
+
+-- to which verdict it comes
+pub comes_to : (r : Restoration) (KeptThen : List Entry → Type 0) (next : Dumped) (verdict : Verdict) (s t : State) → is_left_out r.without.now next ≡ false
+    → JudgesNextBy (edition_at r.restorer.place next.number) (IsOf r.restorer.kept) KeptThen next.key next.command s t (Ok verdict)
+    → (HasCleanDisk t → HasCleanDisk s) → ComesTo r next verdict s t
+comes_to r KeptThen next verdict s t is judges early clean place start now done rise so =
+    let more = kept_more r.without.now done next is in
+    let test = λ (dumped : Dumped). not (is_left_out r.without.now dumped) in
+    let restored =
+    next_restored place (kept_of r.without.now done) so.verdicts (IsOf r.restorer.kept) KeptThen next verdict s t clean
+    (subst (NeverFall 0) more (kept_rise test 0 (done ++ next ∷ []) rise)) (so.restored (early clean))
+    (subst (λ p. JudgesNextBy (edition_at p next.number) (IsOf r.restorer.kept) KeptThen next.key next.command s t (Ok verdict)) so.placed judges) in
+    (restored.book, subst (λ l. Restores place [] l (so.verdicts ++ verdict ∷ []) restored.book) (sym more) restored.restores)
 
 -- ---- why it isn't judged
 

@@ -1,17 +1,19 @@
 -- What was read and written where restoring ends with an error.
-use Rattle.std.proofs.Common.{◌≡◌, ◌∙◌, false, ℕ, List, [], ◌∷◌, ◌++◌, Err, None, Ok, OnErr, Option, Result, Some, ap, append-nil, append_assoc, refl, subst, sym}
+use Rattle.std.proofs.Common.{inl, inr, ◌≡◌, ◌∙◌, false, ℕ, List, [], ◌∷◌, ◌++◌, Err, None, Ok, OnErr, Option, Result, Some, ap, append-nil, append_assoc, refl, subst, sym}
 use Rattle.std.specs.Prelude.{IfSome}
 use Rattle.std.specs.Io.KnownBytes.{Appends, Consumes, prepend_known}
 use Rattle.std.proofs.KnownBytes.{Appends-nil}
-use Rattle.sqlite.specs.State.{State}
+use Rattle.sqlite.specs.State.{HasCleanDisk, State}
 use Rattle.sqlite.specs.declared.error.Error.{Error}
 use Rattle.sqlite.specs.declared.error.Error.TheVariants.{SqliteFailure}
 use Rattle.sqlite.specs.declared.error.ErrorCode.TheVariants as code
+use Rattle.lot_book.specs.Facts.{Entry}
 use Rattle.lot_book.specs.declared.verdict.Verdict.{Verdict}
+use Rattle.lot_dump.specs.declared.head.Head.{Head}
 use Rattle.lot_dump.proofs.LineLemmas.{between}
 use Rattle.lot_parts.proofs.ReadLemmas.{cause_on, no_more_fail}
 use Rattle.lot_parts.specs.Commands.{GoesOn, HasCauseOf, IsReadTo, SayAll, front_text}
-use Rattle.lot_parts.specs.Dump.{Front}
+use Rattle.lot_parts.specs.Dump.{Front, with_part}
 use Rattle.lot_parts.specs.Reading.{Reading}
 use Rattle.lot_parts.specs.declared.commands.CommandFault.{CommandFault}
 use Rattle.lot_parts.specs.declared.commands.CommandFault.TheVariants.{Dump as OfDump, Text as OfLine}
@@ -28,6 +30,7 @@ use Rattle.lot_without.specs.declared.without.Without.{Without}
 use Rattle.lot_restore.specs.Fault.{fault_of_print}
 use Rattle.lot_restore.specs.LeftOut.{kept_of, unmet_of}
 use Rattle.lot_restore.specs.Lines.{unmet_lines, verdict_line, verdict_lines}
+use Rattle.lot_restore.specs.Restored.{Restores}
 use Rattle.lot_restore.specs.Restoring.{Point, restored_outcome}
 use Rattle.lot_restore.specs.SoFar.{JudgeFails}
 use Rattle.lot_restore.specs.Stopped.{BeginsWith, ReadsIn, SaysSome, SaysSomeBehind, SaysSomeOf}
@@ -37,7 +40,7 @@ use Rattle.lot_restore.specs.declared.restoration.Restoration.{Restoration}
 use Rattle.lot_restore.specs.declared.restoring.Restored.{Restored}
 use Rattle.lot_restore.proofs.LoopLemmas.{GoneOn}
 use Rattle.lot_restore.proofs.SaidLemmas.{appends_both}
-use Rattle.lot_restore.proofs.SoFarLemmas.{kept_more, lines_more}
+use Rattle.lot_restore.proofs.SoFarLemmas.{kept_more, lines_more, says_rise}
 
 -- ---- the calls of the reader
 
@@ -92,66 +95,92 @@ some_in_front a b x y (prefix, (rest, whole), appends) =
 
 -- ---- the commands with which a dump begins
 
-begins : (commands : List Dumped) (front : Front) (rest text : List ℕ) → SayAll front.parts commands → text ≡ front_text front ++ rest
-    → BeginsWith commands text
-begins [] front rest text says is = tt
-begins (dumped ∷ more) front rest text says is = (front, rest, says, is)
+begins : (place : ℕ) (commands : List Dumped) (front : Front) (rest text : List ℕ) → SayAll front.parts commands → front.head.place ≡ place
+    → text ≡ front_text front ++ rest → BeginsWith place commands text
+begins place [] front rest text says placed is = tt
+begins place (dumped ∷ more) front rest text says placed is = (front, rest, says, placed, is)
 
-pub begins_read : (input now : Option (List ℕ)) (reading : Reading) (front : Front) (commands : List Dumped) → IsReadTo input now reading front commands
-    → IfSome input (BeginsWith commands)
-begins_read None now reading front commands read = tt
-begins_read (Some text) now reading front commands read = by (prepend_known reading.ahead now) read.takes
+pub begins_read : (input now : Option (List ℕ)) (reading : Reading) (front : Front) (commands : List Dumped) (place : ℕ) → front.head.place ≡ place
+    → IsReadTo input now reading front commands → IfSome input (BeginsWith place commands)
+begins_read None now reading front commands place placed read = tt
+begins_read (Some text) now reading front commands place placed read = by (prepend_known reading.ahead now) read.takes
   where
-    by : (left : Option (List ℕ)) → Consumes (Some text) left (front_text front) → BeginsWith commands text
+    by : (left : Option (List ℕ)) → Consumes (Some text) left (front_text front) → BeginsWith place commands text
     by None takes = absurd takes
-    by (Some rest) takes = begins commands front rest text read.says takes
+    by (Some rest) takes = begins place commands front rest text read.says placed takes
 
-pub begins_as : (input : Option (List ℕ)) (front : Front) (rest : List ℕ) (commands : List Dumped) → SayAll front.parts commands
-    → IfSome input (λ text. text ≡ front_text front ++ rest) → IfSome input (BeginsWith commands)
-begins_as None front rest commands says is = tt
-begins_as (Some text) front rest commands says is = begins commands front rest text says is
+pub begins_as : (input : Option (List ℕ)) (front : Front) (rest : List ℕ) (commands : List Dumped) (place : ℕ) → SayAll front.parts commands
+    → front.head.place ≡ place → IfSome input (λ text. text ≡ front_text front ++ rest) → IfSome input (BeginsWith place commands)
+begins_as None front rest commands place says placed is = tt
+begins_as (Some text) front rest commands place says placed is = begins place commands front rest text says placed is
 
 -- ---- what was said
 
-pub says_nothing : (without : List Without) (input known : Option (List ℕ)) → SaysSome without input known known
-says_nothing without input known = record { commands = []; begin = by input; verdicts = []; some = none_some known _ }
+pub says_nothing : (without : List Without) (input known : Option (List ℕ)) (s : State) → SaysSome without input known known s
+says_nothing without input known s =
+    record { place = 0; commands = []; begin = by input; verdicts = []; judged = λ clean. ([], refl); some = none_some known _ }
   where
-    by : (input : Option (List ℕ)) → IfSome input (BeginsWith [])
+    by : (input : Option (List ℕ)) → IfSome input (BeginsWith 0 [])
     by None = tt
     by (Some text) = tt
 
-pub says_some : (without : List Without) (input start now : Option (List ℕ)) (commands : List Dumped) (verdicts : List Verdict)
-    → IfSome input (BeginsWith commands) → AppendsSome start now (verdict_lines (kept_of without commands) verdicts) → SaysSome without input start now
-says_some without input start now commands verdicts begin some = record {
+pub says_some : (without : List Without) (input start now : Option (List ℕ)) (s : State) (place : ℕ) (commands : List Dumped) (verdicts : List Verdict)
+    → IfSome input (BeginsWith place commands) → (HasCleanDisk s → (book : List Entry) × Restores place [] (kept_of without commands) verdicts book)
+    → AppendsSome start now (verdict_lines (kept_of without commands) verdicts) → SaysSome without input start now s
+says_some without input start now s place commands verdicts begin judged some = record {
+  place = place;
   commands = commands;
   begin = begin;
   verdicts = verdicts;
+  judged = judged;
   some = some_in_front start now _ (unmet_lines (unmet_of without commands)) some;
 }
 
+-- the same where more was asked of the disk
+pub says_later : (without : List Without) (input start now : Option (List ℕ)) (s t : State) → (HasCleanDisk t → HasCleanDisk s)
+    → SaysSome without input start now s → SaysSome without input start now t
+says_later without input start now s t early says = record {
+  place = says.place;
+  commands = says.commands;
+  begin = says.begin;
+  verdicts = says.verdicts;
+  judged = λ clean. says.judged (early clean);
+  some = says.some;
+}
+
 -- nothing more than of the commands so far
-pub says_so_far : (old mid : Point) → GoneOn old mid → mid.made.without ≡ old.made.without → SaysSomeBehind old mid.written
-says_so_far old mid gone same place input start front done read so =
+pub says_so_far : (old mid : Point) → GoneOn old mid → mid.made.without ≡ old.made.without → (s : State) → (HasCleanDisk s → HasCleanDisk mid.state)
+    → SaysSomeBehind old mid.written s
+says_so_far old mid gone same s early place input start front done placed read so =
     let at = gone place input start front done read so in
-    subst (λ (w : _). SaysSome w input start mid.written) (ap (λ w. w.now) same)
-    (says_some mid.made.without.now input start mid.written at.1 at.4.verdicts (begins_read input mid.known mid.reading at.0 at.1 at.3)
+    subst (λ (w : _). SaysSome w input start mid.written s) (ap (λ w. w.now) same)
+    (says_some mid.made.without.now input start mid.written s place at.1 at.4.verdicts
+    (begins_read input mid.known mid.reading at.0 at.1 place (ap (λ (h : Head). h.place) at.2 ∙ placed) at.3)
+    (λ clean. let restored = at.4.restored (early clean) in (restored.book, restored.restores))
     (all_some start mid.written _ at.4.written))
 
 -- a part of the line of the next command, too
 pub says_next : (old mid : Point) → GoneOn old mid → mid.made.without ≡ old.made.without → (known : Option (List ℕ)) (reading : Reading) (dumped : Dumped)
     → ((start : Option (List ℕ)) (front : Front) (before : List Dumped) → IsReadTo start mid.known mid.reading front before
     → GoesOn start front before known reading (Ok (NextCommand dumped)))
-    → (written : Option (List ℕ)) → SaysSomeOf mid.made.without.now dumped mid.written written → SaysSomeBehind old written
-says_next old mid gone same known reading dumped reads written (kept, verdict, some) place input start front done read so =
+    → (written : Option (List ℕ)) (s : State) → (HasCleanDisk s → HasCleanDisk mid.state)
+    → SaysSomeOf mid.made dumped mid.written written mid.state s → SaysSomeBehind old written s
+says_next old mid gone same known reading dumped reads written s early (inl nothing) place input start front done placed read so =
+    subst (λ (w : Option (List ℕ)). SaysSome old.made.without.now input start w s) (sym nothing)
+    (says_so_far old mid gone same s early place input start front done placed read so)
+says_next old mid gone same known reading dumped reads written s early (inr (kept, verdict, comes, some)) place input start front done placed read so =
     let at = gone place input start front done read so in
     let next = reads input at.0 at.1 at.3 in
     let without = mid.made.without.now in
+    let rise = says_rise 0 (with_part at.0 next.0).parts (at.1 ++ dumped ∷ []) next.1.parts next.1.says in
     let lines : verdict_lines (kept_of without (at.1 ++ dumped ∷ [])) (at.4.verdicts ++ verdict ∷ [])
     ≡ verdict_lines (kept_of without at.1) at.4.verdicts ++ verdict_line dumped verdict =
     ap (λ k. verdict_lines k (at.4.verdicts ++ verdict ∷ [])) (kept_more without at.1 dumped kept)
     ∙ lines_more (kept_of without at.1) at.4.verdicts dumped verdict at.4.as_many in
-    subst (λ (w : _). SaysSome w input start written) (ap (λ w. w.now) same)
-    (says_some without input start written (at.1 ++ dumped ∷ []) (at.4.verdicts ++ verdict ∷ []) (begins_read input known reading _ _ next.1)
+    subst (λ (w : _). SaysSome w input start written s) (ap (λ w. w.now) same)
+    (says_some without input start written s place (at.1 ++ dumped ∷ []) (at.4.verdicts ++ verdict ∷ [])
+    (begins_read input known reading (with_part at.0 next.0) (at.1 ++ dumped ∷ []) place (ap (λ (h : Head). h.place) at.2 ∙ placed) next.1)
+    (λ clean. comes clean place start mid.written at.1 rise at.4)
     (subst (AppendsSome start written) (sym lines)
     (some_behind start mid.written written _ _ at.4.written some)))
 

@@ -5,6 +5,7 @@ use Rattle.std.specs.Prelude.{IfSome}
 use Rattle.std.specs.Io.KnownBytes.{Appends}
 use Rattle.sqlite.specs.State.{HasCleanDisk, IsLive, KeepsCommit, State, Survives}
 use Rattle.sqlite_catalog.specs.Listing.{IsSound}
+use Rattle.lot_book.specs.Facts.{Entry}
 use Rattle.lot_load.specs.Kept.{IsOf}
 use Rattle.lot_dump.specs.Form.{end_text, head_text}
 use Rattle.lot_dump.specs.declared.head.Head.{Head}
@@ -27,6 +28,7 @@ use Rattle.lot_without.specs.declared.without.Without.{Without}
 use Rattle.lot_restore.specs.Judge.{AreRestored, StandsAt}
 use Rattle.lot_restore.specs.LeftOut.{kept_of, unmet_of}
 use Rattle.lot_restore.specs.Lines.{unmet_line, unmet_lines, verdict_lines}
+use Rattle.lot_restore.specs.Restored.{Restores}
 use Rattle.lot_restore.specs.Restoring.{FailsAt, FailsInside, IsBehindAll, IsFresh, JudgesWhole, LacksRoom, Point, SumFails, Terms, outcome_of}
 use Rattle.lot_restore.specs.SoFar.{SoFar}
 use Rattle.lot_restore.specs.Stopped.{BeginsWith, SaysSome}
@@ -127,14 +129,16 @@ whole_again (Some text) dump is =
 
 -- what was judged of a dump that was read to its end is said, also where nothing is made of it
 pub says_judged : (asked : Terms) (input before written : Option (List ℕ)) (s : State) (how : Restored) → JudgesWhole asked input before written s how
-    → SaysSome asked.without input before written
+    → SaysSome asked.without input before written s
 says_judged asked input before written s how judges =
     let it = judges.0 in
     record {
+      place = it.dump.head.place;
       commands = it.commands;
       begin = begins_as input (record { head = it.dump.head; above = it.dump.above; parts = it.dump.parts }) (line (end_text it.dump.end)) it.commands
-          it.read.is.2 (whole_again input it.dump it.read.whole);
+          it.dump.head.place it.read.is.2 refl (whole_again input it.dump it.read.whole);
       verdicts = it.verdicts;
+      judged = λ clean. let restored = judges.3 clean in (restored.book, restored.restores);
       some = all_some before written _ judges.2;
     }
 
@@ -181,28 +185,35 @@ module _ (asked : Terms) (start : Option (List ℕ)) (head : Head) (old new : Po
       )
 
   -- the dump begins with all its commands
-  begins_whole : IfSome start (BeginsWith at.1)
+  begins_whole : IfSome start (BeginsWith head.place at.1)
   begins_whole =
       let dump = at.0 in
-      begins_as start (record { head = dump.head; above = dump.above; parts = dump.parts }) (line (end_text dump.end)) at.1 at.2.is.2
-      (whole_again start dump at.2.whole)
+      begins_as start (record { head = dump.head; above = dump.above; parts = dump.parts }) (line (end_text dump.end)) at.1 head.place at.2.is.2
+      (ap (λ (h : Head). h.place) at.3) (whole_again start dump at.2.whole)
+
+  judged_whole : HasCleanDisk new.state → (book : List Entry) × Restores head.place [] (kept_of asked.without at.1) at.4.verdicts book
+  judged_whole clean =
+      let restored = at.4.restored clean in
+      (restored.book, subst (λ w. Restores head.place [] (kept_of w at.1) at.4.verdicts restored.book) without_is restored.restores)
 
   -- what is written where it isn't what it says, or where what leaves out none isn't written
-  pub says_compared : SaysSome asked.without start old.written new.written
+  pub says_compared : SaysSome asked.without start old.written new.written new.state
   says_compared =
-      says_some asked.without start old.written new.written at.1 at.4.verdicts begins_whole
+      says_some asked.without start old.written new.written new.state head.place at.1 at.4.verdicts begins_whole judged_whole
       (all_some old.written new.written _
       (subst (λ (w : List Without). Appends old.written new.written (verdict_lines (kept_of w at.1) at.4.verdicts)) without_is at.4.written))
 
   pub says_unmet : (written : Option (List ℕ)) (fault : PrintFault)
       → WritesLine new.written written (Err fault) (flat_map (λ (it : Bor Without). unmet_line it.now) new.made.unmet.items)
-      → SaysSome asked.without start old.written written
+      → SaysSome asked.without start old.written written new.state
   says_unmet written fault wrote =
       let unmet : map (λ it. it.now) new.made.unmet.items ≡ unmet_of asked.without at.1 = at.4.unmet ∙ ap (λ w. unmet_of w at.1) without_is in
       record {
+        place = head.place;
         commands = at.1;
         begin = begins_whole;
         verdicts = at.4.verdicts;
+        judged = judged_whole;
         some = some_behind old.written new.written written _ _
             (subst (λ (w : List Without). Appends old.written new.written (verdict_lines (kept_of w at.1) at.4.verdicts)) without_is at.4.written)
             (cut_some new.written written _ fault

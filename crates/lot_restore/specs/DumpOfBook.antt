@@ -1,14 +1,22 @@
 -- The dump of a book, and what restoring it gives (docs/FORMATS.md, Dump).
-use Rattle.std.specs.Prelude.{◌≡◌, ℕ, suc, List, [], ◌∷◌, length, Option, ⊤}
+use Rattle.std.specs.Prelude.{◌≡◌, ℕ, suc, All, List, [], ◌∷◌, length, None, Option, ⊤}
+use Rattle.std.specs.Io.KnownBytes.{Appends}
+use Rattle.sqlite.specs.State.{State}
 use Rattle.lot_book.specs.Facts.{Entry}
 use Rattle.lot_command.specs.Canonical.{canonical}
 use Rattle.lot_command.specs.Sayable.{IsSayable}
-use Rattle.lot_dump.specs.Form.{IsHeading}
+use Rattle.lot_dump.specs.Form.{HasNoBlank, IsHeading}
 use Rattle.lot_dump.specs.declared.end.End.{End}
 use Rattle.lot_dump.specs.declared.heading.Heading.{Heading}
+use Rattle.lot_load.specs.Kept.{IsOf}
+use Rattle.lot_parts.specs.Commands.{MayEnd}
 use Rattle.lot_parts.specs.Dump.{Dump, Part}
 use Rattle.lot_parts.specs.Entries.{dump_of}
 use Rattle.lot_restore.specs.Restoring.{JudgedDump, Terms, how_of, place_of, said_of}
+use Rattle.lot_restore.specs.Judge.{StandsAt}
+use Rattle.lot_restore.specs.declared.fault.RestoreFault.{RestoreFault}
+use Rattle.lot_restore.specs.declared.fault.RestoreFault.TheVariants.{Book, Sum, Text, Write}
+use Rattle.lot_restore.specs.declared.restoring.Restored.{Restored}
 use Rattle.lot_restore.specs.declared.restoring.Restored.TheVariants.{Whole}
 
 -- the heading of an entry: its number and its key
@@ -39,3 +47,26 @@ pub record GivesBack (asked : Terms) {input : Option (List ℕ)} (it : JudgedDum
   pub placed : place_of asked it ≡ place
   pub whole : how_of asked it ≡ Whole
   pub silent : said_of asked it ≡ []
+
+-- ---- the books that can be dumped
+
+-- no source of a key has a blank, as in no command that is posted or imported
+abbrev pub HaveNoBlanks : List Entry → Type 0
+HaveNoBlanks = All (λ (entry : Entry). HasNoBlank entry.key.source)
+
+-- ---- what restoring the dump of a book comes to
+
+-- Where the disk returned what was written, and the connection is open, the book is made, with its place, and nothing is said.
+pub record IsGivenBack (place : ℕ) (entries : List Entry) (before written : Option (List ℕ)) (new : State) (how : Restored) : Type 0 where
+  pub whole : how ≡ Whole
+  pub silent : Appends before written []
+  pub stands : StandsAt (IsOf None) new entries place
+  pub committed : new.now ≡ new.committed
+
+-- It may end with a fault only so: no book can be made, or its commit failed; the reader or the writer failed; a line or an entry is
+-- too long; or memory ended.
+abbrev pub MayEndSo : RestoreFault → Type 0
+MayEndSo (Book fault) = ⊤
+MayEndSo (Text fault) = MayEnd fault
+MayEndSo (Sum fault) = ⊥
+MayEndSo Write = ⊤

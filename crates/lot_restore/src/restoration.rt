@@ -68,8 +68,9 @@ impl Restoration<'_> {
             (λ _. ⊥) }
         ensures fault { IfErr result (JudgeFails self.old dumped.now
             (state S.Store tx.old.conn.now) (state S.Store tx.new.conn.now) (W.calls writer.new)) }
-        ensures said { OnErr result (SaysSomeOf self.old.without.now dumped.now
-            (W.contents writer.old) (W.contents writer.new)) }
+        ensures said { OnErr result (SaysSomeOf self.old dumped.now
+            (W.contents writer.old) (W.contents writer.new)
+            (state S.Store tx.old.conn.now) (state S.Store tx.new.conn.now)) }
         ensures none_failed { OnOk result (NoneFailed (W.calls writer.old) (W.calls writer.new)) }
     {
         meet(&mut self.unmet, dumped);

@@ -86,7 +86,7 @@ pub fn restore<S: Alter, R: CountedRead, W: CountedWrite>(
     ensures read { ReadsIn result
         (record { before = R.calls reader.old; after = R.calls reader.new }) }
     ensures said { OnErr result (SaysSome asked.now.without.now (R.remaining reader.old)
-        (W.contents writer.old) (W.contents writer.new)) }
+        (W.contents writer.old) (W.contents writer.new) (state S.Store conn.new)) }
     ensures none_failed { OnOk result (NoneFailed (W.calls writer.old) (W.calls writer.new)) }
     ensures crash { Survives (state S.Store conn.old) (state S.Store conn.new)
         (MayMake (terms_of asked.now) (R.remaining reader.old) result) }
@@ -159,7 +159,8 @@ fn judge_whole<S: Alter, R: CountedRead, W: CountedWrite>(
     ensures read { ReadsIn result
         (record { before = R.calls reader.old; after = R.calls reader.new }) }
     ensures said { OnErr result (SaysSome asked.now.without.now (R.remaining reader.old)
-        (W.contents writer.old) (W.contents writer.new)) }
+        (W.contents writer.old) (W.contents writer.new)
+        (state S.Store tx.new.conn.now)) }
     ensures none_failed { OnOk result (NoneFailed (W.calls writer.old) (W.calls writer.new)) }
 {
     begin(alloc, tx)?;
@@ -242,7 +243,7 @@ fn judge_all<S: Alter, R: CountedRead, W: CountedWrite>(
           made = restoration.old;
           state = state S.Store tx.old.conn.now;
         })
-        (W.contents writer.new)) }
+        (W.contents writer.new) (state S.Store tx.new.conn.now)) }
     ensures none_failed { OnOk result (NoneFailed (W.calls writer.old) (W.calls writer.new)) }
 {
     'commands: for _ in 0..u64::MAX {

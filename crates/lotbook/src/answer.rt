@@ -128,7 +128,9 @@ pub fn advise<S: Alter>(call: &Call<'_>, path: &str, halt: Halt, conn: &mut Conn
         }
         Halt::Verify(VerifyFault::Damaged) => return say_where(rt, path, conn),
         Halt::Restore(RestoreFault::Text(CommandFault::Dump(DumpFault::NotADump { line }))) => {
-            let _ = eprintln!(rt; "lotbook: line {line} isn't what a dump has there");
+            let _ = eprintln!(rt;
+                "lotbook: line {line} isn't what a dump has there: one command stands below each line ; entry NUMBER key SOURCE NAME"
+            );
             return;
         }
         _ => None,

@@ -1,5 +1,5 @@
 -- One command after another is read and judged, up to the end or a fault.
-use Rattle.std.proofs.Common.{◌∙◌, Err, refl}
+use Rattle.std.proofs.Common.{◌∙◌, Err, arith, refl}
 use Rattle.std.proofs.lemmas.Result.{err_from_is_err_and}
 use Rattle.sqlite.specs.Held.{state}
 use Rattle.lot_restore.specs.declared.fault.RestoreFault.TheVariants.{Text}
@@ -66,7 +66,7 @@ pub returns-in_err-dumped-clause-said : goal.returns-in_err-dumped-clause-said
 returns-in_err-dumped-clause-said g c =
     let fault = err_from_is_err_and c.from_residual.result c.from_residual.ensures.1 in
     rw (fault.1)
-    (says_so_far _ _ c.commands.invariant.0 c.commands.invariant.4)
+    (says_so_far _ _ c.commands.invariant.0 c.commands.invariant.4 (state g.S.Store c.commands.tx.conn.now) (λ clean. clean))
 
 pub returns-in_err-take-in-Command-clause-read : goal.returns-in_err-take-in-Command-clause-read
 returns-in_err-take-in-Command-clause-read g c =
@@ -81,10 +81,12 @@ returns-in_err-take-in-Command-clause-said g c =
     let fault = err_from_is_err_and c.from_residual-in_err-take-in-Command.result c.from_residual-in_err-take-in-Command.ensures.1 in
     rw (fault.1)
     (says_next _ _ c.commands.invariant.0 c.commands.invariant.4 (g.R.CountedRead.remaining c.next.new.reader) c.next.new.self.dump c.in-Command.dumped
-    (rw c.in-Command.is at c.in_ok-dumped.ensures.goes_on) (g.W.CountedWrite.contents c.take.new.writer) c.in_err-take-in-Command.ensures.said)
+    (rw c.in-Command.is at c.in_ok-dumped.ensures.goes_on) (g.W.CountedWrite.contents c.take.new.writer) (state g.S.Store c.take.new.tx.conn.now)
+    (λ clean. omega (arith, clean, c.take.ensures.crash.clean)) c.in_err-take-in-Command.ensures.said)
 
 pub returns-in-End-clause-read : goal.returns-in-End-clause-read
 returns-in-End-clause-read g c = no_more_fail _ _ _ c.commands.invariant.5 c.in_ok-dumped.ensures.calls
 
 pub returns-clause-said : goal.returns-clause-said
-returns-clause-said g c = says_so_far _ _ c.commands.invariant.0 c.commands.invariant.4
+returns-clause-said g c =
+    says_so_far _ _ c.commands.invariant.0 c.commands.invariant.4 (state g.S.Store c.commands.tx.conn.now) (λ clean. clean)

@@ -71,7 +71,7 @@ pub returns-in_err-begin-clause-said : goal.returns-in_err-begin-clause-said
 returns-in_err-begin-clause-said g c =
     let fault = err_from_is_err_and c.from_residual.result c.from_residual.ensures.1 in
     rw (fault.1)
-    (says_nothing _ _ _)
+    (says_nothing _ _ _ _)
 
 pub returns-in_err-head-clause-read : goal.returns-in_err-head-clause-read
 returns-in_err-head-clause-read g c =
@@ -83,7 +83,7 @@ pub returns-in_err-head-clause-said : goal.returns-in_err-head-clause-said
 returns-in_err-head-clause-said g c =
     let fault = err_from_is_err_and c.from_residual-in_err-head.result c.from_residual-in_err-head.ensures.1 in
     rw (fault.1)
-    (says_nothing _ _ _)
+    (says_nothing _ _ _ _)
 
 pub returns-in_err-all_of-clause-read : goal.returns-in_err-all_of-clause-read
 returns-in_err-all_of-clause-read g c =
@@ -95,7 +95,7 @@ pub returns-in_err-all_of-clause-said : goal.returns-in_err-all_of-clause-said
 returns-in_err-all_of-clause-said g c =
     let fault = err_from_is_err_and c.from_residual-in_err-all_of.result c.from_residual-in_err-all_of.ensures.1 in
     rw (fault.1)
-    (says_nothing _ _ _)
+    (says_nothing _ _ _ _)
 
 pub returns-in_err-sum-clause-read : goal.returns-in_err-sum-clause-read
 returns-in_err-sum-clause-read g c =
@@ -111,7 +111,7 @@ returns-in_err-sum-clause-said g c =
     let so = none_so_far c.in_ok-head.head.place (g.W.CountedWrite.contents c.args.writer.now) made (state g.S.Store c.begin.new.tx.conn.now) stands refl refl c.in_ok-all_of.ensures refl in
     rw (fault.1)
     (c.in_err-sum.ensures.said c.in_ok-head.head.place (g.R.CountedRead.remaining c.args.reader.now) (g.W.CountedWrite.contents c.args.writer.now)
-    (front_of c.in_ok-head.head c.in_ok-head.ensures.begins.0) _ c.in_ok-head.ensures.begins.1 so)
+    (front_of c.in_ok-head.head c.in_ok-head.ensures.begins.0) _ refl c.in_ok-head.ensures.begins.1 so)
 
 pub returns-in_err-compare-clause-read : goal.returns-in_err-compare-clause-read
 returns-in_err-compare-clause-read g c =

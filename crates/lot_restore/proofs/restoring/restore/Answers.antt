@@ -1,12 +1,13 @@
 -- The transaction is committed, or rolled back.
-use Rattle.std.proofs.Common.{◌≡◌, IfErr, IfOk, arith, inl, inr, refl, rules, subst}
+use Rattle.std.proofs.Common.{◌≡◌, IfErr, IfOk, OnErr, arith, inl, inr, refl, rules, subst}
 use Rattle.sqlite.specs.Held.{state}
 use Rattle.sqlite.specs.State.{Survives}
 use Rattle.lot_restore.specs.Restoring.{Fails, MayMake, RestoresDump, restored_outcome, terms_of}
+use Rattle.lot_restore.specs.Stopped.{SaysSome}
 use Rattle.lot_restore.specs.declared.restoring.Restored.TheVariants.{InPart, NotMade, Whole}
 use Rattle.lot_restore.proofs.RestoreLemmas.{ends_crash, ends_failed, ends_ok, fails_whole, made_none}
 use Rattle.lot_parts.proofs.ReadLemmas.{no_calls_fail}
-use Rattle.lot_restore.proofs.StoppedLemmas.{outcome_reads, says_anyway, says_nothing}
+use Rattle.lot_restore.proofs.StoppedLemmas.{outcome_reads, says_anyway, says_later, says_nothing}
 use Rattle.lot_restore.proofs.WholeLemmas.{says_judged}
 use Rattle.lot_restore.proofs.restoring.restore.Goals as goal
 
@@ -93,7 +94,11 @@ returns-in-Ok-Whole-clause-read g c =
 
 pub returns-in-Ok-Whole-clause-said : goal.returns-in-Ok-Whole-clause-said
 returns-in-Ok-Whole-clause-said g c =
-    says_anyway c.after_commit.result _ (says_judged _ _ _ _ _ _ c.in-Ok-Whole.ensures.judges)
+    let same : c.commit.new.self.0 ≡ c.conn-in-Ok-Whole-1.given.0 = search rules in
+    subst (λ h. OnErr c.after_commit.result (SaysSome c.args.asked.now.without.now (g.R.CountedRead.remaining c.args.reader.now) (g.W.CountedWrite.contents c.args.writer.now) (g.W.CountedWrite.contents c.judge_whole.new.writer) (state g.S.Store h))) same
+    (says_anyway c.after_commit.result _
+    (says_later _ _ _ _ (state g.S.Store c.judge_whole.new.tx.conn.now) _ (λ clean. omega (arith, clean, c.commit.ensures.survives.clean))
+    (says_judged _ _ _ _ _ _ c.in-Ok-Whole.ensures.judges)))
 
 pub returns-in-Ok-InPart-clause-read : goal.returns-in-Ok-InPart-clause-read
 returns-in-Ok-InPart-clause-read g c =
@@ -101,10 +106,21 @@ returns-in-Ok-InPart-clause-read g c =
 
 pub returns-in-Ok-InPart-clause-said : goal.returns-in-Ok-InPart-clause-said
 returns-in-Ok-InPart-clause-said g c =
-    says_anyway c.after_commit-in-Ok-InPart.result _ (says_judged _ _ _ _ _ _ c.in-Ok-InPart.ensures.judges)
+    let same : c.commit-in-Ok-InPart.new.self.0 ≡ c.conn-in-Ok-InPart-1.given.0 = search rules in
+    subst (λ h. OnErr c.after_commit-in-Ok-InPart.result (SaysSome c.args.asked.now.without.now (g.R.CountedRead.remaining c.args.reader.now) (g.W.CountedWrite.contents c.args.writer.now) (g.W.CountedWrite.contents c.judge_whole.new.writer) (state g.S.Store h))) same
+    (says_anyway c.after_commit-in-Ok-InPart.result _
+    (says_later _ _ _ _ (state g.S.Store c.judge_whole.new.tx.conn.now) _ (λ clean. omega (arith, clean, c.commit-in-Ok-InPart.ensures.survives.clean))
+    (says_judged _ _ _ _ _ _ c.in-Ok-InPart.ensures.judges)))
+
+pub returns-in-Err-clause-said : goal.returns-in-Err-clause-said
+returns-in-Err-clause-said g c =
+    let same : c.rollback-in-Err.new.self.0 ≡ c.conn-in-Err-1.given.0 = search rules in
+    subst (λ h. SaysSome c.args.asked.now.without.now (g.R.CountedRead.remaining c.args.reader.now) (g.W.CountedWrite.contents c.args.writer.now) (g.W.CountedWrite.contents c.judge_whole.new.writer) (state g.S.Store h)) same
+    (says_later _ _ _ _ (state g.S.Store c.judge_whole.new.tx.conn.now) _ (λ clean. omega (arith, clean, c.rollback-in-Err.ensures.survives.clean))
+    c.in-Err.ensures.said)
 
 pub returns-then-not-is_empty-clause-read : goal.returns-then-not-is_empty-clause-read
 returns-then-not-is_empty-clause-read g c = no_calls_fail _
 
 pub returns-then-not-is_empty-clause-said : goal.returns-then-not-is_empty-clause-said
-returns-then-not-is_empty-clause-said g c = says_nothing _ _ _
+returns-then-not-is_empty-clause-said g c = says_nothing _ _ _ _
