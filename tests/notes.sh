@@ -397,7 +397,7 @@ D-3,2024-01-15,BUY,HOOL,5,102.50,USD,4.95
 D-2,2024-01-15,BUY,HOOL,6,102.50,USD,4.95
 lotbook: row 1 (D-9): B4 IncompleteCost: the braces open a lot, and don't give its cost and currency: it sells, and no lot is held that it can take: D-9,2024-03-15,SELL,HOOL,10,"102,50",USD,4.95
 lotbook: row 3 (D-3): L10 BackDated: a later day of this account and commodity is booked at cost already: the latest is 2024-02-15, of entry 5: D-3,2024-01-15,BUY,HOOL,5,102.50,USD,4.95
-lotbook: row 4 (D-2): L1 KeyReused: another command has this key already: entry 5, with the line `2024-02-15 * "D-2"`: D-2,2024-01-15,BUY,HOOL,6,102.50,USD,4.95
+lotbook: row 4 (D-2): L1 KeyReused: another command has this key already: entry 5, with the line `2024-02-15 * "D-2"` in place of `2024-01-15 * "D-2"`: D-2,2024-01-15,BUY,HOOL,6,102.50,USD,4.95
 lotbook: warning: the first row is of 2024-03-15, the last of 2024-01-15: rows stand in the order of their days, the oldest first
 lotbook: row 1 (D-9): warning: price 102,50 is read as 10250: commas are skipped, decimals stand behind a point: D-9,2024-03-15,SELL,HOOL,10,"102,50",USD,4.95
 lotbook: row 4 (D-2): warning: row 2 has this ref, too: a deal is known by it, so this one is a repeat or refused: D-2,2024-01-15,BUY,HOOL,6,102.50,USD,4.95

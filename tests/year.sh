@@ -106,7 +106,7 @@ step "a split" 0 "1 accepted"
 { cat "$scratch/points.csv" && echo "S4,2024-12-09,BUY,WIDG,1,66,EUR,"; } >"$scratch/later.csv"
 import south later.csv --all-or-none
 step "a file that overlaps, with the row by hand" 1 $'1 repeat\n2 repeat\n3 refused L1 KeyReused\n4 accepted' \
-    "row 3 (S3): L1 KeyReused: another command has this key already: entry 13, with the line \`Assets:South -5 WIDG {2024-02-01} @ 130 EUR\`; --except S3 leaves it out" \
+    "row 3 (S3): L1 KeyReused: another command has this key already: entry 13, with the line \`Assets:South -5 WIDG {2024-02-01} @ 130 EUR\` in place of \`Assets:South -8 WIDG {} @ 130 EUR\`; --except S3 leaves it out" \
     "nothing is kept, since not all was accepted: entries and lots are named above as the call would have made them"
 import south later.csv --all-or-none --except S3
 step "the same without that row" 0 $'1 repeat\n2 repeat\n4 accepted' "row 3 (S3): left out: S3,2024-09-02,SELL,WIDG,8,130.00,EUR,"

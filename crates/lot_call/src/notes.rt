@@ -5,6 +5,7 @@ use crate::fate::Fate;
 use lot_args::{Action, Effect};
 use lot_files::Cause;
 use lot_output::Course;
+use lot_without::Tolerance;
 use std::io::IsTerminal;
 
 /// Says why the book of that path can't be opened.
@@ -52,14 +53,13 @@ pub fn say_fate(call: &Call<'_>, fate: Fate, course: &Course) {
         return;
     }
     let (rt, path) = (call.rt, call.path);
-    match fate {
-        Fate::Dropped if matches!(call.action, Action::Restore(_)) => {
-            if course.faults == 0 {
-                let _ = eprintln!(rt;
-                    "lotbook: {path}: no book is made, since not all was accepted, or an option met nothing: `lotbook explain CODE` says what a code means, and --keep-going leaves out what is refused"
-                );
-            }
+    if let (Fate::Dropped, Some(tolerance)) = (fate, tolerance_of(call)) {
+        if course.faults == 0 {
+            say_not_made(call, tolerance);
         }
+        return;
+    }
+    match fate {
         Fate::Dropped if course.refused > 0 => {
             let _ = eprintln!(rt;
                 "lotbook: {path}: nothing is kept, since not all was accepted: entries and lots are named above as the call would have made them"
@@ -77,4 +77,25 @@ pub fn say_fate(call: &Call<'_>, fate: Fate, course: &Course) {
         }
         Fate::InDoubt | Fate::Kept => {}
     }
+}
+
+/// Returns what a call that restores a dump bears with, and nothing of any other call.
+fn tolerance_of(call: &Call<'_>) -> Option<Tolerance> {
+    match call.action {
+        Action::Restore(asked) => Some(asked.tolerance),
+        _ => None,
+    }
+}
+
+/// Says of a dump that no book is made of it, and why.
+fn say_not_made(call: &Call<'_>, tolerance: Tolerance) {
+    let (rt, path) = (call.rt, call.path);
+    let _ = match tolerance {
+        Tolerance::KeepGoing => eprintln!(rt;
+            "lotbook: {path}: no book is made, since an option met nothing"
+        ),
+        Tolerance::AllAccepted => eprintln!(rt;
+            "lotbook: {path}: no book is made, since not all was accepted, or an option met nothing: `lotbook explain CODE` says what a code means, and --keep-going leaves out what is refused"
+        ),
+    };
 }

@@ -1,5 +1,5 @@
 -- The text of a dump that is written of a book.
-use Rattle.std.proofs.Common.{◌≡◌, ◌≤◌, ◌∙◌, ℕ, suc, zero, List, [], ◌∷◌, ◌++◌, Some, ap, append_assoc, arith, flat_map, length, refl, subst, sym}
+use Rattle.std.proofs.Common.{inl, inr, Option, ◌≡◌, ◌≤◌, ◌∙◌, ℕ, suc, zero, List, [], ◌∷◌, ◌++◌, Some, ap, append_assoc, arith, flat_map, length, refl, subst, sym}
 use Rattle.std.specs.Fmt.{digits}
 use Rattle.std.specs.Prelude.{codes, decimal}
 use Rattle.std.proofs.lemmas.Grind.{common_steps}
@@ -11,18 +11,26 @@ use Rattle.std.specs.List.{slice_index}
 use Rattle.lot_book.specs.Book.{IsBookIn}
 use Rattle.lot_book.specs.Edition.{After}
 use Rattle.lot_book.specs.Facts.{Entry}
-use Rattle.lot_book_report.specs.Dump.{digest_of, dump_end, dump_head, dump_text}
+use Rattle.lot_book_report.specs.Dump.{digest_of, dump_body, dump_end, dump_head, dump_text}
 use Rattle.lot_book_report.specs.Journal.{journal_text}
 use Rattle.lot_command.specs.Canonical.{canonical}
-use Rattle.lot_dump.specs.Form.{IsHead, end_front, end_text, head_front, head_text, heading_front}
-use Rattle.lot_parts.specs.Dump.{dump_text as text_of_dump, part_text}
+use Rattle.lot_dump.specs.declared.end.End.{End}
+use Rattle.lot_dump.specs.Form.{IsEnd, IsHead, end_front, end_text, head_front, head_text, heading_front}
+use Rattle.lot_input.specs.Input.{Reading}
+use Rattle.lot_parts.specs.Dump.{IsUnchanged, dump_text as text_of_dump, part_text, text_above_end}
+use Rattle.lot_report.specs.Output.{WritesMade}
 use Rattle.lot_report.specs.Printed.{line}
 use Rattle.lot_restore.proofs.DumpOfBookLemmas.{gives_back}
-use Rattle.lot_restore.specs.DumpOfBook.{CanBeDumped, GivesBack, heading_of, parts_from}
-use Rattle.lot_restore.specs.Restoring.{IsBookOf, JudgedDump, Terms}
+use Rattle.lot_restore.proofs.TakenLemmas.{as_many, can_be_dumped, given_back, head_fits, may_end}
+use Rattle.lot_restore.specs.DumpOfBook.{CanBeDumped, GivesBack, HaveNoBlanks, heading_of, parts_from}
+use Rattle.lot_restore.specs.Restoring.{Fails, IsBookOf, JudgedDump, RestoresDump, Terms}
 use Rattle.lot_store.specs.Extent.{extent_of}
 use Rattle.lot_stored.specs.Rows.{entry_rows}
-use Rattle.lot_cli.specs.Dumped.{book_dump, book_end}
+use Rattle.lot_stored.specs.StandFor.{Stands}
+use Rattle.sqlite.specs.State.{State}
+use Rattle.lot_cli.specs.Dumped.{TakesDump, book_dump, book_end}
+use Rattle.lot_cli.specs.Restore.{RestoresBook}
+use Rattle.lot_cli.specs.Says.{Told}
 
 -- ---- its digest has bytes
 
@@ -101,3 +109,49 @@ restored asked place entries none can head book within =
     subst (λ (text : List ℕ). (it : JudgedDump asked (Some text)) (made : List Entry) → IsBookOf asked it made → GivesBack asked it place entries made)
     (sym (text_is place entries))
     (λ it made is. gives_back asked place entries (book_end place entries) none can head (head.1, length-sha256 _, are_bytes _) book within it made is)
+
+-- ---- and is taken
+
+body_is : (place : ℕ) (entries : List Entry) → dump_body (extent_of place entries) (entry_rows 1 entries) ≡ text_above_end (book_dump place entries)
+body_is place entries =
+    ap (λ t. t ++ journal_text (entry_rows 1 entries)) (head_text_is place entries)
+    ∙ ap (λ t. line (head_text (book_dump place entries).head) ++ t) (entries_are 1 entries)
+
+unchanged : (place : ℕ) (entries : List Entry) → IsUnchanged (book_dump place entries)
+unchanged place entries = (ap sha256 (body_is place entries), sym (as_many 1 entries), sym (as_many 1 entries))
+
+module _ (asked : Terms) (s : State) (entries : List Entry) (stands : Stands s entries) (none : asked.without ≡ []) (blanks : HaveNoBlanks entries)
+    (input : Reading) (is : input.bytes ≡ Some (dump_text (extent_of stands.stand.place entries) (entry_rows 1 entries))) where
+  abbrev place : ℕ
+  place = stands.stand.place
+
+  abbrev end : End
+  end = book_end place entries
+
+  can : CanBeDumped 1 entries
+  can = can_be_dumped stands.tables entries stands.stand blanks
+
+  head : IsHead (book_dump place entries).head
+  head = head_fits stands.tables entries stands.stand end
+
+  is_end : IsEnd end
+  is_end = (head.1, length-sha256 _, are_bytes _)
+
+  same : input.bytes ≡ Some (text_of_dump (book_dump place entries))
+  same = is ∙ ap Some (text_is place entries)
+
+  pub taken : (old new : State) (before written : Option (List ℕ)) (calls : WritesMade) (told : Told)
+      → RestoresBook asked input old new before written calls told → TakesDump place entries asked input old new before written calls told
+  taken old new before written calls told (inl it) =
+      inl (
+        it,
+        given_back asked place entries end can head is_end none stands.stand.judged stands.stand.placed before it.mid old new it.how
+            (subst (λ b. RestoresDump asked b before it.mid old new it.how) same it.restores),
+      )
+  taken old new before written calls told (inr (fault, it)) =
+      inr (
+        fault,
+        it,
+        may_end asked place entries end can head is_end (unchanged place entries) old new it.between fault
+            (subst (λ b. Fails asked b old new it.between fault) same it.fails),
+      )

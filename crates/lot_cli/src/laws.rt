@@ -40,11 +40,15 @@ ghost use Rattle.lot_stored.specs.StandFor.{Left, Stands};
 ghost use Rattle.lot_book_report.specs.Dump.{dump_text};
 ghost use Rattle.lot_dump.specs.Form.{IsHead};
 ghost use Rattle.lot_parts.specs.Dump.{dump_text as text_of_dump};
-ghost use Rattle.lot_restore.specs.DumpOfBook.{CanBeDumped, GivesBack};
+ghost use Rattle.lot_input.specs.Input.{Reading};
+ghost use Rattle.lot_report.specs.Output.{WritesMade};
+ghost use Rattle.lot_restore.specs.DumpOfBook.{CanBeDumped, GivesBack, HaveNoBlanks};
 ghost use Rattle.lot_restore.specs.Restoring.{IsBookOf, JudgedDump, Terms};
 ghost use Rattle.lot_store.specs.Extent.{extent_of};
 ghost use Rattle.lot_stored.specs.Rows.{entry_rows};
-ghost use Rattle.lot_cli.specs.Dumped.{book_dump};
+ghost use Rattle.lot_cli.specs.Dumped.{TakesDump, book_dump};
+ghost use Rattle.lot_cli.specs.Restore.{RestoresBook};
+ghost use Rattle.lot_cli.specs.Says.{Told};
 
 use sqlite::Alter;
 use sqlite_disk::Disk;
@@ -188,4 +192,19 @@ pub fn what_is_dumped_is_restored()
         → (it : JudgedDump asked
         (Some (dump_text (extent_of place entries) (entry_rows 1 entries))))
         (book : List Entry) → IsBookOf asked it book → GivesBack asked it place entries book }
+{}
+
+/// What `dump` writes of a book is taken by `restore`, and the book is made again, with its place of migration: no call is refused
+/// since the text is no dump, was changed, or has a faulty line. It is a book no key of which has a blank in its source, as none has
+/// that the program posts or imports.
+pub fn what_is_dumped_is_taken<S: Alter>()
+    ensures { (asked : Terms) (book : Held S) (entries : List Entry)
+        (stands : Stands (state S.Store book) entries)
+        → asked.without ≡ [] → HaveNoBlanks entries
+        → (input : Reading)
+        → input.bytes ≡ Some (dump_text (extent_of stands.stand.place entries) (entry_rows 1 entries))
+        → (old new : Held S) (before written : Option (List ℕ)) (calls : WritesMade) (told : Told)
+        → RestoresBook asked input (state S.Store old) (state S.Store new) before written calls told
+        → TakesDump stands.stand.place entries asked input
+        (state S.Store old) (state S.Store new) before written calls told }
 {}

@@ -58,7 +58,8 @@ pub struct Lot {
     pub units: Units,
 }
 
-/// Says which entry stands under the key of a command, and the first line in which they differ.
+/// Says which entry stands under the key of a command, and the first line in which they differ. Of the row of a broker file,
+/// which doesn't show its postings, it says both lines.
 pub(crate) fn key_reused<B: Known>(
     alloc: Global,
     book: &mut B,
@@ -72,9 +73,11 @@ pub(crate) fn key_reused<B: Known>(
     let sent = body(alloc, refused.command)?;
     let (number, completes) = (entry.number, completing(alloc, &entry, refused)?);
     match first_difference(entry.body.as_str(), sent.as_str()) {
-        Difference::Has(line) => {
+        Difference::Has(line, other) => {
             let line = Shown(line.trim_start().as_bytes());
-            format!(in alloc; ": entry {number}, with the line `{line}`{completes}")
+            let other = in_place_of(alloc, refused, other)?;
+            let other = other.as_str();
+            format!(in alloc; ": entry {number}, with the line `{line}`{other}{completes}")
         }
         Difference::Lacks(line) => {
             let line = Shown(line.trim_start().as_bytes());
@@ -82,6 +85,15 @@ pub(crate) fn key_reused<B: Known>(
         }
         Difference::Absent => format!(in alloc; ": entry {number}{completes}"),
     }
+}
+
+/// Says which line a row has in the place of one of an entry. It is empty for a command of a ledger text.
+fn in_place_of(alloc: Global, refused: &Refused<'_>, line: &str) -> Result<String, AllocError> {
+    if !refused.commands.is_empty() || line.is_empty() {
+        return Ok(String::new(alloc));
+    }
+    let line = Shown(line.trim_start().as_bytes());
+    format!(in alloc; " in place of `{line}`")
 }
 
 /// Says that with an account for crumbs a command repeats an entry, which is a completion of it by
@@ -107,8 +119,8 @@ fn completing(
 
 /// The first difference of an entry from a text that was sent.
 enum Difference<'a> {
-    /// The entry has this line there.
-    Has(&'a str),
+    /// The entry has the first line there, and the other text the second, which is empty where it has ended.
+    Has(&'a str, &'a str),
     /// The entry ends in front of this line of the other text.
     Lacks(&'a str),
     /// There is none.
@@ -122,7 +134,8 @@ fn first_difference<'a>(standing: &'a str, sent: &'a str) -> Difference<'a> {
         match others.next() {
             Some(other) if other == line => {}
             Some(other) if line.is_empty() => return Difference::Lacks(other),
-            _ => return Difference::Has(line),
+            Some(other) => return Difference::Has(line, other),
+            None => return Difference::Has(line, ""),
         }
     }
     Difference::Absent

@@ -260,6 +260,55 @@ pub(crate) const MAKING: Course = Course {
     last: "no gains\nnothing held\n",
 };
 
+/// A book is made of its dump, of no files.
+pub(crate) const RESTORING: Course = Course {
+    name: "restoring",
+    made_by: &[],
+    before: "",
+    call: Call::Other("lotbook restore --book b", "fault S1 NotABook"),
+    pages: PAGES,
+    sent: &[(DUMP, "book restored\n")],
+    behind: "",
+    first: "fault S1 NotABook\nfault S1 NotABook\nfault S1 NotABook\nfault S1 NotABook\n",
+    last: "\
+2020-03-15 Assets:Broker -12 HOOL proceeds 1560.00 cost 1240.00 gain 320.00 USD
+  -10 HOOL {100 USD, 2020-01-01}
+  -2 HOOL {120 USD, 2020-02-01}
+total gain 320.00 USD
+",
+};
+
+/// The same where written pages go to the log before the commit.
+pub(crate) const RESTORING_SPILLED: Course = Course {
+    name: "restoring, spilled",
+    pages: 3,
+    ..RESTORING
+};
+
+/// The dump of a book with two lots, of which one and a part of the other were sold.
+const DUMP: &str = "\
+; lotbook dump 1 edition 2 migrated 0 entries 6
+; entry 1 key post:before 1
+2020-01-01 open Assets:Broker \"FIFO\"
+; entry 2 key post:before 2
+2020-01-01 open Equity:Start
+; entry 3 key import:deals D 1
+2020-01-01 *
+  Assets:Broker 10 HOOL {100 USD}
+  Equity:Start
+; entry 4 key import:deals D 2
+2020-02-01 *
+  Assets:Broker 10 HOOL {120 USD}
+  Equity:Start
+; entry 5 key post:before 3
+2020-02-10 price HOOL 125 USD
+; entry 6 key post:before 4
+2020-03-15 *
+  Assets:Broker -12 HOOL {} @ 130 USD
+  Equity:Start
+; end 6 sha256 6896750daba64fecf8223601c682cd722a18054a2015d7b6fa727413d17e804f
+";
+
 /// A book of edition 1 is migrated, in which both editions choose the same lots so far. Of three that are alike the second by its key
 /// was bought first, and the last was emptied and opened again. A sale behind it is of the lot that was opened first.
 pub(crate) const MIGRATING: Course = Course {

@@ -8,7 +8,7 @@
 //! - `opening_numbers`: the lots that legs leave, with their opening numbers.
 //! - `streams`: readers and writers that give or take little, are interrupted, or fail, by a script.
 //! - `stops`: a file of a book stops at each of its calls, once and twice, while a course is gone through: a ledger is sent, a book
-//!   is made, migrated, verified. A commit in doubt is kept or lost. `courses`: what is done, and what is said; `disk`: the files
+//!   is made, restored, migrated, verified. A commit in doubt is kept or lost. `courses`: what is done, and what is said; `disk`: the files
 //!   of a book, on disks that stop.
 //!
 //! Each function here is proved, too. These habits keep the proofs short. Tables of cases stand in few tests. There is no `?`,

@@ -6,7 +6,7 @@
 use crate::assert_that;
 use crate::courses::{
     BATCH, Call, Course, DOUBT, DROPPED, EVERY_KIND, FINDING_DAMAGE, MAKING, MIGRATING, PRICES,
-    ROWS, SALE, SPILLED, VERIFYING,
+    RESTORING, RESTORING_SPILLED, ROWS, SALE, SPILLED, VERIFYING,
 };
 use crate::disk::{Image, NO_STOP, Stop, all_written, run};
 use std::process::Abort;
@@ -377,6 +377,30 @@ fn stops_of_commands_that_are_kept_all_or_none(rt: HostRuntime) {
 #[test]
 fn two_stops_on_a_grid_of_a_batch(rt: HostRuntime) {
     stops_twice(&rt, &uninterrupted(&rt, &BATCH), 3, 7);
+}
+
+#[test]
+fn two_stops_on_a_grid_of_a_spilled_batch(rt: HostRuntime) {
+    stops_twice(&rt, &uninterrupted(&rt, &SPILLED), 5, 11);
+}
+
+#[test]
+fn two_stops_on_a_grid_of_rows(rt: HostRuntime) {
+    stops_twice(&rt, &uninterrupted(&rt, &ROWS), 4, 5);
+}
+
+/// No file or an empty one is left, or the book.
+#[test]
+fn a_stop_at_each_call_while_a_dump_is_restored(rt: HostRuntime) {
+    for course in [&RESTORING, &RESTORING_SPILLED].as_slice() {
+        let whole = uninterrupted(&rt, course);
+        stops(&rt, &whole, &whole.start, 0, 1);
+    }
+}
+
+#[test]
+fn two_stops_on_a_grid_of_restoring(rt: HostRuntime) {
+    stops_twice(&rt, &uninterrupted(&rt, &RESTORING), 2, 3);
 }
 
 /// All pairs of stops while a book is made.

@@ -73,7 +73,12 @@ fn refuse<S: Alter>(call: &Call<'_>, path: &str, halt: Halt, conn: &mut Connecti
     let mut output = Output::new(call.rt, None);
     let status = say_halt(&mut CountedWriter::new(&mut output), halt);
     output.end();
-    if !call.is_quiet() {
+    if call.is_quiet() {
+        return status;
+    }
+    if is_missing(call.rt, path) {
+        let _ = eprintln!(call.rt; "lotbook: {path}: there is no such file");
+    } else {
         advise(call, path, halt, conn);
     }
     status

@@ -1,0 +1,4 @@
+pub mod BalanceLaws
+pub mod DealLemmas
+pub mod OneLaws
+pub mod WorthLemmas

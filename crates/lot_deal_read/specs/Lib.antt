@@ -1,0 +1,8 @@
+pub mod Currency
+pub mod Figures
+pub mod Naming
+pub mod Signs
+pub mod TradeRow
+pub mod IncomeRow
+pub mod ExchangeRow
+pub mod RewardRow

@@ -1,0 +1,5 @@
+pub mod FieldLemmas
+pub mod NumberLemmas
+pub mod TestLemmas
+pub mod DayLemmas
+pub mod FormLemmas

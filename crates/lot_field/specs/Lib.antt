@@ -1,0 +1,5 @@
+pub mod Field
+pub mod Numbers
+pub mod Halves
+pub mod Tests
+pub mod Days

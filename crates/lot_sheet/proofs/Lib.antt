@@ -1,0 +1,9 @@
+pub mod ColumnLemmas
+pub mod FieldLemmas
+pub mod HeaderLemmas
+pub mod LineLemmas
+pub mod ListLemmas
+pub mod NameLemmas
+pub mod PartLemmas
+pub mod ReadLemmas
+pub mod SheetLemmas

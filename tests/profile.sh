@@ -1,0 +1,17 @@
+#!/usr/bin/env bash
+# Profiles by a second reader in Python, tests/profile/reader.py, which was written from the rules of profiles alone: eight made years whose
+# truth tests/profile/world.py kept while they were made, the examples in profiles/, and small cases of faults. tests/profile/program.py
+# compares the program with it. Where Python has no tomllib (below 3.11) the cases are said to be skipped.
+source "$(dirname "$(readlink -f "${BASH_SOURCE[0]}")")/lib/cases.sh"
+
+while IFS= read -r line; do
+    case $line in
+        "ok "*) pass "${line#ok }" ;;
+        "FAILED "*) line=${line#FAILED } && fail "${line%%: *}" "${line#*: }" ;;
+        "skipped: "*) echo "$line" ;;
+        *" passed, "*" failed") counted=$line ;;
+        *) fail tests/profile/compare.py "$line" ;;
+    esac
+done < <(python3 -B "$root/tests/profile/compare.py" 2>&1)
+if [[ -z ${counted-} ]]; then fail tests/profile/compare.py "it ended early"; fi
+finish
