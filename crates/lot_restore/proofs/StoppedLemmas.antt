@@ -165,8 +165,9 @@ pub says_next : (old mid : Point) → GoneOn old mid → mid.made.without ≡ ol
     → GoesOn start front before known reading (Ok (NextCommand dumped)))
     → (written : Option (List ℕ)) (s : State) → (HasCleanDisk s → HasCleanDisk mid.state)
     → SaysSomeOf mid.made dumped mid.written written mid.state s → SaysSomeBehind old written s
-says_next old mid gone same known reading dumped reads written s early (inl nothing) =
-    subst (λ (w : Option (List ℕ)). SaysSomeBehind old w s) (sym nothing) (says_so_far old mid gone same s early)
+says_next old mid gone same known reading dumped reads written s early (inl nothing) place input start front done placed read so =
+    subst (λ (w : Option (List ℕ)). SaysSome old.made.without.now input start w s) (sym nothing)
+    (says_so_far old mid gone same s early place input start front done placed read so)
 says_next old mid gone same known reading dumped reads written s early (inr (kept, verdict, comes, some)) place input start front done placed read so =
     let at = gone place input start front done read so in
     let next = reads input at.0 at.1 at.3 in

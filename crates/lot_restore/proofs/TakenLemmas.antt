@@ -3,7 +3,6 @@ use Rattle.std.proofs.Common.{◌≡◌, ◌≤◌, ◌<◌, ◌+◌, ◌^◌, �
 use Rattle.std.specs.Prelude.{All, IsTrue}
 use Rattle.std.specs.Io.KnownBytes.{Appends}
 use Rattle.std.proofs.lemmas.List.Elements.{All-head, All-tail}
-use Rattle.sha2.specs.Sha256.{sha256}
 use Rattle.sqlite.specs.State.{HasCleanDisk, State}
 use Rattle.lot_book.specs.Book.{IsBookIn}
 use Rattle.lot_book.specs.Edition.{After}
@@ -17,7 +16,7 @@ use Rattle.lot_parts.proofs.EntryLemmas.{entries_are_parts}
 use Rattle.lot_parts.proofs.ReadLemmas.{nothing_ledger}
 use Rattle.lot_parts.proofs.TakenLemmas.{taken_above, taken_next}
 use Rattle.lot_parts.specs.Commands.{IsDumpOf, IsReadWhole, MayEnd, SayAll}
-use Rattle.lot_parts.specs.Dump.{Dump, IsDump, IsUnchanged, dump_text, text_above_end}
+use Rattle.lot_parts.specs.Dump.{Dump, IsDump, IsUnchanged, dump_text}
 use Rattle.lot_parts.specs.Sum.{IsSumOf, SaysOtherwise}
 use Rattle.lot_parts.specs.declared.commands.CommandFault.{CommandFault}
 use Rattle.lot_parts.specs.declared.compare.SumFault.{SumFault}
@@ -137,8 +136,8 @@ module _ (asked : Terms) (place : ℕ) (entries : List Entry) (end : End) (can :
         record {
           dump = dump;
           commands = dumped_from 1 entries;
-          sum = record { end = end; digest = sha256 (text_above_end dump); headings = counted (length (parts_from 1 entries)) };
-          read = record { is = is_of; whole = refl; found = (refl, refl, refl) };
+          sum = record { end = end; digest = end.digest; headings = counted (length (parts_from 1 entries)) };
+          read = record { is = is_of; whole = refl; found = (refl, unchanged.0, refl) };
           unchanged = λ strict. unchanged;
           verdicts = all_accepted entries;
         },
