@@ -202,7 +202,8 @@ pub fn what_is_dumped_is_taken<S: Alter>()
         (stands : Stands (state S.Store book) entries)
         → asked.without ≡ [] → HaveNoBlanks entries
         → (input : Reading)
-        → input.bytes ≡ Some (dump_text (extent_of stands.stand.place entries) (entry_rows 1 entries))
+        → input.bytes
+        ≡ Some (dump_text (extent_of stands.stand.place entries) (entry_rows 1 entries))
         → (old new : Held S) (before written : Option (List ℕ)) (calls : WritesMade) (told : Told)
         → RestoresBook asked input (state S.Store old) (state S.Store new) before written calls told
         → TakesDump stands.stand.place entries asked input
