@@ -3,6 +3,7 @@
 use crate::disk::PAGES;
 
 /// Commands that are sent to a book, or one other call of the program, done over again until all is done.
+#[derive(Drop)]
 pub(crate) struct Course {
     pub name: &'static str,
     /// The calls by which the book is made before, and the text that they are given. Without a call there is no book.
@@ -21,6 +22,7 @@ pub(crate) struct Course {
 }
 
 /// What is called.
+#[derive(Drop)]
 pub(crate) enum Call {
     /// The post of commands, from the first without a reply on. Each line of the answer has the number of its command.
     Post,
