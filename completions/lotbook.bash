@@ -5,8 +5,9 @@
 _lotbook_words="init migrate post import holdings gains journal dump restore verify explain help"
 _lotbook_codes="N1 N2 N3 N4 M1 M2 M3 M4 M5 I1 B1 B2 B3 B4 B5 B6"
 _lotbook_codes+=" L1 L2 L3 L4 L5 L6 L7 L8 L9 L10 L11 L12 L13 L14 L15 L16"
-_lotbook_codes+=" X1 X2 X3 X4 X5 X6 X7 D1 D2 D3 D4 C1 C2 C3 C4 S1"
-_lotbook_codes+=" S2 S3 S4 S5 S6 S7 S8 P1 P2 P3 U1 U2 K1 K2 Memory open"
+_lotbook_codes+=" X1 X2 X3 X4 X5 X6 X7 D1 D2 D3 D4 C1 C2 C3 C4 C5"
+_lotbook_codes+=" C6 C7 C8 S1 S2 S3 S4 S5 S6 S7 S8 P1 P2 P3 U1 U2"
+_lotbook_codes+=" K1 K2 Memory open"
 
 # _lotbook_options WORD: prints the options of a word, or of a call without one.
 _lotbook_options() {
@@ -18,8 +19,8 @@ _lotbook_options() {
             echo --explain-all --quiet --help
             ;;
         import)
-            echo --book --batch --invest --cash --fees --gains --from --except --rounding --within --decimals --dry-run
-            echo --all-or-none --explain-all --quiet --help
+            echo --book --batch --profile --invest --cash --fees --gains --from --except --rounding --within --decimals
+            echo --dry-run --all-or-none --explain-all --keep-accepted --show --quiet --help
             ;;
         holdings) echo --book --day --format --quiet --help ;;
         gains) echo --book --first --last --format --quiet --help ;;
@@ -57,7 +58,7 @@ _lotbook() {
     done
     COMPREPLY=()
     case ${COMP_WORDS[at]} in
-        --book | --compare)
+        --book | --compare | --profile)
             compopt -o filenames 2>/dev/null
             _lotbook_offer -f
             return

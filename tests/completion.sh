@@ -51,7 +51,7 @@ offers "the codes" "$codes" explain ""
 offers "the codes that begin so" "$(grep '^B' <<<"$codes")" explain B
 offers "the option that begins so" "--batch" post --book f --ba
 
-# Files for --book, in both forms; no value is offered for other options.
+# Files for --book and --profile, in both forms; no value is offered for other options.
 cd "$scratch" || exit 1
 touch family.book "a book" post
 offers "the books" $'a book\nfamily.book\npost' post --book ""
@@ -63,8 +63,8 @@ for word in $words; do
     [[ $word != help && $word != explain ]] || continue
     for option in $(options_in_help "$word"); do
         case $option in
-            --book | --compare) offers "$word $option" "family.book" "$word" "$option" fa ;;
-            --quiet | --dry-run | --all-or-none | --explain-all | --digest | --edited | --keep-going | --help)
+            --book | --compare | --profile) offers "$word $option" "family.book" "$word" "$option" fa ;;
+            --quiet | --dry-run | --all-or-none | --explain-all | --digest | --edited | --keep-accepted | --keep-going | --show | --help)
                 offers "$word $option" "$(options_in_help "$word")" "$word" "$option" ""
                 ;;
             --format) offers "$word $option" $'csv\ntext' "$word" "$option" "" ;;

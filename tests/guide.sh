@@ -1,5 +1,5 @@
 #!/usr/bin/env bash
-# The blocks of README.md, and then those of docs/GUIDE.md, in their order and in one folder: what a line that begins with `$` prints
+# The blocks of README.md, and then those of docs/GUIDE.md and docs/PROFILES.md, in their order and in one folder: what a line that begins with `$` prints
 # is what stands under it. Where the machine has no `sqlite3`, Python's stands in for it.
 source "$(dirname "$(readlink -f "${BASH_SOURCE[0]}")")/lib/cases.sh"
 need_program
@@ -32,7 +32,7 @@ done_with() {
 }
 
 : >"$scratch/wanted"
-cat "$root/README.md" "$root/docs/GUIDE.md" | while IFS= read -r line; do
+cat "$root/README.md" "$root/docs/GUIDE.md" "$root/docs/PROFILES.md" | while IFS= read -r line; do
     case $line in
         '    $ '*)
             done_with

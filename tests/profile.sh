@@ -3,15 +3,23 @@
 # truth tests/profile/world.py kept while they were made, the examples in profiles/, and small cases of faults. tests/profile/program.py
 # compares the program with it. Where Python has no tomllib (below 3.11) the cases are said to be skipped.
 source "$(dirname "$(readlink -f "${BASH_SOURCE[0]}")")/lib/cases.sh"
+need_program
 
-while IFS= read -r line; do
-    case $line in
-        "ok "*) pass "${line#ok }" ;;
-        "FAILED "*) line=${line#FAILED } && fail "${line%%: *}" "${line#*: }" ;;
-        "skipped: "*) echo "$line" ;;
-        *" passed, "*" failed") counted=$line ;;
-        *) fail tests/profile/compare.py "$line" ;;
-    esac
-done < <(python3 -B "$root/tests/profile/compare.py" 2>&1)
-if [[ -z ${counted-} ]]; then fail tests/profile/compare.py "it ended early"; fi
+# judged SCRIPT WORDS..: the cases of a script in this folder.
+judged() {
+    local line counted=""
+    while IFS= read -r line; do
+        case $line in
+            "ok "*) pass "${line#ok }" ;;
+            "FAILED "*) line=${line#FAILED } && fail "${line%%: *}" "${line#*: }" ;;
+            "skipped: "*) echo "$line" ;;
+            *" passed, "*" failed") counted=$line ;;
+            *) fail "$1" "$line" ;;
+        esac
+    done < <(python3 -B "$root/tests/profile/$1" "${@:2}" 2>&1)
+    if [[ -z $counted ]]; then fail "$1" "it ended early"; fi
+}
+
+judged compare.py
+judged program.py "$program"
 finish

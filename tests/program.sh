@@ -194,6 +194,24 @@ unusable "\"r,s\\\"\" isn't the ref of a row, as in --except A17" import --book 
 unusable "--except" import --book f "${good[@]}" --except
 unusable "--except" post --book f --batch a --except A17
 
+# An import by a profile needs a book and a batch, unless it shows ledger text alone. The profile names the accounts.
+by_profile=(--book f --batch a --profile p)
+unusable "  --batch <NAME>" import --book f --profile p
+unusable "Example: lotbook import --book family.book --batch degiro --profile" import --profile p
+for option in --invest --cash --fees --gains --rounding; do
+    unusable "fault U2 BadValue $option" import "${by_profile[@]}" "$option" Assets:A
+done
+unusable "fault U2 BadValue --within" import "${by_profile[@]}" --within 0.01
+unusable "fault U2 BadValue --decimals" import "${by_profile[@]}" --decimals 2
+unusable "fault U2 BadValue --from" import "${by_profile[@]}" --from 2
+unusable "fault U2 BadValue --keep-accepted" import "${by_profile[@]}" --keep-accepted --all-or-none
+unusable "fault U2 BadValue --keep-accepted" import --book f "${good[@]}" --keep-accepted
+unusable "--show stands beside --profile alone" import --show
+for option in "--book f" "--batch a" "--except r" --keep-accepted --all-or-none --dry-run; do
+    read -ra words <<<"$option"
+    unusable "fault U2 BadValue --show" import --profile p --show "${words[@]}"
+done
+
 # What a restore leaves out: of each option every value has to be within its rule, and the first one that isn't is shown.
 for value in '' post:june ' 3' 'post:june ' 'post:june "3"' 'post:june 3\' $'post:june\t3'; do
     unusable "fault U2 BadValue --without" restore --book n --without "post:june 3" "--without=$value"
@@ -259,6 +277,9 @@ helps "--fees Expenses:Fees" import -h
 helps "--gains Income:Gains" import -h
 helps "--from 120" import -h
 helps "--except A17" import -h
+helps "--profile profiles/degiro-transactions.toml" import -h
+helps "--keep-accepted" import -h
+helps "--show" import -h
 helps "--day 2024-12-31" holdings -h
 helps "it chooses prices alone" holdings -h
 for word in holdings gains; do helps "--format csv" "$word" -h; done

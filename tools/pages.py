@@ -608,6 +608,10 @@ def codes():
 # ---- the words of the program
 
 
+# What of the options stands in several rows of the table, and is told once, below it.
+ROUNDING = "[--rounding ACCOUNT [--within AMOUNT] [--decimals N]]"
+
+
 def words():
     """The table of the words of the program: the options of each, and what its help begins with."""
     text = (CRATES / "lot_args/src/program.rt").read_text()
@@ -617,7 +621,9 @@ def words():
     for comment, name, about in told.findall(text):
         usage = " ".join(line.strip()[2:].strip() for line in comment.splitlines())
         what = re.split(r": lotbook |\\n", about)[0]
-        yield "| %s | %s |" % (usage.replace("|", "\\|"), what[0].lower() + what[1:])
+        usage = usage.replace(ROUNDING, "[ROUNDING]").replace("|", "\\|")
+        yield "| %s | %s |" % (usage, what[0].lower() + what[1:])
+    yield "| `ROUNDING` | stands for `%s` |" % ROUNDING[1:-1]
 
 
 # ---- the map from rules to definitions

@@ -16,7 +16,7 @@ Option = namedtuple("Option", "name value help is_repeated", defaults=(False,))
 
 # What an option takes, where the shell can offer it.
 CHOICES = {"format": ("text", "csv")}
-FILES = ("book", "compare")
+FILES = ("book", "compare", "profile")
 
 
 # ---- the subcommands, from the code
@@ -104,7 +104,7 @@ def word(said):
 def program():
     """The program, its version, and its subcommands."""
     text = (ROOT / "crates/lot_args/src/program.rt").read_text()
-    constants = dict(re.findall(r"^const (\w+): [^=]* = ([^\n]*|.*?^[}\]]);$", text, re.M | re.S))
+    constants = dict(re.findall(r"^(?:pub\(crate\) )?const (\w+): [^=]* = ([^\n]*|.*?^[}\]]);$", text, re.M | re.S))
     whole = word(Reader(constants["PROGRAM"], constants).value())
     words = [word(it) for it in Reader(constants["WORDS"], constants).value()]
     version = constants["VERSION"].strip('"')
@@ -385,7 +385,7 @@ def manual(whole, version, words):
     yield ".SH SEE ALSO"
     yield "\\fBlotbook help\\fR \\fISUBCOMMAND\\fR, \\fBlotbook explain\\fR \\fICODE\\fR, \\fBsqlite3\\fR(1), \\fBflock\\fR(1)"
     yield ".PP"
-    yield "With the sources: docs/GUIDE.md, a walk through a year; docs/RULES.md, the rules and all codes; docs/FORMATS.md, the texts."
+    yield "With the sources: docs/GUIDE.md, a walk through a year; docs/PROFILES.md, what brokers print; docs/RULES.md, the rules and all codes; docs/FORMATS.md, the texts."
 
 
 def files(explained):

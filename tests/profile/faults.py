@@ -190,7 +190,7 @@ CASES = [
     ("an account by the currency", [('"Assets:Cash"', '"Assets:{currency}:{symbol}"')], [DIVIDEND], ["  Assets:USD:HOOL 8.5 USD"]),
     ("an account that a field spoils", [('"Assets:Cash"', '"Assets:{symbol}"')], [DIVIDEND.replace("HOOL", "BRK.B")], "row 1 is no account: Assets:BRK.B"),
     ("an account without its field", [('"Assets:Cash"', '"Assets:{symbol}"')], [CASH], "row 1 symbol has no value"),
-    ("an optional column in no key", [('ref = "Id"\n', ""), ("order =", 'optional = ["Id"]\norder =')], [DIVIDEND], ["key 2024-03-05 1 2024-03-05 Dividend HOOL 8.50 USD D3\n"]),
+    ("an optional column in no key", [('ref = "Id"\n', ""), ("order =", 'optional = ["Id"]\norder =')], [DIVIDEND], ["key 2024-03-05 1 2024-03-05 Dividend HOOL 8.50 USD\n"]),
     ("a named optional column in no key", [('ref = "Id"\n', ""), ("order =", 'optional = ["Id"]\norder ='), ('when = { Kind = "Dividend" }', 'when = { Kind = "Dividend", Id = ["nothing", "something"] }')], [DIVIDEND], ["key 2024-03-05 1 2024-03-05 Dividend HOOL 8.50 USD\n"]),
     # Fees and prices in other currencies.
     ("a fee in a third currency is paid beside", [('fee = "Fee"', 'fee = "Fee"\nfee-currency = { is = "CHF" }')], [BUY.replace("-1,009.95", "-1,005")], ["{{1005 USD}}", "Expenses:Fees 4.95 CHF", "Assets:Cash -4.95 CHF", "Assets:Cash -1005 USD"]),

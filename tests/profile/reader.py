@@ -560,6 +560,8 @@ def names_of(profile, table, fields, number):
             raise Fault(number, f"column {name!r} is not in the header")
         if count:
             places[name] = fields.index(name)
+    # The key leaves optional columns out, named by a rule or not.
+    places.update({name: fields.index(name) for name in profile.optional if name in fields})
     return places
 
 
@@ -1030,21 +1032,28 @@ def show(number):
 
 def in_order(deals):
     """The rows with a day, the oldest first; days against the order of their table are a fault."""
-    dated = []
-    for table in {id(deal.table): deal.table for deal in deals}.values():
-        mine = [deal for deal in deals if deal.table is table and deal.day]
-        for before, after in zip(mine, mine[1:]):
-            if (table.order == "oldest-first" and after.day < before.day) or (table.order == "newest-first" and after.day > before.day):
-                raise after.fault(f"day {after.day} is against the order")
-        dated += reversed(mine) if table.order in ("newest-first", "by-day-newest-first") else mine
-    days = {}
-    for deal in dated:
-        days.setdefault(deal.day, []).append(deal)
-    ordered = []
-    for day in sorted(days):
-        rows = days[day]
-        ordered += sorted(rows, key=lambda deal: deal.time) if all(deal.time for deal in rows) else rows
-    return ordered
+    tables = {}
+    for deal in deals:
+        tables.setdefault(id(deal.table), []).append(deal)
+    against = []
+    for mine in tables.values():
+        dated = [deal for deal in mine if deal.day]
+        for before, after in zip(dated, dated[1:]):
+            order = after.table.order
+            if (order == "oldest-first" and after.day < before.day) or (order == "newest-first" and after.day > before.day):
+                against.append(after)
+                break
+    if against:
+        first = min(against, key=lambda deal: deal.row.number)
+        raise first.fault(f"day {first.day} is against the order")
+
+    def place(deal):
+        tables = [id(table) for table in deal.profile.tables]
+        order, number = deal.table.order, deal.row.number
+        time = (deal.time or (0, 0, 0)) if order in ("by-day", "by-day-newest-first") else (0, 0, 0)
+        return deal.day, tables.index(id(deal.table)), time, -number if order in ("newest-first", "by-day-newest-first") else number
+
+    return sorted((deal for deal in deals if deal.day), key=place)
 
 
 def key_of(deal, occurrences):

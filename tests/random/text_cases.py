@@ -107,9 +107,9 @@ def units_of(number):
 
 
 def folders():
-    """The folders with stored answers. A text of the guide has none: it goes on with a book that is there."""
+    """The folders with stored answers. A text of the guide or beside a profile has none: it goes on with a book that is there."""
     found = {path.parent for top in ("tests/cases", "examples") for path in (ROOT / top).rglob("*.ledger")}
-    return sorted(found - {ROOT / "examples" / "guide"})
+    return sorted(found - {ROOT / "examples" / "guide", ROOT / "examples" / "profile"})
 
 
 def other_answers(folder):

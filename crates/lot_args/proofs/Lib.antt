@@ -1,4 +1,5 @@
 mod HelpLemmas
 mod ProgramLemmas
+mod RequiredLemmas
 mod ValueLemmas
 mod WordsLemmas

@@ -39,12 +39,12 @@ module _ {X Y : Type 0} (of : X → Y) (add : App → Y → App) (all : App → 
   all_added (x ∷ xs) (suc i) le app = all_added xs i (omega (arith, le)) app
 
 -- options change nothing of what makes a command plain
-plain_kept : (rules : List Rule) (app : App) → (with_rules app rules).top.is_plain ≡ app.top.is_plain
+pub plain_kept : (rules : List Rule) (app : App) → (with_rules app rules).top.is_plain ≡ app.top.is_plain
 plain_kept [] app = refl
 plain_kept (rule ∷ rules) app = plain_kept rules (with_rule app rule)
 
 -- what `clap` says of one word more
-whole_word : (old word new : Command) → (app_of word).top.is_plain ≡ true → AddsSubcommand old word new
+pub whole_word : (old word new : Command) → (app_of word).top.is_plain ≡ true → AddsSubcommand old word new
     → app_of new ≡ with_subcommand (app_of old) (app_of word).top
 whole_word old word new plain adds = adds.shape (third_of _ _ _ _ plain)
 

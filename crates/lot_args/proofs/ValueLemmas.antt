@@ -1,5 +1,5 @@
 -- What the values of options say, and which of them is outside its rule.
-use Rattle.std.proofs.Common.{◌≡◌, ℕ, zero, suc, ◌<◌, ◌≤◌, Bool, true, false, List, [], ◌∷◌, ◌++◌, ◌∙◌, ap, sym, length, get_or, drop, Option, Some, None, Err, Ok, ℤ, pos, refl, arith}
+use Rattle.std.proofs.Common.{◌≡◌, ℕ, zero, suc, ◌<◌, ◌≤◌, Bool, true, false, List, [], ◌∷◌, ◌++◌, ◌∙◌, ap, sym, length, get_or, drop, Option, Some, None, Err, Ok, ℤ, pos, refl, arith, codes}
 use Rattle.std.specs.Prelude.{IsTrue, Result, SomeIff, map, nat_le, option_and_then, unwrap_or}
 use Rattle.std.specs.Borrow.{Bor}
 use Rattle.std.specs.List.{list_all}
@@ -8,15 +8,17 @@ use Rattle.std.proofs.lemmas.Bool.{le-leb, leb-true}
 use Rattle.std.proofs.lemmas.Int.{ints}
 use Rattle.clap.specs.Words.{Row}
 use Rattle.clap.proofs.WalkLemmas.{both}
+use Rattle.lot_base.specs.Name.{is_label}
 use Rattle.lot_num.specs.Amount.{one, units_limit}
 use Rattle.lot_num.specs.NumberText.{as_units, read_below, total_of, with_no_sign}
 use Rattle.lot_num.specs.declared.number_text.NumberFault.{NumberFault}
 use Rattle.lot_rounding.specs.Nearest.{most_decimals}
 use Rattle.lot_rounding.specs.Rounding.{IsBound}
-use Rattle.lot_args.specs.Options.{first_bad, is_good}
+use Rattle.lot_args.specs.Options.{account_options, except_of, first_bad, is_good, options_of, rounding_options}
 use Rattle.lot_args.specs.Rounding.{as_bound, decimals_at, named_bound}
 use Rattle.lot_args.specs.Start.{IsStart, greatest_start, is_start, start_at}
 use Rattle.lot_args.specs.declared.fault.BadOption.{BadOption}
+use Rattle.lot_args.specs.declared.fault.BadOption.TheVariants.{Batch, Except, From, KeepAccepted, Show}
 
 -- ---- the start
 
@@ -104,6 +106,34 @@ none_of_both rows (option ∷ options) others e = go (is_good rows option) refl 
         → (first_bad rows (option ∷ options) ≡ None) × (first_bad rows others ≡ None)
     go true is more = rw is (more (rw is at e))
     go false is more = let bad : Some option ≡ None = rw is at e in cc
+
+-- an option that isn't bad alone
+pub good_alone : (rows : List Row) (option : BadOption) → first_bad rows (option ∷ []) ≡ None → is_good rows option ≡ true
+good_alone rows option e = go (is_good rows option) refl
+  where
+    go : (b : Bool) → is_good rows option ≡ b → is_good rows option ≡ true
+    go true is = is
+    go false is = let bad : Some option ≡ None = rw is at e in cc
+
+-- what an import's options are, of which none is bad
+abbrev behind_accounts : List BadOption
+behind_accounts = Except ∷ (rounding_options ++ From ∷ [])
+
+module _ (rows : List Row) (good : first_bad rows (options_of (codes "import")) ≡ None) where
+  from_accounts : (first_bad rows account_options ≡ None) × (first_bad rows behind_accounts ≡ None)
+  from_accounts = none_of_both rows account_options behind_accounts
+      (none_of_both rows (Show ∷ KeepAccepted ∷ Batch ∷ []) (account_options ++ behind_accounts) good).1
+
+  pub good_accounts : first_bad rows account_options ≡ None
+  good_accounts = from_accounts.0
+
+  pub good_except : IsTrue (list_all is_label (except_of rows))
+  good_except = good_alone rows Except (none_of_both rows (Except ∷ []) (rounding_options ++ From ∷ []) from_accounts.1).0
+
+  pub good_rounding : first_bad rows rounding_options ≡ None
+  good_rounding =
+      (none_of_both rows rounding_options (From ∷ [])
+      (none_of_both rows (Except ∷ []) (rounding_options ++ From ∷ []) from_accounts.1).1).0
 
 -- the option at a place, and those from there on
 pub bad_here : (rows : List Row) (options : List BadOption) (i : ℕ) (none : BadOption) → i < length options

@@ -18,10 +18,11 @@ use Rattle.clap.proofs.WalkLemmas.{both}
 use Rattle.lot_args.specs.Faults.{Refuses}
 use Rattle.lot_args.specs.Steps.{JudgesOptions}
 use Rattle.lot_args.specs.Number.{is_number, number_or}
-use Rattle.lot_args.specs.Words.{Ask, bad_of, lacks_batch_in, misplaced_in}
+use Rattle.lot_args.specs.Words.{Ask, bad_of, misplaced_in, missing_in}
 use Rattle.lot_args.specs.declared.fault.BadOption.{BadOption}
+use Rattle.lot_args.specs.declared.fault.Needed.{Needed}
 use Rattle.lot_args.specs.declared.fault.WordsFault.{WordsFault}
-use Rattle.lot_args.specs.declared.fault.WordsFault.TheVariants.{BadValue, Memory, Misplaced, MissingBatch, Usage}
+use Rattle.lot_args.specs.declared.fault.WordsFault.TheVariants.{BadValue, Memory, Misplaced, MissingOptions, Usage}
 use Rattle.lot_args.specs.declared.request.Request.{Request}
 
 -- a text that is there, or else the empty one
@@ -95,8 +96,9 @@ met_none m named = no_parts _ _ _ named
 -- what was matched asks for this
 pub ask_of : (asked o : Option (Text × List Row)) (faults : Kinds) (read before : List Row) (r : Result Request WordsFault)
     → o ≡ asked → faults ≡ [] → read ≡ before → IfOk r (Ask read asked) → JudgesOptions read asked r
-    → IfOk r (λ request. (faults ≡ []) × Ask before o request × (misplaced_in before o ≡ None) × (bad_of before o ≡ None))
-ask_of asked o faults read before (Ok request) met none same asks judged = rw (met, ← same) (none, asks, judged.0, judged.1)
+    → IfOk r (λ request. (faults ≡ []) × Ask before o request × (misplaced_in before o ≡ None)
+    × (missing_in o ≡ None) × (bad_of before o ≡ None))
+ask_of asked o faults read before (Ok request) met none same asks judged = rw (met, ← same) (none, asks, judged.0, judged.1, judged.2)
 ask_of asked o faults read before (Err e) met none same asks judged = tt
 
 -- an option that stands before a word
@@ -107,18 +109,18 @@ misplaced_words asked o faults read before r option met none same judged e =
     let told = subst (λ (r : Result Request WordsFault). JudgesOptions read asked r) e judged in
     rw (met, ← same) (none, told)
 
--- a post that names no batch
-pub lacking_words : (asked o : Option (Text × List Row)) (faults : Kinds) (read before : List Row) (r : Result Request WordsFault)
-    → o ≡ asked → faults ≡ [] → read ≡ before → JudgesOptions read asked r → r ≡ Err MissingBatch
-    → (faults ≡ []) × (misplaced_in before o ≡ None) × (lacks_batch_in o ≡ true)
-lacking_words asked o faults read before r met none same judged e =
+-- options that are missing
+pub lacking_words : (asked o : Option (Text × List Row)) (faults : Kinds) (read before : List Row) (r : Result Request WordsFault) (needed : Needed)
+    → o ≡ asked → faults ≡ [] → read ≡ before → JudgesOptions read asked r → r ≡ Err (MissingOptions needed)
+    → (faults ≡ []) × (misplaced_in before o ≡ None) × (missing_in o ≡ Some needed)
+lacking_words asked o faults read before r needed met none same judged e =
     let told = subst (λ (r : Result Request WordsFault). JudgesOptions read asked r) e judged in
     rw (met, ← same) (none, told.0, told.1)
 
 -- an option whose value is outside its rule
 pub bad_words : (asked o : Option (Text × List Row)) (faults : Kinds) (read before : List Row) (r : Result Request WordsFault) (bad : BadOption)
     → o ≡ asked → faults ≡ [] → read ≡ before → JudgesOptions read asked r → r ≡ Err (BadValue bad)
-    → (faults ≡ []) × (misplaced_in before o ≡ None) × (lacks_batch_in o ≡ false) × (bad_of before o ≡ Some bad)
+    → (faults ≡ []) × (misplaced_in before o ≡ None) × (missing_in o ≡ None) × (bad_of before o ≡ Some bad)
 bad_words asked o faults read before r bad met none same judged e =
     let told = subst (λ (r : Result Request WordsFault). JudgesOptions read asked r) e judged in
     rw (met, ← same) (none, told.0, told.1, told.2)
@@ -132,7 +134,7 @@ no_usage error (Ok request) refused memory told e = cc
 no_usage error (Err (Usage other)) refused memory told e = refused.1 memory
 no_usage error (Err (BadValue bad)) refused memory told e = absurd refused
 no_usage error (Err (Misplaced option)) refused memory told e = absurd refused
-no_usage error (Err MissingBatch) refused memory told e = absurd refused
+no_usage error (Err (MissingOptions needed)) refused memory told e = absurd refused
 no_usage error (Err Memory) refused memory told e = cc
 
 -- of which kind the error is that is told
@@ -141,7 +143,7 @@ pub kind_told : (error : Error) (r : Result Request WordsFault) (known kinds : K
 kind_told error (Ok request) known kinds refused has is told e = cc
 kind_told error (Err (BadValue bad)) known kinds refused has is told e = absurd refused
 kind_told error (Err (Misplaced option)) known kinds refused has is told e = absurd refused
-kind_told error (Err MissingBatch) known kinds refused has is told e = absurd refused
+kind_told error (Err (MissingOptions needed)) known kinds refused has is told e = absurd refused
 kind_told error (Err Memory) known kinds refused has is told e = cc
 kind_told error (Err (Usage other)) known kinds refused has is told e =
     let same : error ≡ told = let one : other ≡ told = cc in sym refused.0 ∙ one in

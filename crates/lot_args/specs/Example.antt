@@ -1,12 +1,12 @@
 -- Words that the laws speak of.
 use Rattle.std.specs.Prelude.{Bool, ℕ, ℤ, List, [], ◌∷◌, Option, codes, option_and_then, option_map}
 use Rattle.clap.specs.Words.{Row, Text, first_of, matches_of, subcommand_of}
-use Rattle.lot_args.specs.Options.{except_of, has_row, value_of}
+use Rattle.lot_args.specs.Options.{except_of, has_profile, has_row, is_shown, value_of}
 use Rattle.lot_args.specs.Program.{program_app}
 use Rattle.lot_args.specs.From.{from_of}
 use Rattle.lot_args.specs.Rounding.{rounding_of}
 use Rattle.lot_rounding.specs.declared.rounding.Rounding.{Rounding}
-use Rattle.lot_args.specs.Words.{effect_of, keeping_of, notes_of, strictness_of, tolerance_of, without_of}
+use Rattle.lot_args.specs.Words.{effect_of, keeping_by_profile, keeping_of, notes_of, strictness_of, tolerance_of, without_of}
 use Rattle.lot_without.specs.declared.terms.Strictness.{Strictness}
 use Rattle.lot_without.specs.declared.terms.Tolerance.{Tolerance}
 use Rattle.lot_without.specs.declared.without.Without.{Without}
@@ -44,6 +44,50 @@ a_bad_import =
     codes "lotbook" ∷ codes "import" ∷ codes "--book" ∷ codes "f" ∷ codes "--batch" ∷ codes "a" ∷ codes "--invest" ∷ codes "Equity:R"
     ∷ codes "--cash" ∷ codes "Equity:R" ∷ codes "--fees" ∷ codes "Equity:R" ∷ codes "--gains" ∷ codes "Equity:R"
     ∷ codes "--except" ∷ codes "r" ∷ codes "--except=" ∷ []
+
+-- lotbook import --book f --batch a --profile p --except r --all-or-none
+abbrev pub an_import_by_profile : List Text
+an_import_by_profile =
+    codes "lotbook" ∷ codes "import" ∷ codes "--book" ∷ codes "f" ∷ codes "--batch" ∷ codes "a" ∷ codes "--profile" ∷ codes "p"
+    ∷ codes "--except" ∷ codes "r" ∷ codes "--all-or-none" ∷ []
+
+-- lotbook import --book f --batch a --profile p --keep-accepted
+abbrev pub an_import_of_accepted : List Text
+an_import_of_accepted =
+    codes "lotbook" ∷ codes "import" ∷ codes "--book" ∷ codes "f" ∷ codes "--batch" ∷ codes "a" ∷ codes "--profile" ∷ codes "p"
+    ∷ codes "--keep-accepted" ∷ []
+
+-- lotbook import --profile p --show
+abbrev pub a_shown_import : List Text
+a_shown_import = codes "lotbook" ∷ codes "import" ∷ codes "--profile" ∷ codes "p" ∷ codes "--show" ∷ []
+
+-- lotbook import --profile p --show --book f
+abbrev pub a_shown_book : List Text
+a_shown_book =
+    codes "lotbook" ∷ codes "import" ∷ codes "--profile" ∷ codes "p" ∷ codes "--show" ∷ codes "--book" ∷ codes "f" ∷ []
+
+-- lotbook import --book f --batch a --profile p --from 2 --gains Equity:R
+abbrev pub a_profile_with_an_account : List Text
+a_profile_with_an_account =
+    codes "lotbook" ∷ codes "import" ∷ codes "--book" ∷ codes "f" ∷ codes "--batch" ∷ codes "a" ∷ codes "--profile" ∷ codes "p"
+    ∷ codes "--from" ∷ codes "2" ∷ codes "--gains" ∷ codes "Equity:R" ∷ []
+
+-- lotbook import --book f --batch a --profile p --from 2
+abbrev pub a_profile_with_a_start : List Text
+a_profile_with_a_start =
+    codes "lotbook" ∷ codes "import" ∷ codes "--book" ∷ codes "f" ∷ codes "--batch" ∷ codes "a" ∷ codes "--profile" ∷ codes "p"
+    ∷ codes "--from" ∷ codes "2" ∷ []
+
+-- lotbook import --book f --batch a --invest Equity:R --cash Equity:R --fees Equity:R
+abbrev pub an_import_without_gains : List Text
+an_import_without_gains =
+    codes "lotbook" ∷ codes "import" ∷ codes "--book" ∷ codes "f" ∷ codes "--batch" ∷ codes "a" ∷ codes "--invest" ∷ codes "Equity:R"
+    ∷ codes "--cash" ∷ codes "Equity:R" ∷ codes "--fees" ∷ codes "Equity:R" ∷ []
+
+-- lotbook import --book f --profile p
+abbrev pub an_import_without_batch : List Text
+an_import_without_batch =
+    codes "lotbook" ∷ codes "import" ∷ codes "--book" ∷ codes "f" ∷ codes "--profile" ∷ codes "p" ∷ []
 
 -- lotbook post --book f --row-of a --ref r
 abbrev pub a_row : List Text
@@ -96,6 +140,15 @@ left_out_of = option_map (λ asked. (asked.0, except_of asked.1, from_of asked.1
 abbrev pub restore_of : Option (Text × List Row) → Option (Text × List Without × Strictness × Tolerance × Option Text)
 restore_of =
     option_map (λ asked. (asked.0, without_of asked.1, strictness_of asked.1, tolerance_of asked.1, first_of (codes "compare") asked.1))
+
+-- a word for rows of which a profile says what they are, with the profile, the rows that are left out, and the commits that keep them
+abbrev pub profile_of : Option (Text × List Row) → Option (Bool × Text × List Text × Keeping)
+profile_of =
+    option_map (λ asked. (has_profile asked.1, value_of (codes "profile") asked.1, except_of asked.1, keeping_by_profile asked.1))
+
+-- a word for rows whose ledger text is shown, with the profile
+abbrev pub shown_of : Option (Text × List Row) → Option (Bool × Text)
+shown_of = option_map (λ asked. (is_shown asked.1, value_of (codes "profile") asked.1))
 
 -- a word for a row, with its batch and its reference
 abbrev pub row_of : Option (Text × List Row) → Option (Bool × Text × Text)

@@ -4,6 +4,7 @@ pub mod Number
 pub mod From
 pub mod Rounding
 pub mod Program
+pub mod Required
 pub mod Table
 pub mod Options
 pub mod Faults

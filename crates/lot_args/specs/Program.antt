@@ -69,11 +69,16 @@ post_app =
     run_app (codes "post")
     (option_rule (codes "batch") ∷ option_rule (codes "row-of") ∷ option_rule (codes "ref") ∷ from_rule ∷ [])
 
+-- which options an import needs, its other options say
+abbrev pub import_rules : List Rule
+import_rules =
+    option_rule (codes "book") ∷ flag_rule (codes "quiet") ∷ option_rule (codes "batch") ∷ option_rule (codes "profile")
+    ∷ option_rule (codes "invest") ∷ option_rule (codes "cash") ∷ option_rule (codes "fees") ∷ option_rule (codes "gains")
+    ∷ from_rule ∷ repeated_rule (codes "except")
+    ∷ (run_rules ++ flag_rule (codes "keep-accepted") ∷ flag_rule (codes "show") ∷ [])
+
 abbrev pub import_app : App
-import_app =
-    run_app (codes "import")
-    (required_rule (codes "batch") ∷ required_rule (codes "invest") ∷ required_rule (codes "cash")
-    ∷ required_rule (codes "fees") ∷ required_rule (codes "gains") ∷ from_rule ∷ repeated_rule (codes "except") ∷ [])
+import_app = word_app (codes "import") import_rules
 
 abbrev pub holdings_app : App
 holdings_app = book_app (codes "holdings") (option_rule (codes "day") ∷ option_rule (codes "format") ∷ [])

@@ -1,9 +1,9 @@
 -- What the steps of reading words answer, for the code alone.
-use Rattle.std.specs.Prelude.{◌≡◌, ◌⊎◌, true, false, List, [], ◌∷◌, ◌++◌, Option, Some, None, Result, Ok, Err, codes}
+use Rattle.std.specs.Prelude.{◌≡◌, ◌⊎◌, List, [], ◌∷◌, ◌++◌, Option, Some, None, Result, Ok, Err, codes}
 use Rattle.clap.specs.Words.{Row, Text}
-use Rattle.lot_args.specs.Words.{bad_of, lacks_batch_in, misplaced_in}
+use Rattle.lot_args.specs.Words.{bad_of, misplaced_in, missing_in}
 use Rattle.lot_args.specs.declared.fault.WordsFault.{WordsFault}
-use Rattle.lot_args.specs.declared.fault.WordsFault.TheVariants.{BadValue, Memory, Misplaced, MissingBatch, Usage}
+use Rattle.lot_args.specs.declared.fault.WordsFault.TheVariants.{BadValue, Memory, Misplaced, MissingOptions, Usage}
 
 -- the word is one of the names
 abbrev pub IsOneOf : List Text → Text → Type 0
@@ -25,12 +25,14 @@ abbrev pub IsWord : Text → Type 0
 IsWord = IsOneOf (book_words ++ codes "explain" ∷ [])
 
 -- What words answer that `clap` takes, all of whose options are looked at before a value is kept: a misplaced option goes before
--- a missing batch, and that before a bad value. It is out of memory only where there is none of these.
+-- missing options, and those before a bad value. It is out of memory only where there is none of these.
 abbrev pub JudgesOptions : {T : Type 0} → List Row → Option (Text × List Row) → Result T WordsFault → Type 0
-JudgesOptions before asked (Ok value) = (misplaced_in before asked ≡ None) × (bad_of before asked ≡ None)
+JudgesOptions before asked (Ok value) =
+    (misplaced_in before asked ≡ None) × (missing_in asked ≡ None) × (bad_of before asked ≡ None)
 JudgesOptions before asked (Err (Misplaced option)) = misplaced_in before asked ≡ Some option
-JudgesOptions before asked (Err MissingBatch) = (misplaced_in before asked ≡ None) × (lacks_batch_in asked ≡ true)
+JudgesOptions before asked (Err (MissingOptions needed)) = (misplaced_in before asked ≡ None) × (missing_in asked ≡ Some needed)
 JudgesOptions before asked (Err (BadValue bad)) =
-    (misplaced_in before asked ≡ None) × (lacks_batch_in asked ≡ false) × (bad_of before asked ≡ Some bad)
+    (misplaced_in before asked ≡ None) × (missing_in asked ≡ None) × (bad_of before asked ≡ Some bad)
 JudgesOptions before asked (Err (Usage error)) = ⊥
-JudgesOptions before asked (Err Memory) = (misplaced_in before asked ≡ None) × (bad_of before asked ≡ None)
+JudgesOptions before asked (Err Memory) =
+    (misplaced_in before asked ≡ None) × (missing_in asked ≡ None) × (bad_of before asked ≡ None)

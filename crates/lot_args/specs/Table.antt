@@ -1,10 +1,12 @@
 -- What the table of the subcommands says of each, for the code alone.
-use Rattle.std.specs.Prelude.{pos, ◌∷◌, [], Some, codes, map}
+use Rattle.std.specs.Prelude.{if◌then◌else◌, true, pos, ◌∷◌, [], Some, codes, map}
 use Rattle.clap.specs.Words.{App, Rule, Text}
 use Rattle.clap.specs.declared.builder.value_parser.ValueParser.TheVariants.{Signed}
 use Rattle.lot_args.specs.Program.{flag_rule, option_rule, place_rule, repeated_rule, required_rule, word_app}
+use Rattle.lot_args.specs.Required.{is_needed}
 use Rattle.lot_args.specs.Start.{greatest_start}
 use Rattle.lot_rounding.specs.Nearest.{most_decimals}
+use Rattle.lot_args.specs.declared.fault.Needed.{Needed}
 use Rattle.lot_args.specs.declared.options.WordOption.{WordOption}
 use Rattle.lot_args.specs.declared.options.Form.{Form}
 use Rattle.lot_args.specs.declared.options.Form.TheVariants as form
@@ -23,6 +25,11 @@ rule_of_form (form.Place value) name = place_rule name
 
 abbrev pub rule_for : WordOption → Rule
 rule_for given = rule_of_form given.form given.name.now
+
+-- an option, which has to be given where it is needed
+abbrev pub demanding_rule_for : Needed → WordOption → Rule
+demanding_rule_for needed given =
+    if is_needed needed given.name.now then record (rule_for given) { required = true } else rule_for given
 
 -- a subcommand with its options
 abbrev pub app_for : Word → App

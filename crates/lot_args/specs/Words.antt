@@ -1,6 +1,5 @@
 -- What words ask for: what the values matched by `clap` name, and the option whose value is outside its rule.
 use Rattle.std.specs.Prelude.{◌≡◌, ◌||◌, ◌++◌, if◌then◌else◌, ℕ, Bool, false, true, List, [], Option, Some, None, codes, filter_map, option_and_then, option_map}
-use Rattle.std.specs.Option.{option_map_or}
 use Rattle.std.specs.Str.{bytes_eq}
 use Rattle.std.specs.String.{string_bytes}
 use Rattle.clap.specs.Words.{Row, Text, fault_of, first_of, matches_of, subcommand_of}
@@ -14,11 +13,12 @@ use Rattle.lot_without.specs.declared.value.By.{By}
 use Rattle.lot_without.specs.declared.value.By.TheVariants.{Key, Batch, Entries}
 use Rattle.lot_without.specs.declared.without.Without.{Without}
 use Rattle.lot_args.specs.From.{from_of}
-use Rattle.lot_args.specs.Options.{day_of, except_of, first_bad, has_row, lacks_batch, misplaced, options_of, rounding_options, value_of, values_of}
+use Rattle.lot_args.specs.Options.{day_of, except_of, first_bad, has_profile, has_row, is_set, is_shown, misplaced, missing_of, options_of, rounding_options, value_of, values_of}
 use Rattle.lot_args.specs.Program.{program_app}
 use Rattle.lot_args.specs.Rounding.{rounding_of}
 use Rattle.lot_args.specs.declared.action.Action.{Action}
-use Rattle.lot_args.specs.declared.action.Action.TheVariants.{Check, Init, Migrate, Post, PostRow, Import, Holdings, Gains, Journal, Dump, Restore, Verify}
+use Rattle.lot_args.specs.declared.action.AskedImport.{AskedImport}
+use Rattle.lot_args.specs.declared.action.Action.TheVariants.{Check, Init, Migrate, Post, PostRow, Import, ImportBy, Holdings, Gains, Journal, Dump, Restore, Verify}
 use Rattle.lot_args.specs.declared.action.Format.{Format}
 use Rattle.lot_args.specs.declared.action.Format.TheVariants.{Text as AsText, Csv}
 use Rattle.lot_args.specs.declared.action.Keeping.{Keeping}
@@ -26,12 +26,13 @@ use Rattle.lot_args.specs.declared.action.Keeping.TheVariants.{AllOrNone, Each}
 use Rattle.lot_args.specs.declared.action.Saying.{Saying}
 use Rattle.lot_args.specs.declared.action.Saying.TheVariants.{Digest, Verified}
 use Rattle.lot_args.specs.declared.fault.BadOption.{BadOption}
+use Rattle.lot_args.specs.declared.fault.Needed.{Needed}
 use Rattle.lot_args.specs.declared.request.Effect.{Effect}
 use Rattle.lot_args.specs.declared.request.Effect.TheVariants.{DryRun, Keep}
 use Rattle.lot_args.specs.declared.request.Notes.{Notes}
 use Rattle.lot_args.specs.declared.request.Notes.TheVariants.{All, Quiet, Ten}
 use Rattle.lot_args.specs.declared.request.Request.{Request}
-use Rattle.lot_args.specs.declared.request.Request.TheVariants.{Act, Explain}
+use Rattle.lot_args.specs.declared.request.Request.TheVariants.{Act, Explain, Import as ImportRows, Show}
 
 -- ---- the values of a word
 
@@ -61,10 +62,6 @@ without_of rows =
 
 -- ---- options without a value
 
--- whether the option is given
-abbrev pub is_set : Text → List Row → Bool
-is_set name rows = option_map_or (λ text. bytes_eq text (codes "true")) (first_of name rows) false
-
 -- what the call may leave in the book
 abbrev pub effect_of : List Row → Effect
 effect_of rows = if is_set (codes "dry-run") rows then DryRun else Keep
@@ -74,6 +71,12 @@ abbrev pub keeping_of : List Row → Keeping
 keeping_of rows =
     if is_set (codes "dry-run") rows then Each
     else (if is_set (codes "all-or-none") rows then AllOrNone else Each)
+
+-- which commits keep the commands of an import by a profile: one for all, where nothing is said
+abbrev pub keeping_by_profile : List Row → Keeping
+keeping_by_profile rows =
+    if is_set (codes "dry-run") rows then Each
+    else (if is_set (codes "keep-accepted") rows then Each else AllOrNone)
 
 -- what is written of a verified book
 abbrev pub saying_of : List Row → Saying
@@ -116,9 +119,10 @@ WordAsks word rows (PostRow book batch reference rounding) =
     (word ≡ codes "post") × (has_row rows ≡ true) × IsBook rows (string_bytes book)
     × (batch ≡ value_of (codes "row-of") rows) × (reference ≡ value_of (codes "ref") rows) × (rounding ≡ rounding_of rows)
 WordAsks word rows (Import import) =
-    (word ≡ codes "import") × IsBook rows (string_bytes import.book) × (import.batch ≡ value_of (codes "batch") rows)
+    (word ≡ codes "import") × (has_profile rows ≡ false) × IsBook rows (string_bytes import.book) × (import.batch ≡ value_of (codes "batch") rows)
     × (import.accounts ≡ accounts_of rows) × (import.from ≡ from_of rows) × (import.except.items ≡ except_of rows)
     × (import.rounding ≡ rounding_of rows) × (import.keeping ≡ keeping_of rows)
+WordAsks word rows (ImportBy import) = ⊥
 WordAsks word rows (Holdings book day format) =
     (word ≡ codes "holdings") × IsBook rows (string_bytes book) × (day ≡ day_of (codes "day") rows) × (format ≡ format_of rows)
 WordAsks word rows (Gains book first last format) =
@@ -139,16 +143,33 @@ WordAsks word rows (Verify book saying) =
 abbrev pub IsCode : List Row → Option (List ℕ) → Type 0
 IsCode rows code = code ≡ first_of (codes "code") rows
 
+-- the profile is the one in the file that is named
+abbrev pub IsProfile : List Row → List ℕ → Type 0
+IsProfile rows path = (has_profile rows ≡ true) × (path ≡ value_of (codes "profile") rows)
+
+-- what an import by a profile asks for beside it
+abbrev pub AsksToImport : List Row → AskedImport → Type 0
+AsksToImport rows import =
+    IsBook rows (string_bytes import.book) × (import.batch ≡ value_of (codes "batch") rows)
+    × (import.except.items ≡ except_of rows) × (import.keeping ≡ keeping_by_profile rows)
+
 -- a word with the values of its options, and with those before it, asks for this
 abbrev pub WordRequests : List Row → Text → List Row → Request → Type 0
 WordRequests before word rows (Act action effect notes) =
     WordAsks word rows action × (effect ≡ effect_of rows) × (notes ≡ notes_of before rows)
+WordRequests before word rows (ImportRows profile import effect notes) =
+    (word ≡ codes "import") × (is_shown rows ≡ false) × IsProfile rows (string_bytes profile) × AsksToImport rows import
+    × (effect ≡ effect_of rows) × (notes ≡ notes_of before rows)
+WordRequests before word rows (Show profile notes) =
+    (word ≡ codes "import") × (is_shown rows ≡ true) × IsProfile rows (string_bytes profile) × (notes ≡ notes_of before rows)
 WordRequests before word rows (Explain code) = (word ≡ codes "explain") × IsCode rows (option_map string_bytes code)
 
 -- no word asks for a check, of which nothing is left
 abbrev pub ChecksWith : List Row → Request → Type 0
 ChecksWith rows (Act action effect notes) =
     (action ≡ Check (rounding_of rows)) × (effect ≡ Keep) × (notes ≡ notes_of rows rows)
+ChecksWith rows (ImportRows profile import effect notes) = ⊥
+ChecksWith rows (Show profile notes) = ⊥
 ChecksWith rows (Explain code) = ⊥
 
 abbrev pub Ask : List Row → Option (Text × List Row) → Request → Type 0
@@ -161,11 +182,11 @@ Ask before (Some asked) request = WordRequests before asked.0 asked.1 request
 abbrev pub misplaced_in : List Row → Option (Text × List Row) → Option BadOption
 misplaced_in before asked = option_and_then (λ asked. misplaced before) asked
 
--- ---- a missing batch
+-- ---- missing options
 
--- whether the word is a post that names no batch, neither its own nor that of a row
-abbrev pub lacks_batch_in : Option (Text × List Row) → Bool
-lacks_batch_in asked = option_map_or (λ asked. lacks_batch asked.0 asked.1) asked false
+-- what the call needs of which it lacks some
+abbrev pub missing_in : Option (Text × List Row) → Option Needed
+missing_in = option_and_then (λ asked. missing_of asked.0 asked.1)
 
 -- ---- a bad value
 
@@ -177,32 +198,35 @@ bad_of before (Some asked) = first_bad asked.1 (options_of asked.0)
 
 -- ---- all words
 
--- the option that stands before a word, and the one whose value is outside its rule, of words as `clap` matches them
+-- the option that stands before a word, what is needed of which some is missing, and the option whose value is outside its rule,
+-- of words as `clap` matches them
 abbrev pub misplaced_by : List Text → Option BadOption
 misplaced_by words = misplaced_in (matches_of program_app words) (subcommand_of program_app words)
+
+abbrev pub missing_by : List Text → Option Needed
+missing_by words = missing_in (subcommand_of program_app words)
 
 abbrev pub bad_by : List Text → Option BadOption
 bad_by words = bad_of (matches_of program_app words) (subcommand_of program_app words)
 
--- `clap` takes the words, of which the first is the program's name, no option is misplaced, no value is outside its rule, and
--- they ask for this
+-- `clap` takes the words, of which the first is the program's name, no option is misplaced, none is missing, no value is outside
+-- its rule, and they ask for this
 abbrev pub AskFor : List Text → Request → Type 0
 AskFor words request =
     (fault_of program_app words ≡ []) × Ask (matches_of program_app words) (subcommand_of program_app words) request
-    × (misplaced_by words ≡ None) × (bad_by words ≡ None)
+    × (misplaced_by words ≡ None) × (missing_by words ≡ None) × (bad_by words ≡ None)
 
 -- `clap` takes the words, and this is the first option that stands before a word and belongs behind one
 abbrev pub HaveMisplaced : List Text → BadOption → Type 0
 HaveMisplaced words option = (fault_of program_app words ≡ []) × (misplaced_by words ≡ Some option)
 
--- `clap` takes the words, none is misplaced, and they are a post without a batch
-abbrev pub LackBatch : List Text → Type 0
-LackBatch words =
-    (fault_of program_app words ≡ []) × (misplaced_by words ≡ None) × (lacks_batch_in (subcommand_of program_app words) ≡ true)
+-- `clap` takes the words, none is misplaced, and they lack some of these options, which they need
+abbrev pub LackSome : List Text → Needed → Type 0
+LackSome words needed =
+    (fault_of program_app words ≡ []) × (misplaced_by words ≡ None) × (missing_by words ≡ Some needed)
 
--- `clap` takes the words, none is misplaced, they aren't such a post, and this is the first option whose value is outside its
--- rule
+-- `clap` takes the words, none is misplaced and none missing, and this is the first option whose value is outside its rule
 abbrev pub HaveBadIn : List Text → BadOption → Type 0
 HaveBadIn words bad =
     (fault_of program_app words ≡ []) × (misplaced_by words ≡ None)
-    × (lacks_batch_in (subcommand_of program_app words) ≡ false) × (bad_by words ≡ Some bad)
+    × (missing_by words ≡ None) × (bad_by words ≡ Some bad)

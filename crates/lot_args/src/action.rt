@@ -1,7 +1,10 @@
+ghost use Rattle.std.specs.Prelude.{◌≡◌};
+
 use crate::batch::Batch;
 use crate::start::Start;
 use lot_base::{Day, Label};
 use lot_import::Accounts;
+use lot_profile::Profile;
 use lot_rounding::Rounding;
 use lot_without::{Strictness, Tolerance, Without};
 
@@ -55,6 +58,63 @@ pub struct Import {
     pub keeping: Keeping,
 }
 
+/// A broker's file whose rows are posted to a book as a profile says.
+pub struct ImportBy {
+    pub book: String,
+    pub batch: Batch,
+    /// The `ref`s of the rows that are left out, in the order in which they are given.
+    pub except: Vec<Label>,
+    pub keeping: Keeping,
+    pub profile: Profile,
+    /// Where the crumbs go, as the profile says, or `None` where it names no account for them.
+    pub rounding: Option<Rounding>,
+}
+
+impl Drop for ImportBy {
+    /// It is written out, so that callers don't prove again how each part is dropped.
+    fn drop(self) {
+        let ImportBy {
+            book: _book,
+            batch: _batch,
+            except: _except,
+            keeping: _keeping,
+            profile: _profile,
+            rounding: _rounding,
+        } = self;
+    }
+}
+
+/// An import by a profile, before that is read.
+#[derive(Drop)]
+pub struct AskedImport {
+    pub book: String,
+    pub batch: Batch,
+    /// The `ref`s of the rows that are left out, in the order in which they are given.
+    pub except: Vec<Label>,
+    pub keeping: Keeping,
+}
+
+impl AskedImport {
+    /// Returns the import with its profile, and where that has the crumbs go.
+    pub fn with(self, profile: Profile, rounding: Option<Rounding>) -> ImportBy
+        ensures book { result.book ≡ self.book }
+        ensures batch { result.batch ≡ self.batch }
+        ensures except { result.except ≡ self.except }
+        ensures keeping { result.keeping ≡ self.keeping }
+        ensures profile { result.profile ≡ profile }
+        ensures rounding { result.rounding ≡ rounding }
+    {
+        ImportBy {
+            book: self.book,
+            batch: self.batch,
+            except: self.except,
+            keeping: self.keeping,
+            profile,
+            rounding,
+        }
+    }
+}
+
 /// A dump of which a book is made in a file.
 #[derive(Drop)]
 pub struct Restore {
@@ -95,6 +155,8 @@ pub enum Action {
     },
     /// The rows of a broker file are posted to accounts of a book.
     Import(Import),
+    /// The rows of a broker's file are posted to a book as a profile says.
+    ImportBy(ImportBy),
     /// What a book holds is written. With a day, what its lots are worth on it is written, too.
     Holdings {
         book: String,

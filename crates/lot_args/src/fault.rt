@@ -9,7 +9,11 @@ use std::fmt;
 /// An option whose value can be outside its rule. The variants stand in the order in which the options are tested.
 #[derive(Clone, Copy)]
 pub enum BadOption {
-    /// `--batch`: its value isn't the name of a batch.
+    /// `--show`: `--profile` isn't given, or an option is that speaks of a book.
+    Show,
+    /// `--keep-accepted`: `--profile` isn't given, or `--all-or-none` is.
+    KeepAccepted,
+    /// `--batch` of `import`: its value isn't the name of a batch.
     Batch,
     /// `--batch` of `post`: its value isn't the name of a batch, or `--row-of` is given, too.
     PostBatch,
@@ -17,19 +21,19 @@ pub enum BadOption {
     RowOf,
     /// `--ref`: its value isn't a label, or `--row-of` isn't given.
     Ref,
-    /// `--from`: its value isn't 1, and `--row-of` is given.
+    /// `--from`: its value isn't 1, and `--row-of` or `--profile` is given.
     From,
-    /// `--invest`: its value isn't an account.
+    /// `--invest`: its value isn't an account, or `--profile` is given.
     Invest,
-    /// `--cash`: its value isn't an account.
+    /// `--cash`: its value isn't an account, or `--profile` is given.
     Cash,
-    /// `--fees`: its value isn't an account.
+    /// `--fees`: its value isn't an account, or `--profile` is given.
     Fees,
-    /// `--gains`: its value isn't an account.
+    /// `--gains`: its value isn't an account, or `--profile` is given.
     Gains,
     /// `--except`: one of its values isn't a label.
     Except,
-    /// `--rounding`: its value isn't an account.
+    /// `--rounding`: its value isn't an account, or `--profile` is given.
     Rounding,
     /// `--within`: its value isn't an amount from 0 to 1, or `--rounding` isn't given.
     Within,
@@ -57,6 +61,8 @@ impl BadOption {
         ensures { result.now ≡ name_of self }
     {
         match self {
+            BadOption::Show => "show",
+            BadOption::KeepAccepted => "keep-accepted",
             BadOption::Batch | BadOption::PostBatch => "batch",
             BadOption::RowOf => "row-of",
             BadOption::Ref => "ref",
@@ -93,6 +99,17 @@ impl fmt::Display for BadOption {
     }
 }
 
+/// Options that a call needs and `clap` doesn't ask for, since not each call of the subcommand needs them.
+#[derive(Clone, Copy)]
+pub enum Needed {
+    /// A `post` needs `--batch` or `--row-of`.
+    BatchOrRow,
+    /// An `import` without a profile needs `--book`, `--batch`, `--invest`, `--cash`, `--fees` and `--gains`.
+    Accounts,
+    /// An `import` by a profile needs `--book` and `--batch`, unless it shows ledger text alone.
+    Book,
+}
+
 /// Why the arguments give no request.
 #[derive(Drop)]
 pub enum WordsFault {
@@ -100,8 +117,8 @@ pub enum WordsFault {
     Usage(Error),
     /// An option of a rounding account stands before a subcommand.
     Misplaced(BadOption),
-    /// A `post` names no batch: neither `--batch` nor `--row-of` is given.
-    MissingBatch,
+    /// Of these options, which the call needs, at least one isn't given.
+    MissingOptions(Needed),
     /// The value of the option is outside its rule.
     BadValue(BadOption),
     /// Out of memory.

@@ -1,14 +1,20 @@
 //! What holds of the definitions that the contracts of this crate cite. Each law is a function that does nothing.
 ghost use Rattle.std.specs.Prelude.{◌≡◌, [], ◌∷◌, None, Some, codes, pos, true};
-ghost use Rattle.clap.specs.Words.{matches_of, subcommand_of, takes};
+ghost use Rattle.clap.specs.Words.{fault_of, matches_of, subcommand_of, takes};
+ghost use Rattle.clap.specs.declared.error.ErrorKind.TheVariants.{MissingRequiredArgument};
 ghost use Rattle.lot_args.specs.Example.{a_bad_import, a_dry_run, a_misplaced_rounding, a_post, a_question, a_whole_post};
 ghost use Rattle.lot_args.specs.Example.{a_bad_restore, a_restore, an_import, left_out_of, restore_of};
 ghost use Rattle.lot_args.specs.Example.{a_rounded_check, a_rounded_post, a_row, code_of, crumbs_of};
+ghost use Rattle.lot_args.specs.Example.{a_profile_with_a_start, a_profile_with_an_account, a_shown_book};
+ghost use Rattle.lot_args.specs.Example.{a_shown_import, an_import_by_profile, an_import_of_accepted};
+ghost use Rattle.lot_args.specs.Example.{an_import_without_batch, an_import_without_gains, profile_of, shown_of};
 ghost use Rattle.lot_args.specs.Example.{flags_of, parts_of, row_of, word_crumbs_of};
 ghost use Rattle.lot_args.specs.Program.{program_app};
+ghost use Rattle.lot_args.specs.Required.{demanding_app};
 ghost use Rattle.lot_args.specs.Rounding.{rounding_of};
-ghost use Rattle.lot_args.specs.Words.{bad_by, misplaced_by};
-ghost use Rattle.lot_args.specs.declared.fault.BadOption.TheVariants.{Except, Rounding, WithoutEntries};
+ghost use Rattle.lot_args.specs.Words.{bad_by, misplaced_by, missing_by};
+ghost use Rattle.lot_args.specs.declared.fault.BadOption.TheVariants.{Except, From, Gains, Rounding, Show, WithoutEntries};
+ghost use Rattle.lot_args.specs.declared.fault.Needed.TheVariants.{Accounts, Book};
 ghost use Rattle.lot_rounding.specs.Rounding.{half_a_cent};
 ghost use Rattle.lot_args.specs.declared.action.Keeping.TheVariants.{AllOrNone, Each};
 ghost use Rattle.lot_args.specs.declared.request.Effect.TheVariants.{DryRun, Keep};
@@ -72,6 +78,53 @@ pub fn a_range_that_ends_before_it_begins_is_bad()
     ensures bad { bad_by a_bad_restore ≡ Some WithoutEntries }
     ensures says { restore_of (subcommand_of program_app a_bad_restore)
         ≡ Some (codes "restore", Entries 3 5 ∷ [], Unchanged, KeepGoing, None) }
+{}
+
+/// `clap` accepts an import with `--profile p --except r --all-or-none`, and one with `--profile p --keep-accepted`. Nothing is
+/// missing, their values are within their rules, and they say this: the first one keeps all rows or none.
+pub fn an_import_by_a_profile_keeps_all_or_none()
+    ensures taken { takes program_app an_import_by_profile ≡ true }
+    ensures whole { missing_by an_import_by_profile ≡ None }
+    ensures good { bad_by an_import_by_profile ≡ None }
+    ensures says { profile_of (subcommand_of program_app an_import_by_profile)
+        ≡ Some (true, codes "p", codes "r" ∷ [], AllOrNone) }
+    ensures each_taken { takes program_app an_import_of_accepted ≡ true }
+    ensures each_good { bad_by an_import_of_accepted ≡ None }
+    ensures each { profile_of (subcommand_of program_app an_import_of_accepted)
+        ≡ Some (true, codes "p", [], Each) }
+{}
+
+/// `clap` accepts the arguments `import --profile p --show`. Nothing is missing, and the ledger text of rows is shown. With
+/// `--book f`, `--show` is the option with a bad value.
+pub fn an_import_is_shown_without_a_book()
+    ensures taken { takes program_app a_shown_import ≡ true }
+    ensures whole { missing_by a_shown_import ≡ None }
+    ensures good { bad_by a_shown_import ≡ None }
+    ensures says { shown_of (subcommand_of program_app a_shown_import) ≡ Some (true, codes "p") }
+    ensures book_taken { takes program_app a_shown_book ≡ true }
+    ensures bad { bad_by a_shown_book ≡ Some Show }
+{}
+
+/// `clap` accepts an import with `--profile p --from 2 --gains Equity:R`, of whose options `--gains` is the first with a bad
+/// value, since the profile names the accounts. Without it `--from` is.
+pub fn a_profile_stands_in_place_of_accounts()
+    ensures taken { takes program_app a_profile_with_an_account ≡ true }
+    ensures account { bad_by a_profile_with_an_account ≡ Some Gains }
+    ensures start_taken { takes program_app a_profile_with_a_start ≡ true }
+    ensures start { bad_by a_profile_with_a_start ≡ Some From }
+{}
+
+/// `clap` accepts an import without `--gains`, and one with `--profile p` and without `--batch`. They lack some of these options,
+/// and where those always have to be given, `clap` says that one is missing.
+pub fn an_import_that_lacks_an_option_is_known()
+    ensures taken { takes program_app an_import_without_gains ≡ true }
+    ensures accounts { missing_by an_import_without_gains ≡ Some Accounts }
+    ensures says { fault_of (demanding_app Accounts) an_import_without_gains
+        ≡ MissingRequiredArgument ∷ [] }
+    ensures book_taken { takes program_app an_import_without_batch ≡ true }
+    ensures book { missing_by an_import_without_batch ≡ Some Book }
+    ensures book_says { fault_of (demanding_app Book) an_import_without_batch
+        ≡ MissingRequiredArgument ∷ [] }
 {}
 
 /// `clap` accepts the arguments `post --book f --row-of a --ref r`. Their values are within their rules, and say this batch and

@@ -5,7 +5,8 @@
 //! - `start`: the numbers at which a run may start.
 //! - `program`: the subcommands, with their help; `options`: their options.
 //! - `words`: from arguments to a request (`parse_words`); `values`: what the values of options
-//!   say; `without`: which entries of a dump are left out.
+//!   say; `needed`: which options a call needs; `without`: which entries of a dump are left out.
+//! - `required`: what `clap` says of an import that lacks an option.
 //! - `fault`: why arguments give no request.
 //! - `laws`: what holds of the definitions that the contracts cite.
 #![tactic(auto)]
@@ -14,17 +15,20 @@ mod action;
 mod batch;
 mod fault;
 pub mod laws;
+mod needed;
 mod options;
 mod program;
 mod request;
+mod required;
 mod start;
 mod values;
 mod without;
 mod words;
 
-pub use action::{Action, Format, Import, Keeping, Post, Restore, Saying};
+pub use action::{Action, AskedImport, Format, Import, ImportBy, Keeping, Post, Restore, Saying};
 pub use batch::Batch;
-pub use fault::{BadOption, WordsFault};
+pub use fault::{BadOption, Needed, WordsFault};
 pub use request::{Effect, Notes, Request};
+pub use required::require_options;
 pub use start::Start;
 pub use words::parse_words;

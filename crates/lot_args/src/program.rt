@@ -1,7 +1,7 @@
 //! The subcommands, each with its help and its options.
 ghost use Rattle.std.specs.Prelude.{◌≡◌, IfOk, map};
 ghost use Rattle.clap.specs.Words.{app_of};
-ghost use Rattle.lot_args.specs.Program.{program_app, with_words};
+ghost use Rattle.lot_args.specs.Program.{bare_app, program_app, with_words};
 ghost use Rattle.lot_args.specs.Table.{app_for};
 
 use crate::options::{Form, WordOption, option};
@@ -124,57 +124,14 @@ const WORDS: [Word; 11] = [
             EXPLAIN_ALL,
         ],
     },
-    // `import --book FILE --batch NAME --invest ACCOUNT --cash ACCOUNT --fees ACCOUNT --gains ACCOUNT
-    // [--from N] [--except REF]... [--rounding ACCOUNT [--within AMOUNT] [--decimals N]] [--dry-run] [--all-or-none] [--explain-all]`
+    // `import (--book FILE --batch NAME (--profile FILE [--keep-accepted] | --invest ACCOUNT --cash ACCOUNT --fees ACCOUNT
+    // --gains ACCOUNT [--from N] [--rounding ACCOUNT [--within AMOUNT] [--decimals N]]) [--except REF]... [--dry-run] [--all-or-none] |
+    // --profile FILE --show) [--explain-all]`
     Word {
         name: "import",
         brief: "Posts the rows of a broker file from standard input to a book",
-        about: "Posts the rows of a broker file (CSV) from standard input to a book and keeps what is accepted, a commit for each row: lotbook import --book family.book --batch broker --invest Assets:Broker --cash Assets:Cash --fees Expenses:Fees --gains Income:Gains < deals.csv\n\nThe first record is ref,date,action,symbol,units,price,currency,fee and optionally lot. The rows have to be in the order of their days, the oldest first: a deal of an earlier day than the last one that was accepted for the same account and symbol is refused.",
-        options: &[
-            BOOK,
-            QUIET,
-            WordOption {
-                form: Form::Required("NAME"),
-                name: "batch",
-                help: "A name for the account at the broker, as in --batch broker: 1 to 32 letters, digits, '.', '_' or '-'. Give it with all files of that account and with no other: a row that was accepted before under this batch is a repeat and changes nothing; another row with its ref, or the same row with other accounts, is refused",
-            },
-            WordOption {
-                form: Form::Required("ACCOUNT"),
-                name: "invest",
-                help: "The account that holds what is bought until it is sold, as in --invest Assets:Broker",
-            },
-            WordOption {
-                form: Form::Required("ACCOUNT"),
-                name: "cash",
-                help: "The account that pays for purchases and takes what sales bring, as in --cash Assets:Cash",
-            },
-            WordOption {
-                form: Form::Required("ACCOUNT"),
-                name: "fees",
-                help: "The account that the fees are posted to, as in --fees Expenses:Fees",
-            },
-            WordOption {
-                form: Form::Required("ACCOUNT"),
-                name: "gains",
-                help: "The account that takes what a sale gains or loses, as in --gains Income:Gains",
-            },
-            WordOption {
-                form: Form::Start,
-                name: "from",
-                help: "The number of the first row to run, as in --from 120: those before it are read but not run, and a fault in one of them still stops the call",
-            },
-            WordOption {
-                form: Form::Repeated("REF"),
-                name: "except",
-                help: "Leaves out the row with that ref, as in --except A17. It may be given several times. The rows that are left keep their numbers",
-            },
-            ROUNDING,
-            WITHIN,
-            ROW_DECIMALS,
-            DRY_RUN,
-            ALL_OR_NONE,
-            EXPLAIN_ALL,
-        ],
+        about: "Posts the rows of a broker file (CSV) from standard input to a book. What a broker prints needs a profile, which says what its columns and rows are: lotbook import --book family.book --batch degiro --profile profiles/degiro-transactions.toml < Transactions.csv\n\nSuch an import is kept whole or, where a row is refused, not at all. To see what it would post: lotbook import --profile profiles/degiro-transactions.toml --show < Transactions.csv\n\nWithout a profile the first record has to be ref,date,action,symbol,units,price,currency,fee and optionally lot, and what is accepted is kept, a commit for each row: lotbook import --book family.book --batch broker --invest Assets:Broker --cash Assets:Cash --fees Expenses:Fees --gains Income:Gains < deals.csv\n\nThen the rows have to be in the order of their days, the oldest first: a deal of an earlier day than the last one that was accepted for the same account and symbol is refused.",
+        options: IMPORT_OPTIONS,
     },
     // `holdings --book FILE [--day DAY] [--format text|csv]`
     Word {
@@ -305,6 +262,72 @@ const WORDS: [Word; 11] = [
     },
 ];
 
+/// The options of `import`, in the order in which its help lists them.
+pub(crate) const IMPORT_OPTIONS: &[WordOption] = &[
+    WordOption {
+        form: Form::Optional("FILE"),
+        name: "book",
+        help: "The file of the book, as in --book family.book. It has to be given where --show isn't",
+    },
+    QUIET,
+    WordOption {
+        form: Form::Optional("NAME"),
+        name: "batch",
+        help: "A name for the account at the broker, as in --batch broker: 1 to 32 letters, digits, '.', '_' or '-'. It has to be given where --show isn't. Give it with all files of that account and with no other: a row that was accepted before under this batch is a repeat and changes nothing; another row with its ref, or the same row with other accounts, is refused",
+    },
+    WordOption {
+        form: Form::Optional("FILE"),
+        name: "profile",
+        help: "The file that says what the columns and the rows of the broker's file are, as in --profile profiles/degiro-transactions.toml: lotbook explain profile lists all that it may say. It names the accounts, so that --invest, --cash, --fees, --gains and --rounding don't go with it",
+    },
+    WordOption {
+        form: Form::Optional("ACCOUNT"),
+        name: "invest",
+        help: "The account that holds what is bought until it is sold, as in --invest Assets:Broker. This one and the next three have to be given where --profile isn't",
+    },
+    WordOption {
+        form: Form::Optional("ACCOUNT"),
+        name: "cash",
+        help: "The account that pays for purchases and takes what sales bring, as in --cash Assets:Cash",
+    },
+    WordOption {
+        form: Form::Optional("ACCOUNT"),
+        name: "fees",
+        help: "The account that the fees are posted to, as in --fees Expenses:Fees",
+    },
+    WordOption {
+        form: Form::Optional("ACCOUNT"),
+        name: "gains",
+        help: "The account that takes what a sale gains or loses, as in --gains Income:Gains",
+    },
+    WordOption {
+        form: Form::Start,
+        name: "from",
+        help: "The number of the first row to run, as in --from 120: those before it are read but not run, and a fault in one of them still stops the call. It doesn't go with --profile",
+    },
+    WordOption {
+        form: Form::Repeated("REF"),
+        name: "except",
+        help: "Leaves out the row with that ref, as in --except A17. It may be given several times. The rows that are left keep their numbers",
+    },
+    ROUNDING,
+    WITHIN,
+    ROW_DECIMALS,
+    DRY_RUN,
+    ALL_OR_NONE,
+    EXPLAIN_ALL,
+    WordOption {
+        form: Form::Flag,
+        name: "keep-accepted",
+        help: "Keeps each row that is accepted in a commit of its own, also where others are refused. It goes with --profile: without it such an import keeps all rows or none",
+    },
+    WordOption {
+        form: Form::Flag,
+        name: "show",
+        help: "Prints the ledger text that the rows come to, as in lotbook import --profile profiles/degiro-transactions.toml --show < Transactions.csv. No book is opened, and nothing is kept: it goes with --profile, --quiet and --explain-all alone",
+    },
+];
+
 /// The option that each subcommand on a book has.
 const BOOK: WordOption = WordOption {
     form: Form::Required("FILE"),
@@ -379,11 +402,15 @@ const FORMAT: WordOption = WordOption {
 pub(crate) fn program<'a>(alloc: Global) -> Result<Command<'a>, AllocError>
     ensures { IfOk result (λ command. app_of command ≡ program_app) }
 {
+    add_words(alloc, bare_program(alloc)?, &WORDS)
+}
+
+/// Returns the program without its subcommands.
+pub(crate) fn bare_program<'a>(alloc: Global) -> Result<Command<'a>, AllocError>
+    ensures { IfOk result (λ command. app_of command ≡ bare_app) }
+{
     let whole = &PROGRAM;
-    let bare = command(alloc, whole)?
-        .version(VERSION)
-        .bin_name(whole.name)?;
-    add_words(alloc, bare, &WORDS)
+    command(alloc, whole)?.version(VERSION).bin_name(whole.name)
 }
 
 /// Returns the program with these subcommands behind its others.

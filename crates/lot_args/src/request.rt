@@ -1,4 +1,4 @@
-use crate::action::Action;
+use crate::action::{Action, AskedImport};
 
 /// What the arguments ask for.
 #[derive(Drop)]
@@ -7,6 +7,19 @@ pub enum Request {
     Act {
         action: Action,
         effect: Effect,
+        notes: Notes,
+    },
+    /// The rows of a broker's file are posted to a book, as the profile in the file of that path says.
+    Import {
+        profile: String,
+        import: AskedImport,
+        effect: Effect,
+        notes: Notes,
+    },
+    /// The ledger text is written that the rows of a broker's file come to, as the profile in the file of that path says. No
+    /// book is opened.
+    Show {
+        profile: String,
         notes: Notes,
     },
     /// The meaning of the codes that the program prints is written: of one code, given as it was

@@ -1,22 +1,25 @@
 //! What the values of options say, and which are outside their rules.
 //!
 //! All values are looked at before one is kept: what keeps one knows that it is within its rule.
-ghost use Rattle.std.specs.Prelude.{◌≡◌, IfOk, IsTrue, [], ◌∷◌, None, codes, map, option_map};
+ghost use Rattle.std.specs.Prelude.{◌≡◌, false, IfOk, IsTrue, [], ◌∷◌, None, codes, map, option_map};
 ghost use Rattle.lot_base.specs.Name.{is_label};
 ghost use Rattle.std.specs.List.{list_all};
 ghost use Rattle.std.specs.String.{string_bytes};
 ghost use Rattle.clap.specs.Words.{all_of, first_of, found_of, rows_of};
 ghost use Rattle.lot_args.specs.Batch.{is_batch};
-ghost use Rattle.lot_args.specs.Options.{account_options, day_of, except_of, first_bad, has_account, has_row, has_rounding, is_format, is_good, is_given, lacks_batch, misplaced, name_of, options_of, rounding_options, value_of};
+ghost use Rattle.lot_args.specs.Options.{account_options, day_of, except_of, first_bad, has_account, has_profile, has_rounding};
+ghost use Rattle.lot_args.specs.Options.{is_format, is_good, is_good_account, is_given, is_set, misplaced, name_of, options_of};
+ghost use Rattle.lot_args.specs.Options.{rounding_options, value_of};
 ghost use Rattle.lot_args.specs.From.{from_of};
 ghost use Rattle.lot_args.specs.Number.{number_of};
 ghost use Rattle.lot_args.specs.Rounding.{decimals_of, named_bound, rounding_of, within_of};
-ghost use Rattle.lot_args.specs.Words.{accounts_of, effect_of, format_of, is_set, keeping_of, notes_of, saying_of};
+ghost use Rattle.lot_args.specs.Words.{accounts_of, effect_of, format_of, keeping_by_profile, keeping_of, notes_of, saying_of};
 ghost use Rattle.lot_args.specs.Words.{strictness_of, tolerance_of};
 
 use crate::action::{Format, Keeping, Saying};
 use crate::batch::{Batch, BatchFault};
 use crate::fault::BadOption;
+use crate::needed::{has_profile, has_row, is_shown, speaks_of_book};
 use crate::options::MOST_DECIMALS;
 use crate::request::{Effect, Notes};
 use crate::start::Start;
@@ -59,6 +62,8 @@ pub(crate) fn options_of(word: &str) -> &'static [BadOption]
             BadOption::From,
         ],
         "import" => &[
+            BadOption::Show,
+            BadOption::KeepAccepted,
             BadOption::Batch,
             BadOption::Invest,
             BadOption::Cash,
@@ -68,6 +73,7 @@ pub(crate) fn options_of(word: &str) -> &'static [BadOption]
             BadOption::Rounding,
             BadOption::Within,
             BadOption::Decimals,
+            BadOption::From,
         ],
         "holdings" => &[BadOption::Day, BadOption::Format],
         "gains" => &[BadOption::First, BadOption::Last, BadOption::Format],
@@ -103,21 +109,30 @@ fn is_good(options: &ArgMatches<'_>, option: BadOption) -> bool
 {
     let name = option.name();
     match option {
-        BadOption::Batch => Batch::is_name(value(options, name)),
+        BadOption::Show => !is_shown(options) || (has_profile(options) && !speaks_of_book(options)),
+        BadOption::KeepAccepted => {
+            !is_set(options, name) || (has_profile(options) && !is_set(options, "all-or-none"))
+        }
+        BadOption::Batch => is_shown(options) || Batch::is_name(value(options, name)),
         BadOption::PostBatch if has_row(options) => !is_given(options, name),
         BadOption::PostBatch => Batch::is_name(value(options, name)),
         BadOption::RowOf => !has_row(options) || Batch::is_name(value(options, name)),
         BadOption::Ref if has_row(options) => Label::is_name(value(options, name)),
         BadOption::Ref => !is_given(options, name),
-        BadOption::From => !has_row(options) || from(options).number() == FIRST,
+        BadOption::From => {
+            !(has_row(options) || has_profile(options)) || from(options).number() == FIRST
+        }
         BadOption::Invest | BadOption::Cash | BadOption::Fees | BadOption::Gains => {
-            Account::is_name(value(options, name))
+            is_good_account(options, name)
         }
         BadOption::Except => match all_given(options, name) {
             Some(texts) => are_labels(texts),
             None => true,
         },
-        BadOption::Rounding => !has_rounding(options) || Account::is_name(value(options, name)),
+        BadOption::Rounding => {
+            !has_rounding(options)
+                || (!has_profile(options) && Account::is_name(value(options, name)))
+        }
         BadOption::Within if has_rounding(options) => match given(options, name) {
             Some(text) => bound_of(text).is_some(),
             None => true,
@@ -150,18 +165,14 @@ fn are_labels(texts: &[&str]) -> bool
     true
 }
 
-/// Returns whether the subcommand is a `post` that names no batch, neither its own nor that of a row.
-pub(crate) fn lacks_batch(word: &str, options: &ArgMatches<'_>) -> bool
-    ensures { result ≡ lacks_batch word.now (rows_of (found_of options.now)) }
+/// Returns whether an account option of an import is within its rule: beside a profile it isn't given.
+fn is_good_account(options: &ArgMatches<'_>, name: &str) -> bool
+    ensures { result ≡ is_good_account name.now (rows_of (found_of options.now)) }
 {
-    word == "post" && !is_given(options, "batch") && !has_row(options)
-}
-
-/// Returns whether a command is posted for the row of a broker file.
-pub(crate) fn has_row(options: &ArgMatches<'_>) -> bool
-    ensures { result ≡ has_row (rows_of (found_of options.now)) }
-{
-    is_given(options, "row-of")
+    if has_profile(options) {
+        return !is_given(options, name);
+    }
+    Account::is_name(value(options, name))
 }
 
 /// Returns whether a rounding account is named.
@@ -233,7 +244,8 @@ fn label(alloc: Global, text: &str) -> Result<Label, AllocError>
 
 /// Returns the accounts that rows are posted to, whose values are within their rules. The only error is out of memory.
 pub(crate) fn accounts(alloc: Global, options: &ArgMatches<'_>) -> Result<Accounts, AllocError>
-    requires { first_bad (rows_of (found_of options.now)) account_options ≡ None }
+    requires good { first_bad (rows_of (found_of options.now)) account_options ≡ None }
+    requires plain { has_profile (rows_of (found_of options.now)) ≡ false }
     ensures { IfOk result (λ accounts. accounts ≡ accounts_of (rows_of (found_of options.now))) }
 {
     Ok(Accounts {
@@ -365,6 +377,17 @@ pub(crate) fn keeping(options: &ArgMatches<'_>) -> Keeping
     Keeping::Each
 }
 
+/// Returns which commits keep the commands of an import by a profile: one for all, unless `--keep-accepted` is given. Where a dry
+/// run is asked for, there is none.
+pub(crate) fn keeping_by_profile(options: &ArgMatches<'_>) -> Keeping
+    ensures { result ≡ keeping_by_profile (rows_of (found_of options.now)) }
+{
+    if is_set(options, "dry-run") || is_set(options, "keep-accepted") {
+        return Keeping::Each;
+    }
+    Keeping::AllOrNone
+}
+
 /// Returns whether a dump has to be what it says at its end.
 pub(crate) fn strictness(options: &ArgMatches<'_>) -> Strictness
     ensures { result ≡ strictness_of (rows_of (found_of options.now)) }
@@ -425,7 +448,7 @@ pub(crate) fn text(
 }
 
 /// Returns whether an option without a value is given: `clap` gives it the value `true`, and else `false`.
-fn is_set(options: &ArgMatches<'_>, name: &str) -> bool
+pub(crate) fn is_set(options: &ArgMatches<'_>, name: &str) -> bool
     ensures { result ≡ is_set name.now (rows_of (found_of options.now)) }
 {
     match given(options, name) {
@@ -443,7 +466,7 @@ pub(crate) fn value<'a>(options: &ArgMatches<'a>, name: &str) -> &'a str
 }
 
 /// Returns whether an option is given.
-fn is_given(options: &ArgMatches<'_>, name: &str) -> bool
+pub(crate) fn is_given(options: &ArgMatches<'_>, name: &str) -> bool
     ensures { result ≡ is_given name.now (rows_of (found_of options.now)) }
 {
     given(options, name).is_some()

@@ -1,19 +1,22 @@
-ghost use Rattle.std.specs.Prelude.{◌≡◌, ◌≢◌, true, Err, IfOk, None, Some, map};
+ghost use Rattle.std.specs.Prelude.{◌≡◌, ◌≢◌, codes, false, true, Err, IfOk, None, Some, map};
 ghost use Rattle.std.specs.String.{string_bytes};
 ghost use Rattle.clap.specs.Words.{IsAmong, fault_of, found_of, kind_of, rows_of, takes};
 ghost use Rattle.clap.specs.declared.error.ErrorKind.TheVariants.{OutOfMemory};
-ghost use Rattle.lot_args.specs.Options.{first_bad, options_of};
+ghost use Rattle.lot_args.specs.Options.{first_bad, has_profile, is_shown, options_of};
+ghost use Rattle.lot_args.specs.declared.fault.Needed.{Needed};
 ghost use Rattle.lot_args.specs.Program.{program_app};
 ghost use Rattle.lot_args.specs.Steps.{IsBookWord, IsWord, JudgesOptions};
-ghost use Rattle.lot_args.specs.Words.{Ask, AskFor, HaveBadIn, HaveMisplaced, LackBatch, WordAsks, WordRequests};
-ghost use Rattle.lot_args.specs.declared.fault.WordsFault.TheVariants.{BadValue, Misplaced, MissingBatch, Usage};
+ghost use Rattle.lot_args.specs.Words.{Ask, AskFor, HaveBadIn, HaveMisplaced, LackSome, WordAsks, WordRequests};
+ghost use Rattle.lot_args.specs.Words.{AsksToImport};
+ghost use Rattle.lot_args.specs.declared.fault.WordsFault.TheVariants.{BadValue, Misplaced, MissingOptions, Usage};
 
-use crate::action::{Action, Import, Post, Restore};
+use crate::action::{Action, AskedImport, Import, Post, Restore};
 use crate::fault::{BadOption, WordsFault};
+use crate::needed::{has_profile, has_row, is_shown, missing};
 use crate::program::program;
 use crate::request::{Effect, Request};
 use crate::values::{
-    accounts, batch, day, effect, except, first_bad, format, from, has_row, keeping, lacks_batch,
+    accounts, batch, day, effect, except, first_bad, format, from, keeping, keeping_by_profile,
     misplaced, notes, options_of, reference, rounding, rounding_options, saying, strictness, text,
     tolerance, value,
 };
@@ -28,15 +31,16 @@ use std::alloc::{AllocError, Global};
 /// - `Usage`: `clap` refuses the arguments, or help or the version is asked for;
 /// - `Misplaced`: `clap` accepts them, but an option of a rounding account stands before the subcommand. Of several such options
 ///   it is the first in the order of the table in docs/RULES.md;
-/// - `MissingBatch`: none does, but they are a `post` with neither `--batch` nor `--row-of`;
-/// - `BadValue`: they aren't such a `post`, but the value of an option is outside its rule. Of several such options it is the
-///   first in that order;
+/// - `MissingOptions`: none does, but an option isn't given that the call needs;
+/// - `BadValue`: none is missing, but the value of an option is outside its rule, or options stand together that can't. Of several
+///   such options it is the first in that order;
 /// - `Memory`: out of memory, before `clap` has accepted the arguments, or where all values are within their rules.
 pub fn parse_words(alloc: Global, words: &[String]) -> Result<Request, WordsFault>
     ensures request { IfOk result (AskFor (map string_bytes words.now)) }
     ensures misplaced { (option : BadOption) → result ≡ Err (Misplaced option)
         → HaveMisplaced (map string_bytes words.now) option }
-    ensures missing { result ≡ Err MissingBatch → LackBatch (map string_bytes words.now) }
+    ensures missing { (needed : Needed) → result ≡ Err (MissingOptions needed)
+        → LackSome (map string_bytes words.now) needed }
     ensures bad { (bad : BadOption) → result ≡ Err (BadValue bad) → HaveBadIn (map string_bytes words.now) bad }
     ensures kind { (error : _) → result ≡ Err (Usage error) → IsAmong (kind_of error) (fault_of program_app (map string_bytes words.now)) }
     ensures memory { (error : _) → result ≡ Err (Usage error) → kind_of error ≢ OutOfMemory }
@@ -84,8 +88,8 @@ fn asked(
     if let Some(option) = misplaced(before) {
         return Err(WordsFault::Misplaced(option));
     }
-    if lacks_batch(word, options) {
-        return Err(WordsFault::MissingBatch);
+    if let Some(needed) = missing(word, options) {
+        return Err(WordsFault::MissingOptions(needed));
     }
     match first_bad(options_of(word), options) {
         Some(bad) => Err(WordsFault::BadValue(bad)),
@@ -110,6 +114,9 @@ fn requested(
             code: text(alloc, options, "code")?,
         });
     }
+    if word == "import" && has_profile(options) {
+        return by_profile(alloc, before, options);
+    }
     Ok(Request::Act {
         action: action(alloc, word, options)?,
         effect: effect(options),
@@ -117,10 +124,55 @@ fn requested(
     })
 }
 
+/// Returns what `import` asks for with a profile and values that are within their rules. The only error is out of memory.
+fn by_profile(
+    alloc: Global,
+    before: &ArgMatches<'_>,
+    options: &ArgMatches<'_>,
+) -> Result<Request, AllocError>
+    requires profile { has_profile (rows_of (found_of options.now)) ≡ true }
+    requires good { first_bad (rows_of (found_of options.now)) (options_of (codes "import"))
+        ≡ None }
+    ensures { IfOk result (WordRequests (rows_of (found_of before.now))
+        (codes "import") (rows_of (found_of options.now))) }
+{
+    let profile = String::from_str(alloc, value(options, "profile"))?;
+    if is_shown(options) {
+        return Ok(Request::Show {
+            profile,
+            notes: notes(before, options),
+        });
+    }
+    Ok(Request::Import {
+        profile,
+        import: asked_import(alloc, options)?,
+        effect: effect(options),
+        notes: notes(before, options),
+    })
+}
+
+/// Returns what an import by a profile asks for beside it, with values that are within their rules. The only error is out of
+/// memory.
+fn asked_import(alloc: Global, options: &ArgMatches<'_>) -> Result<AskedImport, AllocError>
+    requires kept { is_shown (rows_of (found_of options.now)) ≡ false }
+    requires good { first_bad (rows_of (found_of options.now)) (options_of (codes "import"))
+        ≡ None }
+    ensures { IfOk result (AsksToImport (rows_of (found_of options.now))) }
+{
+    Ok(AskedImport {
+        book: String::from_str(alloc, value(options, "book"))?,
+        batch: batch(alloc, options, "batch")?,
+        except: except(alloc, options)?,
+        keeping: keeping_by_profile(options),
+    })
+}
+
 /// Returns the action that a subcommand on a book asks for with values that are within their rules. The only error is out of
 /// memory.
 fn action(alloc: Global, word: &str, options: &ArgMatches<'_>) -> Result<Action, AllocError>
     requires word { IsBookWord word.now }
+    requires plain { word.now ≡ codes "import"
+        → has_profile (rows_of (found_of options.now)) ≡ false }
     requires good { first_bad (rows_of (found_of options.now)) (options_of word.now) ≡ None }
     ensures { IfOk result (WordAsks word.now (rows_of (found_of options.now))) }
 {

@@ -2,7 +2,7 @@
 use Rattle.std.specs.Prelude.{◌==◌, ◌&&◌, ◌||◌, Bool, List, ℕ, Option, None, Some, codes, false, if◌then◌else◌, is_none, is_some, nat_eq, nat_lt, not, true}
 use Rattle.std.specs.List.{ends_with}
 use Rattle.lot_args.specs.declared.action.Action.{Action}
-use Rattle.lot_args.specs.declared.action.Action.TheVariants.{Import, Post, Restore}
+use Rattle.lot_args.specs.declared.action.Action.TheVariants.{Import, ImportBy, Post, Restore}
 use Rattle.lot_args.specs.declared.action.Keeping.{Keeping}
 use Rattle.lot_args.specs.declared.action.Keeping.TheVariants.{AllOrNone, Each}
 use Rattle.lot_output.specs.Record.{held}
@@ -19,6 +19,7 @@ is_all_or_none Each = false
 abbrev pub keeps_all_or_none : Action → Bool
 keeps_all_or_none (Post post) = is_all_or_none post.keeping
 keeps_all_or_none (Import «import») = is_all_or_none «import».keeping
+keeps_all_or_none (ImportBy «import») = is_all_or_none «import».keeping
 keeps_all_or_none _ = false
 
 -- Whether a run that keeps all or none stopped before its commit, by what was heard of it. After S5 nobody knows whether it was made.

@@ -2,7 +2,7 @@
 use Rattle.std.specs.Prelude.{◌==◌, ◌++◌, ℕ, List, Option, None, Some, codes, if◌then◌else◌}
 use Rattle.std.specs.Fmt.{decimal}
 use Rattle.lot_args.specs.declared.action.Action.{Action}
-use Rattle.lot_args.specs.declared.action.Action.TheVariants.{Import, Init, Migrate, Post, PostRow, Restore}
+use Rattle.lot_args.specs.declared.action.Action.TheVariants.{Import, ImportBy, Init, Migrate, Post, PostRow, Restore}
 use Rattle.lot_args.specs.declared.request.Effect.{Effect}
 use Rattle.lot_args.specs.declared.request.Effect.TheVariants.{DryRun, Keep}
 use Rattle.lot_output.specs.declared.course.Course.{Course}
@@ -25,6 +25,7 @@ abbrev pub kept_of : Action → Course → Remains
 kept_of (Post post) course = of_run remains.Commands course course.last
 kept_of (PostRow book batch reference rounding) course = of_run remains.Commands course course.last
 kept_of (Import «import») course = of_run remains.Rows course course.last
+kept_of (ImportBy «import») course = of_run (λ last from. remains.Accepted) course course.last
 kept_of (Init book) course = unless_fault course remains.Made
 kept_of (Migrate book) course = unless_fault course remains.Migrated
 kept_of (Restore restore) course = remains.Made
@@ -56,4 +57,5 @@ text_of remains.Made = codes "the book is made"
 text_of remains.Migrated = codes "the book is migrated"
 text_of (remains.Commands last from) = reached_text (codes "command") last from
 text_of (remains.Rows last from) = reached_text (codes "row") last from
+text_of remains.Accepted = codes "the same call, sent again, goes on: what is in the book is a `repeat`"
 text_of remains.Whole = codes "the same call, sent again, tells: where all is kept, each line says `repeat`"

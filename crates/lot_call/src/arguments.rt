@@ -4,7 +4,7 @@ use crate::call::rounding_of;
 use crate::remains::say_cut_short;
 use crate::status::{DONE, STOPPED, UNUSABLE, out_of_memory};
 use clap::error::ErrorKind as UsageKind;
-use lot_args::{BadOption, Notes, Request, WordsFault, parse_words};
+use lot_args::{BadOption, Needed, Notes, Request, WordsFault, parse_words, require_options};
 use lot_base::Label;
 use lot_without::{By, Without};
 use std::env;
@@ -18,6 +18,10 @@ const NO_BATCH: &str =
 /// tells of options that can't stand together.
 const MISPLACED: &str =
     "cannot be used before a subcommand\n\n  tip: it stands behind 'post' or 'import'\n\nUsage: lotbook [OPTIONS] [COMMAND]\n\nFor more information, try '--help'.";
+
+/// An import by a profile.
+const BY_PROFILE: &str =
+    "lotbook import --book family.book --batch degiro --profile profiles/degiro-transactions.toml < Transactions.csv";
 
 /// The longest value of an option that is shown where it is bad, in bytes.
 const LONGEST_SHOWN: usize = 80;
@@ -85,11 +89,7 @@ fn answer(rt: &HostRuntime, words: &[String], fault: &WordsFault) -> u8 {
             let _ = eprintln!(rt; "error: the argument '{option}' {MISPLACED}");
             UNUSABLE
         }
-        WordsFault::MissingBatch => {
-            let _ = eprintln!(rt; "{NO_BATCH}");
-            show_example(rt, words);
-            UNUSABLE
-        }
+        WordsFault::MissingOptions(needed) => say_missing(rt, words, *needed),
         WordsFault::BadValue(option) => {
             let _ = eprintln!(rt; "fault U2 BadValue {option}");
             show_form(rt, words, *option);
@@ -97,6 +97,31 @@ fn answer(rt: &HostRuntime, words: &[String], fault: &WordsFault) -> u8 {
         }
         WordsFault::Memory => out_of_memory(rt),
     }
+}
+
+/// Says on standard error which of the options that a call needs are missing, and shows such a call. Returns the status.
+fn say_missing(rt: &HostRuntime, words: &[String], needed: Needed) -> u8 {
+    match needed {
+        Needed::BatchOrRow => {
+            let _ = eprintln!(rt; "{NO_BATCH}");
+        }
+        Needed::Accounts | Needed::Book => match require_options(rt.alloc(), words, needed) {
+            Err(error) if matches!(error.kind(), UsageKind::OutOfMemory) => {
+                return out_of_memory(rt);
+            }
+            Err(error) => {
+                let _ = error.print(rt);
+            }
+            Ok(()) => {}
+        },
+    }
+    match needed {
+        Needed::BatchOrRow | Needed::Accounts => show_example(rt, words),
+        Needed::Book => {
+            let _ = eprintln!(rt; "\nExample: {BY_PROFILE}");
+        }
+    }
+    UNUSABLE
 }
 
 /// Shows on standard error how the subcommand is called that stands first among the arguments.
@@ -157,7 +182,16 @@ fn show_form(rt: &HostRuntime, words: &[String], option: BadOption) {
 fn pair(words: &[String], option: BadOption) -> Option<&'static str> {
     let has_row = value_of(words, "row-of").is_some();
     let has_rounding = value_of(words, "rounding").is_some();
+    if value_of(words, "profile").is_some() {
+        return beside_profile(option);
+    }
     match option {
+        BadOption::Show => {
+            Some("--show stands beside --profile alone, as in --profile broker.toml --show")
+        }
+        BadOption::KeepAccepted => Some(
+            "--keep-accepted stands beside --profile alone, as in --profile broker.toml --keep-accepted",
+        ),
         BadOption::PostBatch if has_row => Some("--batch and --row-of can't stand together"),
         BadOption::Ref if !has_row => {
             Some("--ref stands beside --row-of alone, as in --row-of broker --ref A17")
@@ -174,9 +208,30 @@ fn pair(words: &[String], option: BadOption) -> Option<&'static str> {
     }
 }
 
+/// Returns what is to be said of an option that can't stand beside `--profile`, or not with another one.
+fn beside_profile(option: BadOption) -> Option<&'static str> {
+    match option {
+        BadOption::Show => Some(
+            "--show opens no book: --book, --batch, --except, --keep-accepted, --all-or-none and --dry-run can't stand beside it",
+        ),
+        BadOption::KeepAccepted => Some("--keep-accepted and --all-or-none can't stand together"),
+        BadOption::From => Some(
+            "--from can't stand beside --profile: the whole file is read, and rows that are in the book are repeats",
+        ),
+        BadOption::Invest | BadOption::Cash | BadOption::Fees | BadOption::Gains => Some(
+            "--invest, --cash, --fees and --gains can't stand beside --profile, which names the accounts",
+        ),
+        BadOption::Rounding | BadOption::Within | BadOption::Decimals => Some(
+            "--rounding, --within and --decimals can't stand beside --profile, which says what they say",
+        ),
+        _ => None,
+    }
+}
+
 /// Returns the form that the value of an option has.
 fn form(option: BadOption) -> &'static str {
     match option {
+        BadOption::Show | BadOption::KeepAccepted => "--profile beside it",
         BadOption::Batch => "1 to 32 letters, digits, '.', '_' or '-', as in --batch broker",
         BadOption::PostBatch => "1 to 32 letters, digits, '.', '_' or '-', as in --batch 2024",
         BadOption::RowOf => "the batch of a broker file, as in --row-of broker --ref A17",

@@ -37,7 +37,7 @@ impl Call<'_> {
     pub fn runs(&self) -> Option<&'static str> {
         match self.action {
             Action::Post(_) | Action::PostRow { .. } => Some("commands"),
-            Action::Import(_) => Some("rows"),
+            Action::Import(_) | Action::ImportBy(_) => Some("rows"),
             _ => None,
         }
     }
@@ -65,6 +65,7 @@ pub fn path_of(action: &Action) -> &str {
         | Action::Verify { book, .. } => book.as_str(),
         Action::Post(post) => post.book.as_str(),
         Action::Import(import) => import.book.as_str(),
+        Action::ImportBy(import) => import.book.as_str(),
         Action::Restore(restore) => restore.book.as_str(),
     }
 }
@@ -77,6 +78,7 @@ pub fn rounding_of(action: &Action) -> Option<&Rounding>
         Action::Check { rounding } | Action::PostRow { rounding, .. } => rounding.as_ref(),
         Action::Post(post) => post.rounding.as_ref(),
         Action::Import(import) => import.rounding.as_ref(),
+        Action::ImportBy(import) => import.rounding.as_ref(),
         _ => None,
     }
 }

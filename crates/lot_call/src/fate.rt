@@ -66,6 +66,7 @@ fn keeps_all_or_none(action: &Action) -> bool
     match action {
         Action::Post(post) => matches!(post.keeping, Keeping::AllOrNone),
         Action::Import(import) => matches!(import.keeping, Keeping::AllOrNone),
+        Action::ImportBy(import) => matches!(import.keeping, Keeping::AllOrNone),
         _ => false,
     }
 }

@@ -9,14 +9,17 @@
 //!   output can't be written; `standing`: what stands in the place of its book.
 //! - `crumbs`: what became of the crumbs of commands; `taken`: what an account took of them, with the
 //!   `sums`. `watched`: all that is watched of commands.
+//! - `profile`: the profile of an import, as it is read from its file. `export`: what is said of a broker's export.
 #![tactic(auto)]
 
 mod arguments;
 mod call;
 mod crumbs;
+mod export;
 mod facts;
 mod fate;
 mod notes;
+mod profile;
 mod remains;
 mod remembered;
 mod standing;
@@ -29,9 +32,11 @@ mod watched;
 pub use arguments::understand;
 pub use call::{Call, path_of, rounding_of};
 pub use crumbs::Crumbs;
+pub use export::{say_aside, say_export_fault};
 pub use fate::Fate;
 pub use notes::{say_fate, say_why, sum_up};
-pub use remains::say_unwritten;
+pub use profile::{Loaded, load};
+pub use remains::{say_cut_short, say_unwritten};
 pub use remembered::Remembered;
 pub use standing::Standing;
 pub use status::{DONE, REFUSED, STOPPED, UNUSABLE, out_of_memory};

@@ -24,6 +24,8 @@ enum Remains {
     Commands { last: Option<u64>, from: u64 },
     /// The same of rows.
     Rows { last: Option<u64>, from: u64 },
+    /// What was accepted is in the book, and the same call goes on.
+    Accepted,
     /// All commands are in the book, or none. The same call tells.
     Whole,
 }
@@ -42,7 +44,7 @@ pub fn say_unwritten(call: &Call<'_>, heard: &Heard, fate: Fate) {
 }
 
 /// Says that standard output can't be written, and why.
-pub(crate) fn say_cut_short(rt: &HostRuntime, error: io::Error) {
+pub fn say_cut_short(rt: &HostRuntime, error: io::Error) {
     say(rt, error, Remains::Output);
 }
 
@@ -72,6 +74,7 @@ fn kept_of(action: &Action, course: &Course) -> Remains
     match (action, course.last) {
         (Action::Post(_) | Action::PostRow { .. }, Some(from)) => Remains::Commands { last, from },
         (Action::Import(_), Some(from)) => Remains::Rows { last, from },
+        (Action::ImportBy(_), Some(_)) => Remains::Accepted,
         (Action::Init { .. }, _) if course.faults == 0 => Remains::Made,
         (Action::Restore(_), _) => Remains::Made,
         (Action::Migrate { .. }, _) if course.faults == 0 => Remains::Migrated,
@@ -107,6 +110,9 @@ impl fmt::Display for Remains {
                 };
                 write!(f, "{reached}")
             }
+            Remains::Accepted => f.write_str(
+                "the same call, sent again, goes on: what is in the book is a `repeat`",
+            ),
             Remains::Whole => f.write_str(
                 "the same call, sent again, tells: where all is kept, each line says `repeat`",
             ),

@@ -64,7 +64,7 @@ impl Taken {
     fn say(&self, call: &Call<'_>, account: &Account) -> Result<(), AllocError> {
         let alloc = call.rt.alloc();
         let what = match call.action {
-            Action::Import(_) => "row",
+            Action::Import(_) | Action::ImportBy(_) => "row",
             _ => "command",
         };
         for (number, crumbs) in &self.first {

@@ -13,13 +13,16 @@ use lot_args::Action;
 use lot_base::Label;
 use lot_explain::{Source, list, nearest_code, notes};
 use lot_output::{Heard, Kept, Output};
+use lot_profile_text::{NOTES, SECTIONS, explain_profile};
 use sqlite::{Alter, Connection};
+use std::io::{self, Write};
 
-/// Tells what a code means, or what all do, and returns the status.
+/// Tells what a code means, or what all do, or what a profile may say, and returns the status.
 pub fn tell(rt: &HostRuntime, code: Option<&str>) -> u8 {
     let mut output = Output::new(rt, None);
     let told = match code {
         None => list(&mut output).and(Ok(true)),
+        Some("profile") => tell_profile(rt, &mut output).and(Ok(true)),
         Some(word) => lot_explain::explain(&mut output, word),
     };
     output.end();
@@ -31,6 +34,13 @@ pub fn tell(rt: &HostRuntime, code: Option<&str>) -> u8 {
             STOPPED
         }
     }
+}
+
+/// Writes all that a profile may say.
+fn tell_profile(rt: &HostRuntime, output: &mut Output<'_>) -> io::Result<()> {
+    let text = explain_profile(rt.alloc(), &SECTIONS, &NOTES)?;
+    output.write_all(text.as_bytes())?;
+    output.flush()
 }
 
 /// Says of a word that it is no code, and which is nearest to it.
@@ -92,6 +102,10 @@ fn source_of(action: &Action) -> (Source<'_>, u32) {
             let (batch, accounts) = (import.batch.as_str(), &import.accounts);
             (Source::Rows { batch, accounts }, import.from.number())
         }
+        Action::ImportBy(import) => {
+            let batch = import.batch.as_str();
+            (Source::Export { batch }, 1)
+        }
         Action::Post(post) => {
             let batch = post.batch.as_str();
             (Source::Text { batch }, post.from.number())
@@ -115,6 +129,7 @@ fn except_of(action: &Action) -> &[Label]
 {
     match action {
         Action::Import(import) => import.except.as_slice(),
+        Action::ImportBy(import) => import.except.as_slice(),
         _ => &[],
     }
 }

@@ -12,3 +12,4 @@ pub mod Headline
 pub mod Again
 pub mod Reopen
 pub mod AllOrNone
+pub mod Shows

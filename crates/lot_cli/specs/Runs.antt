@@ -20,6 +20,8 @@ use Rattle.lot_args.specs.declared.action.Keeping.TheVariants.{AllOrNone, Each}
 use Rattle.lot_atomic.specs.Replies.{RunsAll, number_at, replies_by}
 use Rattle.lot_import.specs.declared.accounts.Accounts.{Accounts}
 use Rattle.lot_input.specs.Input.{Gives, GivesNone, Reading}
+use Rattle.lot_input.specs.Exported.{ExportMeans, IsFaultyExport}
+use Rattle.lot_profile.specs.declared.profile.Profile.{Profile}
 use Rattle.lot_input.specs.Rows.{FileMeans, IsFaultyFile}
 use Rattle.lot_input.specs.Text.{IsFaultyText, RowMeans, TextMeans}
 use Rattle.lot_input.specs.declared.fault.InputFault.{InputFault}
@@ -197,6 +199,11 @@ abbrev pub Imports : List ℕ → Accounts → Option Rounding → ℕ → List 
     → Option (List ℕ) → WritesMade → Told → Type 0
 Imports batch accounts rounding from except =
     RunsInput (FileMeans batch accounts (decimals_of rounding) from except) (IsFaultyFile (decimals_of rounding) except) rounding
+
+-- a broker's export that is imported by a profile; the account for crumbs is that of the profile
+abbrev pub ImportsBy : List ℕ → Profile → Option Rounding → List (List ℕ) → Keeping → Reading → State → State → Option (List ℕ)
+    → Option (List ℕ) → WritesMade → Told → Type 0
+ImportsBy batch profile rounding except = RunsInput (ExportMeans batch profile except) (IsFaultyExport profile except) rounding
 
 -- ---- a command in place of a row
 

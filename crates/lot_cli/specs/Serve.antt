@@ -14,7 +14,7 @@ use Rattle.lot_cli.specs.Check.{Checks}
 use Rattle.lot_cli.specs.Init.{Makes}
 use Rattle.lot_cli.specs.Reports.{Reports, ShowsBook, verified_line}
 use Rattle.lot_cli.specs.Restore.{RestoresBook, terms_for}
-use Rattle.lot_cli.specs.Runs.{Imports, IsUntouched, Posts, PostsRow, unfit}
+use Rattle.lot_cli.specs.Runs.{Imports, ImportsBy, IsUntouched, Posts, PostsRow, unfit}
 use Rattle.lot_cli.specs.Says.{Halts, Succeeds, Told}
 use Rattle.lot_cli.specs.declared.halt.Halt.TheVariants as halt
 use Rattle.lot_cli.specs.declared.report.Report.TheVariants as report
@@ -28,7 +28,7 @@ use Rattle.lot_args.specs.declared.action.Action.{Action}
 use Rattle.lot_args.specs.declared.action.Saying.{Saying}
 use Rattle.lot_args.specs.declared.action.Saying.TheVariants.{Digest, Verified}
 use Rattle.lot_input.specs.Input.{Reading}
-use Rattle.lot_args.specs.declared.action.Action.TheVariants.{Check, Init, Migrate, Post, PostRow, Import, Holdings, Gains, Journal, Dump, Restore, Verify}
+use Rattle.lot_args.specs.declared.action.Action.TheVariants.{Check, Init, Migrate, Post, PostRow, Import, ImportBy, Holdings, Gains, Journal, Dump, Restore, Verify}
 use Rattle.std.specs.Io.KnownBytes.{Appends}
 
 -- ---- taking over a book of edition 1
@@ -107,6 +107,7 @@ ReadsNothing (Migrate book) = ⊤
 ReadsNothing (Post asked) = ⊥
 ReadsNothing (PostRow book batch reference rounding) = ⊥
 ReadsNothing (Import asked) = ⊥
+ReadsNothing (ImportBy asked) = ⊥
 ReadsNothing (Holdings book day format) = ⊤
 ReadsNothing (Gains book first last format) = ⊤
 ReadsNothing (Journal book) = ⊤
@@ -122,6 +123,7 @@ EndsWith (Init book) status = IsStatus status
 EndsWith (Migrate book) status = IsStatus status
 EndsWith (Post asked) status = IsStatus status
 EndsWith (Import asked) status = IsStatus status
+EndsWith (ImportBy asked) status = IsStatus status
 EndsWith (Holdings book day format) status = IsStatus status
 EndsWith (Gains book first last format) status = IsStatus status
 EndsWith (Journal book) status = IsStatus status
@@ -154,6 +156,8 @@ Serves (Post asked) c =
 Serves (PostRow book batch reference rounding) c = PostsRow batch reference rounding c.input c.old c.new c.before c.written c.calls c.told
 Serves (Import asked) c =
     Imports asked.batch asked.accounts asked.rounding asked.from asked.except.items asked.keeping c.input c.old c.new c.before c.written c.calls c.told
+Serves (ImportBy asked) c =
+    ImportsBy asked.batch asked.profile asked.rounding asked.except.items asked.keeping c.input c.old c.new c.before c.written c.calls c.told
 Serves (Holdings book day format) c = Reports (report.Holdings day format) c.old c.new c.before c.written c.calls c.told
 Serves (Gains book first last format) c = Reports (report.Gains first last format) c.old c.new c.before c.written c.calls c.told
 Serves (Journal book) c = Reports report.Journal c.old c.new c.before c.written c.calls c.told

@@ -7,7 +7,7 @@ ghost use Rattle.sqlite.specs.Tree.{Trees};
 
 use crate::crumbs::check_with;
 use crate::halt::Halt;
-use crate::import::import;
+use crate::import::{import, import_by};
 use crate::migration::migrate;
 use crate::post::{post, post_row};
 use crate::report::{Report, write_report};
@@ -18,6 +18,7 @@ use lot_args::Action;
 use lot_atomic::Look;
 use lot_check::check;
 use lot_completion::Watch;
+use lot_export::Aside;
 use lot_migrate::Progress;
 use lot_report::{CountedWrite, print_texts};
 use lot_store::{HandedBack, create};
@@ -40,7 +41,7 @@ pub struct Served<S: Alter> {
 /// - `init` makes a book in a database without tables, and writes `book ready`. It reads nothing.
 /// - `migrate` makes a book of edition 1 one of edition 2, in one commit, and writes `book migrated`. A book of edition 2 stays
 ///   as it is. It reads nothing.
-/// - `post` reads all that the reader has as ledger text, `import` as a broker file. Then the book is taken up, and the
+/// - `post` reads all that the reader has as ledger text, `import` as a broker file, or by a profile as a broker's export. Then the book is taken up, and the
 ///   commands, or those of the rows, are applied from the given number on, without the rows that are left out. Each is applied
 ///   in one commit, with a reply to each. Or all are, in one commit, or none where one is refused; the replies are written
 ///   behind that. A fault of the input changes nothing.
@@ -59,14 +60,14 @@ pub struct Served<S: Alter> {
 /// `post`, `import` and a check may have an account that takes crumbs. Then another command may be judged in the place of one that
 /// was handed in, and be the entry. A fault is one line (docs/FORMATS.md, Faults). `progress` is told how far a migration is, what
 /// becomes of crumbs, and, without such an account, what would balance a command that is refused for crumbs. It looks at the book
-/// that commands would have made of which none is kept. Returns the status of the program:
+/// that commands would have made of which none is kept, and is told what an export comes to. Returns the status of the program:
 ///
 /// - 0: all commands were accepted or repeated, the book was made, migrated or verified, or the report is whole;
 /// - 1: some commands were refused;
 /// - 2: the text for a row isn't one command;
 /// - 3: a fault of the input;
 /// - 4: a fault of the book, of the output or of memory. It goes before 1.
-pub fn serve<R: CountedRead, W: CountedWrite, P: Progress + Watch + Look, S: Alter>(
+pub fn serve<R: CountedRead, W: CountedWrite, P: Progress + Watch + Look + Aside, S: Alter>(
     alloc: Global,
     action: &Action,
     reader: &mut R,
@@ -119,6 +120,7 @@ pub fn serve<R: CountedRead, W: CountedWrite, P: Progress + Watch + Look, S: Alt
             )
         }
         Action::Import(asked) => import(alloc, asked, reader, writer, progress, conn),
+        Action::ImportBy(asked) => import_by(alloc, asked, reader, writer, progress, conn),
         Action::Holdings { day, format, .. } => {
             let asked = Report::Holdings {
                 day: *day,

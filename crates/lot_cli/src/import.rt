@@ -1,16 +1,17 @@
 ghost use Rattle.std.specs.Prelude.{◌≡◌, None, false, option_copied};
 ghost use Rattle.lot_stream.specs.Status.{IsStatus};
-ghost use Rattle.lot_cli.specs.Runs.{Imports, decimals_of};
+ghost use Rattle.lot_cli.specs.Runs.{Imports, ImportsBy, decimals_of};
 ghost use Rattle.sqlite.specs.Held.{state};
 
 use crate::action::Served;
 use crate::halt::Halt;
 use crate::run::{halted, run};
-use lot_args::Import;
+use lot_args::{Import, ImportBy};
 use lot_atomic::Look;
 use lot_completion::Watch;
+use lot_export::Aside;
 use lot_import::Numbered;
-use lot_input::keyed_rows;
+use lot_input::{keyed_export, keyed_rows};
 use lot_report::CountedWrite;
 use lot_rounding::{Decimals, Rounding};
 use lot_stream::CountedRead;
@@ -66,6 +67,50 @@ pub(crate) fn import<R: CountedRead, W: CountedWrite, N: Watch + Look, S: Alter>
             watch,
             conn,
         ),
+        Err(fault) => halted(writer, Halt::Input(fault), conn),
+    }
+}
+
+/// Posts the rows of a broker's export to the book that is there, as a profile says and without those that are left out, each under
+/// the key of its row in the batch. What the export comes to is told before its commands are run.
+///
+/// All that the reader has is read, and each row is understood, before the book is taken up.
+pub(crate) fn import_by<R: CountedRead, W: CountedWrite, N: Watch + Look + Aside, S: Alter>(
+    alloc: Global,
+    asked: &ImportBy,
+    reader: &mut R,
+    writer: &mut W,
+    watch: &mut N,
+    conn: Connection<S>,
+) -> Served<S>
+    requires outside { conn.in_transaction ≡ false }
+    requires unlimited { conn.step_limit ≡ None }
+    ensures imports { ImportsBy asked.now.batch asked.now.profile asked.now.rounding
+        asked.now.except.items asked.now.keeping (record {
+          bytes = R.remaining reader.old;
+          left = R.remaining reader.new;
+          calls = record { before = R.calls reader.old; after = R.calls reader.new };
+        }) (state S.Store conn) (state S.Store result.conn)
+        (W.contents writer.old) (W.contents writer.new) (record {
+          before = W.calls writer.old;
+          after = W.calls writer.new;
+        }) (record { status = result.status; halt = result.halt }) }
+    ensures status { IsStatus result.status }
+{
+    match keyed_export(alloc, &asked.batch, &asked.profile, &asked.except, reader) {
+        Ok(export) => {
+            watch.set_aside(&export);
+            run(
+                alloc,
+                &export.given.numbers,
+                &export.given.commands,
+                asked.rounding.as_ref(),
+                asked.keeping,
+                writer,
+                watch,
+                conn,
+            )
+        }
         Err(fault) => halted(writer, Halt::Input(fault), conn),
     }
 }

@@ -24,6 +24,7 @@ mod post;
 mod report;
 mod restoration;
 mod run;
+mod showing;
 mod unrestored;
 mod verification;
 
@@ -31,11 +32,12 @@ pub use action::{Served, serve};
 pub use difference::tell_differences;
 pub use halt::Halt;
 pub use lot_args::{
-    Action, BadOption, Batch, Effect, Format, Import, Keeping, Notes, Post, Request, Restore,
-    Start, WordsFault, parse_words,
+    Action, AskedImport, BadOption, Batch, Effect, Format, Import, ImportBy, Keeping, Notes, Post,
+    Request, Restore, Start, WordsFault, parse_words,
 };
 pub use lot_atomic::Look;
 pub use lot_completion::{Note, Watch};
+pub use lot_export::{Aside, Export, ExportFault};
 pub use lot_input::InputFault;
 pub use lot_migrate::{MigrateFault, Progress};
 pub use lot_parts::{CommandFault, DumpFault};
@@ -45,3 +47,4 @@ pub use lot_store::{AdoptFault, CreateFault};
 pub use lot_stream::{Counted, CountedRead, SlurpFault, Status, slurp};
 pub use lot_verify::VerifyFault;
 pub use run::say_halt;
+pub use showing::{Shown, show};

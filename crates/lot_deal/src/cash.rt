@@ -1,5 +1,8 @@
+ghost use Rattle.std.specs.Prelude.{◌≡◌, IfOk};
+
 use lot_base::{Account, Commodity};
 use lot_num::Units;
+use std::alloc::AllocError;
 
 /// Cash that comes in from an account, or goes out to it.
 pub struct Movement {
@@ -10,6 +13,20 @@ pub struct Movement {
     pub cash: Account,
     /// Where it comes from, or goes to.
     pub account: Account,
+}
+
+impl Movement {
+    /// Returns a copy. The only error is out of memory.
+    pub(crate) fn copy(&self) -> Result<Movement, AllocError>
+        ensures { IfOk result (λ movement. movement ≡ self.now) }
+    {
+        Ok(Movement {
+            amount: self.amount,
+            currency: self.currency.copy()?,
+            cash: self.cash.copy()?,
+            account: self.account.copy()?,
+        })
+    }
 }
 
 impl Drop for Movement {
@@ -30,6 +47,18 @@ pub struct Fee {
     pub amount: Units,
     /// The account of fees.
     pub account: Account,
+}
+
+impl Fee {
+    /// Returns a copy. The only error is out of memory.
+    pub(crate) fn copy(&self) -> Result<Fee, AllocError>
+        ensures { IfOk result (λ fee. fee ≡ self.now) }
+    {
+        Ok(Fee {
+            amount: self.amount,
+            account: self.account.copy()?,
+        })
+    }
 }
 
 impl Drop for Fee {
@@ -125,6 +154,8 @@ pub struct Exchange {
     pub fee: Option<Fee>,
     /// The other currency, where the row has it.
     pub other: Option<Movement>,
+    /// A fee in another currency than the movement's: it left the cash of its own currency for the account of fees.
+    pub beside: Option<Movement>,
 }
 
 impl Drop for Exchange {
@@ -134,6 +165,7 @@ impl Drop for Exchange {
             movement: _movement,
             fee: _fee,
             other: _other,
+            beside: _beside,
         } = self;
     }
 }

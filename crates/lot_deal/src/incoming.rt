@@ -14,8 +14,8 @@ pub struct Incoming {
     pub day: Option<Day>,
     /// The account of the units.
     pub invest: Account,
-    /// Where they come from.
-    pub account: Account,
+    /// Where they come from, or `None` where they cost nothing.
+    pub account: Option<Account>,
 }
 
 impl Drop for Incoming {

@@ -14,4 +14,4 @@ mod trade;
 pub use cash::{Booked, Exchange, Fee, Income, Movement, Tax, TaxApart};
 pub use deal::{Deal, Quote, Terms};
 pub use incoming::Incoming;
-pub use trade::{Cancellation, Sale, Trade, TradePrice};
+pub use trade::{Cancellation, Sale, Trade, TradePrice, Worth};

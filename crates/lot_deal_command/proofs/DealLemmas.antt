@@ -1,5 +1,5 @@
 -- A deal has a command where its terms have postings.
-use Rattle.std.proofs.Common.{◌≡◌, ◌⊎◌, inl, inr, List, [], ◌∷◌, ◌++◌, None, Some, Result, Ok, Err, IfOk, refl, subst, sym}
+use Rattle.std.proofs.Common.{◌≡◌, ◌⊎◌, inl, inr, List, ◌∷◌, ◌++◌, Result, Ok, Err, IfOk, refl, subst, sym}
 use Rattle.lot_num.specs.Amount.{IsUnits}
 use Rattle.lot_command.specs.declared.command.Command.{Command}
 use Rattle.lot_command.specs.declared.command.Command.TheVariants as Commands
@@ -16,24 +16,21 @@ use Rattle.lot_deal.specs.declared.trade.Cancellation.{Cancellation}
 use Rattle.lot_deal.specs.declared.trade.Sale.{Sale}
 use Rattle.lot_deal.specs.declared.trade.Trade.{Trade}
 use Rattle.lot_deal_command.specs.declared.fault.CommandFault.{CommandFault}
-use Rattle.lot_deal_command.specs.Cash.{cash_posting, from_account, gross, incoming_postings, moved, other_moved, received, taxed}
+use Rattle.lot_deal_command.specs.Cash.{cash_posting, from_account, gross, incoming_postings, moved, other_moved, paid_beside, received, taxed}
 use Rattle.lot_deal_command.specs.Deal.{ArePosted, ArePostings, HasCommand, HasPostings, IsCommandBy, IsCommandOf, quoting, transaction}
-use Rattle.lot_deal_command.specs.Posting.{elided, fee_postings, with_fee}
-use Rattle.lot_deal_command.specs.Trade.{HasSettlement, at_cost, at_price, settled}
+use Rattle.lot_deal_command.specs.Posting.{fee_postings, with_fee}
+use Rattle.lot_deal_command.specs.Trade.{cancellation_postings, purchase_postings, sale_postings}
 
 -- ---- Postings.
 
-pub purchase_posted : (trade : Trade) → HasSettlement trade → HasPostings (Buy trade)
-purchase_posted trade (settlement, settles) =
-    (at_cost trade None ∷ settled trade settlement, record { settlement = settlement; settles = settles; is = refl })
+pub purchase_posted : (terms : Terms) (trade : Trade) → terms ≡ Buy trade → HasPostings terms
+purchase_posted terms trade is = subst HasPostings (sym is) (purchase_postings trade, refl)
 
-pub sale_posted : (sale : Sale) → HasSettlement sale.trade → HasPostings (Sell sale)
-sale_posted sale (settlement, settles) =
-    (at_price sale.trade ∷ (settled sale.trade settlement ++ elided sale.gains ∷ []), record { settlement = settlement; settles = settles; is = refl })
+pub sale_posted : (terms : Terms) (sale : Sale) → terms ≡ Sell sale → HasPostings terms
+sale_posted terms sale is = subst HasPostings (sym is) (sale_postings sale, refl)
 
-pub cancellation_posted : (back : Cancellation) → HasSettlement back.trade → HasPostings (CancelBuy back)
-cancellation_posted back (settlement, settles) =
-    (at_cost back.trade (Some back.bought) ∷ settled back.trade settlement, record { settlement = settlement; settles = settles; is = refl })
+pub cancellation_posted : (terms : Terms) (back : Cancellation) → terms ≡ CancelBuy back → HasPostings terms
+cancellation_posted terms back is = subst HasPostings (sym is) (cancellation_postings back, refl)
 
 pub dividend_posted : (income : Income) → IsUnits (gross income.movement.amount income.tax) → HasPostings (Dividend income)
 dividend_posted income h =
@@ -41,8 +38,10 @@ dividend_posted income h =
 
 pub exchange_posted : (exchange : ExchangeOf) → IsUnits (with_fee exchange.movement.amount exchange.fee) → HasPostings (Exchange exchange)
 exchange_posted exchange h = (
-  cash_posting exchange.movement ∷ from_account exchange.movement (with_fee exchange.movement.amount exchange.fee)
-      ∷ (fee_postings exchange.fee exchange.movement.currency ++ other_moved exchange.other),
+  cash_posting exchange.movement
+      ∷ (fee_postings exchange.fee exchange.movement.currency
+      ++ (from_account exchange.movement (with_fee exchange.movement.amount exchange.fee)
+      ∷ (other_moved exchange.other ++ paid_beside exchange.beside))),
   record { in_range = h; is = refl },
 )
 

@@ -1,4 +1,3 @@
 pub mod BalanceLaws
 pub mod DealLemmas
 pub mod OneLaws
-pub mod WorthLemmas

@@ -1,5 +1,5 @@
 -- The postings of cash that comes in or goes out, and of units that come in for none (docs/FORMATS.md, Profiles).
-use Rattle.std.specs.Prelude.{◌≡◌, List, [], ◌∷◌, ◌++◌, Option, Some, None, ℤ, ◌+ℤ◌, neg_ℤ}
+use Rattle.std.specs.Prelude.{◌≡◌, ℕ, List, [], ◌∷◌, ◌++◌, Option, Some, None, ℤ, ◌+ℤ◌, neg_ℤ}
 use Rattle.lot_num.specs.Amount.{IsUnits}
 use Rattle.lot_command.specs.declared.transaction.Posting.{Posting}
 use Rattle.lot_deal.specs.declared.cash.Booked.{Booked}
@@ -22,6 +22,11 @@ from_account movement amount = plain movement.account (neg_ℤ amount) movement.
 
 abbrev pub moved : Movement → List Posting
 moved movement = cash_posting movement ∷ from_account movement movement.amount ∷ []
+
+-- a fee that was paid beside an amount, to its account and out of its cash
+abbrev pub paid_beside : Option Movement → List Posting
+paid_beside None = []
+paid_beside (Some movement) = from_account movement movement.amount ∷ cash_posting movement ∷ []
 
 -- ---- Income.
 
@@ -66,17 +71,24 @@ abbrev pub other_moved : Option Movement → List Posting
 other_moved None = []
 other_moved (Some movement) = moved movement
 
--- the postings of an exchange: each amount against the account of the other side, with the fee that was paid out of the first
+-- The postings of an exchange: each amount against the account of the other side, with the fee that was paid out of the first, and
+-- the fee that was paid beside.
 pub record AreOfExchange (exchange : Exchange) (postings : List Posting) : Type 0 where
   pub in_range : IsUnits (with_fee exchange.movement.amount exchange.fee)
   pub is : postings
       ≡ cash_posting exchange.movement
-      ∷ from_account exchange.movement (with_fee exchange.movement.amount exchange.fee)
-      ∷ (fee_postings exchange.fee exchange.movement.currency ++ other_moved exchange.other)
+      ∷ (fee_postings exchange.fee exchange.movement.currency
+      ++ (from_account exchange.movement (with_fee exchange.movement.amount exchange.fee)
+      ∷ (other_moved exchange.other ++ paid_beside exchange.beside)))
 
 -- ---- Units that come in for no cash.
+
+-- the cost, from where the units come
+abbrev pub cost_from : Option (List ℕ) → Incoming → List Posting
+cost_from None incoming = []
+cost_from (Some account) incoming = plain account (neg_ℤ incoming.cost) incoming.currency ∷ []
 
 abbrev pub incoming_postings : Incoming → List Posting
 incoming_postings incoming =
     held incoming.invest incoming.units incoming.symbol (whole_cost incoming.cost incoming.currency incoming.day) None
-    ∷ plain incoming.account (neg_ℤ incoming.cost) incoming.currency ∷ []
+    ∷ cost_from incoming.account incoming

@@ -10,14 +10,14 @@ use Rattle.lot_deal.specs.declared.deal.Quote.{Quote}
 use Rattle.lot_deal.specs.declared.deal.Terms.{Terms}
 use Rattle.lot_deal.specs.declared.deal.Terms.TheVariants.{Buy, CancelBuy, Deposit, Dividend, Exchange, Fee, Interest, Price, Reward, Sell, Tax, TransferIn, Withdrawal}
 use Rattle.lot_deal_command.specs.Cash.{AreOfExchange, AreOfIncome, incoming_postings, moved}
-use Rattle.lot_deal_command.specs.Trade.{AreOfCancellation, AreOfPurchase, AreOfSale}
+use Rattle.lot_deal_command.specs.Trade.{cancellation_postings, purchase_postings, sale_postings}
 
 -- ---- The postings of a deal, by its kind. A price has none.
 
 abbrev pub ArePostings : Terms → List Posting → Type 0
-ArePostings (Buy trade) postings = AreOfPurchase trade postings
-ArePostings (Sell sale) postings = AreOfSale sale postings
-ArePostings (CancelBuy cancellation) postings = AreOfCancellation cancellation postings
+ArePostings (Buy trade) postings = postings ≡ purchase_postings trade
+ArePostings (Sell sale) postings = postings ≡ sale_postings sale
+ArePostings (CancelBuy back) postings = postings ≡ cancellation_postings back
 ArePostings (Dividend income) postings = AreOfIncome income postings
 ArePostings (Interest income) postings = AreOfIncome income postings
 ArePostings (Tax movement) postings = postings ≡ moved movement

@@ -2,7 +2,7 @@
 ghost use Rattle.std.specs.Prelude.{◌≡◌, ◌++◌, IfOk, IfErr, OnOk, SomeIff, Err};
 ghost use Rattle.lot_num.specs.Amount.{IsUnits};
 ghost use Rattle.lot_deal_command.specs.declared.fault.CommandFault.TheVariants.{Memory, TooLarge};
-ghost use Rattle.lot_deal_command.specs.Cash.{AreOfExchange, AreOfIncome, cash_posting, from_account, gross, moved, other_moved, received, taxed};
+ghost use Rattle.lot_deal_command.specs.Cash.{AreOfExchange, AreOfIncome, cash_posting, from_account, gross, moved, other_moved, paid_beside, received, taxed};
 ghost use Rattle.lot_deal_command.specs.Posting.{with_fee};
 
 use crate::fault::CommandFault;
@@ -54,11 +54,12 @@ pub(crate) fn exchange(alloc: Global, exchange: &Exchange) -> Result<Items<Posti
     };
     let mut all = Items::new(alloc);
     all.push(cash_posting(movement)?)?;
-    all.push(from_account(movement, whole)?)?;
     push_fee(&mut all, &exchange.fee, &movement.currency)?;
+    all.push(from_account(movement, whole)?)?;
     if let Some(other) = &exchange.other {
         push_moved(&mut all, other)?;
     }
+    push_beside(&mut all, &exchange.beside)?;
     Ok(all)
 }
 
@@ -68,6 +69,20 @@ fn push_moved(all: &mut Items<Posting>, movement: &Movement) -> Result<(), Alloc
 {
     all.push(cash_posting(movement)?)?;
     all.push(from_account(movement, movement.amount)?)?;
+    Ok(())
+}
+
+/// Appends the postings of a fee that was paid beside an amount, where there is one.
+pub(crate) fn push_beside(
+    all: &mut Items<Posting>,
+    beside: &Option<Movement>,
+) -> Result<(), AllocError>
+    ensures { OnOk result (all.new ≡ all.old ++ paid_beside beside.now) }
+{
+    if let Some(movement) = beside {
+        all.push(from_account(movement, movement.amount)?)?;
+        all.push(cash_posting(movement)?)?;
+    }
     Ok(())
 }
 

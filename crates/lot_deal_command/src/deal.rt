@@ -16,9 +16,8 @@ use std::alloc::{AllocError, Global};
 /// Returns the command that a deal stands for: of a price a quotation, of each other deal a transaction (docs/FORMATS.md,
 /// Profiles).
 ///
-/// The error is `TooLarge` exactly where a number that is posted, and that the deal doesn't say, isn't units: the amount with the
-/// fee or with the tax in it, or what units are worth at a price in another currency. This is tested first. Else it is out of
-/// memory.
+/// The error is `TooLarge` exactly where a number that is posted, and that the deal doesn't say, isn't units: the amount of income
+/// with the tax in it, or that of an exchange with the fee in it. This is tested first. Else it is out of memory.
 pub fn command(alloc: Global, deal: &Deal) -> Result<Command, CommandFault>
     ensures ok { IfOk result (IsCommandOf deal.now) }
     ensures too_large { result ≡ Err TooLarge → HasCommand deal.now → ⊥ }

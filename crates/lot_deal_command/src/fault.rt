@@ -4,7 +4,7 @@ use thiserror::Error;
 /// Why a deal has no command.
 #[derive(Clone, Copy, Debug, PartialEq, Eq, Error)]
 pub enum CommandFault {
-    /// A sum that is posted is out of the range of units, or what units are worth at their price is.
+    /// A sum that is posted is out of the range of units.
     #[error("a sum of its amounts is too large")]
     TooLarge,
     /// Out of memory.

@@ -26,10 +26,8 @@ pub(crate) fn received_units(
         cost,
         None,
     )?)?;
-    all.push(plain(
-        &incoming.account,
-        incoming.cost.negated(),
-        &incoming.currency,
-    )?)?;
+    if let Some(account) = &incoming.account {
+        all.push(plain(account, incoming.cost.negated(), &incoming.currency)?)?;
+    }
     Ok(all)
 }

@@ -1,63 +1,49 @@
 //! The postings of what is bought, sold or taken back.
-ghost use Rattle.std.specs.Prelude.{◌≡◌, ℕ, List, IfOk, IfErr, Err};
-ghost use Rattle.lot_deal_command.specs.declared.fault.CommandFault.TheVariants.{Memory, TooLarge};
-ghost use Rattle.lot_deal_command.specs.Trade.{AreOfCancellation, AreOfPurchase, AreOfSale, HasSettlement, at_cost, at_price, cost_by, price_by};
+ghost use Rattle.std.specs.Prelude.{◌≡◌, IfOk, IfErr};
+ghost use Rattle.lot_deal_command.specs.declared.fault.CommandFault.TheVariants.{Memory};
+ghost use Rattle.lot_deal_command.specs.Trade.{at_cost, at_price, cancellation_postings, cost_by, price_by, purchase_postings, sale_postings};
 
 use crate::fault::CommandFault;
 use crate::posting::{any_cost, elided, held, unit_cost, whole_cost, whole_price};
-use crate::settlement::{price_currency, push_settlement, settlement_of};
+use crate::settlement::{currency, push_settlement};
 use lot_base::Day;
 use lot_command::{Cost, Items, Posting, Price, UnitPrice};
 use lot_deal::{Cancellation, Sale, Trade};
 use std::alloc::{AllocError, Global};
 
-/// Returns the postings of a purchase.
+/// Returns the postings of a purchase. The only error is out of memory.
 pub(crate) fn purchase(alloc: Global, trade: &Trade) -> Result<Items<Posting>, CommandFault>
-    ensures ok { IfOk result (AreOfPurchase trade.now) }
-    ensures too_large { result ≡ Err TooLarge → HasSettlement trade.now → ⊥ }
-    ensures memory { result ≡ Err Memory → HasSettlement trade.now }
+    ensures ok { IfOk result (λ all. all ≡ purchase_postings trade.now) }
+    ensures memory { IfErr result (λ fault. fault ≡ Memory) }
 {
-    let Some(settlement) = settlement_of(trade) else {
-        return Err(CommandFault::TooLarge);
-    };
     let mut all = Items::new(alloc);
     all.push(at_cost(trade, None)?)?;
-    push_settlement(&mut all, trade, settlement)?;
+    push_settlement(&mut all, trade)?;
     Ok(all)
 }
 
-/// Returns the postings of a purchase that is taken back.
+/// Returns the postings of a purchase that is taken back. The only error is out of memory.
 pub(crate) fn cancellation(
     alloc: Global,
-    cancellation: &Cancellation,
+    back: &Cancellation,
 ) -> Result<Items<Posting>, CommandFault>
-    ensures ok { IfOk result (AreOfCancellation cancellation.now) }
-    ensures too_large { result ≡ Err TooLarge → HasSettlement cancellation.now.trade → ⊥ }
-    ensures memory { result ≡ Err Memory → HasSettlement cancellation.now.trade }
+    ensures ok { IfOk result (λ all. all ≡ cancellation_postings back.now) }
+    ensures memory { IfErr result (λ fault. fault ≡ Memory) }
 {
-    let trade = &cancellation.trade;
-    let Some(settlement) = settlement_of(trade) else {
-        return Err(CommandFault::TooLarge);
-    };
     let mut all = Items::new(alloc);
-    all.push(at_cost(trade, Some(cancellation.bought))?)?;
-    push_settlement(&mut all, trade, settlement)?;
+    all.push(at_cost(&back.trade, Some(back.bought))?)?;
+    push_settlement(&mut all, &back.trade)?;
     Ok(all)
 }
 
-/// Returns the postings of a sale.
+/// Returns the postings of a sale. The only error is out of memory.
 pub(crate) fn sale(alloc: Global, sale: &Sale) -> Result<Items<Posting>, CommandFault>
-    ensures ok { IfOk result (AreOfSale sale.now) }
-    ensures too_large { result ≡ Err TooLarge → HasSettlement sale.now.trade → ⊥ }
-    ensures memory { result ≡ Err Memory → HasSettlement sale.now.trade }
+    ensures ok { IfOk result (λ all. all ≡ sale_postings sale.now) }
+    ensures memory { IfErr result (λ fault. fault ≡ Memory) }
 {
-    let trade = &sale.trade;
-    let Some(settlement) = settlement_of(trade) else {
-        return Err(CommandFault::TooLarge);
-    };
     let mut all = Items::new(alloc);
-    all.push(at_price(trade)?)?;
-    push_settlement(&mut all, trade, settlement)?;
+    all.push(at_price(&sale.trade)?)?;
+    push_settlement(&mut all, &sale.trade)?;
     all.push(elided(&sale.gains)?)?;
     Ok(all)
 }
@@ -75,7 +61,7 @@ fn cost(trade: &Trade, day: Option<Day>) -> Result<Cost, AllocError>
     ensures { IfOk result (λ cost. cost ≡ cost_by trade.now.price trade.now day) }
 {
     match &trade.price {
-        Some(price) => unit_cost(price.rate, price_currency(trade), day),
+        Some(price) => unit_cost(price.rate, currency(&price.worth, &trade.currency), day),
         None => whole_cost(trade.amount, &trade.currency, day),
     }
 }
@@ -101,7 +87,7 @@ fn price(trade: &Trade) -> Result<Price, AllocError>
     match &trade.price {
         Some(price) => Ok(Price::Each(UnitPrice {
             rate: price.rate,
-            currency: price_currency(trade).copy()?,
+            currency: currency(&price.worth, &trade.currency).copy()?,
         })),
         None => whole_price(trade.amount, &trade.currency),
     }

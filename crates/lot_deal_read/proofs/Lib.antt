@@ -1,1 +1,4 @@
-pub mod ValueLemmas
+pub mod KindLemmas
+pub mod RatioLemmas
+pub mod SignLemmas
+pub mod WorthLemmas

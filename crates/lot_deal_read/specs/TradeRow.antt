@@ -1,88 +1,81 @@
--- What a row of a purchase or of a sale says, and the trade that it comes to (docs/FORMATS.md, Profiles).
-use Rattle.std.specs.Prelude.{◌≡◌, ℕ, Bool, false, not, ◌&&◌, if◌then◌else◌, List, Option, Some, None, ℤ, pos}
-use Rattle.std.specs.Ordering.{int_eq}
-use Rattle.lot_num.specs.Amount.{one}
-use Rattle.lot_deal.specs.declared.cash.Fee.{Fee}
-use Rattle.lot_deal.specs.declared.trade.Trade.{Trade}
-use Rattle.lot_deal.specs.declared.trade.TradePrice.{TradePrice}
+-- What a row of a purchase or of a sale says (docs/FORMATS.md, Profiles).
+use Rattle.std.specs.Prelude.{ℕ, Bool, true, false, Option, Some, Ok, ℤ, neg_ℤ}
+use Rattle.lot_base.specs.Text.{same_text}
 use Rattle.lot_profile.specs.declared.basis.CostBasis.{CostBasis}
-use Rattle.lot_profile.specs.declared.basis.CostBasis.TheVariants.{Amount as ByAmount, Price as ByPrice}
-use Rattle.lot_deal_read.specs.Currency.{is_in, other_than}
-use Rattle.lot_deal_read.specs.Figures.{Agree}
-use Rattle.lot_deal_read.specs.declared.figures.Figures.{Figures}
-use Rattle.lot_deal_read.specs.declared.figures.Places.{Places}
-use Rattle.lot_deal_read.specs.declared.trades.TradeAccounts.{TradeAccounts}
-use Rattle.lot_deal_read.specs.declared.trades.TradeRow.{TradeRow}
+use Rattle.lot_profile.specs.declared.basis.CostBasis.TheVariants as cost
+use Rattle.lot_profile.specs.declared.role.Role.TheVariants as role
+use Rattle.lot_roles.specs.Numbers.{rate_of}
+use Rattle.lot_roles.specs.Reading.{Read, ◌>>=◌, or_fault}
+use Rattle.lot_roles.specs.Rules.{has_sources}
+use Rattle.lot_roles.specs.declared.fault.RowFault.TheVariants.{PriceApart, TooLarge}
+use Rattle.lot_roles.specs.declared.rules.Rules.{Rules}
+use Rattle.lot_sheet.specs.Sheet.{SheetRow}
+use Rattle.lot_deal_read.specs.Money.{apart_from, fee_of, so_much, within_currency}
+use Rattle.lot_deal_read.specs.Needed.{amount_in, currency_in, currency_or, must, needed, price_in, symbol_in, units_in}
+use Rattle.lot_deal_read.specs.Worth.{worth_of}
+use Rattle.lot_deal_read.specs.declared.money.Money.{Money}
+use Rattle.lot_deal_read.specs.declared.trade_row.Pricing.{Pricing}
+use Rattle.lot_deal_read.specs.declared.trade_row.Pricing.TheVariants as pricing
+use Rattle.lot_deal_read.specs.declared.trade_row.TradeRow.{TradeRow}
 
--- ---- What can be compared.
+-- ---- The price.
 
--- how much of the price's currency one of the cash's is, where that is known
-abbrev pub tie_of : TradeRow → Option ℕ
-tie_of row = if is_in row.currency row.price_currency then Some one else row.rate
+-- the price, which a row needs where it is the cost
+abbrev pub pricing_by : CostBasis → Rules → SheetRow → Read Pricing
+pricing_by cost.Amount rules row = rate_of rules row role.Price >>= λ price. Ok (pricing.Printed price)
+pricing_by cost.Price rules row = price_in rules row >>= λ price. Ok (pricing.Cost price)
 
--- so much of a fee is in the amount: one in another currency isn't known to be
-abbrev pub fee_by : Option ℤ → Bool → Option ℤ
-fee_by None in_currency = Some (pos 0)
-fee_by (Some fee) in_currency = if in_currency then Some fee else None
+abbrev pub price_of : Pricing → Option ℕ
+price_of (pricing.Printed price) = price
+price_of (pricing.Cost price) = Some price
 
-abbrev pub fee_in : TradeRow → Option ℤ
-fee_in row = fee_by row.fee (is_in row.currency row.fee_currency)
+-- ---- All that it says, but the amount.
 
-abbrev pub figures_with : TradeRow → Option ℕ → Option ℤ → Option ℕ → Option Figures
-figures_with row (Some price) (Some fee) (Some rate) =
-    Some (record { units = row.units; price = price; amount = row.amount; fee = fee; rate = rate })
-figures_with row _ _ _ = None
+unfoldable pub trade_row_of : Rules → SheetRow → Read TradeRow
+trade_row_of rules row = do
+  symbol ← symbol_in rules row
+  units ← units_in rules row
+  currency ← currency_in rules row role.Currency
+  pricing ← pricing_by rules.profile.now.basis.cost rules row
+  price_currency ← currency_or rules row role.PriceCurrency currency
+  fee ← fee_of rules row currency
+  Ok (record { symbol = symbol; units = units; currency = currency; pricing = pricing; price_currency = price_currency; fee = fee })
 
--- the numbers of a row that can be compared: where units, price, fee and amount are in one currency, or a rate ties the two
-abbrev pub figures_of : TradeRow → Option Figures
-figures_of row = figures_with row row.price (fee_in row) (tie_of row)
+-- ---- The fee: one in the currency of the cash, or in that of the price, is in the amount; one in a third was paid beside it.
 
--- the numbers of a row agree, as far as they can be compared
-abbrev pub NumbersAgree : Places → ℤ → Option Figures → Type 0
-NumbersAgree places within None = Unit {0}
-NumbersAgree places within (Some figures) = Agree places within figures
+-- how much of it is in the currency of the cash
+abbrev pub cash_fee : TradeRow → ℤ
+cash_fee said = so_much (within_currency said.currency said.fee)
 
--- ---- The trade.
+-- how much of it is in the currency of the price, where that is another
+abbrev pub price_fee : TradeRow → ℤ
+price_fee said = so_much (within_currency said.price_currency (apart_from said.currency said.fee))
 
--- whether a fee isn't in the currency of the cash; no fee, and a fee of zero, is in any
-abbrev pub is_other_fee : Option ℤ → Bool → Bool
-is_other_fee None in_currency = false
-is_other_fee (Some fee) in_currency = not (int_eq fee (pos 0)) && not in_currency
+-- the fee in a third currency
+abbrev pub third_fee : TradeRow → Option Money
+third_fee said = apart_from said.price_currency (apart_from said.currency said.fee)
 
-abbrev pub has_other_fee : TradeRow → Bool
-has_other_fee row = is_other_fee row.fee (is_in row.currency row.fee_currency)
+-- whether the price is in the currency of the cash
+abbrev pub has_one_currency : TradeRow → Bool
+has_one_currency said = same_text said.price_currency said.currency
 
--- the fee that is posted to the account, unless it is zero
-abbrev pub posted_fee : Option ℤ → List ℕ → Option Fee
-posted_fee None account = None
-posted_fee (Some fee) account = if int_eq fee (pos 0) then None else Some (record { amount = fee; account = account })
+-- ---- The amount.
 
--- the price of a trade whose cost is the price: the row has a price, and its fee is in the currency of the cash
-pub record IsPriceOf (row : TradeRow) (accounts : TradeAccounts) (price : TradePrice) : Type 0 where
-  pub rate : row.price ≡ Some price.rate
-  pub in_currency : has_other_fee row ≡ false
-  pub currency : price.currency ≡ other_than row.currency row.price_currency
-  pub fee : price.fee ≡ posted_fee row.fee accounts.fees
+-- what the cash got by units, price and fee, in one currency
+abbrev pub by_price : TradeRow → ℕ → Read ℤ
+by_price said price = or_fault (TooLarge role.Amount) (worth_of said.units price (cash_fee said)) >>= λ worth. Ok (neg_ℤ worth)
 
--- the trade of a row with that price
-abbrev pub trade_with : TradeRow → TradeAccounts → Option TradePrice → Trade
-trade_with row accounts price = record {
-  symbol = row.symbol;
-  units = row.units;
-  amount = row.amount;
-  currency = row.currency;
-  price = price;
-  invest = accounts.invest;
-  cash = accounts.cash;
-}
+-- the amount that no column has
+abbrev pub worked_out : TradeRow → Read ℤ
+worked_out said = do
+  price ← needed role.Price (price_of said.pricing)
+  _ ← must PriceApart (has_one_currency said)
+  by_price said price
 
--- the price is that of a trade: none where the amount is the cost
-abbrev pub IsPriceBy : CostBasis → TradeRow → TradeAccounts → Option TradePrice → Type 0
-IsPriceBy ByAmount row accounts price = price ≡ None
-IsPriceBy ByPrice row accounts None = ⊥
-IsPriceBy ByPrice row accounts (Some price) = IsPriceOf row accounts price
+abbrev pub amount_by : Bool → Rules → SheetRow → TradeRow → Read ℤ
+amount_by true rules row said = amount_in rules row role.Amount
+amount_by false rules row said = worked_out said
 
--- a trade is that of a row
-pub record IsTradeOf (row : TradeRow) (cost : CostBasis) (accounts : TradeAccounts) (trade : Trade) : Type 0 where
-  pub price : IsPriceBy cost row accounts trade.price
-  pub is : trade ≡ trade_with row accounts trade.price
+-- The amount: where the profile names a column for it, what that says and nothing else.
+abbrev pub amount_for : Rules → SheetRow → TradeRow → Read ℤ
+amount_for rules row said = amount_by (has_sources rules role.Amount) rules row said

@@ -1,28 +1,38 @@
-//! What the reading of a row of a broker's file holds to (docs/FORMATS.md, Profiles).
+//! What a row of a broker's file says (docs/FORMATS.md, Profiles).
 //!
+//! - `row`: what a row says by the rules of its table and its kind (`read_row`), and how many numbers were rounded
+//!   (`rounded_numbers`).
+//! - `says`: `RowSays`, what that is.
+//! - `trades`, `movements`, `incomes`, `exchanges`, `incomings`, `splits`, `quotes`: that by its kind.
+//! - `trade_row`: what a row of a purchase or of a sale says.
+//! - `comparison`: whether that agrees.
 //! - `figures`: the numbers of a trade, and whether they agree, so that a digit that was misread shows.
-//! - `signs`: whether the numbers of a deal have the signs of its kind.
-//! - `naming`: the account that a profile names by pieces.
-//! - `trades`: what a row of a purchase or of a sale says, whether its numbers agree, and the trade that it comes to.
-//! - `incomes`: what a row of a dividend or of interest says, and the income that it comes to.
-//! - `exchanges`: what a row of an exchange says, and the exchange that it comes to.
-//! - `rewards`: what the units of a reward count as.
-//! - `currency`: whether something is in a currency.
+//! - `fees`: how a fee is posted.
+//! - `pricing`: what units are worth at a price.
+//! - `money`: an amount of a currency that a row says.
+//! - `needed`: what a kind needs of a row.
+//! - `words`: the word of each kind, and the roles whose numbers it uses.
+//! - `laws`: laws of the definitions that the contract of `read_row` cites.
 #![tactic(auto)]
 
-mod currency;
+mod comparison;
 mod exchanges;
+mod fees;
 mod figures;
 mod incomes;
-mod naming;
-mod rewards;
-mod signs;
+mod incomings;
+pub mod laws;
+mod money;
+mod movements;
+mod needed;
+mod pricing;
+mod quotes;
+mod row;
+mod says;
+mod splits;
+mod trade_row;
 mod trades;
+mod words;
 
-pub use exchanges::{ExchangeAccounts, ExchangeFault, ExchangeRow, exchange};
-pub use figures::{Figures, Places};
-pub use incomes::{IncomeAccounts, IncomeFault, IncomeRow, income};
-pub use naming::named_account;
-pub use rewards::{RewardFault, reward_cost};
-pub use signs::has_signs;
-pub use trades::{TradeAccounts, TradeFault, TradeRow, numbers_agree, trade};
+pub use row::{read_row, rounded_numbers};
+pub use says::{Compared, Dated, RowSays, Saying};

@@ -30,6 +30,10 @@ pub enum Source<'a> {
         batch: &'a str,
         accounts: &'a Accounts,
     },
+    /// A broker's export, whose rows are posted by a profile.
+    Export {
+        batch: &'a str,
+    },
     /// A dump, which isn't kept.
     Dump,
 }
@@ -73,7 +77,7 @@ impl<'a> Call<'a> {
         let (word, batch, name) = match self.source {
             Source::Text { batch } => ("post", batch, name),
             Source::Row { batch, reference } => ("import", batch, reference),
-            Source::Rows { batch, .. } => ("import", batch, name),
+            Source::Rows { batch, .. } | Source::Export { batch } => ("import", batch, name),
             Source::Dump => ("", "", name),
         };
         Key { word, batch, name }
@@ -118,7 +122,7 @@ pub fn notes<W: Write, B: Known>(
     match &reading {
         Reading::Text { .. } => warn_of_text(alloc, &mut warnings, book, call)?,
         Reading::Rows { rows, .. } => warn_of_rows(alloc, &mut warnings, call, rows)?,
-        Reading::Dump => {}
+        Reading::Export | Reading::Dump => {}
     }
     warnings.end()
 }

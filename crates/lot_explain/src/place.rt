@@ -25,6 +25,8 @@ pub(crate) enum Place<'a> {
     },
     /// The command or row of that number, from 1, whose line isn't known.
     Number(usize),
+    /// The row of that number of a broker's export, from 1.
+    RowNumber(usize),
     /// The line of that number, from 1, which isn't kept.
     Unkept(usize),
     /// The whole input.
@@ -38,7 +40,7 @@ impl<'a> Place<'a> {
             Place::Line { line, .. } | Place::Command { line, .. } | Place::Row { line, .. } => {
                 Some(Shown(line.trim_ascii_start()))
             }
-            Place::Number(_) | Place::Unkept(_) | Place::Whole => None,
+            Place::Number(_) | Place::RowNumber(_) | Place::Unkept(_) | Place::Whole => None,
         }
     }
 }
@@ -57,6 +59,7 @@ impl fmt::Display for Place<'_> {
                 write!(f, "row {row} ({name}): ")
             }
             Place::Number(number) => write!(f, "number {number}: "),
+            Place::RowNumber(number) => write!(f, "row {number}: "),
             Place::Unkept(number) => write!(f, "line {number}: "),
             Place::Whole => Ok(()),
         }

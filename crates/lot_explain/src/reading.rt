@@ -22,6 +22,8 @@ pub(crate) enum Reading<'a> {
         accounts: &'a Accounts,
         records: Records<'a>,
     },
+    /// A broker's export, which is read by a profile.
+    Export,
     /// A dump, of which nothing is kept.
     Dump,
 }
@@ -43,6 +45,7 @@ impl<'a> Reading<'a> {
                 accounts,
                 records: Records::new(alloc, call.input)?,
             },
+            Source::Export { .. } => Reading::Export,
             Source::Dump => Reading::Dump,
         })
     }
@@ -50,7 +53,7 @@ impl<'a> Reading<'a> {
     /// Returns the first record of a broker file as it stands there, without blanks around it.
     pub(crate) fn header(&self) -> &[u8] {
         match self {
-            Reading::Text { .. } | Reading::Dump => b"",
+            Reading::Text { .. } | Reading::Export | Reading::Dump => b"",
             Reading::Rows { records, .. } => records.header.trim_ascii(),
         }
     }
@@ -73,6 +76,7 @@ impl<'a> Reading<'a> {
                 None => Place::Number(number),
             }),
             Reading::Rows { records, .. } => records.go_to(number),
+            Reading::Export => Ok(Place::RowNumber(number)),
             Reading::Dump => Ok(Place::Unkept(number)),
         }
     }

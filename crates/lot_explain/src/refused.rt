@@ -54,6 +54,8 @@ pub(crate) fn note_lines<W: Write, B: Known>(
             Some(said) if said.code.starts_with('X') && !matches!(reading, Reading::Dump) => {
                 faulty_lines(alloc, notes, call.input)?;
             }
+            // What is wrong with an export is said by who knows its profile.
+            Some(said) if said.code.starts_with('C') && matches!(reading, Reading::Export) => {}
             Some(said) if said.code == "C2" => faulty_rows(alloc, notes, call.input)?,
             Some(said) => note_said(alloc, notes, book, call, reading, &said)?,
             None => {}
@@ -167,7 +169,7 @@ fn known<'a, B: Known>(
             },
             None => Ok(String::new(alloc)),
         },
-        Reading::Dump => Ok(String::new(alloc)),
+        Reading::Export | Reading::Dump => Ok(String::new(alloc)),
     }
 }
 

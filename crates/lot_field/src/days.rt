@@ -72,6 +72,13 @@ impl Time {
         }
     }
 
+    /// Returns how many seconds since midnight it is.
+    pub fn seconds(self) -> u32
+        ensures { result ≡ self }
+    {
+        self.seconds
+    }
+
     /// Returns the time that a field begins with, as `9:05` or `09:05:30`, or `None` where it begins with none. What is behind
     /// it is read over (docs/FORMATS.md, Profiles).
     pub fn read(field: &str) -> Option<Time>

@@ -3,7 +3,9 @@ ghost use Rattle.lot_report.specs.Output.{HasFailed, NoneFailed};
 ghost use Rattle.lot_report.specs.Written.{WritesLine};
 ghost use Rattle.lot_input.specs.InputLine.{cash_line, cause_name, input_line, memory_line, rows_line, status_of_cash, status_of_input, status_of_rows};
 
+use crate::export_fault::{print_export_fault, status_of_export};
 use itoa::Buffer;
+use lot_export::ExportFault;
 use lot_import::{Cause, KeyedFault, RowsFault};
 use lot_report::{CountedWrite, PrintFault, print_texts};
 use lot_stream::{Fault, SlurpFault, Status, print_fault};
@@ -29,6 +31,9 @@ pub enum InputFault {
     /// The cash that one of its rows moves isn't units.
     #[error("{0}")]
     Cash(KeyedFault),
+    /// It is a broker's export that comes to nothing by its profile.
+    #[error("{0}")]
+    Export(ExportFault),
     /// Out of memory for the keys of the commands of ledger text.
     #[error("out of memory")]
     Memory,
@@ -99,6 +104,7 @@ impl InputFault {
             InputFault::Text(fault) => Fault::from(fault).status(),
             InputFault::Rows(fault) => status_of_rows(fault),
             InputFault::Cash(fault) => status_of_cash(fault),
+            InputFault::Export(fault) => status_of_export(fault),
             InputFault::Unasked | InputFault::Memory => Status::Stopped,
         }
     }
@@ -121,12 +127,13 @@ pub fn print_input_fault<W: CountedWrite>(
         InputFault::Text(fault) => print_fault(writer, Fault::from(fault)),
         InputFault::Rows(fault) => print_rows_fault(writer, fault),
         InputFault::Cash(fault) => print_cash_fault(writer, fault),
+        InputFault::Export(fault) => print_export_fault(writer, fault),
         InputFault::Unasked | InputFault::Memory => print_memory(writer),
     }
 }
 
 /// Writes the line that memory ended.
-fn print_memory<W: CountedWrite>(writer: &mut W) -> Result<(), PrintFault>
+pub(crate) fn print_memory<W: CountedWrite>(writer: &mut W) -> Result<(), PrintFault>
     ensures bytes { WritesLine (W.contents writer.old) (W.contents writer.new) result memory_line }
     ensures fault { IfErr result (λ fault. fault ≡ PrintFault.Write) }
     ensures cause { OnErr result (HasFailed (W.calls writer.new)) }

@@ -3,15 +3,20 @@
 //!
 //! - `text`: the commands of ledger text (`keyed_text`), and its one command for a row of a broker file (`keyed_row`).
 //! - `rows`: the commands of the rows of a broker file (`keyed_rows`).
+//! - `exported`: the commands of the rows of a broker's export, by a profile (`keyed_export`).
 //! - `keyed`: the keys of the commands of a batch.
 //! - `fault`: why an input gives no commands, and the line that reports it (`print_input_fault`).
+//! - `export_fault`: that line for an export.
 #![tactic(auto)]
 
+mod export_fault;
+mod exported;
 mod fault;
 mod keyed;
 mod rows;
 mod text;
 
+pub use exported::keyed_export;
 pub use fault::{InputFault, print_input_fault};
 pub use rows::keyed_rows;
 pub use text::{keyed_row, keyed_text};

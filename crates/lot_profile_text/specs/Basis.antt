@@ -8,11 +8,11 @@ use Rattle.lot_profile.specs.declared.basis.Basis.{Basis}
 use Rattle.lot_profile.specs.declared.basis.Rounded.{Rounded}
 use Rattle.lot_profile.specs.declared.role.Role.{Role}
 use Rattle.lot_rounding.specs.Nearest.{most_decimals}
-use Rattle.lot_profile_text.specs.declared.entry.Form.{Form}
 use Rattle.lot_profile_text.specs.declared.entry.Form.TheVariants as form
 use Rattle.lot_profile_text.specs.declared.fault.ProfileFault.TheVariants.{Unknown, Wrong}
 use Rattle.lot_profile_text.specs.Keys.{basis_keys, cost_key, rewards_key, rounded_key, within_key}
 use Rattle.lot_profile_text.specs.Reading.{Read, ◌>>=◌, below, entry_of, keyed_of, named, or_wrong, section_of, word_of}
+use Rattle.lot_profile_text.specs.Roles.{may_be_rounded}
 use Rattle.lot_profile_text.specs.Words.{cost_basis_all, cost_basis_word, rewards_all, rewards_word, role_all, role_word}
 
 -- ---- A bound: an amount from 0 to 1.
@@ -44,9 +44,11 @@ decimals_of place value = Err (Wrong place form.Decimals)
 
 abbrev pub rounded_if : List ℕ → Data → Option Role → Read Rounded
 rounded_if place value None = Err (Unknown place)
-rounded_if place value (Some role) = decimals_of place value >>= λ decimals. Ok (record { role = role; decimals = decimals })
+rounded_if place value (Some role) =
+    if may_be_rounded role then (decimals_of place value >>= λ decimals. Ok (record { role = role; decimals = decimals }))
+    else Err (Unknown place)
 
--- the role that a key names, and its decimals
+-- the role that a key names, one of those that a broker may round, and its decimals
 abbrev pub rounded_of : List ℕ → List ℕ → Data → Read Rounded
 rounded_of place key value = rounded_if (below place key) value (named role_word role_all key)
 

@@ -1,6 +1,6 @@
 -- The keys of a profile, and what is meant where nothing stands under one (docs/FORMATS.md, Profiles).
 use Rattle.std.specs.Prelude.{List, [], ◌∷◌, ℕ, codes, Option, None, Some}
-use Rattle.toml.specs.Data.{Data, string, array, table, no_items, no_members}
+use Rattle.toml.specs.Data.{Data, string, array, table, no_items, item, no_members}
 
 -- a key
 pub record Key : Type 0 where
@@ -15,6 +15,10 @@ required name = record { name = name; default = None }
 -- it is the same as that text
 abbrev pub with_text : List ℕ → List ℕ → Key
 with_text name text = record { name = name; default = Some (string text) }
+
+-- it is the same as a list of one text, which is empty
+abbrev pub with_empty_text : List ℕ → Key
+with_empty_text name = record { name = name; default = Some (array (item (string []) no_items)) }
 
 -- it is the same as a list of nothing
 abbrev pub with_no_items : List ℕ → Key
@@ -32,8 +36,14 @@ name_key = required (codes "name")
 abbrev pub file_section_key : Key
 file_section_key = required (codes "file")
 
+abbrev pub columns_of_file_key : Key
+columns_of_file_key = required (codes "columns")
+
 abbrev pub columns_key : Key
 columns_key = with_no_members (codes "columns")
+
+abbrev pub accounts_of_file_key : Key
+accounts_of_file_key = required (codes "accounts")
 
 abbrev pub accounts_key : Key
 accounts_key = with_no_members (codes "accounts")
@@ -54,19 +64,19 @@ abbrev pub encoding_key : Key
 encoding_key = with_text (codes "encoding") (codes "utf-8")
 
 abbrev pub delimiter_key : Key
-delimiter_key = with_text (codes "delimiter") (codes ",")
+delimiter_key = required (codes "delimiter")
 
 abbrev pub decimal_key : Key
-decimal_key = with_text (codes "decimal") (codes ".")
+decimal_key = required (codes "decimal")
 
 abbrev pub grouping_key : Key
 grouping_key = with_text (codes "grouping") []
 
-abbrev pub currency_signs_key : Key
+unfoldable pub currency_signs_key : Key
 currency_signs_key = with_no_items (codes "currency-signs")
 
 abbrev pub nothing_key : Key
-nothing_key = with_text (codes "nothing") []
+nothing_key = with_empty_text (codes "nothing")
 
 abbrev pub day_key : Key
 day_key = required (codes "day")
@@ -90,7 +100,7 @@ abbrev pub is_key : Key
 is_key = required (codes "is")
 
 abbrev pub when_key : Key
-when_key = with_no_members (codes "when")
+when_key = required (codes "when")
 
 abbrev pub kind_turn_key : Key
 kind_turn_key = required (codes "turn")
@@ -119,19 +129,19 @@ until_key = required (codes "until")
 -- ---- The sections.
 
 -- the top, where the file has one table
-abbrev pub one_table_keys : List Key
-one_table_keys = name_key ∷ file_section_key ∷ columns_key ∷ accounts_key ∷ basis_section_key ∷ symbols_key ∷ kinds_key ∷ []
+unfoldable pub one_table_keys : List Key
+one_table_keys = name_key ∷ file_section_key ∷ columns_of_file_key ∷ accounts_of_file_key ∷ basis_section_key ∷ symbols_key ∷ kinds_key ∷ []
 
 -- the top, where the file has several tables
-abbrev pub tables_keys : List Key
-tables_keys = name_key ∷ file_section_key ∷ accounts_key ∷ basis_section_key ∷ symbols_key ∷ tables_of_file_key ∷ []
+unfoldable pub tables_keys : List Key
+tables_keys = name_key ∷ file_section_key ∷ accounts_of_file_key ∷ basis_section_key ∷ symbols_key ∷ tables_of_file_key ∷ []
 
 -- the file, where it has one table
-abbrev pub file_keys : List Key
+unfoldable pub file_keys : List Key
 file_keys = encoding_key ∷ delimiter_key ∷ decimal_key ∷ grouping_key ∷ currency_signs_key ∷ nothing_key ∷ day_key ∷ optional_key ∷ header_key ∷ order_key ∷ turn_key ∷ []
 
 -- the file, where it has several tables
-abbrev pub file_of_tables_keys : List Key
+unfoldable pub file_of_tables_keys : List Key
 file_of_tables_keys = encoding_key ∷ delimiter_key ∷ decimal_key ∷ grouping_key ∷ currency_signs_key ∷ nothing_key ∷ day_key ∷ optional_key ∷ []
 
 -- cost, and how far amounts may differ
@@ -139,7 +149,7 @@ abbrev pub basis_keys : List Key
 basis_keys = cost_key ∷ within_key ∷ rounded_key ∷ rewards_key ∷ []
 
 -- a table of several
-abbrev pub table_keys : List Key
+unfoldable pub table_keys : List Key
 table_keys = header_key ∷ rows_key ∷ order_key ∷ columns_key ∷ turn_key ∷ kinds_key ∷ []
 
 -- a kind of rows

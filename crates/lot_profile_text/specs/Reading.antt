@@ -1,5 +1,5 @@
 -- How parts of a profile are read of the values of its TOML table: what each says, or the first fault.
-use Rattle.std.specs.Prelude.{Bool, if◌then◌else◌, ◌≡◌, ◌≢◌, ℕ, suc, ⊤, List, [], ◌∷◌, ◌++◌, bytes_eq, codes, decimal, find, Option, None, Some, Result, Ok, Err, MatchResult}
+use Rattle.std.specs.Prelude.{Bool, if◌then◌else◌, ◌≡◌, ◌≢◌, ℕ, suc, List, [], ◌∷◌, ◌++◌, bytes_eq, codes, decimal, find, Option, None, Some, Result, Ok, Err, MatchResult}
 use Rattle.std.specs.List.{list_any}
 use Rattle.toml.specs.Data.{Data, string, array, table, Items, no_items, item, Members, no_members, member, get}
 use Rattle.lot_profile_text.specs.Keys.{Key}
@@ -10,6 +10,7 @@ use Rattle.lot_profile_text.specs.declared.entry.Need.{Need}
 use Rattle.lot_profile_text.specs.declared.entry.Need.TheVariants as need
 use Rattle.lot_profile_text.specs.declared.fault.ProfileFault.{ProfileFault}
 use Rattle.lot_profile_text.specs.declared.list.Keyed.{Keyed}
+use Rattle.lot_profile_text.specs.declared.list.Listed.{Listed}
 use Rattle.lot_profile_text.specs.declared.fault.ProfileFault.TheVariants.{Unknown, Missing, Wrong, Memory}
 
 -- ---- What is read.
@@ -49,6 +50,7 @@ IsWrong place form fault = fault ≢ Memory → fault ≡ Wrong place form
 abbrev pub default_of : Need → Option Data
 default_of need.Required = None
 default_of (need.Text text) = Some (string text.now)
+default_of need.EmptyText = Some (array (item (string []) no_items))
 default_of need.EmptyList = Some (array no_items)
 default_of need.EmptyTable = Some (table no_members)
 default_of need.Optional = None
@@ -146,6 +148,16 @@ members_of said place members = each (λ m. said place m.0 m.1) (keyed_members m
 abbrev pub list_of : {T : Type 0} → (List ℕ → Data → Read T) → List ℕ → Data → Read (List T)
 list_of said place (array items) = items_of said place items
 list_of said place value = said place value >>= λ x. Ok (x ∷ [])
+
+-- a list alone
+abbrev pub only_list_of : {T : Type 0} → (List ℕ → Data → Read T) → List ℕ → Data → Read (Listed T)
+only_list_of said place (array items) = items_of said place items >>= λ xs. Ok (record { items = xs })
+only_list_of said place value = Err (Wrong place form.List)
+
+-- one or more; of none, something is missing
+abbrev pub some_of : {T : Type 0} → List ℕ → List T → Read (List T)
+some_of place [] = Err (Missing place)
+some_of place (x ∷ xs) = Ok (x ∷ xs)
 
 -- a table whose keys are free, or of a table of words
 abbrev pub keyed_of : {T : Type 0} → (List ℕ → List ℕ → Data → Read T) → List ℕ → Data → Read (Keyed T)

@@ -10,6 +10,7 @@ use crate::keys::{BASIS, COST, REWARDS, ROUNDED, WITHIN};
 use crate::list::{Keyed, Member};
 use crate::part::{Part, entry, wrong};
 use crate::place::below;
+use crate::role::may_be_rounded;
 use crate::section::section;
 use crate::word::named;
 use lot_num::Units;
@@ -65,13 +66,16 @@ impl Member for Rounded {
 
     fn read(alloc: Global, place: &str, key: &str, value: &Value) -> Result<Rounded, ProfileFault> {
         let place = below(alloc, place, key)?;
-        match named(key) {
-            Some(role) => Ok(Rounded {
-                role,
-                decimals: Part::read(alloc, place.as_str(), value)?,
-            }),
-            None => Err(ProfileFault::Unknown(place)),
+        let Some(role) = named(key) else {
+            return Err(ProfileFault::Unknown(place));
+        };
+        if !may_be_rounded(role) {
+            return Err(ProfileFault::Unknown(place));
         }
+        Ok(Rounded {
+            role,
+            decimals: Part::read(alloc, place.as_str(), value)?,
+        })
     }
 }
 

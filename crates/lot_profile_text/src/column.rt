@@ -1,7 +1,7 @@
 //! Which columns a profile means.
 ghost use Rattle.std.specs.Prelude.{◌≡◌};
 ghost use Rattle.toml.specs.View.{view};
-ghost use Rattle.lot_profile_text.specs.Columns.{beginning_of, column_number, column_of, constant_of, header_of, source_of, sources_of};
+ghost use Rattle.lot_profile_text.specs.Columns.{beginning_of, column_number, column_of, constant_of, header_of, source_of, sources_of, until_of};
 ghost use Rattle.lot_profile_text.specs.Reading.{Gives};
 
 use crate::entry::Form;
@@ -10,6 +10,7 @@ use crate::keys::{BEGINNING, COLUMN, CONSTANT, CONSTANT_IS, UNTIL};
 use crate::list::Member;
 use crate::part::{Part, entry, wrong};
 use crate::place::below;
+use crate::role::may_be_several;
 use crate::section::section;
 use crate::word::named;
 use lot_command::Items;
@@ -34,6 +35,9 @@ impl Part for Column {
 
     fn read(alloc: Global, place: &str, value: &Value) -> Result<Column, ProfileFault> {
         if let Some(name) = value.as_str() {
+            if name.is_empty() {
+                return Err(wrong(alloc, place, Form::Column));
+            }
             return Ok(Column::Named(Text::new(alloc, name)?));
         }
         let Some(number) = value.as_integer() else {
@@ -51,6 +55,9 @@ impl Part for Header {
 
     fn read(alloc: Global, place: &str, value: &Value) -> Result<Header, ProfileFault> {
         if let Some(text) = value.as_str() {
+            if text.is_empty() {
+                return Err(wrong(alloc, place, Form::Header));
+            }
             return Ok(Header::Begins(Text::new(alloc, text)?));
         }
         let Some(number) = value.as_integer() else {
@@ -93,10 +100,23 @@ fn beginning(alloc: Global, place: &str, value: &Value) -> Result<Source, Profil
     ensures { Gives result (beginning_of place.now (view value.now)) }
 {
     section(alloc, place, value, BEGINNING.entries)?;
+    let column = entry(alloc, place, value, &COLUMN)?;
+    let text = entry(alloc, place, value, &UNTIL)?;
+    let key = below(alloc, place, UNTIL.key)?;
     Ok(Source::Until {
-        column: entry(alloc, place, value, &COLUMN)?,
-        until: entry(alloc, place, value, &UNTIL)?,
+        column,
+        until: until(alloc, key.as_str(), text)?,
     })
+}
+
+/// Returns the text at a place up to which a field counts, or the fault that it is empty.
+fn until(alloc: Global, place: &str, text: Text) -> Result<Text, ProfileFault>
+    ensures { Gives result (until_of place.now text) }
+{
+    if text.as_str().is_empty() {
+        return Err(wrong(alloc, place, Form::SomeText));
+    }
+    Ok(text)
 }
 
 impl Member for Sources {
@@ -108,9 +128,10 @@ impl Member for Sources {
             return Err(ProfileFault::Unknown(place));
         };
         let from: Items<Source> = Part::read(alloc, place.as_str(), value)?;
-        if from.as_slice().is_empty() {
-            return Err(ProfileFault::Wrong(place, Form::Column));
+        match from.as_slice() {
+            [] => Err(ProfileFault::Wrong(place, Form::Column)),
+            [_, _, ..] if !may_be_several(role) => Err(ProfileFault::Wrong(place, Form::OneColumn)),
+            _ => Ok(Sources { role, from }),
         }
-        Ok(Sources { role, from })
     }
 }

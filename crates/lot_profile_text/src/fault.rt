@@ -2,9 +2,11 @@ use crate::entry::Form;
 use lot_field::Text;
 use std::alloc::{AllocError, AllocFailed};
 
-/// Why a table says no profile. Keys are named from the outermost on, with a comma between, as `kind 2, when, Quantity`; items of
+/// Why a text says no profile. Keys are named from the outermost on, with a comma between, as `kind 2, when, Quantity`; items of
 /// lists are counted from 1.
 pub enum ProfileFault {
+    /// The text is no TOML: it goes wrong in that line, counted from 1.
+    NoToml(usize),
     /// No profile has that key there.
     Unknown(Text),
     /// That key has to be there.
@@ -19,6 +21,7 @@ impl Drop for ProfileFault {
     /// It is written out, so that callers don't prove again how each part is dropped.
     fn drop(self) {
         match self {
+            ProfileFault::NoToml(_line) => {}
             ProfileFault::Unknown(_key) => {}
             ProfileFault::Missing(_key) => {}
             ProfileFault::Wrong(_key, _form) => {}

@@ -26,6 +26,22 @@ pub const SECTIONS: [Section; 9] = [
     BEGINNING,
 ];
 
+/// What is explained behind the sections: what a test and an account look like, and what kinds need beside what each needs in any
+/// profile. Each is a line.
+pub const NOTES: [&str; 11] = [
+    "Beside these, where neither the kind nor its table has it:",
+    "  buy, sell, cancel-buy, cancel-sell: price, without amount or with cost = \"price\"",
+    "  the same, with fee and fee-currency, or with fee and cost = \"price\": account fees",
+    "  dividend, interest: booked-currency, with booked; account tax, with tax",
+    "  exchange: other-currency, with other; account fees, with fee",
+    "  reward, unless rewards = \"zero\": price, without amount; account rewards",
+    "  split: units, without ratio",
+    "  price: currency, without price-currency",
+    "Tests: a text, begins: X, has: X, > 0, < 0, nothing, something; of a list one has to hold",
+    "Accounts: {currency}, {symbol} and {account} may stand in a name, but not in that of rounding",
+    "Columns: a name of the header, a number from 1, a constant, or the beginning of a field",
+];
+
 /// The keys at the top, where the file has one table.
 pub const ONE_TABLE: Section = Section {
     key: "",
@@ -33,8 +49,8 @@ pub const ONE_TABLE: Section = Section {
     entries: &[
         NAME,
         FILE_SECTION,
-        COLUMNS,
-        ACCOUNTS,
+        COLUMNS_OF_FILE,
+        ACCOUNTS_OF_FILE,
         BASIS_SECTION,
         SYMBOLS,
         KINDS,
@@ -48,7 +64,7 @@ pub const TABLES: Section = Section {
     entries: &[
         NAME,
         FILE_SECTION,
-        ACCOUNTS,
+        ACCOUNTS_OF_FILE,
         BASIS_SECTION,
         SYMBOLS,
         TABLES_OF_FILE,
@@ -139,18 +155,32 @@ pub(crate) const FILE_SECTION: Entry = Entry {
     says: "How the file is written",
 };
 
+pub(crate) const COLUMNS_OF_FILE: Entry = Entry {
+    key: "columns",
+    form: Form::Sources,
+    need: Need::Required,
+    says: "Where each role is found: its column, or several",
+};
+
 pub(crate) const COLUMNS: Entry = Entry {
     key: "columns",
-    form: Form::Table,
+    form: Form::Sources,
     need: Need::EmptyTable,
-    says: "Where each role is found: its column, or several",
+    says: "Where each role is found, before what stands further out",
+};
+
+pub(crate) const ACCOUNTS_OF_FILE: Entry = Entry {
+    key: "accounts",
+    form: Form::Accounts,
+    need: Need::Required,
+    says: "The account for each purpose",
 };
 
 pub(crate) const ACCOUNTS: Entry = Entry {
     key: "accounts",
-    form: Form::Table,
+    form: Form::Accounts,
     need: Need::EmptyTable,
-    says: "The account for each purpose",
+    says: "The account for each purpose, before what stands at the top",
 };
 
 pub(crate) const BASIS_SECTION: Entry = Entry {
@@ -162,21 +192,21 @@ pub(crate) const BASIS_SECTION: Entry = Entry {
 
 pub(crate) const SYMBOLS: Entry = Entry {
     key: "symbols",
-    form: Form::Table,
+    form: Form::Symbols,
     need: Need::EmptyTable,
     says: "A field of the column symbol, and the commodity that it means",
 };
 
 pub(crate) const KINDS: Entry = Entry {
     key: "kind",
-    form: Form::Table,
+    form: Form::Tables,
     need: Need::Required,
     says: "Which rows are of a kind, a table for each",
 };
 
 pub(crate) const TABLES_OF_FILE: Entry = Entry {
     key: "table",
-    form: Form::Table,
+    form: Form::Tables,
     need: Need::Required,
     says: "The tables of a file that has several, one for each",
 };
@@ -191,14 +221,14 @@ pub(crate) const ENCODING: Entry = Entry {
 pub(crate) const DELIMITER: Entry = Entry {
     key: "delimiter",
     form: Form::Delimiter,
-    need: Need::Text(","),
+    need: Need::Required,
     says: "What stands between the fields of a line",
 };
 
 pub(crate) const DECIMAL: Entry = Entry {
     key: "decimal",
     form: Form::DecimalMark,
-    need: Need::Text("."),
+    need: Need::Required,
     says: "What stands before the decimals of a number",
 };
 
@@ -211,15 +241,15 @@ pub(crate) const GROUPING: Entry = Entry {
 
 pub(crate) const CURRENCY_SIGNS: Entry = Entry {
     key: "currency-signs",
-    form: Form::Text,
+    form: Form::CurrencySigns,
     need: Need::EmptyList,
     says: "Signs that are read over before or behind a number",
 };
 
 pub(crate) const NOTHING: Entry = Entry {
     key: "nothing",
-    form: Form::Text,
-    need: Need::Text(""),
+    form: Form::Texts,
+    need: Need::EmptyText,
     says: "Fields that mean no value",
 };
 
@@ -232,7 +262,7 @@ pub(crate) const DAY: Entry = Entry {
 
 pub(crate) const OPTIONAL: Entry = Entry {
     key: "optional",
-    form: Form::Text,
+    form: Form::Texts,
     need: Need::EmptyList,
     says: "Columns that some files of this broker lack",
 };
@@ -253,14 +283,14 @@ pub(crate) const ORDER: Entry = Entry {
 
 pub(crate) const TURN: Entry = Entry {
     key: "turn",
-    form: Form::Role,
+    form: Form::TurnedRoles,
     need: Need::EmptyList,
     says: "Roles whose sign the broker prints the other way",
 };
 
 pub(crate) const ROWS: Entry = Entry {
     key: "rows",
-    form: Form::Test,
+    form: Form::Conditions,
     need: Need::EmptyTable,
     says: "Which lines are its rows, by columns",
 };
@@ -274,14 +304,14 @@ pub(crate) const IS: Entry = Entry {
 
 pub(crate) const WHEN: Entry = Entry {
     key: "when",
-    form: Form::Test,
-    need: Need::EmptyTable,
+    form: Form::Conditions,
+    need: Need::Required,
     says: "Which rows are of the kind, by columns",
 };
 
 pub(crate) const KIND_TURN: Entry = Entry {
     key: "turn",
-    form: Form::Role,
+    form: Form::TurnedRoles,
     need: Need::Optional,
     says: "Roles whose sign is printed the other way in these rows",
 };
@@ -302,7 +332,7 @@ pub(crate) const WITHIN: Entry = Entry {
 
 pub(crate) const ROUNDED: Entry = Entry {
     key: "rounded",
-    form: Form::Decimals,
+    form: Form::RoundedRoles,
     need: Need::EmptyTable,
     says: "To how many decimals the broker rounds a role",
 };
@@ -330,7 +360,7 @@ pub(crate) const COLUMN: Entry = Entry {
 
 pub(crate) const UNTIL: Entry = Entry {
     key: "until",
-    form: Form::Text,
+    form: Form::SomeText,
     need: Need::Required,
     says: "Up to which text of the field",
 };

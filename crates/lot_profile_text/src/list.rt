@@ -2,13 +2,14 @@
 ghost use Rattle.std.specs.Prelude.{◌≡◌, ℕ, List};
 ghost use Rattle.toml.specs.Data.{Data};
 ghost use Rattle.toml.specs.View.{array_view, table_view, view};
-ghost use Rattle.lot_profile_text.specs.Reading.{Gives, Read, items_of, keyed_of, list_of, members_of};
+ghost use Rattle.lot_profile_text.specs.Reading.{Gives, Read, items_of, keyed_of, list_of, members_of, only_list_of, some_of};
 
 use crate::entry::Form;
 use crate::fault::ProfileFault;
 use crate::part::{Part, wrong};
 use crate::place::numbered;
 use lot_command::Items;
+use lot_field::Text;
 use std::alloc::Global;
 use toml::value::{Array, Table, Value};
 
@@ -64,6 +65,54 @@ impl<P: Part> Part for Items<P> {
         one.push(P::read(alloc, place, value)?)?;
         Ok(one)
     }
+}
+
+/// What the items of a list say.
+pub(crate) struct Listed<P: Part> {
+    pub items: Items<P>,
+}
+
+impl<P: Part> Drop for Listed<P> {
+    fn drop(self) {
+        let Listed { items: _items } = self;
+    }
+}
+
+impl<P: Part> Part for Listed<P> {
+    ghost said = { only_list_of P.said };
+
+    fn read(alloc: Global, place: &str, value: &Value) -> Result<Listed<P>, ProfileFault> {
+        match value.as_array() {
+            Some(array) => Ok(Listed {
+                items: items(alloc, place, array)?,
+            }),
+            None => Err(wrong(alloc, place, Form::List)),
+        }
+    }
+}
+
+impl<P: Part> Listed<P> {
+    /// Returns what the items say.
+    pub(crate) fn into_items(self) -> Items<P>
+        ensures { result ≡ self.items }
+    {
+        let Listed { items } = self;
+        items
+    }
+}
+
+/// Returns the items of the list at a place, of which there have to be one or more, or the fault that it is missing.
+pub(crate) fn some<T: Drop>(
+    alloc: Global,
+    place: &str,
+    items: Items<T>,
+) -> Result<Items<T>, ProfileFault>
+    ensures { Gives result (some_of place.now items) }
+{
+    if items.as_slice().is_empty() {
+        return Err(ProfileFault::Missing(Text::new(alloc, place)?));
+    }
+    Ok(items)
 }
 
 /// What the members of a table say, in the order of their keys.

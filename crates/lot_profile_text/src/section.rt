@@ -2,10 +2,12 @@
 ghost use Rattle.std.specs.Prelude.{◌≡◌, bytes_eq, map, option_map};
 ghost use Rattle.std.specs.List.{list_any};
 ghost use Rattle.toml.specs.View.{table_view, view};
+ghost use Rattle.lot_profile_text.specs.Keys.{file_keys, file_of_tables_keys, one_table_keys, table_keys, tables_keys};
 ghost use Rattle.lot_profile_text.specs.Reading.{Gives, first_unknown, is_known, key_of, section_of};
 
 use crate::entry::{Entry, Form};
 use crate::fault::ProfileFault;
+use crate::keys::{FILE, FILE_OF_TABLES, ONE_TABLE, TABLE, TABLES};
 use crate::part::wrong;
 use crate::place::below;
 use std::alloc::Global;
@@ -54,4 +56,47 @@ fn has_key(entries: &[Entry], key: &str) -> bool
     ensures { result ≡ list_any (λ entry. bytes_eq entry.key.now key.now) entries.now }
 {
     entries.iter().any(|entry| entry.key == key)
+}
+
+/// Tests that the value at a place is a table whose keys are those at the top, where the file has one table.
+pub(crate) fn one_table_section(
+    alloc: Global,
+    place: &str,
+    value: &Value,
+) -> Result<(), ProfileFault>
+    ensures { Gives result (section_of one_table_keys place.now (view value.now)) }
+{
+    section(alloc, place, value, ONE_TABLE.entries)
+}
+
+/// Tests that the value at a place is a table whose keys are those at the top, where the file has several tables.
+pub(crate) fn tables_section(alloc: Global, place: &str, value: &Value) -> Result<(), ProfileFault>
+    ensures { Gives result (section_of tables_keys place.now (view value.now)) }
+{
+    section(alloc, place, value, TABLES.entries)
+}
+
+/// Tests that the value at a place is a table whose keys are those of a file of one table.
+pub(crate) fn file_section(alloc: Global, place: &str, value: &Value) -> Result<(), ProfileFault>
+    ensures { Gives result (section_of file_keys place.now (view value.now)) }
+{
+    section(alloc, place, value, FILE.entries)
+}
+
+/// Tests that the value at a place is a table whose keys are those of a file of several tables.
+pub(crate) fn file_of_tables_section(
+    alloc: Global,
+    place: &str,
+    value: &Value,
+) -> Result<(), ProfileFault>
+    ensures { Gives result (section_of file_of_tables_keys place.now (view value.now)) }
+{
+    section(alloc, place, value, FILE_OF_TABLES.entries)
+}
+
+/// Tests that the value at a place is a table whose keys are those of a table of several.
+pub(crate) fn table_section(alloc: Global, place: &str, value: &Value) -> Result<(), ProfileFault>
+    ensures { Gives result (section_of table_keys place.now (view value.now)) }
+{
+    section(alloc, place, value, TABLE.entries)
 }

@@ -463,11 +463,3 @@ impl Word for Role {
 
     ghost reads_back = { elim [ role.Account ↦ refl | role.Amount ↦ refl | role.Booked ↦ refl | role.BookedCurrency ↦ refl | role.Cost ↦ refl | role.CostDay ↦ refl | role.Currency ↦ refl | role.Day ↦ refl | role.Fee ↦ refl | role.FeeCurrency ↦ refl | role.Note ↦ refl | role.Other ↦ refl | role.OtherCurrency ↦ refl | role.Price ↦ refl | role.PriceCurrency ↦ refl | role.Rate ↦ refl | role.Ratio ↦ refl | role.Ref ↦ refl | role.Symbol ↦ refl | role.Tax ↦ refl | role.TaxCurrency ↦ refl | role.Time ↦ refl | role.Units ↦ refl ] };
 }
-
-impl Part for Role {
-    ghost said = { word_of words.role_word words.role_all form.Role };
-
-    fn read(alloc: Global, place: &str, value: &Value) -> Result<Role, ProfileFault> {
-        word_at(alloc, place, value)
-    }
-}

@@ -1,5 +1,5 @@
 -- Which purchase a row takes back (docs/FORMATS.md, Profiles).
-use Rattle.std.specs.Prelude.{◌≡◌, ℕ, suc, ◌<◌, Bool, true, false, not, ◌&&◌, List, length, slice_index_or, slice_set, Option, Some, None, ⊤, ℤ, neg_ℤ}
+use Rattle.std.specs.Prelude.{◌≡◌, ℕ, suc, ◌<◌, ◌==◌, Bool, true, false, not, ◌&&◌, List, length, slice_index_or, slice_set, Option, Some, None, ⊤, ℤ, neg_ℤ}
 use Rattle.std.specs.List.{slice_get}
 use Rattle.std.specs.Ordering.{int_eq}
 use Rattle.lot_base.specs.Text.{same_text}
@@ -19,16 +19,17 @@ cancels_by Cancels = true
 abbrev pub cancels : Trade → Bool
 cancels trade = cancels_by trade.side
 
-abbrev pub same_price : Option ℤ → Option ℤ → Bool
-same_price (Some a) (Some b) = int_eq a b
+abbrev pub same_price : Option ℕ → Option ℕ → Bool
+same_price (Some a) (Some b) = a == b
 same_price None None = true
 same_price _ _ = false
 
--- whether the second is a purchase that the first may take back: one symbol, one price, opposite units and amounts
+-- whether the second is a purchase that the first may take back: one symbol, one price and one currency, opposite units and amounts
 abbrev pub reverses : Trade → Trade → Bool
 reverses cancellation purchase =
     not (cancels purchase) && int_eq purchase.units (neg_ℤ cancellation.units) && int_eq purchase.amount (neg_ℤ cancellation.amount)
     && same_price purchase.price cancellation.price && same_text purchase.symbol.now cancellation.symbol.now
+    && same_text purchase.currency.now cancellation.currency.now
 
 -- the row at a place may take back the one at another
 pub record MayTakeBack (trades : List Trade) (cancellation : Trade) (place : ℕ) : Type 0 where

@@ -3,7 +3,7 @@ ghost use Rattle.std.specs.Prelude.{◌≡◌, true, ◌≤◌, length, IfOk, If
 ghost use Rattle.lot_sequence.specs.Cancel.{HasNothingLeft, IsLastLeft, IsMatching, IsNoneLeft, Takes, cancels, reverses, same_price};
 ghost use Rattle.lot_sequence.specs.declared.cancel.CancelFault.TheVariants.{NothingLeft};
 
-use lot_num::Units;
+use lot_num::{Rate, Units};
 use std::alloc::{AllocError, AllocFailed, Global};
 use thiserror::Error;
 
@@ -24,8 +24,9 @@ pub struct Trade<'a> {
     pub side: Side,
     pub symbol: &'a str,
     pub units: Units,
-    pub price: Option<Units>,
+    pub price: Option<Rate>,
     pub amount: Units,
+    pub currency: &'a str,
 }
 
 /// Why there is nothing to take back.
@@ -64,8 +65,8 @@ impl<T: Drop> From<AllocFailed<T>> for CancelFault {
 /// Returns which purchase each row takes back, by its place among these, which stand in the order of judging. A purchase takes
 /// none back.
 ///
-/// A cancellation takes back the last purchase before it that has its symbol and its price and opposite units and amount, of
-/// those that no earlier one takes back. Where there is none, the error is `NothingLeft` with its number, of the first such row.
+/// A cancellation takes back the last purchase before it that has its symbol, price and currency and opposite units and amount,
+/// of those that no earlier one takes back. Where there is none, the error is `NothingLeft` with its number, of the first such row.
 pub fn taken_back(alloc: Global, trades: &[Trade<'_>]) -> Result<Vec<Option<usize>>, CancelFault>
     ensures ok { IfOk result
         (λ partners. IsMatching trades.now (length trades.now) partners.items) }
@@ -131,8 +132,8 @@ fn cancels(trade: &Trade<'_>) -> bool
     }
 }
 
-/// Returns whether a row is a purchase that the other may take back: both have one symbol and one price, and opposite units
-/// and amounts.
+/// Returns whether a row is a purchase that the other may take back: both have one symbol, one price and one currency, and
+/// opposite units and amounts.
 fn reverses(cancellation: &Trade<'_>, purchase: &Trade<'_>) -> bool
     ensures { result ≡ reverses cancellation.now purchase.now }
 {
@@ -141,10 +142,11 @@ fn reverses(cancellation: &Trade<'_>, purchase: &Trade<'_>) -> bool
         && purchase.amount == cancellation.amount.negated()
         && same_price(purchase.price, cancellation.price)
         && purchase.symbol == cancellation.symbol
+        && purchase.currency == cancellation.currency
 }
 
 /// Returns whether both have one price, or none.
-fn same_price(a: Option<Units>, b: Option<Units>) -> bool
+fn same_price(a: Option<Rate>, b: Option<Rate>) -> bool
     ensures { result ≡ same_price a b }
 {
     match (a, b) {

@@ -1,8 +1,8 @@
 -- Which field a column means in a line, and what is asked of it (docs/FORMATS.md, Profiles).
 use Rattle.std.specs.Prelude.{◌-◌, ◌==◌, ℕ, Bool, if◌then◌else◌, List, [], map, Option, Some, None, get_or}
 use Rattle.std.specs.Cmp.Lexicographic.{pointwise}
-use Rattle.std.specs.List.{All, Any, list_all, position}
-use Rattle.std.specs.Option.{option_map_or, unwrap_or}
+use Rattle.std.specs.List.{All, Any, list_all, position, slice_get}
+use Rattle.std.specs.Option.{option_and_then, option_map, option_map_or, unwrap_or}
 use Rattle.lot_field.specs.Field.{cut, is_blank}
 use Rattle.lot_field.specs.Tests.{Holds}
 use Rattle.lot_field.specs.declared.tests.Test.{Test}
@@ -34,6 +34,10 @@ place_of header (Named name) = position (is_same name) (unwrap_or header [])
 -- where the line is shorter, or the header hasn't that name
 abbrev pub field_of : Option (List (List ℕ)) → List (List ℕ) → Column → List ℕ
 field_of header fields column = option_map_or (λ (place : ℕ). cut (get_or fields place [])) (place_of header column) []
+
+-- the same field, or nothing where the line is shorter, or the header hasn't that name
+abbrev pub found_in : Option (List (List ℕ)) → List (List ℕ) → Column → Option (List ℕ)
+found_in header fields column = option_map cut (option_and_then (slice_get fields) (place_of header column))
 
 -- ---- What is asked of a line.
 

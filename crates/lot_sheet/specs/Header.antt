@@ -1,6 +1,6 @@
 -- Which lines are headers, and what the tables of a file go by at a line (docs/FORMATS.md, Profiles).
 use Rattle.std.specs.Prelude.{◌+◌, ◌==◌, ◌&&◌, ◌||◌, ℕ, Bool, true, false, if◌then◌else◌, List, [], ◌∷◌, ◌++◌, map, Option, Some, None}
-use Rattle.std.specs.List.{flat_map, list_any}
+use Rattle.std.specs.List.{flat_map}
 use Rattle.std.specs.Option.{is_some, option_or}
 use Rattle.lot_profile.specs.declared.file.Delimiter.{Delimiter}
 use Rattle.lot_profile.specs.declared.file.Delimiter.TheVariants.{Comma, Semicolon, Tab}

@@ -4,9 +4,9 @@ ghost use Rattle.std.specs.List.{All, Any};
 ghost use Rattle.std.specs.Option.{option_map};
 ghost use Rattle.csv.specs.Records.{fields_of};
 ghost use Rattle.lot_field.specs.Tests.{Holds};
-ghost use Rattle.lot_sheet.specs.Column.{Meets, MeetsOne, field_of, is_same, place_of};
+ghost use Rattle.lot_sheet.specs.Column.{Meets, MeetsOne, field_of, found_in, is_same, place_of};
 
-use crate::row::{Row, field_at};
+use crate::row::{Row, field_at, field_there};
 use csv::StringRecord;
 use lot_command::Items;
 use lot_field::{Test, Text, cut};
@@ -18,6 +18,15 @@ pub fn field<'a>(row: &'a Row, column: &Column) -> &'a str
     ensures { result.now ≡ field_of row.now.header row.now.fields column.now }
 {
     field_in(row.header(), row.fields(), column)
+}
+
+/// Returns the same field, or `None` where the row is shorter, or the header hasn't the name.
+pub fn field_if_any<'a>(row: &'a Row, column: &Column) -> Option<&'a str>
+    ensures { option_map (λ field. field.now) result
+        ≡ found_in row.now.header row.now.fields column.now }
+{
+    let place = place_in(row.header(), column)?;
+    Some(cut(field_there(row.fields(), place)?))
 }
 
 /// Returns whether a row meets all conditions.

@@ -2,7 +2,7 @@
 //!
 //! - `sheet`: the rows of the bytes of a file (`read_sheet`).
 //! - `row`: `Row`, a line of a table.
-//! - `column`: the field that a column means in a row (`field`), and whether a row meets conditions (`meets`).
+//! - `column`: the field that a column means in a row (`field`, `field_if_any`), and whether a row meets conditions (`meets`).
 //! - `lines`: the lines of a file.
 //! - `header`: which lines are headers, and how the tables stand at a line.
 //! - `names`: what is wrong with the names of a header.
@@ -20,7 +20,7 @@ mod part;
 mod row;
 mod sheet;
 
-pub use column::{field, meets};
+pub use column::{field, field_if_any, meets};
 pub use fault::{NameCause, RowCause, SheetFault};
 pub use row::Row;
 pub use sheet::read_sheet;

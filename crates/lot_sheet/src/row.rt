@@ -1,5 +1,6 @@
 ghost use Rattle.std.specs.Prelude.{◌≡◌, get_or, [], length};
 ghost use Rattle.csv.specs.Records.{fields_of};
+ghost use Rattle.std.specs.List.{slice_get};
 ghost use Rattle.std.specs.Option.{option_map};
 
 use csv::StringRecord;
@@ -86,7 +87,7 @@ impl Row {
     }
 
     /// Returns the names of its header, if its table has one.
-    pub(crate) fn header(&self) -> Option<&Items<Text>>
+    pub fn header(&self) -> Option<&Items<Text>>
         ensures { option_map (λ names. names.now) result ≡ self.now.header }
     {
         names(&self.header)
@@ -119,6 +120,13 @@ pub(crate) fn field_at(line: &StringRecord, place: usize) -> &str
         Some(field) => field,
         None => "",
     }
+}
+
+/// Returns the field of a line at a place, counted from 0, or `None` where the line is shorter.
+pub(crate) fn field_there(line: &StringRecord, place: usize) -> Option<&str>
+    ensures { option_map (λ field. field.now) result ≡ slice_get (fields_of line.now) place }
+{
+    line.get(place)
 }
 
 impl Drop for Row {

@@ -163,6 +163,20 @@ fn action(rt: &(impl Abort + AllocGlobal), words: &str) -> Action {
                 notes: _notes,
             },
         ) => Some(action),
+        Ok(
+            Request::Import {
+                profile: _profile,
+                import: _import,
+                effect: _effect,
+                notes: _notes,
+            },
+        ) => None,
+        Ok(
+            Request::Show {
+                profile: _profile,
+                notes: _notes,
+            },
+        ) => None,
         Ok(Request::Explain { code: _code }) => None,
         Err(_fault) => None,
     };

@@ -1,6 +1,6 @@
 //! A receiver of what a call tells as it runs.
 
-use lot_cli::{Look, Note, Progress, Watch};
+use lot_cli::{Aside, Export, Look, Note, Progress, Watch};
 use lot_command::Key;
 use lot_ledger::Verdict;
 use lot_rounding::Asked;
@@ -22,6 +22,10 @@ impl Watch for Nobody {
     }
 
     fn tell(&mut self, _number: usize, _note: Note) {}
+}
+
+impl Aside for Nobody {
+    fn set_aside(&mut self, _export: &Export) {}
 }
 
 impl Look for Nobody {

@@ -5,11 +5,13 @@ ghost use Rattle.std.specs.Prelude.{◌≡◌, None, false};
 use crate::keeper::{Keep, Keeper};
 use lot_book::Verdict;
 use lot_call::{
-    Call, Fate, Standing, Watched, explain, say_fate, say_taken, say_unwritten, sum_up,
+    Call, Fate, Standing, Watched, explain, say_aside, say_export_fault, say_fate, say_taken,
+    say_unwritten, sum_up,
 };
 use lot_cli::{
-    AdoptFault, CommandFault, CountedWriter, CreateFault, DumpFault, Halt, Look, MigrateFault,
-    Progress, RestoreFault, Served, VerifyFault, serve,
+    Action, AdoptFault, Aside, CommandFault, CountedWriter, CreateFault, DumpFault, Export,
+    ExportFault, Halt, InputFault, Look, MigrateFault, Progress, RestoreFault, Served, VerifyFault,
+    serve,
 };
 use lot_command::Key;
 use lot_completion::{Note, Watch};
@@ -63,6 +65,7 @@ fn do_quietly<S: Alter>(
 {
     let mut output = CountedWriter::new(writer);
     let mut watcher = Watcher {
+        call,
         legs: Meter::of_legs(call.rt),
         watched,
     };
@@ -98,6 +101,7 @@ fn speak<S: Alter>(
         conn,
     );
     match (halt, fate) {
+        (Some(Halt::Input(InputFault::Export(fault))), _) => say_faulty_export(call, read, fault),
         (Some(halt), _) => advise(call, call.path, halt, conn),
         (None, Fate::Dropped | Fate::InDoubt) => {
             sum_up(call, &heard.course);
@@ -109,6 +113,13 @@ fn speak<S: Alter>(
         }
     }
     say_unwritten(call, heard, fate);
+}
+
+/// Says what is wrong with an export that was imported by a profile.
+fn say_faulty_export(call: &Call<'_>, read: &Kept, fault: ExportFault) {
+    if let (Action::ImportBy(asked), Some(bytes)) = (call.action, &read.bytes) {
+        say_export_fault(call.rt, &asked.profile, fault, bytes.as_slice());
+    }
 }
 
 /// Says what helps where an action ended before its first command, since the file of that path holds no
@@ -143,6 +154,7 @@ pub fn advise<S: Alter>(call: &Call<'_>, path: &str, halt: Halt, conn: &mut Conn
 /// How far a migration is, on standard error, and what is watched of commands.
 #[derive(Drop)]
 struct Watcher<'a, 'b> {
+    call: &'a Call<'a>,
     legs: Meter<'a>,
     watched: &'b mut Watched,
 }
@@ -164,6 +176,12 @@ impl Watch for Watcher<'_, '_> {
 
     fn tell(&mut self, number: usize, note: Note) {
         self.watched.crumbs.tell(number, note);
+    }
+}
+
+impl Aside for Watcher<'_, '_> {
+    fn set_aside(&mut self, export: &Export) {
+        say_aside(self.call, export);
     }
 }
 

@@ -3,6 +3,7 @@
 //! - `book`: the book that a call is on.
 //! - `answer`: what the call is for is done there, and standard error says what there is to say.
 //! - `comparison`: the old book beside which one is restored.
+//! - `showing`: what a broker's export comes to, where no book is opened.
 //! - `keeper`: the reader of a call, which keeps what was read.
 #![tactic(auto)]
 
@@ -10,10 +11,12 @@ mod answer;
 mod book;
 mod comparison;
 mod keeper;
+mod showing;
 
 use crate::book::act;
-use lot_call::{Call, path_of, tell, understand};
-use lot_cli::Request;
+use crate::showing::show_on;
+use lot_call::{Call, Loaded, load, path_of, tell, understand};
+use lot_cli::{Action, Request};
 use lot_files::Failure;
 use std::process::ExitCode;
 use std::time::Instant;
@@ -37,6 +40,32 @@ fn main(rt: HostRuntime) -> ExitCode {
             begun,
             failure: &failure,
         }),
+        Ok(
+            Request::Import {
+                profile,
+                import,
+                effect,
+                notes,
+            },
+        ) => match load(&rt, profile.as_str()) {
+            Ok(Loaded { profile, rounding }) => {
+                let action = Action::ImportBy(import.with(profile, rounding));
+                act(&Call {
+                    rt: &rt,
+                    action: &action,
+                    path: path_of(&action),
+                    effect,
+                    notes,
+                    begun,
+                    failure: &failure,
+                })
+            }
+            Err(status) => status,
+        },
+        Ok(Request::Show { profile, notes }) => match load(&rt, profile.as_str()) {
+            Ok(loaded) => show_on(&rt, &loaded.profile, notes),
+            Err(status) => status,
+        },
         Ok(Request::Explain { code }) => tell(&rt, code.as_deref()),
         Err(status) => status,
     })

@@ -2,14 +2,15 @@
 
 use super::{Code, Examples};
 
-pub(super) static CODES: [Code; 4] = [
+pub(super) static CODES: [Code; 8] = [
     Code {
         code: "C1",
         name: "BadHeader",
         brief: "the first record isn't the header of a broker file",
         rule: "The first record of a broker file is exactly \
             ref,date,action,symbol,units,price,currency,fee, with ,lot behind it where the file \
-            has that column.",
+            has that column. In an export that is imported by a profile, a column that the profile \
+            names stands in the header exactly once.",
         examples: Examples::Rows {
             refused: r#"
 Ref,Date,Action,Symbol,Units,Price,Currency,Fee
@@ -28,8 +29,9 @@ D-1,2024-01-15,BUY,HOOL,10,102.50,USD,
         name: "BadRow",
         brief: "a field is outside the rule of its column",
         rule: "A field of a row is outside the rule of its column, which the fault names. Length \
-            says that the row has more or fewer fields than the header. Then no row of the file is \
-            posted.",
+            says that the row has more or fewer fields than the header. Of an export that is imported by a \
+            profile the cause says which rule of the profile the row doesn't fit. Then no row of the \
+            file is posted.",
         examples: Examples::Rows {
             refused: r#"
 ref,date,action,symbol,units,price,currency,fee
@@ -76,5 +78,47 @@ D-1,2024-01-15,BUY,HOOL,0.3170215,78.9,USD,
             rounded then. Or give the price fewer decimals, so that these and those of the units \
             are at most eight together, and post what is left over to an account of its own.",
         page: "docs/FORMATS.md, Broker files",
+    },
+    Code {
+        code: "C5",
+        name: "NotText",
+        brief: "a line of the export isn't UTF-8",
+        rule: "An export that is imported by a profile is UTF-8, unless the profile says that its \
+            encoding is Latin-1.",
+        examples: Examples::Absent,
+        help: "Write encoding = \"latin-1\" into [file] of the profile, or export the file as UTF-8.",
+        page: "docs/FORMATS.md, Profiles",
+    },
+    Code {
+        code: "C6",
+        name: "AgainstOrder",
+        brief: "the day of the row stands against the order of its table",
+        rule: "Where the profile says oldest-first, no row has an earlier day than the row of its \
+            table above it; where it says newest-first, none has a later one.",
+        examples: Examples::Absent,
+        help: "Say \"by-day\" or \"by-day-newest-first\" as the order in the profile, where rows \
+            are sorted by something else than the day.",
+        page: "docs/FORMATS.md, Profiles",
+    },
+    Code {
+        code: "C7",
+        name: "NoPurchase",
+        brief: "the row takes back a purchase that isn't there",
+        rule: "A row of the kind cancel-buy takes back the last earlier purchase of the file with \
+            its symbol, price and currency and opposite units and amount, which no other row \
+            takes back.",
+        examples: Examples::Absent,
+        help: "Export from a day before the purchase on, or leave out the row by --except.",
+        page: "docs/FORMATS.md, Profiles",
+    },
+    Code {
+        code: "C8",
+        name: "Split",
+        brief: "the row is a split, which isn't posted by an import",
+        rule: "A row of the kind split isn't posted yet, since it is worked out on what is held.",
+        examples: Examples::Absent,
+        help: "Make its kind by-hand in the profile, import the rows before it, and post the split \
+            as text under its key: the lots taken, and opened again with their new units.",
+        page: "docs/FORMATS.md, Profiles",
     },
 ];

@@ -1,9 +1,9 @@
 -- The options of a rounding account, and those of the accounts, are among those that are looked at.
 use Rattle.std.proofs.Common.{◌≡◌, [], ◌∷◌, ◌++◌, None, subst}
 use Rattle.clap.specs.Words.{Text, found_of, rows_of}
-use Rattle.lot_args.specs.Options.{account_options, first_bad, options_of, rounding_options}
-use Rattle.lot_args.specs.declared.fault.BadOption.TheVariants.{Batch, Except, From, PostBatch, Ref, RowOf}
-use Rattle.lot_args.proofs.ValueLemmas.{none_of_both}
+use Rattle.lot_args.specs.Options.{first_bad, options_of, rounding_options}
+use Rattle.lot_args.specs.declared.fault.BadOption.TheVariants.{From, PostBatch, Ref, RowOf}
+use Rattle.lot_args.proofs.ValueLemmas.{good_accounts, good_except, good_rounding, none_of_both}
 use Rattle.lot_args.proofs.words.action.Goals as goal
 
 pub rounding-requires : goal.rounding-requires
@@ -17,13 +17,14 @@ pub accounts-requires : goal.accounts-requires
 accounts-requires c =
     let rows = rows_of (found_of c.args.options.now) in
     let good = subst (λ (word : Text). first_bad rows (options_of word) ≡ None) c.in-import.is c.requires.good in
-    (none_of_both rows account_options (Except ∷ rounding_options)
-    (none_of_both rows (Batch ∷ []) (account_options ++ Except ∷ rounding_options) good).1).0
+    record { good = good_accounts rows good; plain = c.requires.plain c.in-import.is }
+
+pub except-requires : goal.except-requires
+except-requires c =
+    let rows = rows_of (found_of c.args.options.now) in
+    good_except rows (subst (λ (word : Text). first_bad rows (options_of word) ≡ None) c.in-import.is c.requires.good)
 
 pub rounding-requires-in-import : goal.rounding-requires-in-import
 rounding-requires-in-import c =
     let rows = rows_of (found_of c.args.options.now) in
-    let good = subst (λ (word : Text). first_bad rows (options_of word) ≡ None) c.in-import.is c.requires.good in
-    (none_of_both rows (Except ∷ []) rounding_options
-    (none_of_both rows account_options (Except ∷ rounding_options)
-    (none_of_both rows (Batch ∷ []) (account_options ++ Except ∷ rounding_options) good).1).1).1
+    good_rounding rows (subst (λ (word : Text). first_bad rows (options_of word) ≡ None) c.in-import.is c.requires.good)

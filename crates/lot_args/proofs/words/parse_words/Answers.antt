@@ -76,7 +76,7 @@ returns-clause-misplaced c option e =
     misplaced_words _ _ _ _ _ c.asked.result option met none read c.asked.ensures.judges e
 
 pub returns-clause-missing : goal.returns-clause-missing
-returns-clause-missing c e =
+returns-clause-missing c needed e =
     let words : List Text = map string_bytes c.args.words.now in
     let same = c.in_ok-program.ensures in
     let matched = c.in_ok-matches.ensures.matches (ap is_simple same ∙ is_plain) in
@@ -84,7 +84,7 @@ returns-clause-missing c e =
     ∙ met_word c.in_ok-matches.matches _ _ (sym c.in-Some.ensures.name) (sym c.in-Some.ensures.rows) in
     let none = ap (λ (a : App). fault_of a words) (sym same) ∙ c.in_ok-matches.ensures.kinds (ap is_simple_and_free same ∙ is_told) in
     let read = matched.0 ∙ ap (λ (a : App). matches_of a words) same in
-    lacking_words _ _ _ _ _ c.asked.result met none read c.asked.ensures.judges e
+    lacking_words _ _ _ _ _ c.asked.result needed met none read c.asked.ensures.judges e
 
 pub returns-clause-bad : goal.returns-clause-bad
 returns-clause-bad c bad e =

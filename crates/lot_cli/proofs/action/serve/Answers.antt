@@ -10,6 +10,9 @@ returns-in-PostRow-clause-serves g c = rw (c.in-PostRow.is, sym c.as_ref-roundin
 pub returns-in-Import-clause-serves : goal.returns-in-Import-clause-serves
 returns-in-Import-clause-serves g c = rw c.in-Import.is c.import.ensures.imports
 
+pub returns-in-ImportBy-clause-serves : goal.returns-in-ImportBy-clause-serves
+returns-in-ImportBy-clause-serves g c = rw c.in-ImportBy.is c.import_by.ensures.imports
+
 pub returns-in-Holdings-clause-serves : goal.returns-in-Holdings-clause-serves
 returns-in-Holdings-clause-serves g c = rw c.in-Holdings.is c.write_report.ensures.reports
 

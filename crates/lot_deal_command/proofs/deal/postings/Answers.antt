@@ -5,14 +5,13 @@ use Rattle.lot_deal_command.proofs.DealLemmas.{cancellation_posted, exchange_pos
 use Rattle.lot_deal_command.proofs.deal.postings.Goals as goal
 
 pub returns-in-Buy-clause-memory : goal.returns-in-Buy-clause-memory
-returns-in-Buy-clause-memory c = λ e. subst HasPostings (sym c.in-Buy.is) (purchase_posted c.in-Buy.trade (c.purchase.ensures.memory e))
+returns-in-Buy-clause-memory c = λ e. purchase_posted c.args.terms.now c.in-Buy.trade c.in-Buy.is
 
 pub returns-in-Sell-clause-memory : goal.returns-in-Sell-clause-memory
-returns-in-Sell-clause-memory c = λ e. subst HasPostings (sym c.in-Sell.is) (sale_posted c.in-Sell.sold (c.sale.ensures.memory e))
+returns-in-Sell-clause-memory c = λ e. sale_posted c.args.terms.now c.in-Sell.sold c.in-Sell.is
 
 pub returns-in-CancelBuy-clause-memory : goal.returns-in-CancelBuy-clause-memory
-returns-in-CancelBuy-clause-memory c =
-    λ e. subst HasPostings (sym c.in-CancelBuy.is) (cancellation_posted c.in-CancelBuy.back (c.cancellation.ensures.memory e))
+returns-in-CancelBuy-clause-memory c = λ e. cancellation_posted c.args.terms.now c.in-CancelBuy.back c.in-CancelBuy.is
 
 pub returns-in-Exchange-clause-memory : goal.returns-in-Exchange-clause-memory
 returns-in-Exchange-clause-memory c =

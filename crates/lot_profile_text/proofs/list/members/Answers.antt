@@ -1,5 +1,5 @@
 -- A member that was read is behind those before it.
-use Rattle.std.proofs.Common.{◌≡◌, ℕ, List, ◌∷◌, Ok, ap, sym, ◌∙◌, string_bytes}
+use Rattle.std.proofs.Common.{◌≡◌, ℕ, List, Ok, ap, sym, ◌∙◌, string_bytes}
 use Rattle.toml.specs.Data.{Data}
 use Rattle.toml.specs.View.{members_view, view}
 use Rattle.lot_profile_text.specs.Reading.{each, keyed_members}

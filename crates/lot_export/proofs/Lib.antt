@@ -1,0 +1,5 @@
+pub mod ListLemmas
+pub mod EntryLemmas
+pub mod HandedInLemmas
+pub mod NamedLemmas
+pub mod ShowLemmas

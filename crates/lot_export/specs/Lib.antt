@@ -1,0 +1,10 @@
+pub mod Faults
+pub mod Entries
+pub mod Lines
+pub mod Named
+pub mod Cancels
+pub mod Deals
+pub mod HandedIn
+pub mod Export
+pub mod Show
+pub mod Crumbs

@@ -1,0 +1,125 @@
+//! The commands of an export.
+ghost use Rattle.std.specs.Prelude.{◌≡◌, IfOk, IfErr, length};
+ghost use Rattle.lot_export.specs.Export.{FailsOn, HasFault, IsExport, IsExportOf, IsLeftFault};
+ghost use Rattle.lot_export.specs.HandedIn.{HaveNext};
+ghost use Rattle.lot_export.specs.Lines.{AreJudged, IsOrderFault, orders_of};
+ghost use Rattle.lot_sequence.specs.Cancel.{IsMatching};
+
+use crate::cancel::trades;
+use crate::entry::{Entry, entries, skipped};
+use crate::fault::ExportFault;
+use crate::handed_in::{Given, Sheet, handed_in};
+use crate::line::{lines, orders};
+use crate::named::{Named, by_hand, kept};
+use lot_base::Label;
+use lot_command::Items;
+use lot_profile::{Profile, Table};
+use lot_sequence::{CancelFault, Trade, first_against, keys, sort_rows, taken_back};
+use lot_sheet::read_sheet;
+use std::alloc::Global;
+
+/// What a broker's export comes to by a profile.
+#[derive(Drop)]
+pub struct Export {
+    /// The commands of its rows in the order of judging, each under its key, and with the number of its row.
+    pub given: Given,
+    /// The rows that are posted by hand, in that order.
+    pub by_hand: Items<Named>,
+    /// How many rows are passed over by a rule.
+    pub skipped: usize,
+}
+
+/// Is told what an export comes to.
+pub trait Aside {
+    /// Before its commands are run: that is what it comes to, and which of its rows give no command.
+    fn set_aside(&mut self, export: &Export);
+}
+
+/// Returns what the bytes of a broker's export come to by a profile, without the rows whose names are among `except`. Commands have
+/// keys of that source (docs/FORMATS.md, Profiles). The errors are those of `ExportFault`, in its order.
+pub fn read_export(
+    alloc: Global,
+    source: &Label,
+    profile: &Profile,
+    except: &[Label],
+    bytes: &[u8],
+) -> Result<Export, ExportFault>
+    ensures ok { IfOk result (IsExport source.now profile.now except.now bytes.now) }
+    ensures as_many { IfOk result (λ export.
+        length export.given.numbers.items ≡ length export.given.commands.items) }
+    ensures next { IfOk result (λ export. HaveNext export.given.numbers.items) }
+    ensures fault { IfErr result (HasFault profile.now except.now bytes.now) }
+{
+    let rows = match read_sheet(alloc, &profile.file, &profile.tables, bytes) {
+        Ok(rows) => rows,
+        Err(fault) => return Err(ExportFault::from(fault)),
+    };
+    let entries = match entries(alloc, profile, &rows) {
+        Ok(entries) => entries,
+        Err(fault) => return Err(fault),
+    };
+    export_of(alloc, source, profile, except, entries.as_slice())
+}
+
+/// Returns what rows come to, of which it is known what each says.
+fn export_of(
+    alloc: Global,
+    source: &Label,
+    profile: &Profile,
+    except: &[Label],
+    entries: &[Entry],
+) -> Result<Export, ExportFault>
+    ensures ok { IfOk result (IsExportOf source.now profile.now except.now entries.now) }
+    ensures as_many { IfOk result (λ export.
+        length export.given.numbers.items ≡ length export.given.commands.items) }
+    ensures next { IfOk result (λ export. HaveNext export.given.numbers.items) }
+    ensures fault { IfErr result (FailsOn profile.now except.now entries.now) }
+{
+    let kept = judged(alloc, profile.tables.as_slice(), except, entries)?;
+    let trades = trades(alloc, entries, kept.as_slice())?;
+    let partners = partners(alloc, &trades)?;
+    let sheet = Sheet {
+        entries,
+        trades: &trades,
+        partners: &partners,
+    };
+    Ok(Export {
+        given: handed_in(alloc, source, &sheet, kept.as_slice())?,
+        by_hand: by_hand(alloc, entries, kept.as_slice())?,
+        skipped: skipped(entries),
+    })
+}
+
+/// Returns the rows that have a day, in the order of judging, each with the name of its key, without those whose name is among
+/// `except`.
+fn judged(
+    alloc: Global,
+    tables: &[Table],
+    except: &[Label],
+    entries: &[Entry],
+) -> Result<Items<Named>, ExportFault>
+    ensures ok { IfOk result (AreJudged (orders_of tables.now) except.now entries.now) }
+    ensures fault { IfErr result (IsOrderFault (orders_of tables.now) entries.now) }
+{
+    let orders = orders(alloc, tables)?;
+    let mut lines = lines(alloc, entries)?;
+    if let Some(row) = first_against(&lines, &orders) {
+        return Err(ExportFault::Order { row });
+    }
+    sort_rows(&mut lines, &orders);
+    let names = keys(alloc, &lines)?;
+    Ok(kept(alloc, except, &lines, &names)?)
+}
+
+/// Returns which purchase each trade takes back, by its place among them.
+fn partners(alloc: Global, trades: &[Trade<'_>]) -> Result<Vec<Option<usize>>, ExportFault>
+    ensures ok { IfOk result
+        (λ partners. IsMatching trades.now (length trades.now) partners.items) }
+    ensures fault { IfErr result (IsLeftFault trades.now) }
+{
+    match taken_back(alloc, trades) {
+        Ok(partners) => Ok(partners),
+        Err(CancelFault::NothingLeft { number }) => Err(ExportFault::NothingLeft { row: number }),
+        Err(CancelFault::Memory) => Err(ExportFault::Memory),
+    }
+}

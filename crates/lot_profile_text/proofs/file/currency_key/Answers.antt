@@ -1,0 +1,7 @@
+-- The key is that of the entry.
+use Rattle.lot_profile_text.specs.Keys.{currency_signs_key}
+use Rattle.lot_profile_text.proofs.file.currency_key.Goals as goal
+
+pub returns : goal.returns
+unfolding currency_signs_key
+returns c = c.below.ensures

@@ -1,0 +1,10 @@
+pub mod Reading
+pub mod Rules
+pub mod Kinds
+pub mod Parts
+pub mod Numbers
+pub mod Names
+pub mod Days
+pub mod Accounts
+pub mod Keys
+pub mod Narration
