@@ -157,7 +157,8 @@ def case(program, name, changes, lines):
     elif isinstance(wanted, reader.ProfileFault):
         good = status == 2 and (wanted.key == "-" or as_told(wanted.key) in out + said)
     else:
-        good = status == 3 and not program.keys() and (not wanted.row or re.search(rf"\b(row|line) {wanted.row}\b", out))
+        place = "line" if "in the header" in str(wanted) else "row"
+        good = status == 3 and not program.keys() and (not wanted.row or re.search(rf"\b{place} {wanted.row}\b", out))
     compare.check(f"case: {name}", "" if good else f"{told}, wanted {wanted or 'no fault'}")
 
 
